@@ -45,6 +45,11 @@ impl<T> Sequence<T> {
         }
     }
 
+    /// The allocator that the list keeps, for what is made beside it.
+    pub fn allocator(&self) -> Global {
+        *self.inner.allocator()
+    }
+
     pub fn len(&self) -> usize
         ensures { result ≡ length self.now }
     {

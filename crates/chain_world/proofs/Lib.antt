@@ -1,0 +1,12 @@
+pub mod Frames
+pub mod Greetings
+pub mod Rounds
+pub mod Rows
+pub mod LogRows
+pub mod HistoryRows
+pub mod Kept
+pub mod CommonRows
+pub mod Steps
+pub mod Carried
+pub mod Taken
+pub mod Headline

@@ -1,0 +1,6 @@
+use Rattle.std.proofs.Common.{◌≡◌, drop}
+use Rattle.chain_world.specs.World.{run}
+use Rattle.chain_world.proofs.world.World.play_all.Given as goal
+
+abbrev pub invariant-loop-step : goal.invariant-loop-step
+invariant-loop-step l = run l.steps l.initial.self ≡ run (drop l.step-index l.steps) l.self

@@ -1,0 +1,15 @@
+pub mod Each
+pub mod Marked
+pub mod Packet
+pub mod Hello
+pub mod History
+pub mod ClientValue
+pub mod Client
+pub mod AgentValue
+pub mod Agent
+pub mod WorldValue
+pub mod World
+pub mod Lines
+pub mod Once
+pub mod Ordered
+pub mod Headline

@@ -1,0 +1,19 @@
+//! The RISC-V base instruction set RV32I: what a word says, and what it does to one processor with
+//! 65,536 bytes of memory.
+//!
+//! Sections named here are those of "The RISC-V Instruction Set Manual, volume I: Unprivileged ISA",
+//! version 20191213.
+#![tactic(auto)]
+
+mod decoding;
+mod execution;
+mod instructions;
+mod integers;
+mod ram;
+mod registers;
+
+pub use decoding::decode;
+pub use execution::{Outcome, execute};
+pub use instructions::{BranchKind, ImmKind, Instruction, LoadKind, OpKind, StoreKind};
+pub use ram::Memory;
+pub use registers::Cpu;

@@ -1,0 +1,5 @@
+pub mod Stream
+pub mod Value
+pub mod Feeding
+pub mod Progress
+pub mod Laws

@@ -1,0 +1,16 @@
+//! The escape layer of a TCF channel: messages are marked off in a stream of bytes, and read out of it again.
+#![tactic(auto)]
+
+pub mod escape;
+pub mod laws;
+mod progress;
+pub mod stream;
+pub mod unescape;
+
+pub use escape::{escape_into, mark_eom, mark_eos};
+pub use laws::{any_pieces, one_fault, one_reading};
+pub use stream::{Item, MESSAGE_LIMIT, StreamFault};
+pub use unescape::Unescape;
+
+#[cfg(test)]
+mod tests;

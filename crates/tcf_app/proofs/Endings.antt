@@ -1,0 +1,31 @@
+-- How runs end.
+use Rattle.std.proofs.Common.{◌≡◌, ℕ, List, [], length, take, refl, ap, sym, ◌∙◌, inl, inr, arith, ◌⊎◌}
+use Rattle.std.proofs.lemmas.List.{append-nil, take_all}
+use Rattle.std.specs.Prelude.{Option, None, Some}
+use Rattle.tcf_outside.specs.Sink.{added}
+use Rattle.tcf_app.specs.declared.exit.Exit.{Exit}
+use Rattle.tcf_app.specs.declared.exit.Exit.TheVariants.{NoMemory}
+use Rattle.tcf_app.specs.Exit.{IsGivenUp}
+use Rattle.tcf_app.specs.Ending.{Ending, Ends}
+
+-- all of the text was told
+pub ends_whole : (ending : Ending) (before after : Option (List ℕ)) → after ≡ added ending.text before → Ends ending ending.exit before after
+ends_whole ending before after told =
+    record {
+      which = inl refl;
+      whole = λ e. told;
+      front = (length ending.text, told ∙ ap (λ (t : List ℕ). added t before) (sym (take_all (length ending.text) ending.text (omega arith))));
+    }
+
+pub added_nothing : (told : Option (List ℕ)) → added [] told ≡ told
+added_nothing None = refl
+added_nothing (Some before) = ap Some (append-nil before)
+
+-- nothing was told, since memory was wanting
+pub ends_early : (ending : Ending) (told : Option (List ℕ)) → (NoMemory ≡ ending.exit → ⊥) → Ends ending NoMemory told told
+ends_early ending told other =
+    record {
+      which = inr (inr refl);
+      whole = λ e. absurd (other e);
+      front = (0, sym (added_nothing told));
+    }

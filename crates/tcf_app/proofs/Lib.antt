@@ -1,0 +1,4 @@
+pub mod Endings
+pub mod Playable
+pub mod Heard
+pub mod Derived

@@ -1,0 +1,17 @@
+use Rattle.std.specs.Prelude.{ℕ, ◌≡◌, ◌⊎◌}
+use Rattle.tcf_app.specs.declared.exit.Exit.{Exit}
+use Rattle.tcf_app.specs.declared.exit.Exit.TheVariants.{Done, Usage, BadText, FileFault, SinkFault, NoMemory, TooLong}
+
+-- the status with which the program ends; 5, 6, 8 and 9 are kept for ends that don't come yet
+abbrev pub status_of : Exit → ℕ
+status_of Done = 0
+status_of Usage = 1
+status_of (BadText line what) = 2
+status_of FileFault = 3
+status_of SinkFault = 4
+status_of NoMemory = 7
+status_of (TooLong word) = 10
+
+-- the run was given up, with no text of its own: a put was a fault, or memory was wanting
+abbrev pub IsGivenUp : Exit → Type 0
+IsGivenUp exit = (exit ≡ SinkFault) ⊎ (exit ≡ NoMemory)

@@ -1,0 +1,5 @@
+pub mod FieldLaws
+pub mod LevelLaws
+pub mod MessageLaws
+pub mod WholeLaws
+pub mod PutLaws

@@ -1,0 +1,304 @@
+//! How a log is shown: each line's text, and the log's as a whole.
+#![tactic(auto, using(crate::proofs::Growth::grows_later))]
+
+ghost use Rattle.std.specs.Prelude.{◌≡◌, ◌<◌, ◌++◌, ◌∷◌, [], length, decimal, true, OnOk, OnErr};
+ghost use Rattle.std.specs.Fmt.{digit_glyph};
+ghost use Rattle.tcf_text.specs.Log.{sent_word, hello_word, event_word, unknown_word, refused_front, end_front, is_hidden, shown_byte, shown, word_text, rest_text, args_text, mark_text, refused_reason, end_cause, numbered, named_text, line_words, line_text, log_text, Grows};
+
+use crate::cut::cut_at;
+use crate::log::{EndWhy, LogLine, RefusedWhy};
+use itoa::Buffer;
+use std::alloc::AllocError;
+use tcf_outside::Octets;
+
+fn hex_digit(digit: u8) -> u8
+    requires { digit < 16 }
+    ensures { result ≡ digit_glyph true digit }
+{
+    if digit < 10 {
+        b'0' + digit
+    } else {
+        b'A' + (digit - 10)
+    }
+}
+
+fn is_hidden_byte(byte: u8) -> bool
+    ensures { result ≡ is_hidden byte }
+{
+    byte <= b' ' || byte == b'%' || byte == 127
+}
+
+/// Appends a byte as it is shown.
+fn show_byte(byte: u8, out: &mut Octets) -> Result<(), AllocError>
+    ensures shown { OnOk result (out.new ≡ out.old ++ shown_byte byte) }
+    ensures part { OnErr result (Grows out.old out.new) }
+{
+    if is_hidden_byte(byte) {
+        out.extend(&[b'%', hex_digit(byte / 16), hex_digit(byte % 16)])
+    } else {
+        out.push(byte)
+    }
+}
+
+/// Appends a word or a part as it is shown.
+fn show(part: &[u8], out: &mut Octets) -> Result<(), AllocError>
+    ensures shown { OnOk result (out.new ≡ out.old ++ shown part.now) }
+    ensures part { OnErr result (Grows out.old out.new) }
+{
+    if part.is_empty() {
+        return out.push(b'-');
+    }
+    for byte in part {
+        show_byte(*byte, out)?;
+    }
+    Ok(())
+}
+
+/// Appends a blank and the word.
+fn show_word(word: &[u8], out: &mut Octets) -> Result<(), AllocError>
+    ensures shown { OnOk result (out.new ≡ out.old ++ word_text word.now) }
+    ensures part { OnErr result (Grows out.old out.new) }
+{
+    out.push(b' ')?;
+    show(word, out)
+}
+
+/// Appends what stands behind the last zero, where something does.
+fn show_rest(rest: &[u8], out: &mut Octets) -> Result<(), AllocError>
+    ensures shown { OnOk result (out.new ≡ out.old ++ rest_text rest.now) }
+    ensures part { OnErr result (Grows out.old out.new) }
+{
+    if rest.is_empty() {
+        return Ok(());
+    }
+    out.extend(b" !")?;
+    show(rest, out)
+}
+
+/// Appends the parts of the data, each behind a blank.
+fn show_args(body: &[u8], out: &mut Octets) -> Result<(), AllocError>
+    ensures shown { OnOk result (out.new ≡ out.old ++ args_text body.now) }
+    ensures part { OnErr result (Grows out.old out.new) }
+{
+    let mut rest = body;
+    while let Some((part, after)) = cut_at(0, rest) {
+        show_word(part, out)?;
+        rest = after;
+    }
+    show_rest(rest, out)
+}
+
+fn show_number(number: u64, out: &mut Octets) -> Result<(), AllocError>
+    ensures shown { OnOk result (out.new ≡ out.old ++ 32 ∷ decimal number) }
+    ensures part { OnErr result (Grows out.old out.new) }
+{
+    out.push(b' ')?;
+    out.extend(Buffer::new().format(number).as_bytes())
+}
+
+fn show_mark(mark: Option<u64>, out: &mut Octets) -> Result<(), AllocError>
+    ensures shown { OnOk result (out.new ≡ out.old ++ mark_text mark) }
+    ensures part { OnErr result (Grows out.old out.new) }
+{
+    match mark {
+        Some(mark) => show_number(mark, out),
+        None => out.extend(b" -"),
+    }
+}
+
+/// Appends a line's word and the number of a command.
+fn show_numbered(word: &[u8], number: u64, out: &mut Octets) -> Result<(), AllocError>
+    ensures shown { OnOk result (out.new ≡ out.old ++ numbered word.now number) }
+    ensures part { OnErr result (Grows out.old out.new) }
+{
+    out.extend(word)?;
+    show_number(number, out)
+}
+
+/// Appends the service, the name and the data of a command or an event.
+fn show_named(service: &[u8], name: &[u8], body: &[u8], out: &mut Octets) -> Result<(), AllocError>
+    ensures shown { OnOk result (out.new ≡ out.old ++ named_text service.now name.now body.now) }
+    ensures part { OnErr result (Grows out.old out.new) }
+{
+    show_word(service, out)?;
+    show_word(name, out)?;
+    show_args(body, out)
+}
+
+#[tactic(auto, using(crate::proofs::Growth::grows_later), unfolding(crate::specs::Log::refused_reason))]
+fn reason_word(why: RefusedWhy) -> &'static [u8]
+    ensures { result.now ≡ refused_reason why }
+{
+    match why {
+        RefusedWhy::Full => b"Full",
+        RefusedWhy::NotOpen => b"NotOpen",
+        RefusedWhy::TooLong => b"TooLong",
+        RefusedWhy::Spent => b"Spent",
+    }
+}
+
+#[tactic(auto, using(crate::proofs::Growth::grows_later), unfolding(crate::specs::Log::end_cause))]
+fn cause_word(why: EndWhy) -> &'static [u8]
+    ensures { result.now ≡ end_cause why }
+{
+    match why {
+        EndWhy::Own => b"own",
+        EndWhy::Eos => b"eos",
+        EndWhy::Ended => b"ended",
+        EndWhy::Protocol => b"protocol",
+        EndWhy::Stream => b"stream",
+    }
+}
+
+#[tactic(auto, using(crate::proofs::Growth::grows_later), unfolding(crate::specs::Log::sent_word))]
+fn show_sent(
+    number: u64,
+    service: &[u8],
+    name: &[u8],
+    body: &[u8],
+    out: &mut Octets,
+) -> Result<(), AllocError>
+    ensures shown { OnOk result (out.new ≡ out.old ++ (numbered sent_word number ++ named_text service.now name.now body.now)) }
+    ensures part { OnErr result (Grows out.old out.new) }
+{
+    show_numbered(b"sent", number, out)?;
+    show_named(service, name, body, out)
+}
+
+#[tactic(auto, using(crate::proofs::Growth::grows_later), unfolding(crate::specs::Log::event_word))]
+fn show_event(
+    mark: Option<u64>,
+    service: &[u8],
+    name: &[u8],
+    body: &[u8],
+    out: &mut Octets,
+) -> Result<(), AllocError>
+    ensures shown { OnOk result (out.new ≡ out.old ++ (event_word ++ mark_text mark ++ named_text service.now name.now body.now)) }
+    ensures part { OnErr result (Grows out.old out.new) }
+{
+    out.extend(b"event")?;
+    show_mark(mark, out)?;
+    show_named(service, name, body, out)
+}
+
+#[tactic(auto, using(crate::proofs::Growth::grows_later), unfolding(crate::specs::Log::hello_word))]
+fn show_hello(mark: Option<u64>, body: &[u8], out: &mut Octets) -> Result<(), AllocError>
+    ensures shown { OnOk result (out.new ≡ out.old ++ (hello_word ++ mark_text mark ++ args_text body.now)) }
+    ensures part { OnErr result (Grows out.old out.new) }
+{
+    out.extend(b"hello")?;
+    show_mark(mark, out)?;
+    show_args(body, out)
+}
+
+#[tactic(auto, using(crate::proofs::Growth::grows_later), unfolding(crate::specs::Log::refused_front))]
+fn show_refused(why: RefusedWhy, out: &mut Octets) -> Result<(), AllocError>
+    ensures shown { OnOk result (out.new ≡ out.old ++ (refused_front ++ refused_reason why)) }
+    ensures part { OnErr result (Grows out.old out.new) }
+{
+    out.extend(b"refused ")?;
+    out.extend(reason_word(why))
+}
+
+#[tactic(auto, using(crate::proofs::Growth::grows_later), unfolding(crate::specs::Log::end_front))]
+fn show_end(why: EndWhy, out: &mut Octets) -> Result<(), AllocError>
+    ensures shown { OnOk result (out.new ≡ out.old ++ (end_front ++ end_cause why)) }
+    ensures part { OnErr result (Grows out.old out.new) }
+{
+    out.extend(b"end ")?;
+    out.extend(cause_word(why))
+}
+
+/// Appends an answer's word, the number of its command, its mark and its data.
+fn show_answer(
+    word: &[u8],
+    number: u64,
+    mark: Option<u64>,
+    body: &[u8],
+    out: &mut Octets,
+) -> Result<(), AllocError>
+    ensures shown { OnOk result (out.new ≡ out.old ++ (numbered word.now number ++ mark_text mark ++ args_text body.now)) }
+    ensures part { OnErr result (Grows out.old out.new) }
+{
+    show_numbered(word, number, out)?;
+    show_mark(mark, out)?;
+    show_args(body, out)
+}
+
+#[tactic(auto, using(crate::proofs::Growth::grows_later), unfolding(crate::specs::Log::unknown_word))]
+fn show_unknown(number: u64, mark: Option<u64>, out: &mut Octets) -> Result<(), AllocError>
+    ensures shown { OnOk result (out.new ≡ out.old ++ (numbered unknown_word number ++ mark_text mark)) }
+    ensures part { OnErr result (Grows out.old out.new) }
+{
+    show_numbered(b"unknown", number, out)?;
+    show_mark(mark, out)
+}
+
+/// Appends the line's text without the byte that ends it.
+#[tactic(auto, using(crate::proofs::Growth::grows_later), unfolding(crate::specs::Log::progress_word, crate::specs::Log::result_word, crate::specs::Log::closed_word))]
+fn write_words(line: &LogLine, out: &mut Octets) -> Result<(), AllocError>
+    ensures shown { OnOk result (out.new ≡ out.old ++ line_words line.now) }
+    ensures part { OnErr result (Grows out.old out.new) }
+{
+    match line {
+        LogLine::Sent {
+            number,
+            service,
+            name,
+            body,
+        } => {
+            show_sent(
+                *number,
+                service.as_slice(),
+                name.as_slice(),
+                body.as_slice(),
+                out,
+            )
+        }
+        LogLine::Refused(why) => show_refused(*why, out),
+        LogLine::Hello { mark, body } => show_hello(*mark, body.as_slice(), out),
+        LogLine::Event {
+            mark,
+            service,
+            name,
+            body,
+        } => {
+            show_event(
+                *mark,
+                service.as_slice(),
+                name.as_slice(),
+                body.as_slice(),
+                out,
+            )
+        }
+        LogLine::Progress { number, mark, body } => {
+            show_answer(b"progress", *number, *mark, body.as_slice(), out)
+        }
+        LogLine::Final { number, mark, body } => {
+            show_answer(b"result", *number, *mark, body.as_slice(), out)
+        }
+        LogLine::Unknown { number, mark } => show_unknown(*number, *mark, out),
+        LogLine::Closed { number } => show_numbered(b"closed", *number, out),
+        LogLine::Ended(why) => show_end(*why, out),
+    }
+}
+
+/// Appends the line's text and the byte that ends it. Where memory runs out a part of them may be there.
+pub fn write_line(line: &LogLine, out: &mut Octets) -> Result<(), AllocError>
+    ensures ok { OnOk result (out.new ≡ out.old ++ line_text line.now) }
+    ensures err { OnErr result (Grows out.old out.new) }
+{
+    write_words(line, out)?;
+    out.push(b'\n')
+}
+
+/// Appends the text of the log. Where memory runs out a part of it may be there.
+pub fn write_log(lines: &[LogLine], out: &mut Octets) -> Result<(), AllocError>
+    ensures ok { OnOk result (out.new ≡ out.old ++ log_text lines.now) }
+    ensures err { OnErr result (Grows out.old out.new) }
+{
+    for line in lines {
+        write_line(line, out)?;
+    }
+    Ok(())
+}

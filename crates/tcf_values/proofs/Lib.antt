@@ -1,0 +1,5 @@
+pub mod Contexts
+pub mod Cuts
+pub mod Numbers
+pub mod Options
+pub mod Registers

@@ -4,3 +4,4 @@ pub mod Errors
 pub mod Ids
 pub mod Number
 pub mod Spelling
+pub mod Storable

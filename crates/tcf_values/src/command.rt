@@ -1,6 +1,7 @@
 //! The commands of the services, each with the arguments of its row, and which of them are changing.
 ghost use Rattle.std.specs.Prelude.{◌≡◌};
 ghost use Rattle.tcf_values.specs.Changing.{changes};
+ghost use Rattle.tcf_values.specs.Storable.{stores};
 
 use crate::text::{Bytes, Text, Texts};
 use crate::values::{BpProps, Locations, Props};
@@ -166,6 +167,18 @@ pub fn is_changing(command: &Command) -> bool
         Command::MemSet { .. } | Command::RegSet { .. } | Command::RegSetm { .. } => true,
         Command::ProcStart { .. } | Command::ProcAttach { .. } | Command::ProcDetach { .. } => true,
         Command::ProcTerminate { .. } | Command::TraceRun { .. } => true,
+        _ => false,
+    }
+}
+
+/// Whether a value-add may answer the command itself, from what it has learned.
+pub fn is_storable(command: &Command) -> bool
+    ensures { result ≡ stores command.now }
+{
+    match command {
+        Command::GetContext { .. } | Command::GetState { .. } => true,
+        Command::BpProperties { .. } | Command::BpGetStatus { .. } => true,
+        Command::RegGet { .. } | Command::RegGetm { .. } | Command::MemGet { .. } => true,
         _ => false,
     }
 }

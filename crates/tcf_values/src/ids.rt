@@ -73,7 +73,6 @@ fn process_id(digits: &[u8]) -> Option<ContextId>
     Some(ContextId::Process(positive(digits)?))
 }
 
-#[tactic(auto, using(crate::proofs::Cuts::cut_there, crate::proofs::Cuts::cut_missing))]
 fn context_numbers(digits: &[u8]) -> Option<ContextId>
     ensures { result ≡ context_in digits.now }
 {
@@ -114,7 +113,6 @@ fn register_parts(process: &[u8], thread: &[u8], name: &[u8]) -> Option<Register
     })
 }
 
-#[tactic(auto, using(crate::proofs::Cuts::cut_there, crate::proofs::Cuts::cut_missing))]
 fn register_numbers(digits: &[u8]) -> Option<RegisterId>
     ensures { result ≡ register_in digits.now }
 {

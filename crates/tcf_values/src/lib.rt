@@ -12,7 +12,7 @@ pub mod text;
 pub mod values;
 
 pub use answer::Answer;
-pub use command::{Command, is_changing};
+pub use command::{Command, is_changing, is_storable};
 pub use cut::cut_at;
 pub use errors::{ErrorReport, format_of_code, report};
 pub use event::EventData;

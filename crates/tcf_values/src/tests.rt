@@ -210,6 +210,43 @@ fn the_changing_commands_change(rt: HostRuntime) -> Result<(), Fail> {
 }
 
 #[test]
+fn seven_commands_are_storable(rt: HostRuntime) -> Result<(), Fail> {
+    let alloc = rt.alloc();
+    let (addr, word, size, mode) = (0, 1, 4, 0);
+    for (command, want) in [
+        (Command::GetContext { id: text(alloc)? }, true),
+        (Command::GetState { id: text(alloc)? }, true),
+        (Command::BpProperties { id: text(alloc)? }, true),
+        (Command::BpGetStatus { id: text(alloc)? }, true),
+        (Command::RegGet { id: text(alloc)? }, true),
+        (
+            Command::RegGetm {
+                list: Locations::new(alloc),
+            },
+            true,
+        ),
+        (
+            Command::MemGet {
+                id: text(alloc)?,
+                addr,
+                word,
+                size,
+                mode,
+            },
+            true,
+        ),
+        (Command::Sync, false),
+        (Command::BpIds, false),
+        (Command::GetChildren { id: text(alloc)? }, false),
+        (Command::ProcContext { id: text(alloc)? }, false),
+        (Command::BpCapabilities { id: text(alloc)? }, false),
+    ] {
+        assert_eq!(rt; is_storable(&command), want, "{command:?}");
+    }
+    Ok(())
+}
+
+#[test]
 fn a_copy_shows_what_its_source_shows(rt: HostRuntime) -> Result<(), Fail> {
     let alloc = rt.alloc();
     let mut ids = Texts::new(alloc);

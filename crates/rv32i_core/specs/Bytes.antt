@@ -1,11 +1,15 @@
 -- Memory as a list of 65,536 bytes, and the numbers in one, two or four of them, the lowest byte first.
 -- The RISC-V Instruction Set Manual, volume I: Unprivileged ISA, version 20191213: "Memory" (1.4) and "Load and Store
 -- Instructions" (2.6).
-use Rattle.std.specs.Prelude.{ℕ, ◌+◌, ◌*◌, ◌/◌, ◌%◌, ◌^◌, Bool, nat_le, List, slice_index, slice_set}
+use Rattle.std.specs.Prelude.{ℕ, ◌+◌, ◌-◌, ◌*◌, ◌/◌, ◌%◌, ◌^◌, Bool, nat_le, List, ◌++◌, length, replicate, slice_index, slice_set}
 
 -- `count` bytes from a place on lie in memory; the address does not wrap on the way
 abbrev pub is_inside : ℕ → ℕ → Bool
 is_inside count place = nat_le (place + count) 65536
+
+-- an image at the address 0, and zeros behind it
+unfoldable pub image_memory : List ℕ → List ℕ
+image_memory image = image ++ replicate (65536 - length image) 0
 
 -- ---- the number in the bytes from a place on
 

@@ -1,7 +1,7 @@
 //! Memory: 65,536 bytes at the addresses 0 to 65,535.
 ghost use Rattle.std.specs.Bool.{OnFalse, OnTrue};
-ghost use Rattle.std.specs.Prelude.{◌≡◌, ◌<◌, ◌≤◌, ◌+◌, ◌↔◌, List, ℕ, length, replicate, slice_get, slice_set, IsTrue, IsNone, IfOk};
-ghost use Rattle.rv32i_core.specs.Bytes.{byte_at, halfword_at, is_inside, with_byte, with_halfword, with_word, word_at};
+ghost use Rattle.std.specs.Prelude.{◌≡◌, ◌<◌, ◌≤◌, ◌+◌, ◌-◌, ◌++◌, ◌↔◌, List, ℕ, length, replicate, slice_get, slice_set, IsTrue, IsNone, IfOk};
+ghost use Rattle.rv32i_core.specs.Bytes.{byte_at, halfword_at, image_memory, is_inside, with_byte, with_halfword, with_word, word_at};
 
 use std::alloc::{AllocError, Global};
 use std::marker::Model;
@@ -30,6 +30,18 @@ impl Memory {
     {
         Ok(Memory {
             bytes: vec![in alloc; 0; SIZE]?,
+        })
+    }
+
+    /// A memory with an image of at most 65,536 bytes at the address 0, and zeros behind it. It takes one
+    /// allocation of 65,536 bytes and writes each of them once. The only refusal is want of memory.
+    #[tactic(auto, unfolding(crate::specs::Bytes::image_memory))]
+    pub fn with_image(alloc: Global, image: &[u8]) -> Result<Memory, AllocError>
+        requires { length image.now ≤ 65536 }
+        ensures { IfOk result (λ memory. memory ≡ image_memory image.now) }
+    {
+        Ok(Memory {
+            bytes: padded(alloc, image, SIZE)?,
         })
     }
 
@@ -117,6 +129,18 @@ impl Memory {
         self.set_halfword(place, value);
         self.set_halfword(place + 2, value >> 16);
     }
+}
+
+/// The bytes with zeros behind them, so many in all.
+fn padded(alloc: Global, front: &[u8], size: usize) -> Result<Vec<u8>, AllocError>
+    requires { length front.now ≤ size }
+    ensures bytes { IfOk result (λ made. made.items ≡ front.now ++ replicate (size - length front.now) 0) }
+    ensures size { IfOk result (λ made. length made.items ≡ size) }
+{
+    let mut bytes = Vec::with_capacity(alloc, size)?;
+    bytes.extend_from_slice(front)?;
+    bytes.resize(size, 0)?;
+    Ok(bytes)
 }
 
 #[cfg(test)]

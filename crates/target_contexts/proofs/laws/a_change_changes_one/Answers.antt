@@ -1,0 +1,5 @@
+use Rattle.target_contexts.proofs.Lookup.{changes_one}
+use Rattle.target_contexts.proofs.laws.a_change_changes_one.Goals as goal
+
+pub returns : goal.returns
+returns c = changes_one

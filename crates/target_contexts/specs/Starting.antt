@@ -1,0 +1,57 @@
+-- What a start does: the first refusal that is due, or one process more.
+use Rattle.std.specs.Prelude.{ℕ, ◌+◌, nat_le, nat_lt, Bool, true, false, if◌then◌else◌, List, [], ◌∷◌, ◌++◌, length, replicate, codes, Option, Some, None}
+use Rattle.rv32i_core.specs.Bytes.{image_memory}
+use Rattle.target_contexts.specs.TargetsValue.{TargetsValue}
+use Rattle.target_contexts.specs.Images.{image_of}
+use Rattle.target_contexts.specs.declared.process.Image.{Image}
+use Rattle.target_contexts.specs.declared.process.Process.{Process}
+use Rattle.target_contexts.specs.declared.process.ThreadState.{ThreadState}
+use Rattle.target_contexts.specs.declared.process.ThreadState.TheVariants.{Running, Suspended}
+use Rattle.target_contexts.specs.declared.targets.StartRefusal.{StartRefusal}
+use Rattle.target_contexts.specs.declared.targets.StartRefusal.TheVariants.{NoImage, Full, Size, Numbers}
+
+-- the images, and nothing else yet
+abbrev pub new_targets : List Image → TargetsValue
+new_targets images = record { images = images; processes = []; next = 1 }
+
+-- ---- refusals: the first that is due, for the image of the name, so many live processes, and the next number
+
+abbrev pub refusal_for : Option Image → ℕ → ℕ → Option StartRefusal
+refusal_for None live next = Some NoImage
+refusal_for (Some image) live next =
+    if nat_le 64 live then Some Full
+    else if nat_lt 65536 (length image.bytes) then Some Size
+    else if nat_lt 4294967295 next then Some Numbers
+    else None
+
+abbrev pub refusal_of : List ℕ → TargetsValue → Option StartRefusal
+refusal_of file targets = refusal_for (image_of file targets.images) (length targets.processes) targets.next
+
+-- ---- the new process
+
+unfoldable pub suspended_text : List ℕ
+suspended_text = codes "Suspended"
+
+-- the thread of an attached process is suspended, without hits; else it runs, without a count
+abbrev pub first_state : Bool → ThreadState
+first_state true = Suspended suspended_text []
+first_state false = Running None
+
+-- the image at the address 0, all registers and pc 0
+abbrev pub new_process : Bool → Image → Process
+new_process attach image = record {
+  name = image.name;
+  attached = attach;
+  state = first_state attach;
+  cpu = record { pc = 0; x = replicate 32 0 };
+  memory = image_memory image.bytes;
+}
+
+abbrev pub with_started : Bool → TargetsValue → Option Image → TargetsValue
+with_started attach targets None = targets
+with_started attach targets (Some image) =
+    record targets { processes = targets.processes ++ (targets.next, new_process attach image) ∷ []; next = targets.next + 1 }
+
+-- one process more, of the image of this name, under the next number
+abbrev pub started : List ℕ → Bool → TargetsValue → TargetsValue
+started file attach targets = with_started attach targets (image_of file targets.images)

@@ -1,0 +1,9 @@
+use Rattle.std.specs.Prelude.{ℕ, List}
+use Rattle.target_contexts.specs.declared.process.Image.{Image}
+use Rattle.target_contexts.specs.declared.process.Process.{Process}
+
+-- the images, the live processes beside their numbers in the order of these, and the number that the next one gets
+pub record TargetsValue : Type 0 where
+  pub images : List Image
+  pub processes : List (ℕ × Process)
+  pub next : ℕ

@@ -1,0 +1,12 @@
+//! The processes and threads of the target, and the images that they are started from.
+#![tactic(auto)]
+
+mod context;
+mod laws;
+mod process;
+mod targets;
+
+pub use context::THREAD;
+pub use laws::{a_change_changes_one, a_start_adds_one, an_end_ends_one};
+pub use process::{Image, Process, ThreadState};
+pub use targets::{StartRefusal, Targets};

@@ -1,0 +1,235 @@
+//! The target's processes: started from images, found by number, and taken away.
+ghost use Rattle.std.specs.Prelude.{◌≡◌, ◌≢◌, ◌<◌, ◌≤◌, ◌^◌, ◌↔◌, length, option_copied, option_map, Some, None, IfErr, IfOk, IfSome, IsTrue, IsSome, OnErr, OnOk, OnSome};
+ghost use Rattle.std.specs.Borrow.{sem};
+ghost use Rattle.target_contexts.specs.Images.{image_of, is_named};
+ghost use Rattle.target_contexts.specs.Live.{IsLive, IsOrderly, numbers_of, place_of, process_of, without};
+ghost use Rattle.target_contexts.specs.Contexts.{IsThere, context_of};
+
+use crate::context::{THREAD, process_data, thread_data};
+use crate::process::{Image, Process, new_process};
+use std::alloc::{AllocError, AllocFailed, Global};
+use std::marker::Model;
+use tcf_values::{ContextData, ContextId};
+
+/// How many processes can live at once.
+const MOST_LIVE: usize = 64;
+
+/// How many bytes an image can have, and how many the name of one that is found.
+const MOST_BYTES: usize = 65_536;
+
+/// Why no process is started. Where several hold, the first of them is answered.
+#[derive(Clone, Copy, Debug, PartialEq, Eq)]
+pub enum StartRefusal {
+    /// There is no image of that name.
+    NoImage,
+    /// There are 64 live processes.
+    Full,
+    /// The image has more than 65,536 bytes.
+    Size,
+    /// The numbers up to 4,294,967,295 are used.
+    Numbers,
+    NoMemory,
+}
+
+impl From<AllocError> for StartRefusal {
+    ghost use Rattle.target_contexts.specs.declared.targets.StartRefusal.TheVariants.{NoMemory};
+
+    ghost from_gives = { λ _ refusal. refusal ≡ NoMemory };
+
+    fn from(_error: AllocError) -> Self {
+        StartRefusal::NoMemory
+    }
+}
+
+impl<T: Drop> From<AllocFailed<T>> for StartRefusal {
+    ghost use Rattle.target_contexts.specs.declared.targets.StartRefusal.TheVariants.{NoMemory};
+
+    ghost from_gives = { λ _ refusal. refusal ≡ NoMemory };
+
+    fn from(_failed: AllocFailed<T>) -> Self {
+        StartRefusal::NoMemory
+    }
+}
+
+/// The images and the live processes. Contracts see the list of images, the list of pairs of a number and its
+/// process in the order of the numbers, and the next number.
+#[derive(Drop)]
+pub struct Targets {
+    alloc: Global,
+    images: Vec<Image>,
+    live: Vec<(u32, Process)>,
+    next: u64,
+}
+
+impl Model for Targets {
+    ghost use Rattle.target_contexts.specs.TargetsValue.{TargetsValue};
+
+    ghost Value = { TargetsValue };
+
+    ghost use Rattle.target_contexts.specs.Live.{IsOrderly};
+
+    ghost view = { λ t. record { images = t.images.items; processes = t.live.items; next = t.next } };
+
+    ghost invariant = { λ t. IsOrderly t.live.items t.next };
+}
+
+impl Targets {
+    ghost use Rattle.target_contexts.specs.Starting.{new_targets, refusal_of, started};
+    ghost use Rattle.target_contexts.specs.Lending.{LendsProcess};
+
+    /// Takes the images. Of two with one name the first counts. No process lives, and the next number is 1.
+    pub fn new(alloc: Global, images: Vec<Image>) -> Result<Targets, AllocError>
+        ensures { IfOk result (λ targets. targets ≡ new_targets images.items) }
+    {
+        Ok(Targets {
+            alloc,
+            images,
+            live: Vec::with_capacity(alloc, MOST_LIVE)?,
+            next: 1,
+        })
+    }
+
+    /// Starts a process from the image of this name, and answers its number. With `attach` its thread is suspended,
+    /// else it runs. A refused call changes nothing; a refusal other than for want of memory is answered whatever the
+    /// memory.
+    #[tactic(auto, using(crate::proofs::Rising::orderly_push, crate::proofs::Found::next_unused))]
+    pub fn add(&mut self, file: &[u8], attach: bool) -> Result<u32, StartRefusal>
+        ensures refused { IfSome (refusal_of file.now self.old) (λ refusal. result ≡ Err refusal) }
+        ensures due { IfErr result (λ refusal. refusal ≢ StartRefusal.NoMemory → refusal_of file.now self.old ≡ Some refusal) }
+        ensures number { IfOk result (λ number. number ≡ self.old.next) }
+        ensures unused { IfOk result (λ number. IsLive number self.old.processes → ⊥) }
+        ensures started { OnOk result (self.new ≡ started file.now attach self.old) }
+        ensures kept { OnErr result (self.new ≡ self.old) }
+    {
+        let image = self.image_to_start(file)?;
+        let process = new_process(self.alloc, image, attach)?;
+        let number = self.next as u32;
+        self.live.push((number, process))?;
+        self.next += 1;
+        Ok(number)
+    }
+
+    /// Takes a live process away. The answer is `false` exactly where there is none of this number, and then nothing
+    /// changes. The number isn't used again.
+    #[tactic(auto, using(crate::proofs::Found::live_at, crate::proofs::Found::not_live))]
+    pub fn remove(&mut self, process: u32) -> bool
+        ensures found { IsTrue result ↔ IsLive process self.old.processes }
+        ensures after { self.new ≡ record self.old { processes = without process self.old.processes } }
+    {
+        match place_of(process, &self.live) {
+            Some(place) => {
+                let _ = self.live.remove(place);
+                true
+            }
+            None => false,
+        }
+    }
+
+    /// The live process of this number; `None` exactly where there is none.
+    #[tactic(auto, using(crate::proofs::Found::process_there, crate::proofs::Found::positive_there, crate::proofs::Found::live_at, crate::proofs::Found::not_live))]
+    pub fn process(&self, process: u32) -> Option<&Process>
+        ensures value { option_copied result ≡ process_of process self.now.processes }
+        ensures found { IsSome result ↔ IsLive process self.now.processes }
+        ensures positive { OnSome result (0 < process) }
+        ensures orderly { IsOrderly self.now.processes self.now.next }
+    {
+        let row = self.live.get(place_of(process, &self.live)?)?;
+        Some(&row.1)
+    }
+
+    /// The live process of this number, to be changed; `None` exactly where there is none. What is written changes
+    /// this one process, and no number.
+    #[tactic(auto, using(crate::proofs::Found::live_at, crate::proofs::Found::not_live))]
+    pub fn process_mut(&mut self, process: u32) -> Option<&mut Process>
+        ensures* writes_back { sem 𝓛 (LendsProcess self.entry process result) }
+        ensures value { option_map (λ p. p.now) result ≡ process_of process self.old.processes }
+        ensures found { IsSome result ↔ IsLive process self.old.processes }
+    {
+        let place = place_of(process, &self.live)?;
+        let row = self.live.get_mut(place)?;
+        Some(&mut row.1)
+    }
+
+    /// The numbers of the live processes, in order.
+    pub fn numbers(&self) -> Result<Vec<u32>, AllocError>
+        ensures numbers { IfOk result (λ numbers. numbers.items ≡ numbers_of self.now.processes) }
+        ensures orderly { IsOrderly self.now.processes self.now.next }
+    {
+        numbers_in(self.alloc, &self.live)
+    }
+
+    /// What RunControl tells of a live process, or of its thread, which has the number 1; `None` exactly where there
+    /// is no such process or thread.
+    pub fn context(&self, id: ContextId) -> Result<Option<ContextData>, AllocError>
+        ensures told { IfOk result (λ told. told ≡ context_of id self.now.processes) }
+        ensures found { IfOk result (λ told. IsSome told ↔ IsThere id self.now.processes) }
+    {
+        match id {
+            ContextId::Process(number) => match self.process(number) {
+                Some(process) => Ok(Some(process_data(self.alloc, number, process)?)),
+                None => Ok(None),
+            },
+            ContextId::Thread(number, THREAD) => match self.process(number) {
+                Some(process) => Ok(Some(thread_data(self.alloc, number, process)?)),
+                None => Ok(None),
+            },
+            ContextId::Thread(..) => Ok(None),
+        }
+    }
+
+    /// The image that a start of this name is to start from, where no refusal is due.
+    fn image_to_start(&self, file: &[u8]) -> Result<&Image, StartRefusal>
+        ensures refused { IfErr result (λ refusal. refusal_of file.now self.now ≡ Some refusal) }
+        ensures free { OnOk result (refusal_of file.now self.now ≡ None) }
+        ensures image { IfOk result (λ image. image_of file.now self.now.images ≡ Some image.now) }
+        ensures room { OnOk result (length self.now.processes < 64) }
+        ensures size { IfOk result (λ image. length image.now.bytes ≤ 65536) }
+        ensures number { OnOk result (self.now.next < 2 ^ 32) }
+    {
+        let image = image_of(file, &self.images).ok_or(StartRefusal::NoImage)?;
+        if self.live.len() >= MOST_LIVE {
+            return Err(StartRefusal::Full);
+        }
+        if image.bytes.len() > MOST_BYTES {
+            return Err(StartRefusal::Size);
+        }
+        if self.next > u64::from(u32::MAX) {
+            return Err(StartRefusal::Numbers);
+        }
+        Ok(image)
+    }
+}
+
+fn is_named(file: &[u8], image: &Image) -> bool
+    ensures { result ≡ is_named file.now image.now }
+{
+    let name = image.name.as_bytes();
+    name.len() <= MOST_BYTES && name == file
+}
+
+/// The first image of this name.
+fn image_of<'a>(file: &[u8], images: &'a [Image]) -> Option<&'a Image>
+    ensures { option_copied result ≡ image_of file.now images.now }
+{
+    images.iter().find(|image| is_named(file, image))
+}
+
+/// Where the process of this number stands among the live ones.
+fn place_of(number: u32, live: &[(u32, Process)]) -> Option<usize>
+    ensures { result ≡ place_of number live.now }
+{
+    live.iter().position(|row| row.0 == number)
+}
+
+fn numbers_in(alloc: Global, live: &[(u32, Process)]) -> Result<Vec<u32>, AllocError>
+    ensures { IfOk result (λ numbers. numbers.items ≡ numbers_of live.now) }
+{
+    let mut numbers = Vec::with_capacity(alloc, live.len())?;
+    for row in live {
+        numbers.push(row.0)?;
+    }
+    Ok(numbers)
+}
+
+#[cfg(test)]
+mod tests;

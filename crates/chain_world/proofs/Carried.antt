@@ -14,8 +14,7 @@ use Rattle.chain_world.specs.Marked.{Marked, unmarked}
 use Rattle.chain_world.specs.Hello.{greeting, locator, hello, client_services, is_greeting}
 use Rattle.chain_world.specs.History.{reading_of, opened_by}
 use Rattle.chain_world.specs.Agent.{agent_asked}
-use Rattle.chain_world.specs.WorldValue.{WorldValue}
-use Rattle.chain_world.specs.World.{with_agent, up_taken, all_up_taken}
+use Rattle.chain_world.proofs.Queues.{Queued, with_agent, up_taken}
 use Rattle.chain_world.specs.Lines.{Accepted, received}
 use Rattle.chain_world.specs.Ordered.{read}
 use Rattle.chain_world.proofs.HistoryRows.{told_push, executed_push, opens_push}
@@ -30,13 +29,13 @@ pub is_hello : is_greeting locator hello ≡ true
 is_hello = rw (bytes_eq_self locator, bytes_eq_self hello) refl
 
 -- a world in which the agent took the client's Hello, with these messages left in flight
-abbrev greeted : List Marked → WorldValue → WorldValue
+abbrev greeted : List Marked → Queued → Queued
 greeted ms w = record w { agent = record w.agent { state = Live }; up = ms; down = w.down ++ [] }
 
-took_hello : (w : WorldValue) (ms : List Marked) → Kept (greeted ms w) → Kept (up_taken (unmarked (greeting client_services)) (record w { up = ms }))
+took_hello : (w : Queued) (ms : List Marked) → Kept (greeted ms w) → Kept (up_taken (unmarked (greeting client_services)) (record w { up = ms }))
 took_hello w ms k = rw is_hello k
 
-waking_greeted : (w : WorldValue) → Waking w → Waking (greeted [] w)
+waking_greeted : (w : Queued) → Waking w → Waking (greeted [] w)
 waking_greeted w k =
     record {
       common = k.common;
@@ -52,7 +51,7 @@ waking_greeted w k =
       no_mark = k.no_mark;
     }
 
-awake_greeted : (w : WorldValue) (ms : List Marked) (k : Awake w) → ms ≡ map message_of k.going → Awake (greeted ms w)
+awake_greeted : (w : Queued) (ms : List Marked) (k : Awake w) → ms ≡ map message_of k.going → Awake (greeted ms w)
 awake_greeted w ms k left =
     record {
       common = k.common;
@@ -91,7 +90,7 @@ abbrev coming_of : Accepted → List Input → Coming
 coming_of c history = record { command = c; position = length history + 1 }
 
 -- a world in which the agent executed a command, with these messages left in flight
-abbrev asked : Accepted → List Marked → WorldValue → WorldValue
+abbrev asked : Accepted → List Marked → Queued → Queued
 asked c ms w =
     record w {
       agent = record w.agent { history = w.agent.history ++ executed c ∷ [] };
@@ -99,7 +98,7 @@ asked c ms w =
       down = w.down ++ reply_of (coming_of c w.agent.history) ∷ [];
     }
 
-awake_asked : (w : WorldValue) (c : Accepted) (going : List Accepted) (ms : List Marked) (k : Awake w) → w.agent.state ≡ Live
+awake_asked : (w : Queued) (c : Accepted) (going : List Accepted) (ms : List Marked) (k : Awake w) → w.agent.state ≡ Live
     → k.going ≡ c ∷ going → ms ≡ map message_of going → Awake (asked c ms w)
 awake_asked w c going ms k live first left =
     let history : List Input = w.agent.history in
@@ -133,7 +132,7 @@ awake_asked w c going ms k live first left =
     }
 
 -- the first message in flight up is taken
-waking_up : (w : WorldValue) (m : Marked) (ms : List Marked) (e : EndState) → w.agent.state ≡ e → m ∷ ms ≡ hello_up e → Waking w
+waking_up : (w : Queued) (m : Marked) (ms : List Marked) (e : EndState) → w.agent.state ≡ e → m ∷ ms ≡ hello_up e → Waking w
     → Kept (up_taken m (record w { up = ms }))
 waking_up w m ms Unopened state up k = let connected : IsConnected Unopened = rw state at k.connected in absurd connected
 waking_up w m ms Live state up k = cc
@@ -143,7 +142,7 @@ waking_up w m ms Opening state up k =
     rw (first, left) (took_hello w [] (waking (waking_greeted w k)))
 
 -- a command at an agent that is Live
-took_command : (w : WorldValue) (c : Accepted) (ms : List Marked) → w.agent.state ≡ Live → Kept (asked c ms w) → Kept (up_taken (message_of c) (record w { up = ms }))
+took_command : (w : Queued) (c : Accepted) (ms : List Marked) → w.agent.state ≡ Live → Kept (asked c ms w) → Kept (up_taken (message_of c) (record w { up = ms }))
 took_command w c ms live k = by_state w.agent.state live
   where
     by_state : (e : EndState) → e ≡ Live → Kept (with_agent (agent_asked e (decimal c.number) c.service c.name w.agent) (record w { up = ms }))
@@ -151,7 +150,7 @@ took_command w c ms live k = by_state w.agent.state live
     by_state Unopened is = cc
     by_state Opening is = cc
 
-awake_up : (w : WorldValue) (m : Marked) (ms : List Marked) (e : EndState) (going : List Accepted) (k : Awake w) → w.agent.state ≡ e
+awake_up : (w : Queued) (m : Marked) (ms : List Marked) (e : EndState) (going : List Accepted) (k : Awake w) → w.agent.state ≡ e
     → k.going ≡ going → m ∷ ms ≡ hello_up e ++ map message_of going → Kept (up_taken m (record w { up = ms }))
 awake_up w m ms Unopened going k state is up = let connected : IsConnected Unopened = rw state at k.connected in absurd connected
 awake_up w m ms Opening going k state is up =
@@ -164,11 +163,7 @@ awake_up w m ms Live (c ∷ going) k state is up =
     let left : ms ≡ map message_of going = cc in
     rw first (took_command w c ms state (awake (awake_asked w c going ms k state is left)))
 
-up_kept : (w : WorldValue) (m : Marked) (ms : List Marked) → w.up ≡ m ∷ ms → Kept w → Kept (up_taken m (record w { up = ms }))
+pub up_kept : (w : Queued) (m : Marked) (ms : List Marked) → w.up ≡ m ∷ ms → Kept w → Kept (up_taken m (record w { up = ms }))
 up_kept w m ms up (sleeping k) = let nothing : [] ≡ m ∷ ms = sym k.up ∙ up in cc
 up_kept w m ms up (waking k) = waking_up w m ms w.agent.state refl (sym up ∙ k.up) k
 up_kept w m ms up (awake k) = awake_up w m ms w.agent.state k.going k refl refl (sym up ∙ k.up)
-
-pub all_up_kept : (ms : List Marked) (w : WorldValue) → w.up ≡ ms → Kept w → Kept (all_up_taken ms w)
-all_up_kept [] w up k = subst (λ (ms : List Marked). Kept (record w { up = ms })) up k
-all_up_kept (m ∷ ms) w up k = all_up_kept ms (up_taken m (record w { up = ms })) refl (up_kept w m ms up k)

@@ -1,4 +1,4 @@
-use Rattle.std.proofs.Common.{◌≡◌, ℕ, ◌+◌, ◌<◌, ◌≤◌, List, [], ◌∷◌, ◌++◌, length, Bool, true, false, Ok, refl, ap, ◌∙◌, arith, eqb, if◌then◌else◌, length-append}
+use Rattle.std.proofs.Common.{◌≡◌, ℕ, ◌+◌, ◌<◌, ◌≤◌, List, [], ◌∷◌, ◌++◌, length, Bool, true, false, Ok, refl, sym, ap, ◌∙◌, arith, eqb, if◌then◌else◌, length-append}
 use Rattle.std.specs.Prelude.{ℤ, pos, negsuc}
 use Rattle.std.proofs.lemmas.Int.{ints}
 use lib.Signed.{mag}
@@ -10,6 +10,8 @@ use Rattle.stream_escape.specs.declared.stream.TheConstants.{MESSAGE_LIMIT}
 use Rattle.stream_escape.specs.declared.stream.Item.{Item}
 use Rattle.stream_escape.specs.declared.stream.Item.TheVariants.{Message}
 use Rattle.tcf_message.specs.Message.{MessageValue, command, final, progress, not_known, event, flow, IsWellFormed, spelling, reading}
+use Rattle.chain_world.specs.Marked.{Marked}
+use Rattle.chain_world.specs.Lane.{frame_of, size_of, IsFramed}
 use Rattle.chain_world.specs.Packet.{unframed, said_by, IsSpelling, message_in, IsFrame}
 
 -- one byte of a message, which is the escape or another
@@ -58,6 +60,23 @@ spelling_within (progress token body) formed = simp length-append (omega (arith,
 spelling_within (not_known token) formed = simp length-append (omega (arith, formed))
 spelling_within (event service name body) formed = simp length-append (omega (arith, formed))
 spelling_within (flow level) formed = simp length-append (omega (arith, length_signed_le 3 level (level_within level formed) (omega (arith, level_within level formed))))
+
+-- the bytes of a packet are those of its message
+pub frame_is : (m : Marked) → frame_of m ≡ framed (spelling m.message)
+unfolding frame_of
+frame_is m = refl
+
+pub packet_framed : (bytes raw : List ℕ) (m : MessageValue) → IsWellFormed m → bytes ≡ framed (spelling m) → raw ≡ bytes → IsFramed raw
+packet_framed bytes raw m formed is same = record { message = spelling m; within = spelling_within m formed; frame = same ∙ is }
+
+-- a message has two bytes or more on the stream
+pub size_some : (m : Marked) → 0 < size_of m
+unfolding frame_of
+size_some m = omega (arith, length-append (escaped (spelling m.message)) (3 ∷ 1 ∷ []))
+
+-- two messages with one frame are one
+pub framed_same : (a b : List ℕ) → framed a ≡ framed b → a ≡ b
+framed_same a b same = sym (unframed_frame a) ∙ (ap (unframed false) same ∙ unframed_frame b)
 
 -- a message that is escaped into an empty list, and marked off, is framed
 pub written_frame : (raw none part bytes : List ℕ) (m : MessageValue) → raw ≡ spelling m → none ≡ [] → part ≡ none ++ escaped raw → bytes ≡ part ++ 3 ∷ 1 ∷ []

@@ -6,15 +6,18 @@ use Rattle.std.specs.Prelude.{Option, None, Some, if◌then◌else◌, ◌==◌}
 use Rattle.std.specs.List.{flat_map, filter, list_any, last_or, Contains}
 use Rattle.tcf_text.specs.declared.log.LogLine.{LogLine}
 use Rattle.tcf_text.specs.declared.log.LogLine.TheVariants.{Closed, Ended}
-use Rattle.tcf_text.specs.declared.schedule.ScheduleStep.{ScheduleStep}
-use Rattle.tcf_text.specs.declared.schedule.ScheduleStep.TheVariants.{Opens, Send, Rounds}
+use Rattle.tcf_text.specs.Plan.{Plan, opens, send, deliver, rounds as plan_rounds, times}
 use Rattle.chain_world.specs.declared.history.Input.{Input}
 use Rattle.chain_world.specs.declared.history.Input.TheVariants.{Opened}
 use Rattle.chain_world.specs.Each.{Each}
 use Rattle.chain_world.specs.History.{MayCome}
 use Rattle.chain_world.specs.AgentValue.{AgentValue}
 use Rattle.chain_world.specs.WorldValue.{WorldValue}
-use Rattle.chain_world.specs.World.{new_world, carried_up, round, rounds, played, run}
+use Rattle.chain_world.specs.Marked.{Marked}
+use Rattle.chain_world.specs.Client.{client_sent, client_took}
+use Rattle.chain_world.specs.Agent.{agent_took}
+use Rattle.chain_world.specs.World as world
+use Rattle.chain_world.specs.World.{new_world, up_arrived, down_arrived, taken_up, taken_down, all_up_taken, all_down_taken, round, repeated, played, run}
 use Rattle.chain_world.specs.Lines.{Accepted, accepted, from_hello, bare_answer_of}
 use Rattle.chain_world.specs.Once.{Once, AnswersPending, is_end, numbers, EndsAll, NothingAfterEnd, ClosesBeforeEnd, IsNoClosed, GoesOnFrom}
 use Rattle.chain_world.specs.Ordered.{IsPlaced, FollowsTarget, IsChannelOf, OpensAt, through, read}
@@ -22,29 +25,57 @@ use Rattle.chain_world.specs.Headline.{IsFaithful, HoldsAfterEverySchedule}
 use Rattle.chain_world.proofs.Rows.{each_nothing, each_weaker, subsequence_of_prefix}
 use Rattle.chain_world.proofs.LogRows.{no_binding}
 use Rattle.chain_world.proofs.Steps.{sent_kept, opened_kept}
-use Rattle.chain_world.proofs.Carried.{all_up_kept}
-use Rattle.chain_world.proofs.Taken.{all_down_kept}
+use Rattle.chain_world.proofs.Carried.{up_kept}
+use Rattle.chain_world.proofs.Taken.{down_kept}
+use Rattle.chain_world.proofs.Queues.{Queued, queued, client_queued, agent_queued, opened_queued, delivered_queued, up_arrived_queued, down_arrived_queued}
 use Rattle.chain_world.proofs.Kept.{Kept, sleeping, waking, awake, Awake, Common, commands_of, told_as, is_closed}
 
 -- ---- Every schedule
 
-round_kept : (w : WorldValue) → Kept w → Kept (round w)
-round_kept w k = all_down_kept (carried_up w).down (carried_up w) refl (all_up_kept w.up w refl k)
+-- what is kept of a world, which doesn't depend on what has come
+abbrev KeptIn : WorldValue → Type 0
+KeptIn w = Kept (queued w)
 
-rounds_kept : (n : ℕ) (w : WorldValue) → Kept w → Kept (rounds n w)
-rounds_kept zero w k = k
-rounds_kept (suc n) w k = rounds_kept n (round w) (round_kept w k)
+all_up_kept : (ms : List Marked) (w : WorldValue) → w.up.inbox ≡ ms → KeptIn w → KeptIn (all_up_taken ms w)
+all_up_kept [] w is k = subst (λ inbox. Kept (record (queued w) { up = inbox ++ w.up.flight })) is k
+all_up_kept (m ∷ ms) w is k =
+    let v : WorldValue = record w { up = record w.up { inbox = ms } } in
+    let first : (queued w).up ≡ m ∷ (ms ++ w.up.flight) = ap (λ inbox. inbox ++ w.up.flight) is in
+    all_up_kept ms (world.up_taken m v) refl
+    (subst Kept (sym (agent_queued (agent_took m.message w.agent) v)) (up_kept (queued w) m (ms ++ w.up.flight) first k))
 
-played_kept : (step : ScheduleStep) (w : WorldValue) → Kept w → Kept (played step w)
-played_kept (Opens chain) w k = opened_kept w w.client.state refl k
-played_kept (Send chain service name body) w k = sent_kept w service name body k
-played_kept (Rounds count) w k = rounds_kept count w k
+all_down_kept : (ms : List Marked) (w : WorldValue) → w.down.inbox ≡ ms → KeptIn w → KeptIn (all_down_taken ms w)
+all_down_kept [] w is k = subst (λ inbox. Kept (record (queued w) { down = inbox ++ w.down.flight })) is k
+all_down_kept (m ∷ ms) w is k =
+    let v : WorldValue = record w { down = record w.down { inbox = ms } } in
+    let first : (queued w).down ≡ m ∷ (ms ++ w.down.flight) = ap (λ inbox. inbox ++ w.down.flight) is in
+    all_down_kept ms (world.down_taken m v) refl
+    (subst Kept (sym (client_queued (client_took m.message m.mark w.client) v)) (down_kept (queued w) m (ms ++ w.down.flight) first k))
 
-run_kept : (steps : List ScheduleStep) (w : WorldValue) → Kept w → Kept (run steps w)
+round_kept : (w : WorldValue) → KeptIn w → KeptIn (round w)
+round_kept w k =
+    let a : WorldValue = up_arrived w in
+    let b : WorldValue = taken_up a in
+    let c : WorldValue = down_arrived b in
+    all_down_kept c.down.inbox c refl (subst Kept (sym (down_arrived_queued b)) (all_up_kept a.up.inbox a refl (subst Kept (sym (up_arrived_queued w)) k)))
+
+repeated_kept : (n : ℕ) (f : WorldValue → WorldValue) → ((v : WorldValue) → KeptIn v → KeptIn (f v)) → (w : WorldValue) → KeptIn w → KeptIn (repeated n f w)
+repeated_kept zero f keeps w k = k
+repeated_kept (suc n) f keeps w k = repeated_kept n f keeps (f w) (keeps w k)
+
+played_kept : (plan : Plan) (w : WorldValue) → KeptIn w → KeptIn (played plan w)
+played_kept (opens chain) w k = subst Kept (sym (opened_queued w.client.state w)) (opened_kept (queued w) w.client.state refl k)
+played_kept (send chain service name body) w k =
+    subst Kept (sym (client_queued (client_sent w.client service name body) w)) (sent_kept (queued w) service name body k)
+played_kept (deliver chain hop up count) w k = subst Kept (sym (delivered_queued w.client.state up count w)) k
+played_kept (plan_rounds count) w k = repeated_kept count round round_kept w k
+played_kept (times count plan) w k = repeated_kept count (played plan) (played_kept plan) w k
+
+run_kept : (plans : List Plan) (w : WorldValue) → KeptIn w → KeptIn (run plans w)
 run_kept [] w k = k
-run_kept (step ∷ steps) w k = run_kept steps (played step w) (played_kept step w k)
+run_kept (plan ∷ plans) w k = run_kept plans (played plan w) (played_kept plan w k)
 
-new_kept : Kept new_world
+new_kept : KeptIn new_world
 new_kept =
     sleeping (record {
       common = record {
@@ -140,10 +171,10 @@ one_channel history j k a b =
     at_first i [] after e place = e
     at_first i (x ∷ before) after e place = absurd (omega arith)
 
-awake_channel : (w : WorldValue) → Awake w → IsChannelOf w.client.log w.agent.history 0
+awake_channel : (w : Queued) → Awake w → IsChannelOf w.client.log w.agent.history 0
 awake_channel w k = record { position = 1; hello = k.hello; opened = k.opens }
 
-awake_follows : (w : WorldValue) (j : ℕ) → Awake w → IsChannelOf w.client.log w.agent.history j → FollowsTarget w.client.log w.agent.history j
+awake_follows : (w : Queued) (j : ℕ) → Awake w → IsChannelOf w.client.log w.agent.history j → FollowsTarget w.client.log w.agent.history j
 awake_follows w j k is =
     let position : is.position ≡ 1 = let both : Some is.position ≡ Some 1 = sym is.hello ∙ k.hello in cc in
     let opened : OpensAt w.agent.history 1 j = subst (λ (p : ℕ). OpensAt w.agent.history p j) position is.opened in
@@ -188,7 +219,7 @@ only_one x k (suc i) lt e = absurd (omega arith)
 only_channel : (k : ℕ) → Contains (0 ∷ []) k → k ≡ 0
 only_channel k h = only_one 0 k h.0 h.1 h.2
 
-faithful : (w : WorldValue) → Kept w → IsFaithful w
+faithful : (w : WorldValue) → KeptIn w → IsFaithful w
 faithful w (sleeping k) =
     let none : from_hello w.client.log ≡ [] = no_binding w.client.log k.no_hello in
     let history : w.agent.history ≡ [] = ap (λ (a : AgentValue). a.history) k.agent in
@@ -218,10 +249,10 @@ faithful w (awake k) =
       once = once_kept w.client.log w.agent.history w.client.accepted k.common;
       ordered = record {
         positions = k.common.placed;
-        follows = λ j is. awake_follows w j k is;
-        others = λ j h not. absurd (not (subst (λ (i : ℕ). IsChannelOf w.client.log w.agent.history i) (sym (only_channel j h)) (awake_channel w k)));
+        follows = λ j is. awake_follows (queued w) j k is;
+        others = λ j h not. absurd (not (subst (λ (i : ℕ). IsChannelOf w.client.log w.agent.history i) (sym (only_channel j h)) (awake_channel (queued w) k)));
       };
     }
 
 pub every_schedule : HoldsAfterEverySchedule
-every_schedule steps = faithful (run steps new_world) (run_kept steps new_world new_kept)
+every_schedule plans = faithful (run plans new_world) (run_kept plans new_world new_kept)

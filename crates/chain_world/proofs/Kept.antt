@@ -16,7 +16,7 @@ use Rattle.chain_world.specs.Hello.{greeting, agent_services, client_services}
 use Rattle.chain_world.specs.History.{Told, answer_at, reading_of, sent, executed_on, opened_by, IsLegal}
 use Rattle.chain_world.specs.Client.{command_message}
 use Rattle.chain_world.specs.Agent.{reply_to, new_agent}
-use Rattle.chain_world.specs.WorldValue.{WorldValue}
+use Rattle.chain_world.proofs.Queues.{Queued}
 use Rattle.chain_world.specs.Lines.{Accepted, accepted, finals, received, from_hello, last_mark, is_placed_hello, answer_of, bare_answer_of}
 use Rattle.chain_world.specs.Once.{numbers, is_end, AnswersPending}
 use Rattle.chain_world.specs.Ordered.{IsPlaced, OpensAt, hello_position, read}
@@ -81,7 +81,7 @@ pub record Common (log : List LogLine) (history : List Input) (count : ℕ) : Ty
   pub bare : flat_map bare_answer_of log ≡ []
 
 -- the client isn't connected
-pub record Sleeping (w : WorldValue) : Type 0 where
+pub record Sleeping (w : Queued) : Type 0 where
   pub common : Common w.client.log w.agent.history w.client.accepted
   pub state : w.client.state ≡ Unopened
   pub agent : w.agent ≡ new_agent
@@ -95,7 +95,7 @@ pub record Sleeping (w : WorldValue) : Type 0 where
   pub no_mark : last_mark w.client.log ≡ None
 
 -- the agent's Hello is on its way to the client
-pub record Waking (w : WorldValue) : Type 0 where
+pub record Waking (w : Queued) : Type 0 where
   pub common : Common w.client.log w.agent.history w.client.accepted
   pub state : w.client.state ≡ Opening
   pub connected : IsConnected w.agent.state
@@ -110,7 +110,7 @@ pub record Waking (w : WorldValue) : Type 0 where
 
 -- The agent's Hello has come. The accepted commands are those that are done, those whose answers come, and those
 -- that go up, in this order.
-pub record Awake (w : WorldValue) : Type 0 where
+pub record Awake (w : Queued) : Type 0 where
   pub common : Common w.client.log w.agent.history w.client.accepted
   pub state : w.client.state ≡ Live
   pub connected : IsConnected w.agent.state
@@ -134,7 +134,7 @@ pub record Awake (w : WorldValue) : Type 0 where
   pub last_is : last_mark w.client.log ≡ Some (Some last)
   pub rises : Rises last coming (length w.agent.history)
 
-pub data Kept (w : WorldValue) : Type 0 where
+pub data Kept (w : Queued) : Type 0 where
   sleeping : Sleeping w → Kept w
   waking : Waking w → Kept w
   awake : Awake w → Kept w

@@ -1,6 +1,12 @@
 pub mod Frames
 pub mod Greetings
-pub mod Rounds
+pub mod Pieces
+pub mod Receiving
+pub mod Lanes
+pub mod Queues
+pub mod Repeats
+pub mod Playing
+pub mod Deliveries
 pub mod Rows
 pub mod LogRows
 pub mod HistoryRows

@@ -13,8 +13,7 @@ use Rattle.chain_world.specs.declared.history.Input.TheVariants.{Opened}
 use Rattle.chain_world.specs.AgentValue.{AgentValue}
 use Rattle.chain_world.specs.History.{opened_by}
 use Rattle.chain_world.specs.Client.{client_sent, client_sent_or, refusal, waiting_at, going_at}
-use Rattle.chain_world.specs.WorldValue.{WorldValue}
-use Rattle.chain_world.specs.World.{opened_from, with_client}
+use Rattle.chain_world.proofs.Queues.{Queued, opened_from, with_client}
 use Rattle.chain_world.specs.Lines.{Accepted, accepted, accepted_by, final_of, finals, from_hello, received, told_of, answer_of, last_mark, mark_of, is_placed_hello}
 use Rattle.chain_world.specs.Once.{numbers}
 use Rattle.chain_world.specs.Ordered.{hello_position}
@@ -23,7 +22,7 @@ use Rattle.chain_world.proofs.CommonRows.{common_line, common_input, same_accept
 use Rattle.chain_world.proofs.Kept.{Kept, sleeping, waking, awake, Sleeping, Waking, Awake, Common, Counts, commands_of, message_of, pending_of}
 
 -- a world whose client logs that it refuses a command
-abbrev refused_in : RefusedWhy → WorldValue → WorldValue
+abbrev refused_in : RefusedWhy → Queued → Queued
 refused_in why w = with_client (record { node = record w.client { log = w.client.log ++ Refused why ∷ [] }; queued = [] }) w
 
 common_refused : (log : List LogLine) (history : List Input) (count : ℕ) (why : RefusedWhy) → Common log history count → Common (log ++ Refused why ∷ []) history count
@@ -38,7 +37,7 @@ no_finals log x none = flat_push final_of log x ∙ rw none (append-nil (finals 
 no_mark : (log : List LogLine) (x : LogLine) → mark_of x ≡ None → last_mark (log ++ x ∷ []) ≡ last_mark log
 no_mark log x none = rw (last_mark_push log x, none) refl
 
-sleeping_refused : (w : WorldValue) (why : RefusedWhy) → Sleeping w → Sleeping (refused_in why w)
+sleeping_refused : (w : Queued) (why : RefusedWhy) → Sleeping w → Sleeping (refused_in why w)
 sleeping_refused w why k =
     record {
       common = common_refused w.client.log w.agent.history w.client.accepted why k.common;
@@ -54,7 +53,7 @@ sleeping_refused w why k =
       no_mark = no_mark w.client.log (Refused why) refl ∙ k.no_mark;
     }
 
-waking_refused : (w : WorldValue) (why : RefusedWhy) → Waking w → Waking (refused_in why w)
+waking_refused : (w : Queued) (why : RefusedWhy) → Waking w → Waking (refused_in why w)
 waking_refused w why k =
     let same : accepted (w.client.log ++ Refused why ∷ []) ≡ accepted w.client.log = same_accepted w.client.log (Refused why) refl in
     record {
@@ -84,7 +83,7 @@ pub hello_stays : (log : List LogLine) (x : LogLine) → list_any is_placed_hell
     → hello_position (from_hello log) ≡ Some 1 → hello_position (from_hello (log ++ x ∷ [])) ≡ Some 1
 hello_stays log x has off hello = rw (binding_push log x has off) (hello_push (from_hello log) x 1 hello)
 
-awake_refused : (w : WorldValue) (why : RefusedWhy) → Awake w → Awake (refused_in why w)
+awake_refused : (w : Queued) (why : RefusedWhy) → Awake w → Awake (refused_in why w)
 awake_refused w why k =
     let log : List LogLine = w.client.log in
     let x : LogLine = Refused why in
@@ -114,7 +113,7 @@ awake_refused w why k =
     }
 
 -- the command that a client accepts next
-abbrev next_of : WorldValue → List ℕ → List ℕ → List ℕ → Accepted
+abbrev next_of : Queued → List ℕ → List ℕ → List ℕ → Accepted
 next_of w service name body = record { number = w.client.accepted + 1; service = service; name = name; body = body }
 
 abbrev sent_line : Accepted → LogLine
@@ -135,7 +134,7 @@ common_sent log history count c number k =
     counted = rw same (counts_push 0 count (numbers (accepted log)) k.counted)
 
 -- a world whose client accepts a command in the state Opening
-abbrev held_in : Accepted → WorldValue → WorldValue
+abbrev held_in : Accepted → Queued → Queued
 held_in c w =
     with_client (record {
       node = record w.client {
@@ -147,7 +146,7 @@ held_in c w =
       queued = [];
     }) w
 
-waking_held : (w : WorldValue) (c : Accepted) → c.number ≡ w.client.accepted + 1 → Waking w → Waking (held_in c w)
+waking_held : (w : Queued) (c : Accepted) → c.number ≡ w.client.accepted + 1 → Waking w → Waking (held_in c w)
 waking_held w c number k =
     let log : List LogLine = w.client.log in
     let x : LogLine = sent_line c in
@@ -166,7 +165,7 @@ waking_held w c number k =
     }
 
 -- a world whose client accepts a command in the state Live
-abbrev gone_in : Accepted → WorldValue → WorldValue
+abbrev gone_in : Accepted → Queued → Queued
 gone_in c w =
     with_client (record {
       node = record w.client {
@@ -178,7 +177,7 @@ gone_in c w =
       queued = message_of c ∷ [];
     }) w
 
-awake_gone : (w : WorldValue) (c : Accepted) → c.number ≡ w.client.accepted + 1 → Awake w → Awake (gone_in c w)
+awake_gone : (w : Queued) (c : Accepted) → c.number ≡ w.client.accepted + 1 → Awake w → Awake (gone_in c w)
 awake_gone w c number k =
     let log : List LogLine = w.client.log in
     let x : LogLine = sent_line c in
@@ -207,13 +206,13 @@ awake_gone w c number k =
       rises = k.rises;
     }
 
-refused_kept : (w : WorldValue) (why : RefusedWhy) → Kept w → Kept (refused_in why w)
+refused_kept : (w : Queued) (why : RefusedWhy) → Kept w → Kept (refused_in why w)
 refused_kept w why (sleeping k) = sleeping (sleeping_refused w why k)
 refused_kept w why (waking k) = waking (waking_refused w why k)
 refused_kept w why (awake k) = awake (awake_refused w why k)
 
 -- a world whose client accepts a command where its end stands so
-abbrev accepted_in : EndState → Accepted → WorldValue → WorldValue
+abbrev accepted_in : EndState → Accepted → Queued → Queued
 accepted_in e c w =
     with_client (record {
       node = record w.client {
@@ -225,7 +224,7 @@ accepted_in e c w =
       queued = going_at e (message_of c ∷ []);
     }) w
 
-accepted_kept : (w : WorldValue) (c : Accepted) (e : EndState) → c.number ≡ w.client.accepted + 1 → w.client.state ≡ e
+accepted_kept : (w : Queued) (c : Accepted) (e : EndState) → c.number ≡ w.client.accepted + 1 → w.client.state ≡ e
     → refusal e w.client c.service c.name c.body ≡ None → Kept w → Kept (accepted_in e c w)
 accepted_kept w c Unopened number state none k = cc
 accepted_kept w c Opening number state none (sleeping k) = let other : Opening ≡ Unopened = sym state ∙ k.state in cc
@@ -236,7 +235,7 @@ accepted_kept w c Live number state none (waking k) = let other : Live ≡ Openi
 accepted_kept w c Live number state none (awake k) = awake (awake_gone w c number k)
 
 -- a command is sent
-pub sent_kept : (w : WorldValue) (service name body : List ℕ) → Kept w → Kept (with_client (client_sent w.client service name body) w)
+pub sent_kept : (w : Queued) (service name body : List ℕ) → Kept w → Kept (with_client (client_sent w.client service name body) w)
 sent_kept w service name body k = by_refusal (refusal w.client.state w.client service name body) refl
   where
     by_refusal : (r : Option RefusedWhy) → refusal w.client.state w.client service name body ≡ r → Kept (with_client (client_sent_or r w.client service name body) w)
@@ -244,7 +243,7 @@ sent_kept w service name body k = by_refusal (refusal w.client.state w.client se
     by_refusal None is = accepted_kept w (next_of w service name body) w.client.state refl refl is k
 
 -- the client connects
-sleeping_opened : (w : WorldValue) → Sleeping w → Waking (opened_from Unopened w)
+sleeping_opened : (w : Queued) → Sleeping w → Waking (opened_from Unopened w)
 sleeping_opened w k =
     let history : w.agent.history ≡ [] = ap (λ (a : AgentValue). a.history) k.agent in
     let none : accepted w.client.log ≡ [] = k.commands in
@@ -265,7 +264,7 @@ sleeping_opened w k =
     nobody : w.agent.history ≡ [] → Contains (flat_map opened_by w.agent.history) 0 → ⊥
     nobody e h = let within : h.0 < length (flat_map opened_by w.agent.history) = h.1 in let empty : h.0 < 0 = rw e at within in absurd (omega arith)
 
-pub opened_kept : (w : WorldValue) (e : EndState) → w.client.state ≡ e → Kept w → Kept (opened_from e w)
+pub opened_kept : (w : Queued) (e : EndState) → w.client.state ≡ e → Kept w → Kept (opened_from e w)
 opened_kept w Unopened state (sleeping k) = waking (sleeping_opened w k)
 opened_kept w Unopened state (waking k) = let other : Unopened ≡ Opening = sym state ∙ k.state in cc
 opened_kept w Unopened state (awake k) = let other : Unopened ≡ Live = sym state ∙ k.state in cc

@@ -19,8 +19,7 @@ use Rattle.chain_world.specs.History.{reading_of, executed_on, sent}
 use Rattle.chain_world.specs.ClientValue.{ClientValue}
 use Rattle.chain_world.specs.Client.{client_took, place_of, answered_at}
 use Rattle.chain_world.specs.Agent.{reply_to}
-use Rattle.chain_world.specs.WorldValue.{WorldValue}
-use Rattle.chain_world.specs.World.{down_taken, all_down_taken}
+use Rattle.chain_world.proofs.Queues.{Queued, down_taken}
 use Rattle.chain_world.specs.Lines.{Accepted, accepted, accepted_by, final_of, received, from_hello, told_of, answer_of, bare_answer_of, last_mark, mark_of, is_placed_hello}
 use Rattle.chain_world.specs.Once.{numbers, is_end, AnswersPending, IsPending}
 use Rattle.chain_world.specs.Ordered.{OpensAt, IsPlaced, ComesAfter, hello_position, read}
@@ -35,7 +34,7 @@ abbrev hello_line : LogLine
 hello_line = Hello (Some 1) agent_services
 
 -- a world whose client took the agent's Hello
-abbrev woken : WorldValue → WorldValue
+abbrev woken : Queued → Queued
 woken w =
     record w {
       client = record w.client { state = Live; held = []; log = w.client.log ++ hello_line ∷ [] };
@@ -43,7 +42,7 @@ woken w =
       down = [];
     }
 
-waking_woken : (w : WorldValue) → Waking w → Awake (woken w)
+waking_woken : (w : Queued) → Waking w → Awake (woken w)
 waking_woken w k =
     let log : List LogLine = w.client.log in
     let history : List Input = w.agent.history in
@@ -76,7 +75,7 @@ waking_woken w k =
       rises = rw k.history (omega arith);
     }
 
-waking_down : (w : WorldValue) (m : Marked) (ms : List Marked) → w.down ≡ m ∷ ms → Waking w → Kept (down_taken m (record w { down = ms }))
+waking_down : (w : Queued) (m : Marked) (ms : List Marked) → w.down ≡ m ∷ ms → Waking w → Kept (down_taken m (record w { down = ms }))
 waking_down w m ms down k =
     let both : m ∷ ms ≡ hello_down ∷ [] = sym down ∙ k.down in
     let first : m ≡ hello_down = cc in
@@ -103,7 +102,7 @@ record IsLineOf (x : Coming) (line : LogLine) : Type 0 where
   places : (history : List Input) (log : List LogLine) → ComesAfter (last_mark log) (Some x.position) → IsPlaced history log line
 
 -- a world whose client took the answer to its first pending command
-abbrev answered_in : LogLine → List Pending → List Marked → WorldValue → WorldValue
+abbrev answered_in : LogLine → List Pending → List Marked → Queued → Queued
 answered_in line pending ms w =
     record w {
       client = record w.client { pending = pending; log = w.client.log ++ line ∷ [] };
@@ -111,7 +110,7 @@ answered_in line pending ms w =
       down = ms;
     }
 
-awake_answered : (w : WorldValue) (x : Coming) (xs : List Coming) (line : LogLine) (ms : List Marked) (k : Awake w) → k.coming ≡ x ∷ xs → IsLineOf x line
+awake_answered : (w : Queued) (x : Coming) (xs : List Coming) (line : LogLine) (ms : List Marked) (k : Awake w) → k.coming ≡ x ∷ xs → IsLineOf x line
     → ms ≡ map reply_of xs → Awake (answered_in line (map pending_of (commands_of xs ++ k.going)) ms w)
 awake_answered w x xs line ms k first is left =
     let log : List LogLine = w.client.log in
@@ -199,7 +198,7 @@ took_reply : (token : List ℕ) (r : Reading) (position : ℕ) (c : ClientValue)
 took_reply token (readings.Known Sync) position c = refl
 took_reply token readings.Unknown position c = refl
 
-awake_down : (w : WorldValue) (m : Marked) (ms : List Marked) (coming : List Coming) (k : Awake w) → k.coming ≡ coming → m ∷ ms ≡ map reply_of coming
+awake_down : (w : Queued) (m : Marked) (ms : List Marked) (coming : List Coming) (k : Awake w) → k.coming ≡ coming → m ∷ ms ≡ map reply_of coming
     → Kept (down_taken m (record w { down = ms }))
 awake_down w m ms [] k is down = cc
 awake_down w m ms (x ∷ xs) k is down =
@@ -211,11 +210,7 @@ awake_down w m ms (x ∷ xs) k is down =
     let after : Kept (answered_in (line_as x.position r x.command.number) rest ms w) = awake (awake_answered w x xs (line_as x.position r x.command.number) ms k is (is_line x r refl) left) in
     rw (first, took_reply (decimal x.command.number) r x.position w.client, first_answered w.client (line_as x.position r) x.command.number rest pending) after
 
-down_kept : (w : WorldValue) (m : Marked) (ms : List Marked) → w.down ≡ m ∷ ms → Kept w → Kept (down_taken m (record w { down = ms }))
+pub down_kept : (w : Queued) (m : Marked) (ms : List Marked) → w.down ≡ m ∷ ms → Kept w → Kept (down_taken m (record w { down = ms }))
 down_kept w m ms down (sleeping k) = let nothing : [] ≡ m ∷ ms = sym k.down ∙ down in cc
 down_kept w m ms down (waking k) = waking_down w m ms down k
 down_kept w m ms down (awake k) = awake_down w m ms k.coming k refl (sym down ∙ k.down)
-
-pub all_down_kept : (ms : List Marked) (w : WorldValue) → w.down ≡ ms → Kept w → Kept (all_down_taken ms w)
-all_down_kept [] w down k = subst (λ (ms : List Marked). Kept (record w { down = ms })) down k
-all_down_kept (m ∷ ms) w down k = all_down_kept ms (down_taken m (record w { down = ms })) refl (down_kept w m ms down k)

@@ -1,5 +1,5 @@
 use Rattle.std.specs.Prelude.{List, [], ◌∷◌}
-use Rattle.tcf_text.specs.declared.schedule.ScheduleStep.{ScheduleStep}
+use Rattle.tcf_text.specs.Plan.{Plan}
 use Rattle.chain_world.specs.History.{IsLegal}
 use Rattle.chain_world.specs.Agent.{the_channel}
 use Rattle.chain_world.specs.WorldValue.{WorldValue}
@@ -15,4 +15,4 @@ pub record IsFaithful (w : WorldValue) : Type 0 where
 
 -- It holds after every schedule.
 abbrev pub HoldsAfterEverySchedule : Type 0
-HoldsAfterEverySchedule = (steps : List ScheduleStep) → IsFaithful (run steps new_world)
+HoldsAfterEverySchedule = (plans : List Plan) → IsFaithful (run plans new_world)

@@ -7,6 +7,8 @@ pub mod ClientValue
 pub mod Client
 pub mod AgentValue
 pub mod Agent
+pub mod LaneValue
+pub mod Lane
 pub mod WorldValue
 pub mod World
 pub mod Lines

@@ -1,15 +1,16 @@
 //! The agent: the target's end of the channel, and the history of the target.
-ghost use Rattle.std.specs.Prelude.{◌≡◌, ◌++◌, ◌∷◌, [], OnOk};
+ghost use Rattle.std.specs.Prelude.{◌≡◌, ◌∷◌, [], OnOk};
 ghost use Rattle.tcf_message.specs.Message.{IsWellFormed, IsToken, value_of};
+ghost use Rattle.chain_world.specs.Lane.{queued_on};
 ghost use Rattle.chain_world.specs.Agent.{new_agent, at_next, agent_opened, reply_to, agent_executed, agent_asked, agent_took};
 
 use crate::end::EndState;
 use crate::hello::{agent_greeting, is_greeting};
 use crate::history::{Command, Input, Reading, reading_of};
+use crate::lane::Lane;
 use crate::packet::Packet;
-use crate::receiver::Receiver;
+use crate::received::Received;
 use std::alloc::{AllocError, Global};
-use std::collections::VecDeque;
 use std::marker::Model;
 use tcf_message::Message;
 use tcf_outside::Octets;
@@ -21,7 +22,6 @@ const THE_CHANNEL: u64 = 0;
 #[derive(Debug, Drop)]
 pub struct Agent {
     alloc: Global,
-    receiver: Receiver,
     state: EndState,
     history: Vec<Input>,
 }
@@ -41,16 +41,15 @@ impl Agent {
     {
         Agent {
             alloc,
-            receiver: Receiver::new(alloc),
             state: EndState::Unopened,
             history: Vec::new(alloc),
         }
     }
 
     /// Opens the channel, an input, and queues the agent's Hello with its position.
-    pub fn open(&mut self, down: &mut VecDeque<Packet>) -> Result<(), AllocError>
+    pub fn open(&mut self, down: &mut Lane) -> Result<(), AllocError>
         ensures node { OnOk result (self.new ≡ (agent_opened self.old).node) }
-        ensures queued { OnOk result (down.new.items ≡ down.old.items ++ (agent_opened self.old).queued) }
+        ensures queued { OnOk result (down.new ≡ queued_on (agent_opened self.old).queued down.old) }
     {
         self.tell(&agent_greeting(), down)?;
         self.history.push(Input::Opened(THE_CHANNEL))?;
@@ -58,13 +57,12 @@ impl Agent {
         Ok(())
     }
 
-    /// Takes the packet's message: a command is executed and answered once the other side's Hello has come, which
+    /// Takes the message: a command is executed and answered once the other side's Hello has come, which
     /// makes the end Live; what is neither is passed over.
-    pub fn take(&mut self, packet: &Packet, down: &mut VecDeque<Packet>) -> Result<(), AllocError>
-        ensures node { OnOk result (self.new ≡ (agent_took packet.now.message self.old).node) }
-        ensures queued { OnOk result (down.new.items ≡ down.old.items ++ (agent_took packet.now.message self.old).queued) }
+    pub fn take(&mut self, received: &Received, down: &mut Lane) -> Result<(), AllocError>
+        ensures node { OnOk result (self.new ≡ (agent_took received.now.message self.old).node) }
+        ensures queued { OnOk result (down.new ≡ queued_on (agent_took received.now.message self.old).queued down.old) }
     {
-        let received = self.receiver.receive(packet)?;
         self.handle(&received.message(), down)
     }
 
@@ -75,14 +73,10 @@ impl Agent {
         self.history.as_slice()
     }
 
-    fn handle(
-        &mut self,
-        message: &Message<'_>,
-        down: &mut VecDeque<Packet>,
-    ) -> Result<(), AllocError>
+    fn handle(&mut self, message: &Message<'_>, down: &mut Lane) -> Result<(), AllocError>
         requires { IsWellFormed (value_of message.now) }
         ensures node { OnOk result (self.new ≡ (agent_took (value_of message.now) self.old).node) }
-        ensures queued { OnOk result (down.new.items ≡ down.old.items ++ (agent_took (value_of message.now) self.old).queued) }
+        ensures queued { OnOk result (down.new ≡ queued_on (agent_took (value_of message.now) self.old).queued down.old) }
     {
         match *message {
             Message::Command {
@@ -107,11 +101,11 @@ impl Agent {
         token: &[u8],
         service: &[u8],
         name: &[u8],
-        down: &mut VecDeque<Packet>,
+        down: &mut Lane,
     ) -> Result<(), AllocError>
         requires { IsToken token.now }
         ensures node { OnOk result (self.new ≡ (agent_asked self.old.state token.now service.now name.now self.old).node) }
-        ensures queued { OnOk result (down.new.items ≡ down.old.items ++ (agent_asked self.old.state token.now service.now name.now self.old).queued) }
+        ensures queued { OnOk result (down.new ≡ queued_on (agent_asked self.old.state token.now service.now name.now self.old).queued down.old) }
     {
         match self.state {
             EndState::Live => self.execute(token, service, name, down),
@@ -125,11 +119,11 @@ impl Agent {
         token: &[u8],
         service: &[u8],
         name: &[u8],
-        down: &mut VecDeque<Packet>,
+        down: &mut Lane,
     ) -> Result<(), AllocError>
         requires { IsToken token.now }
         ensures node { OnOk result (self.new ≡ (agent_executed token.now service.now name.now self.old).node) }
-        ensures queued { OnOk result (down.new.items ≡ down.old.items ++ (agent_executed token.now service.now name.now self.old).queued) }
+        ensures queued { OnOk result (down.new ≡ queued_on (agent_executed token.now service.now name.now self.old).queued down.old) }
     {
         let reading = reading_of(service, name);
         self.tell(&reply_to(token, reading), down)?;
@@ -141,14 +135,13 @@ impl Agent {
     }
 
     /// Queues a message with the position of the input that comes next.
-    fn tell(&self, message: &Message<'_>, down: &mut VecDeque<Packet>) -> Result<(), AllocError>
+    fn tell(&self, message: &Message<'_>, down: &mut Lane) -> Result<(), AllocError>
         requires { IsWellFormed (value_of message.now) }
-        ensures { OnOk result (down.new.items ≡ down.old.items ++ at_next (value_of message.now) self.now ∷ []) }
+        ensures { OnOk result (down.new ≡ queued_on (at_next (value_of message.now) self.now ∷ []) down.old) }
     {
         let position = self.history.len() as u64 + 1;
         let packet = Packet::new(self.alloc, message, Some(position))?;
-        down.push_back(packet)?;
-        Ok(())
+        down.queue(packet)
     }
 }
 

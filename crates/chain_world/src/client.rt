@@ -1,15 +1,17 @@
 //! The scripted client.
-ghost use Rattle.std.specs.Prelude.{◌≡◌, ◌<◌, ◌++◌, ◌∷◌, [], length, None, OnOk, IfOk, IfSome};
+ghost use Rattle.std.specs.Prelude.{◌≡◌, ◌<◌, ◌∷◌, [], length, None, OnOk, IfOk, IfSome};
 ghost use Rattle.std.specs.Fmt.{decimal};
 ghost use Rattle.tcf_message.specs.Message.{HasNoZero, IsToken, IsWellFormed, value_of};
 ghost use Rattle.tcf_text.specs.declared.log.LogLine.TheVariants.{Sent, Event, Progress, Final, Unknown};
 ghost use Rattle.chain_world.specs.Client.{new_client, logged, client_opened, limit_of, refusal, waiting_at, going_at, command_message, client_accepted, client_sent, place_of, answered_at, progress_at, client_heard, client_took};
+ghost use Rattle.chain_world.specs.Lane.{queued_on};
 ghost use Rattle.chain_world.specs.Marked.{unmarked};
 
 use crate::end::EndState;
 use crate::hello::{client_greeting, is_greeting};
+use crate::lane::Lane;
 use crate::packet::Packet;
-use crate::receiver::Receiver;
+use crate::received::Received;
 use std::alloc::{AllocError, Global};
 use std::collections::VecDeque;
 use std::marker::Model;
@@ -34,7 +36,6 @@ pub struct Pending {
 #[derive(Debug, Drop)]
 pub struct Client {
     alloc: Global,
-    receiver: Receiver,
     state: EndState,
     accepted: u64,
     pending: Vec<Pending>,
@@ -57,7 +58,6 @@ impl Client {
     {
         Client {
             alloc,
-            receiver: Receiver::new(alloc),
             state: EndState::Unopened,
             accepted: 0,
             pending: Vec::new(alloc),
@@ -67,9 +67,9 @@ impl Client {
     }
 
     /// Connects, and queues the client's Hello.
-    pub fn open(&mut self, up: &mut VecDeque<Packet>) -> Result<(), AllocError>
+    pub fn open(&mut self, up: &mut Lane) -> Result<(), AllocError>
         ensures node { OnOk result (self.new ≡ (client_opened self.old).node) }
-        ensures queued { OnOk result (up.new.items ≡ up.old.items ++ (client_opened self.old).queued) }
+        ensures queued { OnOk result (up.new ≡ queued_on (client_opened self.old).queued up.old) }
     {
         self.tell(&client_greeting(), up)?;
         self.state = EndState::Opening;
@@ -85,12 +85,12 @@ impl Client {
         service: &[u8],
         name: &[u8],
         body: &[u8],
-        up: &mut VecDeque<Packet>,
+        up: &mut Lane,
     ) -> Result<(), AllocError>
         requires service { HasNoZero service.now }
         requires name { HasNoZero name.now }
         ensures node { OnOk result (self.new ≡ (client_sent self.old service.now name.now body.now).node) }
-        ensures queued { OnOk result (up.new.items ≡ up.old.items ++ (client_sent self.old service.now name.now body.now).queued) }
+        ensures queued { OnOk result (up.new ≡ queued_on (client_sent self.old service.now name.now body.now).queued up.old) }
     {
         match self.refusal(service, name, body) {
             Some(why) => self.note(LogLine::Refused(why)),
@@ -98,15 +98,14 @@ impl Client {
         }
     }
 
-    /// Takes the packet's message, which the log tells of. The other side's Hello makes the end Live, and what was
+    /// Takes the message, which the log tells of. The other side's Hello makes the end Live, and what was
     /// held goes out; an answer whose token isn't pending is passed over; a command from the other side is answered
     /// as one that isn't known.
-    pub fn take(&mut self, packet: &Packet, up: &mut VecDeque<Packet>) -> Result<(), AllocError>
-        ensures node { OnOk result (self.new ≡ (client_took packet.now.message packet.now.mark self.old).node) }
-        ensures queued { OnOk result (up.new.items ≡ up.old.items ++ (client_took packet.now.message packet.now.mark self.old).queued) }
+    pub fn take(&mut self, received: &Received, up: &mut Lane) -> Result<(), AllocError>
+        ensures node { OnOk result (self.new ≡ (client_took received.now.message received.now.mark self.old).node) }
+        ensures queued { OnOk result (up.new ≡ queued_on (client_took received.now.message received.now.mark self.old).queued up.old) }
     {
-        let received = self.receiver.receive(packet)?;
-        self.handle(&received.message(), packet.mark(), up)
+        self.handle(&received.message(), received.mark(), up)
     }
 
     /// The log so far.
@@ -159,13 +158,13 @@ impl Client {
         service: &[u8],
         name: &[u8],
         body: &[u8],
-        up: &mut VecDeque<Packet>,
+        up: &mut Lane,
     ) -> Result<(), AllocError>
         requires service { HasNoZero service.now }
         requires name { HasNoZero name.now }
         requires allowed { limit_of self.old service.now name.now body.now ≡ None }
         ensures node { OnOk result (self.new ≡ (client_accepted self.old service.now name.now body.now).node) }
-        ensures queued { OnOk result (up.new.items ≡ up.old.items ++ (client_accepted self.old service.now name.now body.now).queued) }
+        ensures queued { OnOk result (up.new ≡ queued_on (client_accepted self.old service.now name.now body.now).queued up.old) }
     {
         let number = self.accepted + 1;
         let token = token_of(self.alloc, number)?;
@@ -178,7 +177,7 @@ impl Client {
         let packet = Packet::new(self.alloc, &message, None)?;
         let sent = sent_line(self.alloc, number, service, name, body)?;
         match self.state {
-            EndState::Live => up.push_back(packet)?,
+            EndState::Live => up.queue(packet)?,
             EndState::Unopened | EndState::Opening => self.held.push_back(packet)?,
         }
         self.pending.push(Pending { number, token })?;
@@ -190,11 +189,11 @@ impl Client {
         &mut self,
         message: &Message<'_>,
         mark: Option<u64>,
-        up: &mut VecDeque<Packet>,
+        up: &mut Lane,
     ) -> Result<(), AllocError>
         requires { IsWellFormed (value_of message.now) }
         ensures node { OnOk result (self.new ≡ (client_took (value_of message.now) mark self.old).node) }
-        ensures queued { OnOk result (up.new.items ≡ up.old.items ++ (client_took (value_of message.now) mark self.old).queued) }
+        ensures queued { OnOk result (up.new ≡ queued_on (client_took (value_of message.now) mark self.old).queued up.old) }
     {
         match *message {
             Message::Command { token, .. } => self.tell(&Message::NotKnown { token }, up),
@@ -217,14 +216,14 @@ impl Client {
         service: &[u8],
         name: &[u8],
         body: &[u8],
-        up: &mut VecDeque<Packet>,
+        up: &mut Lane,
     ) -> Result<(), AllocError>
         ensures node { OnOk result (self.new ≡ (client_heard mark service.now name.now body.now self.old).node) }
-        ensures queued { OnOk result (up.new.items ≡ up.old.items ++ (client_heard mark service.now name.now body.now self.old).queued) }
+        ensures queued { OnOk result (up.new ≡ queued_on (client_heard mark service.now name.now body.now self.old).queued up.old) }
     {
         if is_greeting(service, name) {
             let body = Octets::from_slice(self.alloc, body)?;
-            up.append(&mut self.held)?;
+            up.queue_all(&mut self.held)?;
             self.state = EndState::Live;
             self.note(LogLine::Hello { mark, body })
         } else {
@@ -272,13 +271,12 @@ impl Client {
     }
 
     /// Queues a message that has no mark.
-    fn tell(&self, message: &Message<'_>, up: &mut VecDeque<Packet>) -> Result<(), AllocError>
+    fn tell(&self, message: &Message<'_>, up: &mut Lane) -> Result<(), AllocError>
         requires { IsWellFormed (value_of message.now) }
-        ensures { OnOk result (up.new.items ≡ up.old.items ++ unmarked (value_of message.now) ∷ []) }
+        ensures { OnOk result (up.new ≡ queued_on (unmarked (value_of message.now) ∷ []) up.old) }
     {
         let packet = Packet::new(self.alloc, message, None)?;
-        up.push_back(packet)?;
-        Ok(())
+        up.queue(packet)
     }
 
     /// Puts a line into the log.

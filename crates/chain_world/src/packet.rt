@@ -1,6 +1,5 @@
 //! A message in flight, as its bytes on the stream.
 ghost use Rattle.std.specs.Prelude.{◌≡◌, Ok, IfOk};
-ghost use Rattle.stream_escape.specs.Stream.{framed};
 ghost use Rattle.tcf_message.specs.Message.{IsWellFormed, value_of, spelling, reading};
 
 use std::alloc::{AllocError, Global};
@@ -30,6 +29,8 @@ impl Model for Packet {
 }
 
 impl Packet {
+    ghost use Rattle.chain_world.specs.Lane.{frame_of, IsFramed};
+
     /// Frames the message.
     pub fn new(
         alloc: Global,
@@ -50,8 +51,10 @@ impl Packet {
     }
 
     /// The bytes on the stream, which are the frame of one message.
+    #[tactic(auto, unfolding(crate::specs::Lane::frame_of))]
     pub(crate) fn bytes(&self) -> &[u8]
-        ensures frame { result.now ≡ framed (spelling self.now.message) }
+        ensures frame { result.now ≡ frame_of self.now }
+        ensures framed { IsFramed result.now }
         ensures formed { IsWellFormed self.now.message }
         ensures read { reading (spelling self.now.message) ≡ Ok self.now.message }
     {
@@ -65,3 +68,6 @@ impl Packet {
         self.mark
     }
 }
+
+#[cfg(test)]
+mod tests;

@@ -6,3 +6,5 @@ pub mod Scan
 pub mod Pieces
 pub mod Wholes
 pub mod Cuts
+pub mod Fronts
+pub mod Onward

@@ -10,7 +10,7 @@ use Rattle.stream_escape.specs.Feeding.{Continues, Stops, Tells, Takes}
 use Rattle.stream_escape.specs.Progress.{Advances, IsRefused, IsBlocked}
 
 -- one reading after the other
-continue_more : (old middle new : Ending) (first then_bytes : List ℕ) (xs ys : List Item)
+pub continue_more : (old middle new : Ending) (first then_bytes : List ℕ) (xs ys : List Item)
     → Continues old first xs middle → Continues middle then_bytes ys new → Continues old (first ++ then_bytes) (xs ++ ys) new
 continue_more old middle new first then_bytes xs ys a b = record {
   reads = λ before its h. rw (← append_assoc before first then_bytes, ← append_assoc its xs ys) (b.reads (before ++ first) (its ++ xs) (a.reads before its h));

@@ -1,12 +1,13 @@
 -- What holds of every stream.
-use Rattle.std.specs.Prelude.{◌≡◌, ◌≢◌, ℕ, List, [], ◌++◌, Option, None, Some, false}
+use Rattle.std.specs.Prelude.{◌≡◌, ◌≢◌, ℕ, ◌+◌, ◌≤◌, List, [], ◌++◌, length, Bool, Option, None, Some, false, ◌⊎◌}
 use Rattle.std.specs.List.{concat}
 use Rattle.stream_escape.specs.declared.stream.Item.{Item}
 use Rattle.stream_escape.specs.declared.stream.StreamFault.{StreamFault}
 use Rattle.stream_escape.specs.declared.stream.StreamFault.TheVariants.{NoMemory}
-use Rattle.stream_escape.specs.Stream.{Ending, partly, Reads, Cause, Refuses, fault_at}
+use Rattle.stream_escape.specs.declared.stream.TheConstants.{MESSAGE_LIMIT}
+use Rattle.stream_escape.specs.Stream.{framed, Ending, partly, Reads, Cause, Refuses, fault_at}
 use Rattle.stream_escape.specs.Value.{UnescapeValue, capped}
-use Rattle.stream_escape.specs.Feeding.{Fed}
+use Rattle.stream_escape.specs.Feeding.{Continues, Fed}
 
 pub record AreSame (items others : List Item) (ending other : Ending) : Type 0 where
   pub items_same : items ≡ others
@@ -34,6 +35,26 @@ OneFault = (bytes : List ℕ) (items others : List Item) (ending other : Ending)
 abbrev pub NotBoth : Type 0
 NotBoth = (bytes : List ℕ) (items others : List Item) (ending other : Ending) (place : ℕ) (cause : Cause)
     → Reads bytes items ending → Refuses bytes others other place cause → ⊥
+
+-- behind each list that ends like this, the bytes are read
+pub record AreRead (old : Ending) (bytes : List ℕ) : Type 0 where
+  pub items : List Item
+  pub new : Ending
+  pub continues : Continues old bytes items new
+
+-- behind each list that ends like this, the bytes are refused at one of them, which has this index
+pub record AreRefused (old : Ending) (bytes : List ℕ) : Type 0 where
+  pub items : List Item
+  pub new : Ending
+  pub index : ℕ
+  pub cause : Cause
+  pub refuses : (before : List ℕ) (its : List Item) → Reads before its old
+      → Refuses (before ++ bytes) (its ++ items) new (length before + index) cause
+
+-- Any bytes behind a list that is read are read or refused. So each list of bytes has a reading or a refusal, since
+-- the empty one is read.
+abbrev pub EachGoesOn : Type 0
+EachGoesOn = (old : Ending) (bytes : List ℕ) → AreRead old bytes ⊎ AreRefused old bytes
 
 -- the bytes are refused, and the fault tells where and why
 pub record IsFaultOf (bytes : List ℕ) (items : List Item) (ending : Ending) (fault : StreamFault) : Type 0 where
@@ -70,3 +91,13 @@ abbrev pub AnyCuts : Type 0
 AnyCuts = (pieces others : List (List ℕ)) (items its : List Item) (new later : UnescapeValue)
     → concat pieces ≡ concat others → Fed fresh pieces [] items new → Fed fresh others [] its later
     → new.fault ≢ Some NoMemory → later.fault ≢ Some NoMemory → (items ≡ its) × (new ≡ later)
+
+-- no message ends in the bytes, and one has begun, possibly with nothing yet
+pub record IsBegun (bytes : List ℕ) : Type 0 where
+  pub part : List ℕ
+  pub escape : Bool
+  pub reads : Reads bytes [] (partly part escape)
+
+-- a front of a whole message's bytes, short of the whole, has no message that ends
+abbrev pub FrontOfFrame : Type 0
+FrontOfFrame = (message front more : List ℕ) → length message ≤ MESSAGE_LIMIT → framed message ≡ front ++ more → more ≢ [] → IsBegun front

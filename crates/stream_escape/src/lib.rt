@@ -8,7 +8,7 @@ pub mod stream;
 pub mod unescape;
 
 pub use escape::{escape_into, mark_eom, mark_eos};
-pub use laws::{any_pieces, one_fault, one_reading};
+pub use laws::{any_pieces, each_goes_on, front_of_frame, one_fault, one_reading};
 pub use stream::{Item, MESSAGE_LIMIT, StreamFault};
 pub use unescape::Unescape;
 

@@ -2,7 +2,7 @@
 use Rattle.std.proofs.Common.{◌≡◌, ℕ, ◌==◌, List, [], ◌∷◌, ◌++◌, refl, sym, ◌∙◌, ap, append_assoc, arith, ◌<◌, length}
 use Rattle.std.specs.List.{slice_split, flat_map}
 use Rattle.std.proofs.lemmas.List.Splits.{length-slice_split}
-use Rattle.tcf_text.specs.Cut.{Lacks, IsCut}
+use Rattle.tcf_values.specs.Cut.{Lacks, IsCut}
 use Rattle.tcf_text.specs.Log.{args_text, parts_text, word_text, rest_text, shown, shown_byte}
 use Rattle.tcf_text.proofs.Cuts.{split_cut, split_lacks}
 

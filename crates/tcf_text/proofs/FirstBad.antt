@@ -1,16 +1,21 @@
 -- The first bad line of a file.
-use Rattle.std.proofs.Common.{◌≡◌, ◌≢◌, ℕ, ◌+◌, ◌-◌, ◌≤◌, ◌<◌, ◌==◌, List, [], ◌∷◌, ◌++◌, length, take, drop, refl, sym, ◌∙◌, ap, arith, inl, inr, ◌⊎◌, subst, append_assoc}
-use Rattle.std.specs.Prelude.{Option, Some, None, Result, Ok, Err}
+use Rattle.std.proofs.Common.{◌≡◌, ◌≢◌, ℕ, ◌+◌, ◌==◌, Bool, true, false, cond, List, [], ◌∷◌, ◌++◌, length, take, drop, refl, sym, ◌∙◌, ap, arith, inl, inr, ◌⊎◌, subst, append_assoc}
+use Rattle.std.specs.Prelude.{Option, Some, None, Result, Ok, Err, nat_le}
 use Rattle.std.specs.List.{AllByRecursion, onto_first}
-use Rattle.std.specs.Option.{option_map_or}
 use Rattle.std.proofs.lemmas.Bool.Decides.{eqb_tells}
-use Rattle.std.proofs.lemmas.Bool.{cond-true, cond-false, cases_order}
-use Rattle.std.proofs.lemmas.List.{take_at, take-take, take-append-drop, length-append}
-use Rattle.tcf_text.specs.declared.schedule.Schedule.{Schedule}
-use Rattle.tcf_text.specs.Cut.{Lacks}
-use Rattle.tcf_text.specs.Schedule.{lines_of, nothing, after_line, after_lines, schedule_of, Accepts, IsFirstBad, RefusesTheFirst}
+use Rattle.std.proofs.lemmas.Bool.{cond-true, cond-false, cases_Bool, leb-false, lt-leb}
+use Rattle.std.proofs.lemmas.List.{take_at, take-append-drop, length-append}
+use Rattle.tcf_values.specs.Cut.{Lacks}
+use Rattle.tcf_text.specs.declared.schedule.TextFault.{TextFault}
+use Rattle.tcf_text.specs.declared.schedule.TextFault.TheVariants.{Form, Late, Repeat, Unknown, Many}
+use Rattle.tcf_text.specs.Refusal.{BadLine}
+use Rattle.tcf_text.specs.Line.{LineValue, header, step, value_of, Says}
+use Rattle.tcf_text.specs.Schedule.{lines_of, is_skipped, ScheduleValue, nothing, has_chain, has_step, step_size, step_count, chain_in, is_known, plan_in, after_value, after_said, after_line, at_line, going_on, after_lines, schedule_of, IsReason, IsFirstBad, RefusesTheFirst}
 use Rattle.tcf_text.proofs.Lines.{lines_cut}
-use Rattle.tcf_text.proofs.Schedules.{reads_what_is_said, goes_on, one_line}
+use Rattle.tcf_text.proofs.Values.{value_found, value_there}
+use Rattle.tcf_text.proofs.Schedules.{reads_what_is_said, goes_on, one_line, skipping, taking}
+
+-- ---- A file of some lines
 
 -- some lines, each with its end
 file_of : List (List ℕ) → List ℕ
@@ -42,47 +47,57 @@ front_are : (front lines : List (List ℕ)) → AreLines (front ++ lines) → Ar
 front_are [] lines are = tt
 front_are (line ∷ front) lines are = (are.0, front_are front lines are.1)
 
-ok_err : (s : Schedule) (bad : ℕ) → ◌≡◌ {A = Result Schedule ℕ} (Ok s) (Err bad) → ⊥
+-- ---- Where the lines stop
+
+abbrev bad_at : ℕ → TextFault → BadLine
+bad_at number what = record { line = number; what = what }
+
+ok_err : (s : ScheduleValue) (bad : BadLine) → ◌≡◌ {A = Result ScheduleValue BadLine} (Ok s) (Err bad) → ⊥
 ok_err s bad e = cc
 
 -- a line stops the reading, or it goes on
-at_line : (f : Schedule → Result Schedule ℕ) (o : Option Schedule) (number bad : ℕ) → option_map_or f o (Err number) ≡ Err bad
-    → ((o ≡ None) × (bad ≡ number + 0)) ⊎ ((next : Schedule) × (o ≡ Some next) × (f next ≡ Err bad))
-at_line f None number bad e = let same : number ≡ bad = cc in inl (refl, omega arith)
-at_line f (Some next) number bad e = inr (next, refl, e)
+at_one : (f : ScheduleValue → Result ScheduleValue BadLine) (r : Result ScheduleValue TextFault) (number place : ℕ) (what : TextFault)
+    → going_on f (at_line number r) ≡ Err (bad_at place what)
+    → ((r ≡ Err what) × (place ≡ number)) ⊎ ((next : ScheduleValue) × (r ≡ Ok next) × (f next ≡ Err (bad_at place what)))
+at_one f (Err why) number place what e =
+    let same : bad_at number why ≡ bad_at place what = cc in
+    inl (ap (λ (b : BadLine). Err b.what) same, sym (ap (λ (b : BadLine). b.line) same))
+at_one f (Ok next) number place what e = inr (next, refl, e)
 
 -- where the lines stop: those before the bad one, what they give, and the bad one
-record Stops (number : ℕ) (s : Schedule) (lines : List (List ℕ)) (bad : ℕ) : Type 0 where
+record Stops (number : ℕ) (s : ScheduleValue) (lines : List (List ℕ)) (place : ℕ) (what : TextFault) : Type 0 where
   front : List (List ℕ)
   line : List ℕ
   rest : List (List ℕ)
-  given : Schedule
+  given : ScheduleValue
   parts : lines ≡ front ++ line ∷ rest
-  place : bad ≡ number + length front
+  at : place ≡ number + length front
   gives : after_lines number s front ≡ Ok given
-  refuses : after_line given line ≡ None
+  refuses : after_line given line ≡ Err what
 
-stops : (number : ℕ) (s : Schedule) (lines : List (List ℕ)) (bad : ℕ) → after_lines number s lines ≡ Err bad → Stops number s lines bad
-stops number s [] bad e = absurd (ok_err s bad e)
-stops number s (line ∷ lines) bad e =
-    elim (at_line (λ next. after_lines (number + 1) next lines) (after_line s line) number bad e) [
-      | inl here ↦ record { front = []; line = line; rest = lines; given = s; parts = refl; place = here.1; gives = refl; refuses = here.0 }
+stops : (number : ℕ) (s : ScheduleValue) (lines : List (List ℕ)) (place : ℕ) (what : TextFault)
+    → after_lines number s lines ≡ Err (bad_at place what) → Stops number s lines place what
+stops number s [] place what e = absurd (ok_err s (bad_at place what) e)
+stops number s (line ∷ lines) place what e =
+    elim (at_one (λ next. after_lines (number + 1) next lines) (after_line s line) number place what e) [
+      | inl here ↦ let is = here.1 in record { front = []; line = line; rest = lines; given = s; parts = refl; at = omega arith; gives = refl; refuses = here.0 }
       | inr later ↦
-          let r = stops (number + 1) later.0 lines bad later.2 in
+          let r = stops (number + 1) later.0 lines place what later.2 in
+          let is = r.at in
           record {
             front = line ∷ r.front;
             line = r.line;
             rest = r.rest;
             given = r.given;
             parts = ap (λ ls. line ∷ ls) r.parts;
-            place = omega arith;
-            gives = ap (λ o. option_map_or (λ n. after_lines (number + 1) n r.front) o (Err number)) later.1 ∙ r.gives;
+            at = omega arith;
+            gives = one_line number s later.0 line r.front later.1 ∙ r.gives;
             refuses = r.refuses;
           }
     ]
 
 -- lines behind lines that give a schedule
-goes_behind : (number : ℕ) (s given : Schedule) (front lines : List (List ℕ)) → after_lines number s front ≡ Ok given
+goes_behind : (number : ℕ) (s given : ScheduleValue) (front lines : List (List ℕ)) → after_lines number s front ≡ Ok given
     → after_lines number s (front ++ lines) ≡ after_lines (number + length front) given lines
 goes_behind number s given [] lines e =
     let same : s ≡ given = cc in let none : number ≡ number + 0 = omega arith in
@@ -93,66 +108,128 @@ goes_behind number s given (line ∷ front) lines e =
     one_line number s m.0 line (front ++ lines) m.1
     ∙ (goes_behind (number + 1) m.0 given front lines m.2 ∙ ap (λ n. after_lines n given lines) place)
 
--- the lines before the bad one, as a file
-front_accepted : (file : List ℕ) (line : ℕ) → Stops 1 nothing (lines_of file) line
-    → (front : List ℕ) × (s : Schedule) × (lines_of front ≡ take (line - 1) (lines_of file)) × Accepts front s
-front_accepted file line r =
-    let same : lines_of (file_of r.front) ≡ r.front = lines_of_file r.front (front_are r.front (r.line ∷ r.rest) (subst AreLines r.parts (lines_are file))) in
-    let size : length r.front ≡ line - 1 = let place = r.place in omega arith in (
-      file_of r.front,
-      r.given,
-      same ∙ (sym (take_at r.front (r.line ∷ r.rest) (line - 1) size) ∙ ap (take (line - 1)) (sym r.parts)),
-      (reads_what_is_said (file_of r.front) r.given).0 (ap (after_lines 1 nothing) same ∙ r.gives),
-    )
+-- a line that is refused stops them
+stopped : (number : ℕ) (s : ScheduleValue) (line : List ℕ) (lines : List (List ℕ)) (what : TextFault) → after_line s line ≡ Err what
+    → after_lines number s (line ∷ lines) ≡ Err (bad_at number what)
+stopped number s line lines what e = ap (λ r. going_on (λ n. after_lines (number + 1) n lines) (at_line number r)) e
 
--- lines that begin with the bad one give no schedule
-front_refused : (lines : List (List ℕ)) (line : ℕ) → Stops 1 nothing lines line → (other : List (List ℕ)) (s : Schedule)
-    → take line other ≡ take line lines → after_lines 1 nothing other ≡ Ok s → ⊥
-front_refused lines line r other s same e =
-    let size : length (r.front ++ r.line ∷ []) ≡ line = let place = r.place in omega (arith, length-append r.front (r.line ∷ [])) in
-    let front_is : take line lines ≡ r.front ++ r.line ∷ [] =
-    ap (take line) (r.parts ∙ sym (append_assoc r.front (r.line ∷ []) r.rest)) ∙ take_at (r.front ++ r.line ∷ []) r.rest line size in
-    let other_is : other ≡ r.front ++ r.line ∷ drop line other =
-    sym (take-append-drop line other) ∙ (ap (λ t. t ++ drop line other) (same ∙ front_is) ∙ append_assoc r.front (r.line ∷ []) (drop line other)) in
-    let stopped : after_lines (1 + length r.front) r.given (r.line ∷ drop line other) ≡ Err (1 + length r.front) =
-    ap (λ o. option_map_or (λ n. after_lines (1 + length r.front + 1) n (drop line other)) o (Err (1 + length r.front))) r.refuses in
-    ok_err s (1 + length r.front) (sym e ∙ (ap (after_lines 1 nothing) other_is ∙ (goes_behind 1 nothing r.given r.front (r.line ∷ drop line other) r.gives ∙ stopped)))
+-- ---- Why a line is refused
 
-first_bad : (file : List ℕ) (line : ℕ) → schedule_of file ≡ Err line → IsFirstBad file line
-first_bad file line e =
-    let r = stops 1 nothing (lines_of file) line e in
-    let place = r.place in
-    record {
-      there = (omega arith, omega (arith, ap length r.parts, length-append r.front (r.line ∷ r.rest)));
-      before = front_accepted file line r;
-      bad = λ other s same accepted. front_refused (lines_of file) line r (lines_of other) s same ((reads_what_is_said other s).1 accepted);
-    }
+fault_of_ok : (s : ScheduleValue) (what : TextFault) → ◌≡◌ {A = Result ScheduleValue TextFault} (Ok s) (Err what) → ⊥
+fault_of_ok s what e = cc
 
-outcomes : (r : Result Schedule ℕ) → ((s : Schedule) × (r ≡ Ok s)) ⊎ ((bad : ℕ) × (r ≡ Err bad))
-outcomes (Ok s) = inl (s, refl)
-outcomes (Err bad) = inr (bad, refl)
+same_fault : (a b : TextFault) → ◌≡◌ {A = Result ScheduleValue TextFault} (Err a) (Err b) → a ≡ b
+same_fault a b e = cc
 
--- a file that is accepted up to a line has no bad line before it
-no_earlier : (file : List ℕ) (first line : ℕ) → IsFirstBad file first → IsFirstBad file line → first < line → ⊥
-no_earlier file first line one other before =
-    let b = other.before in
-    let short : first ≤ line - 1 = omega arith in
-    one.bad b.0 b.1 (ap (take first) b.2 ∙ take-take first (line - 1) (lines_of file) short) b.3
+-- a test that fails, or what follows it
+by_test : (b : Bool) (r : Result ScheduleValue TextFault) (why what : TextFault) → cond b r (Err why) ≡ Err what
+    → ((b ≡ true) × (r ≡ Err what)) ⊎ ((b ≡ false) × (why ≡ what))
+by_test true r why what e = inl (refl, e)
+by_test false r why what e = inr (refl, same_fault why what e)
 
-the_first : (file : List ℕ) (line : ℕ) → IsFirstBad file line → schedule_of file ≡ Err line
-the_first file line is =
-    elim (outcomes (schedule_of file)) [
-      | inl ok ↦ absurd (is.bad file ok.0 refl ((reads_what_is_said file ok.0).0 ok.1))
-      | inr err ↦
-          let first = first_bad file err.0 err.1 in
-          elim (cases_order err.0 line) [
-            | inl same ↦ err.1 ∙ ap Err same
-            | inr differs ↦ elim differs [
-              | inl before ↦ absurd (no_earlier file err.0 line first is before)
-              | inr after ↦ absurd (no_earlier file line err.0 is first after)
-            ]
-          ]
+by_test_off : (b : Bool) (r : Result ScheduleValue TextFault) (why what : TextFault) → cond b (Err why) r ≡ Err what
+    → ((b ≡ true) × (why ≡ what)) ⊎ ((b ≡ false) × (r ≡ Err what))
+by_test_off true r why what e = inl (refl, same_fault why what e)
+by_test_off false r why what e = inr (refl, e)
+
+kept_of : (s : ScheduleValue) (line : List ℕ) (what : TextFault) → after_line s line ≡ Err what → is_skipped line ≡ false
+kept_of s line what e =
+    elim (cases_Bool (is_skipped line)) [
+      | inl skipped ↦ absurd (fault_of_ok s what (sym (skipping s line skipped) ∙ e))
+      | inr kept ↦ kept
     ]
 
+value_reason : (s : ScheduleValue) (line : List ℕ) (value : LineValue) (what : TextFault) → Says line value → after_value s value ≡ Err what → IsReason s line what
+value_reason s line (header name) what says e =
+    elim (by_test_off (has_chain s) _ Form what e) [
+      | inl w ↦ subst (IsReason s line) w.1 (inr (name, says, w.0))
+      | inr w ↦ elim (by_test_off (has_step s) _ Late what w.1) [
+        | inl v ↦ subst (IsReason s line) v.1 (name, says, w.0, v.0)
+        | inr v ↦ absurd (fault_of_ok _ what v.1)
+      ]
+    ]
+value_reason s line (step x) what says e =
+    elim (by_test (is_known (chain_in x) s) _ Unknown what e) [
+      | inl w ↦ elim (by_test (nat_le (step_count s.plans + step_size (plan_in x)) 90) _ Many what w.1) [
+        | inl v ↦ absurd (fault_of_ok _ what v.1)
+        | inr v ↦ subst (IsReason s line) v.1 (x, record { says = says; known = w.0 }, leb-false (step_count s.plans + step_size (plan_in x)) 90 v.0)
+      ]
+      | inr w ↦ subst (IsReason s line) w.1 (x, says, w.0)
+    ]
+
+unread : (line : List ℕ) → value_of line ≡ None → (value : LineValue) → Says line value → ⊥
+unread line none value says =
+    let some : value_of line ≡ Some value = ap value_of says.1 ∙ value_there value says.0 in cc
+
+reason_of : (s : ScheduleValue) (line : List ℕ) (what : TextFault) → after_line s line ≡ Err what → IsReason s line what
+reason_of s line what e = by_value (value_of line) refl (sym (cond-false (is_skipped line) _ _ (kept_of s line what e)) ∙ e)
+  where
+    by_value : (o : Option LineValue) → value_of line ≡ o → after_said s o ≡ Err what → IsReason s line what
+    by_value None is refused = subst (IsReason s line) (same_fault Form what refused) (inl (unread line is))
+    by_value (Some value) is refused = value_reason s line value what (value_found line value is) refused
+
+says_nothing : (s : ScheduleValue) (line : List ℕ) → is_skipped line ≡ false → ((value : LineValue) → Says line value → ⊥) → after_line s line ≡ Err Form
+says_nothing s line kept none = cond-false (is_skipped line) _ _ kept ∙ by_value (value_of line) refl
+  where
+    by_value : (o : Option LineValue) → value_of line ≡ o → after_said s o ≡ Err Form
+    by_value None is = refl
+    by_value (Some value) is = absurd (none value (value_found line value is))
+
+-- a line is refused for a reason that it has
+refused : (s : ScheduleValue) (line : List ℕ) (what : TextFault) → is_skipped line ≡ false → IsReason s line what → after_line s line ≡ Err what
+refused s line Form kept (inl none) = says_nothing s line kept none
+refused s line Form kept (inr r) = taking s line (header r.0) r.1 ∙ cond-true (has_chain s) _ _ r.2
+refused s line Late kept r = taking s line (header r.0) r.1 ∙ (cond-false (has_chain s) _ _ r.2 ∙ cond-true (has_step s) _ _ r.3)
+refused s line Repeat kept r = absurd r
+refused s line Unknown kept r = taking s line (step r.0) r.1 ∙ cond-false (is_known (chain_in r.0) s) _ _ r.2
+refused s line Many kept r =
+    taking s line (step r.0) r.1.says
+    ∙ (cond-true (is_known (chain_in r.0) s) _ _ r.1.known
+    ∙ cond-false (nat_le (step_count s.plans + step_size (plan_in r.0)) 90) _ _ (lt-leb (step_count s.plans + step_size (plan_in r.0)) 90 r.2))
+
+-- ---- The first bad line
+
+-- lines that begin with those up to the bad one give no schedule
+front_refused : (lines : List (List ℕ)) (place : ℕ) (what : TextFault) → Stops 1 nothing lines place what → (other : List (List ℕ)) (s : ScheduleValue)
+    → take place other ≡ take place lines → after_lines 1 nothing other ≡ Ok s → ⊥
+front_refused lines place what r other s same e =
+    let at : place ≡ 1 + length r.front = r.at in
+    let size : length (r.front ++ r.line ∷ []) ≡ place = omega (arith, length-append r.front (r.line ∷ [])) in
+    let front_is : take place lines ≡ r.front ++ r.line ∷ [] =
+    ap (take place) (r.parts ∙ sym (append_assoc r.front (r.line ∷ []) r.rest)) ∙ take_at (r.front ++ r.line ∷ []) r.rest place size in
+    let other_is : other ≡ r.front ++ r.line ∷ drop place other =
+    sym (take-append-drop place other) ∙ (ap (λ t. t ++ drop place other) (same ∙ front_is) ∙ append_assoc r.front (r.line ∷ []) (drop place other)) in
+    let stop : after_lines (1 + length r.front) r.given (r.line ∷ drop place other) ≡ Err (bad_at (1 + length r.front) what) =
+    stopped (1 + length r.front) r.given r.line (drop place other) what r.refuses in
+    ok_err s (bad_at (1 + length r.front) what)
+    (sym e ∙ (ap (after_lines 1 nothing) other_is ∙ (goes_behind 1 nothing r.given r.front (r.line ∷ drop place other) r.gives ∙ stop)))
+
+first_bad : (file : List ℕ) (number : ℕ) (what : TextFault) → schedule_of file ≡ Err (bad_at number what) → IsFirstBad file number what
+first_bad file number what e =
+    let r = stops 1 nothing (lines_of file) number what e in
+    let at : number ≡ 1 + length r.front = r.at in
+    let same : lines_of (file_of r.front) ≡ r.front = lines_of_file r.front (front_are r.front (r.line ∷ r.rest) (subst AreLines r.parts (lines_are file))) in
+    let place : number ≡ length r.front + 1 = omega arith in
+    record {
+      front = file_of r.front;
+      schedule = r.given;
+      accepted = (reads_what_is_said (file_of r.front) r.given).0 (ap (after_lines 1 nothing) same ∙ r.gives);
+      line = r.line;
+      rest = r.rest;
+      lines = r.parts ∙ ap (λ ls. ls ++ r.line ∷ r.rest) (sym same);
+      place = place ∙ ap (λ ls. length ls + 1) (sym same);
+      kept = kept_of r.given r.line what r.refuses;
+      reason = reason_of r.given r.line what r.refuses;
+      bad = λ other s front accepted. front_refused (lines_of file) number what r (lines_of other) s front ((reads_what_is_said other s).1 accepted);
+    }
+
+the_first : (file : List ℕ) (number : ℕ) (what : TextFault) → IsFirstBad file number what → schedule_of file ≡ Err (bad_at number what)
+the_first file number what is =
+    let place : 1 + length (lines_of is.front) ≡ number = let p = is.place in omega arith in
+    ap (after_lines 1 nothing) is.lines
+    ∙ (goes_behind 1 nothing is.schedule (lines_of is.front) (is.line ∷ is.rest) ((reads_what_is_said is.front is.schedule).1 is.accepted)
+    ∙ (stopped (1 + length (lines_of is.front)) is.schedule is.line is.rest what (refused is.schedule is.line what is.kept is.reason)
+    ∙ ap (λ n. Err (bad_at n what)) place))
+
 pub refuses_the_first : RefusesTheFirst
-refuses_the_first file line = (first_bad file line, the_first file line)
+refuses_the_first file number what = (first_bad file number what, the_first file number what)

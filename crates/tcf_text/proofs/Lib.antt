@@ -1,9 +1,8 @@
 pub mod Args
 pub mod Cuts
 pub mod FirstBad
+pub mod Grammar
 pub mod Growth
-pub mod LineLemmas
 pub mod Lines
-pub mod Numbers
 pub mod Schedules
 pub mod Values

@@ -1,133 +1,175 @@
 -- A line says a value exactly where it is its text.
-use Rattle.std.proofs.Common.{◌≡◌, ◌≢◌, ℕ, ◌≤◌, true, List, [], ◌++◌, get_or, refl, sym, ◌∙◌, ap, arith, inl, inr, ◌⊎◌, subst}
-use Rattle.std.specs.Prelude.{Option, Some, None, option_map, decimal, bytes_eq, nat_le, ◌&&◌, length, take, drop, ◌-◌}
-use Rattle.std.specs.Option.{option_or}
-use Rattle.std.specs.Str.Parse.{digits_value}
-use Rattle.std.proofs.lemmas.Bool.{and_parts, leb-true}
-use Rattle.std.proofs.lemmas.List.{append-nil}
-use Rattle.std.proofs.lemmas.Option.{cond_some, none-some}
-use Rattle.std.proofs.lemmas.Slice.Eq.{bytes_eq-Decides}
-use Rattle.tcf_text.specs.Line.{LineValue, header, opens, sends, rounds, spelling, header_front, header_back, opens_front, sends_front, sends_back, rounds_front, is_name, IsLine, Says, name_within, rounds_of, value_of, ReadsTheText}
-use Rattle.tcf_text.proofs.LineLemmas.{name_there, name_missing, rounds_there}
+use Rattle.std.proofs.Common.{◌≡◌, ℕ, ◌≤◌, Bool, true, List, ◌∷◌, ◌++◌, refl, sym, ◌∙◌, ap, inl, inr, subst, lit<}
+use Rattle.std.specs.Prelude.{Option, Some, option_map, option_and_then, bytes_eq, decimal}
+use Rattle.tcf_values.specs.Cut.{Lacks, cut_of}
+use Rattle.tcf_values.specs.Number.{number_of}
+use Rattle.tcf_values.proofs.Cuts.{cut_found}
+use Rattle.tcf_values.proofs.Options.{and_then_found, map_found}
+use Rattle.tcf_text.specs.Line.{LineStep, opens, sends, delivers, rounds, times, LineValue, header, step, is_name, IsLineStep, IsLine, chain_word, open_word, send_word, deliver_word, rounds_word, times_word, zero_word, sync_command, direction_word, spaced, step_spelling, spelling, Says, behind, name_of, direction_of, header_of, sending_of, amount_of, delivery_of, repetition_of, delivering, repeating, step_of, value_behind, value_of, ReadsTheText}
+use Rattle.tcf_text.proofs.Grammar.{IsExact, both_exact, behind_exact, before_exact, guarded, two_ways, same_bytes, number_exact, number_words, name_exact, name_words, direction_exact, direction_words, letters_lack}
 
--- a name that is found stands between the two texts
-name_found : (front back line name : List ℕ) → name_within front back line ≡ Some name → (is_name name ≡ true) × (line ≡ front ++ name ++ back)
-unfolding name_within
-name_found front back line name found =
-    let inner : List ℕ = take (length line - length front - length back) (drop (length front) line) in
-    let is = cond_some (bytes_eq line (front ++ inner ++ back) && is_name inner) inner name found in
-    let parts = and_parts _ _ is.0 in
-    (subst (λ n. is_name n ≡ true) is.1 parts.1, subst (λ n. line ≡ front ++ n ++ back) is.1 ((bytes_eq-Decides line (front ++ inner ++ back)).0 parts.0))
+abbrev GoodName : List ℕ → Type 0
+GoodName name = is_name name ≡ true
 
--- a count that is found stands behind its word
-rounds_found : (line : List ℕ) (n : ℕ) → rounds_of line ≡ Some n → (1 ≤ n) × (n ≤ 10000) × (line ≡ rounds_front ++ decimal n)
-unfolding rounds_of
-rounds_found line n found =
-    let k : ℕ = digits_value 10 (drop (length rounds_front) line) in
-    let is = cond_some (bytes_eq line (rounds_front ++ decimal k) && nat_le 1 k && nat_le k 10000) k n found in
-    let parts = and_parts _ _ is.0 in let front = and_parts _ _ parts.0 in (
-      subst (λ m. 1 ≤ m) is.1 (leb-true 1 k front.1),
-      subst (λ m. m ≤ 10000) is.1 (leb-true k 10000 parts.1),
-      subst (λ m. line ≡ rounds_front ++ decimal m) is.1 ((bytes_eq-Decides line (rounds_front ++ decimal k)).0 front.0),
-    )
+abbrev InRange : ℕ → ℕ → Type 0
+InRange most n = (1 ≤ n) × (n ≤ most)
 
--- the first of two options, or the second
-either : {A : Type 0} (o p : Option A) (x : A) → option_or o p ≡ Some x → (o ≡ Some x) ⊎ (p ≡ Some x)
-either (Some y) p x e = inl e
-either None p x e = inr e
+abbrev GoodAmount : Bool × ℕ → Type 0
+GoodAmount a = Unit {0} × InRange 65536 a.1
 
-mapped : {A B : Type 0} (f : A → B) (o : Option A) (y : B) → option_map f o ≡ Some y → (x : A) × (o ≡ Some x) × (f x ≡ y)
-mapped f (Some x) y e = (x, refl, cc)
-mapped f None y e = absurd (none-some y e)
+abbrev GoodDelivery : List ℕ × (Bool × ℕ) → Type 0
+GoodDelivery d = GoodName d.0 × GoodAmount d.1
 
-header_found : (line : List ℕ) (value : LineValue) → option_map header (name_within header_front header_back line) ≡ Some value → Says line value
-header_found line value e =
-    let m = mapped header (name_within header_front header_back line) value e in
-    subst (Says line) m.2 (name_found header_front header_back line m.0 m.1)
+abbrev GoodRepetition : ℕ × (List ℕ × (Bool × ℕ)) → Type 0
+GoodRepetition r = InRange 10000 r.0 × GoodDelivery r.1
 
-opens_found : (line : List ℕ) (value : LineValue) → option_map opens (name_within opens_front [] line) ≡ Some value → Says line value
-opens_found line value e =
-    let m = mapped opens (name_within opens_front [] line) value e in
-    let f = name_found opens_front [] line m.0 m.1 in
-    subst (Says line) m.2 (f.0, f.1 ∙ append-nil (opens_front ++ m.0))
+abbrev amount_text : Bool × ℕ → List ℕ
+amount_text a = spaced (direction_word a.0) (decimal a.1)
 
-sends_found : (line : List ℕ) (value : LineValue) → option_map sends (name_within sends_front sends_back line) ≡ Some value → Says line value
-sends_found line value e =
-    let m = mapped sends (name_within sends_front sends_back line) value e in
-    subst (Says line) m.2 (name_found sends_front sends_back line m.0 m.1)
+abbrev delivery_text : List ℕ × (Bool × ℕ) → List ℕ
+delivery_text d = spaced d.0 (spaced zero_word (amount_text d.1))
 
-count_found : (line : List ℕ) (value : LineValue) → option_map rounds (rounds_of line) ≡ Some value → Says line value
-count_found line value e =
-    let m = mapped rounds (rounds_of line) value e in
-    let f = rounds_found line m.0 m.1 in
-    subst (Says line) m.2 ((f.0, f.1), f.2)
+abbrev repetition_text : ℕ × (List ℕ × (Bool × ℕ)) → List ℕ
+repetition_text r = spaced (decimal r.0) (spaced deliver_word (delivery_text r.1))
 
--- what is read is spelled so
-pub value_found : (line : List ℕ) (value : LineValue) → value_of line ≡ Some value → Says line value
-value_found line value e =
-    let no_name = option_map rounds (rounds_of line) in
-    let no_opens = option_or (option_map sends (name_within sends_front sends_back line)) no_name in
-    let no_header = option_or (option_map opens (name_within opens_front [] line)) no_opens in
-    elim (either (option_map header (name_within header_front header_back line)) no_header value e) [
-      | inl h ↦ header_found line value h
-      | inr later ↦ elim (either (option_map opens (name_within opens_front [] line)) no_opens value later) [
-        | inl h ↦ opens_found line value h
-        | inr later ↦ elim (either (option_map sends (name_within sends_front sends_back line)) no_name value later) [
-          | inl h ↦ sends_found line value h
-          | inr last ↦ count_found line value last
+zero_lacks : Lacks 32 zero_word
+unfolding zero_word
+zero_lacks = letters_lack zero_word refl
+
+deliver_lacks : Lacks 32 deliver_word
+unfolding deliver_word
+deliver_lacks = letters_lack deliver_word refl
+
+header_exact : IsExact (List ℕ) header_of GoodName (λ name. spaced name zero_word)
+header_exact = before_exact (List ℕ) zero_word name_of GoodName (λ n. n) name_exact name_words
+
+sending_exact : IsExact (List ℕ) sending_of GoodName (λ name. spaced name sync_command)
+sending_exact = before_exact (List ℕ) sync_command name_of GoodName (λ n. n) name_exact name_words
+
+amount_exact : IsExact (Bool × ℕ) amount_of GoodAmount amount_text
+amount_exact =
+    both_exact Bool ℕ direction_of (number_of 1 65536) (λ up. Unit {0}) (InRange 65536) direction_word decimal
+    direction_exact direction_words (number_exact 1 65536 (lit< tt))
+
+delivery_exact : IsExact (List ℕ × (Bool × ℕ)) delivery_of GoodDelivery delivery_text
+delivery_exact =
+    both_exact (List ℕ) (Bool × ℕ) name_of (behind zero_word amount_of) GoodName GoodAmount (λ n. n) (λ a. spaced zero_word (amount_text a))
+    name_exact name_words (behind_exact (Bool × ℕ) zero_word amount_of GoodAmount amount_text zero_lacks amount_exact)
+
+repetition_exact : IsExact (ℕ × (List ℕ × (Bool × ℕ))) repetition_of GoodRepetition repetition_text
+repetition_exact =
+    both_exact ℕ (List ℕ × (Bool × ℕ)) (number_of 1 10000) (behind deliver_word delivery_of) (InRange 10000) GoodDelivery decimal (λ d. spaced deliver_word (delivery_text d))
+    (number_exact 1 10000 (lit< tt)) (number_words 1 10000 (lit< tt))
+    (behind_exact (List ℕ × (Bool × ℕ)) deliver_word delivery_of GoodDelivery delivery_text deliver_lacks delivery_exact)
+
+rounds_exact : IsExact ℕ (number_of 1 10000) (InRange 10000) decimal
+rounds_exact = number_exact 1 10000 (lit< tt)
+
+-- ---- What is read is spelled so
+
+-- what a step's first word and the rest of its line say
+abbrev SaysStep : List ℕ → List ℕ → LineStep → Type 0
+SaysStep word rest x = IsLineStep x × (spaced word rest ≡ step_spelling x)
+
+-- a step that is made of what is read behind its word
+made : (A : Type 0) (read : List ℕ → Option A) (Good : A → Type 0) (text : A → List ℕ) (make : A → LineStep) (word own rest : List ℕ) (x : LineStep)
+    → IsExact A read Good text → ((y : A) → Good y → IsLineStep (make y)) → ((y : A) → step_spelling (make y) ≡ spaced own (text y))
+    → bytes_eq word own ≡ true → option_map make (read rest) ≡ Some x → SaysStep word rest x
+made A read Good text make word own rest x is good spelled same e =
+    let m = map_found make (read rest) x e in
+    let f = is.found rest m.0 m.1 in
+    subst (SaysStep word rest) m.2 (good m.0 f.0, ap (λ w. w ++ 32 ∷ rest) (same_bytes word own same) ∙ (ap (λ t. own ++ 32 ∷ t) f.1 ∙ sym (spelled m.0)))
+
+delivery_good : (d : List ℕ × (Bool × ℕ)) → GoodDelivery d → IsLineStep (delivering d)
+delivery_good d good = (good.0, good.1.1.0, good.1.1.1)
+
+step_found : (word rest : List ℕ) (x : LineStep) → step_of word rest ≡ Some x → SaysStep word rest x
+unfolding step_of
+step_found word rest x e =
+    elim (two_ways (bytes_eq word open_word) (option_map opens (name_of rest)) _ x e) [
+      | inl w ↦ made (List ℕ) name_of GoodName (λ n. n) opens word open_word rest x name_exact (λ y g. g) (λ y. refl) w.0 w.1
+      | inr e ↦ elim (two_ways (bytes_eq word send_word) (option_map sends (sending_of rest)) _ x e) [
+        | inl w ↦ made (List ℕ) sending_of GoodName (λ n. spaced n sync_command) sends word send_word rest x sending_exact (λ y g. g) (λ y. refl) w.0 w.1
+        | inr e ↦ elim (two_ways (bytes_eq word deliver_word) (option_map delivering (delivery_of rest)) _ x e) [
+          | inl w ↦ made (List ℕ × (Bool × ℕ)) delivery_of GoodDelivery delivery_text delivering word deliver_word rest x delivery_exact delivery_good (λ y. refl) w.0 w.1
+          | inr e ↦ elim (two_ways (bytes_eq word rounds_word) (option_map rounds (number_of 1 10000 rest)) _ x e) [
+            | inl w ↦ made ℕ (number_of 1 10000) (InRange 10000) decimal rounds word rounds_word rest x rounds_exact (λ y g. g) (λ y. refl) w.0 w.1
+            | inr e ↦
+                let g = guarded (bytes_eq word times_word) (option_map repeating (repetition_of rest)) x e in
+                made (ℕ × (List ℕ × (Bool × ℕ))) repetition_of GoodRepetition repetition_text repeating word times_word rest x repetition_exact
+                (λ y g. (g.0.0, g.0.1, tt, delivery_good y.1 g.1)) (λ y. refl) g.0 g.1
+          ]
         ]
       ]
     ]
 
--- the texts of the four kinds begin with different letters
-apart : (a b : List ℕ) → (get_or a 0 0 ≡ get_or b 0 0 → ⊥) → a ≢ b
-apart a b differ same = differ (ap (λ t. get_or t 0 0) same)
+behind_found : (word rest : List ℕ) (value : LineValue) → value_behind word rest ≡ Some value → Says (spaced word rest) value
+behind_found word rest value e =
+    elim (two_ways (bytes_eq word chain_word) (option_map header (header_of rest)) (option_map step (step_of word rest)) value e) [
+      | inl w ↦
+          let m = map_found header (header_of rest) value w.1 in
+          let f = header_exact.found rest m.0 m.1 in
+          subst (Says (spaced word rest)) m.2 (f.0, ap (λ t. t ++ 32 ∷ rest) (same_bytes word chain_word w.0) ∙ ap (λ t. chain_word ++ 32 ∷ t) f.1)
+      | inr e ↦
+          let m = map_found step (step_of word rest) value e in
+          subst (Says (spaced word rest)) m.2 (step_found word rest m.0 m.1)
+    ]
 
-opens_no_header : (name inner : List ℕ) → opens_front ++ name ≢ header_front ++ inner ++ header_back
-unfolding opens_front header_front
-opens_no_header name inner = apart _ _ (λ e. omega arith)
+-- what is read is spelled so
+pub value_found : (line : List ℕ) (value : LineValue) → value_of line ≡ Some value → Says line value
+value_found line value e =
+    let m = and_then_found (λ parts. value_behind parts.0 parts.1) (cut_of 32 line) value e in
+    subst (λ t. Says t value) (sym (cut_found 32 line m.0 m.1)) (behind_found m.0.0 m.0.1 value m.2)
 
-sends_no_header : (name inner : List ℕ) → sends_front ++ name ++ sends_back ≢ header_front ++ inner ++ header_back
-unfolding sends_front header_front
-sends_no_header name inner = apart _ _ (λ e. omega arith)
+-- ---- What is spelled so is read
 
-sends_no_opens : (name inner : List ℕ) → sends_front ++ name ++ sends_back ≢ opens_front ++ inner ++ []
-unfolding sends_front opens_front
-sends_no_opens name inner = apart _ _ (λ e. omega arith)
+value_cut : (line word rest : List ℕ) → cut_of 32 line ≡ Some (word, rest) → value_of line ≡ value_behind word rest
+value_cut line word rest e = ap (option_and_then (λ parts. value_behind parts.0 parts.1)) e
 
-rounds_no_header : (digits inner : List ℕ) → rounds_front ++ digits ≢ header_front ++ inner ++ header_back
-unfolding rounds_front header_front
-rounds_no_header digits inner = apart _ _ (λ e. omega arith)
+header_there : (name : List ℕ) → GoodName name → value_of (spelling (header name)) ≡ Some (header name)
+unfolding chain_word
+header_there name good = value_cut (spelling (header name)) chain_word (spaced name zero_word) refl ∙ ap (option_map header) (header_exact.there name good)
 
-rounds_no_opens : (digits inner : List ℕ) → rounds_front ++ digits ≢ opens_front ++ inner ++ []
-unfolding rounds_front opens_front
-rounds_no_opens digits inner = apart _ _ (λ e. omega arith)
+opens_there : (name : List ℕ) → GoodName name → value_of (step_spelling (opens name)) ≡ Some (step (opens name))
+unfolding chain_word open_word step_of
+opens_there name good = value_cut (step_spelling (opens name)) open_word name refl ∙ ap (λ o. option_map step (option_map opens o)) (name_exact.there name good)
 
-rounds_no_sends : (digits inner : List ℕ) → rounds_front ++ digits ≢ sends_front ++ inner ++ sends_back
-unfolding rounds_front sends_front
-rounds_no_sends digits inner = apart _ _ (λ e. omega arith)
+sends_there : (name : List ℕ) → GoodName name → value_of (step_spelling (sends name)) ≡ Some (step (sends name))
+unfolding chain_word open_word send_word step_of
+sends_there name good =
+    value_cut (step_spelling (sends name)) send_word (spaced name sync_command) refl ∙ ap (λ o. option_map step (option_map sends o)) (sending_exact.there name good)
+
+delivers_there : (d : List ℕ × (Bool × ℕ)) → GoodDelivery d → value_of (step_spelling (delivering d)) ≡ Some (step (delivering d))
+unfolding chain_word open_word send_word deliver_word step_of
+delivers_there d good =
+    value_cut (step_spelling (delivering d)) deliver_word (delivery_text d) refl ∙ ap (λ o. option_map step (option_map delivering o)) (delivery_exact.there d good)
+
+rounds_there : (n : ℕ) → InRange 10000 n → value_of (step_spelling (rounds n)) ≡ Some (step (rounds n))
+unfolding chain_word open_word send_word deliver_word rounds_word step_of
+rounds_there n good =
+    value_cut (step_spelling (rounds n)) rounds_word (decimal n) refl ∙ ap (λ o. option_map step (option_map rounds o)) (rounds_exact.there n good)
+
+times_there : (r : ℕ × (List ℕ × (Bool × ℕ))) → GoodRepetition r → value_of (step_spelling (repeating r)) ≡ Some (step (repeating r))
+unfolding chain_word open_word send_word deliver_word rounds_word times_word step_of
+times_there r good =
+    value_cut (step_spelling (repeating r)) times_word (repetition_text r) refl ∙ ap (λ o. option_map step (option_map repeating o)) (repetition_exact.there r good)
+
+step_there : (x : LineStep) → IsLineStep x → value_of (step_spelling x) ≡ Some (step x)
+step_there (opens name) good = opens_there name good
+step_there (sends name) good = sends_there name good
+step_there (delivers name up count) good = delivers_there (name, (up, count)) (good.0, (tt, (good.1, good.2)))
+step_there (rounds n) good = rounds_there n good
+step_there (times n (delivers name up count)) good =
+    times_there (n, (name, (up, count))) ((good.0, good.1), (good.3.0, (tt, (good.3.1, good.3.2))))
+step_there (times n (opens name)) good = absurd good.2
+step_there (times n (sends name)) good = absurd good.2
+step_there (times n (rounds m)) good = absurd good.2
+step_there (times n (times m x)) good = absurd good.2
 
 -- what is spelled so is read
 pub value_there : (value : LineValue) → IsLine value → value_of (spelling value) ≡ Some value
-value_there (header name) good = rw (name_there header_front header_back (header_front ++ name ++ header_back) name refl good)
-value_there (opens name) good =
-    rw (
-      name_missing header_front header_back (opens_front ++ name) (opens_no_header name),
-      name_there opens_front [] (opens_front ++ name) name (sym (append-nil (opens_front ++ name))) good,
-    )
-value_there (sends name) good =
-    rw (
-      name_missing header_front header_back (sends_front ++ name ++ sends_back) (sends_no_header name),
-      name_missing opens_front [] (sends_front ++ name ++ sends_back) (sends_no_opens name),
-      name_there sends_front sends_back (sends_front ++ name ++ sends_back) name refl good,
-    )
-value_there (rounds n) good =
-    rw (
-      name_missing header_front header_back (rounds_front ++ decimal n) (rounds_no_header (decimal n)),
-      name_missing opens_front [] (rounds_front ++ decimal n) (rounds_no_opens (decimal n)),
-      name_missing sends_front sends_back (rounds_front ++ decimal n) (rounds_no_sends (decimal n)),
-      rounds_there (rounds_front ++ decimal n) n refl good.0 good.1,
-    )
+value_there (header name) good = header_there name good
+value_there (step x) good = step_there x good
 
 pub reads_the_text : ReadsTheText
 reads_the_text line value =

@@ -1,10 +1,10 @@
 //! The texts: schedules as they are read, and logs as they are written.
 #![tactic(auto)]
 
-mod cut;
 pub mod laws;
 mod line;
 pub mod log;
+pub mod message;
 mod reading;
 pub mod schedule;
 mod show;
@@ -12,6 +12,7 @@ mod show;
 mod tests;
 
 pub use log::{EndWhy, LogLine, RefusedWhy};
+pub use message::show_line;
 pub use reading::read_schedule;
 pub use schedule::{ChainHead, Schedule, ScheduleStep, TextFault, TextRefusal};
 pub use show::{write_line, write_log};

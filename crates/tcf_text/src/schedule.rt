@@ -4,7 +4,8 @@ ghost use Rattle.std.specs.Prelude.{◌≡◌};
 use std::alloc::{AllocError, AllocFailed};
 use tcf_outside::{Octets, Sequence};
 
-/// One step of a schedule. A chain is given by its place in the schedule's header, from 0.
+/// One step of a schedule. A chain is given by its place in the schedule's header, from 0, and a hop of it by its
+/// distance from the client, from 0.
 #[derive(Debug, Drop)]
 pub enum ScheduleStep {
     /// The chain's client connects.
@@ -18,9 +19,22 @@ pub enum ScheduleStep {
         name: Octets,
         body: Octets,
     },
+    /// The next bytes in flight on a hop arrive as one piece: so many, from 1 to 65,536, or as many as there are. They
+    /// go up, to the agent, or down.
+    Deliver {
+        chain: usize,
+        hop: usize,
+        up: bool,
+        count: u32,
+    },
     /// So many rounds, from 1 to 10,000, in each of which all that is in flight arrives and is taken.
     Rounds {
         count: u32,
+    },
+    /// The step so many times, from 1 to 10,000.
+    Times {
+        count: u32,
+        step: Box<ScheduleStep>,
     },
 }
 
@@ -38,11 +52,19 @@ pub struct Schedule {
     pub steps: Sequence<ScheduleStep>,
 }
 
-/// What is wrong with a line.
+/// What is wrong with a line: the first of these causes that holds of it.
 #[derive(Clone, Copy, Debug, PartialEq, Eq)]
 pub enum TextFault {
-    /// The line has no form of a schedule's line, or a number that is out of its range.
+    /// The line has no form of a schedule's line, or a number that is out of its range, or it is a second header.
     Form,
+    /// The header stands behind a step.
+    Late,
+    /// A name is given twice. No line of today's forms has this fault.
+    Repeat,
+    /// The chain isn't there.
+    Unknown,
+    /// With this line there are more than 90 steps, where each round and each repetition counts as one.
+    Many,
 }
 
 /// Why a file gives no schedule: its first bad line, counted from 1, or want of memory.

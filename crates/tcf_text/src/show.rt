@@ -5,11 +5,11 @@ ghost use Rattle.std.specs.Prelude.{◌≡◌, ◌<◌, ◌++◌, ◌∷◌, [],
 ghost use Rattle.std.specs.Fmt.{digit_glyph};
 ghost use Rattle.tcf_text.specs.Log.{sent_word, hello_word, event_word, unknown_word, refused_front, end_front, is_hidden, shown_byte, shown, word_text, rest_text, args_text, mark_text, refused_reason, end_cause, numbered, named_text, line_words, line_text, log_text, Grows};
 
-use crate::cut::cut_at;
 use crate::log::{EndWhy, LogLine, RefusedWhy};
 use itoa::Buffer;
 use std::alloc::AllocError;
 use tcf_outside::Octets;
+use tcf_values::cut_at;
 
 fn hex_digit(digit: u8) -> u8
     requires { digit < 16 }
@@ -55,7 +55,7 @@ fn show(part: &[u8], out: &mut Octets) -> Result<(), AllocError>
 }
 
 /// Appends a blank and the word.
-fn show_word(word: &[u8], out: &mut Octets) -> Result<(), AllocError>
+pub(crate) fn show_word(word: &[u8], out: &mut Octets) -> Result<(), AllocError>
     ensures shown { OnOk result (out.new ≡ out.old ++ word_text word.now) }
     ensures part { OnErr result (Grows out.old out.new) }
 {
@@ -76,7 +76,7 @@ fn show_rest(rest: &[u8], out: &mut Octets) -> Result<(), AllocError>
 }
 
 /// Appends the parts of the data, each behind a blank.
-fn show_args(body: &[u8], out: &mut Octets) -> Result<(), AllocError>
+pub(crate) fn show_args(body: &[u8], out: &mut Octets) -> Result<(), AllocError>
     ensures shown { OnOk result (out.new ≡ out.old ++ args_text body.now) }
     ensures part { OnErr result (Grows out.old out.new) }
 {
@@ -116,7 +116,12 @@ fn show_numbered(word: &[u8], number: u64, out: &mut Octets) -> Result<(), Alloc
 }
 
 /// Appends the service, the name and the data of a command or an event.
-fn show_named(service: &[u8], name: &[u8], body: &[u8], out: &mut Octets) -> Result<(), AllocError>
+pub(crate) fn show_named(
+    service: &[u8],
+    name: &[u8],
+    body: &[u8],
+    out: &mut Octets,
+) -> Result<(), AllocError>
     ensures shown { OnOk result (out.new ≡ out.old ++ named_text service.now name.now body.now) }
     ensures part { OnErr result (Grows out.old out.new) }
 {

@@ -8,15 +8,10 @@ use std::alloc::{AllocError, Global};
 use std::test::Fail;
 use tcf_outside::Octets;
 
-/// The line for which the file is refused.
-fn bad_line(alloc: Global, file: &[u8]) -> Option<u64> {
+/// The line for which the file is refused, and why.
+fn bad_line(alloc: Global, file: &[u8]) -> Option<(u64, TextFault)> {
     match read_schedule(alloc, file) {
-        Err(
-            TextRefusal::Bad {
-                line,
-                what: TextFault::Form,
-            },
-        ) => Some(line),
+        Err(TextRefusal::Bad { line, what }) => Some((line, what)),
         _ => None,
     }
 }
@@ -31,9 +26,45 @@ fn accepted(alloc: Global, file: &[u8]) -> Result<(Vec<(Octets, usize)>, usize),
     Ok((heads, schedule.steps.len()))
 }
 
+/// A step as a short text: of a command its service and its name.
+fn note(step: &ScheduleStep, out: &mut Octets) -> Result<(), Fail> {
+    match step {
+        ScheduleStep::Opens { chain: 0 } => out.extend(b"open;")?,
+        ScheduleStep::Send {
+            chain: 0,
+            service,
+            name,
+            body,
+        } if body.is_empty() => {
+            out.extend(service.as_slice())?;
+            out.extend(b".")?;
+            out.extend(name.as_slice())?;
+            out.extend(b";")?;
+        }
+        ScheduleStep::Deliver {
+            chain: 0,
+            hop: 0,
+            up: true,
+            count,
+        } => out.extend(format!(in out.allocator(); "up {count};")?.as_bytes())?,
+        ScheduleStep::Deliver {
+            chain: 0,
+            hop: 0,
+            up: false,
+            count,
+        } => out.extend(format!(in out.allocator(); "down {count};")?.as_bytes())?,
+        ScheduleStep::Rounds { count } => {
+            out.extend(format!(in out.allocator(); "rounds {count};")?.as_bytes())?
+        }
+        _ => out.extend(b"other;")?,
+    }
+    Ok(())
+}
+
 #[test]
-fn reads_the_worked_schedule(rt: HostRuntime) -> Result<(), Fail> {
-    let file = b"chain A 0\nopen A\nrounds 1\nsend A Locator sync\nrounds 10\n";
+fn reads_each_step(rt: HostRuntime) -> Result<(), Fail> {
+    let file =
+        b"chain A 0\nopen A\nrounds 1\nsend A Locator sync\ndeliver A 0 down 65536\ntimes 19 deliver A 0 up 1\nrounds 10\n";
     let schedule = read_schedule(rt.alloc(), file)?;
     assert_eq!(rt; schedule.chains.len(), 1);
     for head in &schedule.chains {
@@ -43,31 +74,16 @@ fn reads_the_worked_schedule(rt: HostRuntime) -> Result<(), Fail> {
     let mut steps = Octets::new(rt.alloc());
     for step in &schedule.steps {
         match step {
-            ScheduleStep::Opens { chain } => {
-                assert_eq!(rt; *chain, 0);
-                steps.extend(b"open;")?;
+            ScheduleStep::Times { count: 19, step } => {
+                steps.extend(b"19 times ")?;
+                note(step, &mut steps)?;
             }
-            ScheduleStep::Send {
-                chain,
-                service,
-                name,
-                body,
-            } => {
-                assert_eq!(rt; *chain, 0);
-                assert!(rt; body.is_empty());
-                steps.extend(service.as_slice())?;
-                steps.extend(b".")?;
-                steps.extend(name.as_slice())?;
-                steps.extend(b";")?;
-            }
-            ScheduleStep::Rounds { count: 1 } => steps.extend(b"one round;")?,
-            ScheduleStep::Rounds { count: 10 } => steps.extend(b"ten rounds;")?,
-            ScheduleStep::Rounds { .. } => steps.extend(b"rounds;")?,
+            step => note(step, &mut steps)?,
         }
     }
     assert_eq!(rt;
         steps.as_slice(),
-        b"open;one round;Locator.sync;ten rounds;".as_slice()
+        b"open;rounds 1;Locator.sync;down 65536;19 times up 1;rounds 10;".as_slice()
     );
     Ok(())
 }
@@ -75,33 +91,158 @@ fn reads_the_worked_schedule(rt: HostRuntime) -> Result<(), Fail> {
 #[test]
 fn refuses_the_first_bad_line(rt: HostRuntime) -> Result<(), Fail> {
     let rows = [
-        (b"open A\n".as_slice(), 1),
-        (b"chain A 0 \nopen A\n".as_slice(), 1),
-        (b"chain A  0\n".as_slice(), 1),
-        (b" chain A 0\n".as_slice(), 1),
-        (b"chain A 0\r\nopen A\r\n".as_slice(), 1),
-        (b"chain A 1\n".as_slice(), 1),
-        (b"chain A 00\n".as_slice(), 1),
-        (b"chain  0\n".as_slice(), 1),
-        (b"chain A-B 0\n".as_slice(), 1),
-        (b"chain ABCDEFGHIJKLMNOPQ 0\n".as_slice(), 1),
-        (b"chain A 0\nopen A\nrounds 01\n".as_slice(), 3),
-        (b"chain A 0\nopen A\nrounds +1\n".as_slice(), 3),
-        (b"chain A 0\nrounds 0\n".as_slice(), 2),
-        (b"chain A 0\nrounds \n".as_slice(), 2),
-        (b"chain A 0\nrounds 10001\n".as_slice(), 2),
-        (b"chain A 0\nrounds 91\n".as_slice(), 2),
-        (b"chain A 0\nrounds 90\nopen A\nopen B\n".as_slice(), 3),
-        (b"chain A 0\nopen B\n".as_slice(), 2),
-        (b"chain A 0\nopen\n".as_slice(), 2),
-        (b"chain A 0\nchain A 0\n".as_slice(), 2),
-        (b"chain A 0\nsend A Locator hello\n".as_slice(), 2),
-        (b"chain A 0\nsend A Locator sync -\n".as_slice(), 2),
-        (b"# first\n\nchain A 0\n\n #\nopen A\n".as_slice(), 5),
-        (b"# first\n\nchain A 0\n\n# last\nopen A ".as_slice(), 6),
+        (b"open A\n".as_slice(), 1, TextFault::Unknown),
+        (b"chain A 0 \nopen A\n".as_slice(), 1, TextFault::Form),
+        (b"chain A  0\n".as_slice(), 1, TextFault::Form),
+        (b" chain A 0\n".as_slice(), 1, TextFault::Form),
+        (b"chain A 0\r\nopen A\r\n".as_slice(), 1, TextFault::Form),
+        (b"chain A 1\n".as_slice(), 1, TextFault::Form),
+        (b"chain A 00\n".as_slice(), 1, TextFault::Form),
+        (b"chain  0\n".as_slice(), 1, TextFault::Form),
+        (b"chain A-B 0\n".as_slice(), 1, TextFault::Form),
+        (
+            b"chain ABCDEFGHIJKLMNOPQ 0\n".as_slice(),
+            1,
+            TextFault::Form,
+        ),
+        (
+            b"chain A 0\nopen A\nrounds 01\n".as_slice(),
+            3,
+            TextFault::Form,
+        ),
+        (
+            b"chain A 0\nopen A\nrounds +1\n".as_slice(),
+            3,
+            TextFault::Form,
+        ),
+        (b"chain A 0\nrounds 0\n".as_slice(), 2, TextFault::Form),
+        (b"chain A 0\nrounds \n".as_slice(), 2, TextFault::Form),
+        (b"chain A 0\nrounds 10001\n".as_slice(), 2, TextFault::Form),
+        (b"chain A 0\nopen\n".as_slice(), 2, TextFault::Form),
+        (
+            b"chain A 0\nsend A Locator hello\n".as_slice(),
+            2,
+            TextFault::Form,
+        ),
+        (
+            b"chain A 0\nsend A Locator sync -\n".as_slice(),
+            2,
+            TextFault::Form,
+        ),
+        (
+            b"# first\n\nchain A 0\n\n #\nopen A\n".as_slice(),
+            5,
+            TextFault::Form,
+        ),
+        (
+            b"# first\n\nchain A 0\n\n# last\nopen A ".as_slice(),
+            6,
+            TextFault::Form,
+        ),
+        (
+            b"chain A 0\nopen A\n\nsend B Locator sync".as_slice(),
+            4,
+            TextFault::Unknown,
+        ),
     ];
-    for (file, line) in rows {
-        assert_eq!(rt; bad_line(rt.alloc(), file), Some(line), "for {file:?}");
+    for (file, line, what) in rows {
+        assert_eq!(rt;
+            bad_line(rt.alloc(), file),
+            Some((line, what)),
+            "for {file:?}"
+        );
+    }
+    Ok(())
+}
+
+#[test]
+fn refuses_what_stands_in_the_wrong_place(rt: HostRuntime) -> Result<(), Fail> {
+    let rows = [
+        (
+            b"chain A 0\ndeliver A 1 up 1\n".as_slice(),
+            2,
+            TextFault::Form,
+        ),
+        (
+            b"chain A 0\ndeliver A 0 UP 1\n".as_slice(),
+            2,
+            TextFault::Form,
+        ),
+        (
+            b"chain A 0\ndeliver A 0 up 0\n".as_slice(),
+            2,
+            TextFault::Form,
+        ),
+        (
+            b"chain A 0\ndeliver A 0 up 65537\n".as_slice(),
+            2,
+            TextFault::Form,
+        ),
+        (
+            b"chain A 0\ntimes 2 open A\n".as_slice(),
+            2,
+            TextFault::Form,
+        ),
+        (
+            b"chain A 0\ntimes 2 rounds 1\n".as_slice(),
+            2,
+            TextFault::Form,
+        ),
+        (
+            b"chain A 0\ntimes 2 times 2 deliver A 0 up 1\n".as_slice(),
+            2,
+            TextFault::Form,
+        ),
+        (
+            b"chain A 0\ntimes 0 deliver A 0 up 1\n".as_slice(),
+            2,
+            TextFault::Form,
+        ),
+        (
+            b"chain A 0\ntimes 10001 deliver A 0 up 1\n".as_slice(),
+            2,
+            TextFault::Form,
+        ),
+        // A second header has no form of its own, wherever it stands.
+        (b"chain A 0\nchain A 0\n".as_slice(), 2, TextFault::Form),
+        (
+            b"chain A 0\nopen A\nchain B 0\n".as_slice(),
+            3,
+            TextFault::Form,
+        ),
+        (b"rounds 1\nchain A 0\n".as_slice(), 2, TextFault::Late),
+        (b"rounds 1\nchain A 1\n".as_slice(), 2, TextFault::Form),
+        (b"rounds 1\nopen A\n".as_slice(), 2, TextFault::Unknown),
+        (b"chain A 0\nopen B\n".as_slice(), 2, TextFault::Unknown),
+        (
+            b"chain A 0\ntimes 90 deliver B 0 down 1\n".as_slice(),
+            2,
+            TextFault::Unknown,
+        ),
+        (b"chain A 0\nrounds 91\n".as_slice(), 2, TextFault::Many),
+        (
+            b"chain A 0\nrounds 90\nopen A\nopen B\n".as_slice(),
+            3,
+            TextFault::Many,
+        ),
+        (
+            b"chain A 0\nrounds 90\nopen B\n".as_slice(),
+            3,
+            TextFault::Unknown,
+        ),
+        (
+            b"chain A 0\nopen A\ntimes 90 deliver A 0 up 1\n".as_slice(),
+            3,
+            TextFault::Many,
+        ),
+        (b"rounds 90\nrounds 1\n".as_slice(), 2, TextFault::Many),
+    ];
+    for (file, line, what) in rows {
+        assert_eq!(rt;
+            bad_line(rt.alloc(), file),
+            Some((line, what)),
+            "for {file:?}"
+        );
     }
     Ok(())
 }
@@ -120,6 +261,11 @@ fn accepts_what_is_said(rt: HostRuntime) -> Result<(), Fail> {
             b"z".as_slice(),
             2,
         ),
+        (
+            b"chain A 0\ntimes 89 deliver A 0 down 65536\ndeliver A 0 up 1\n".as_slice(),
+            b"A".as_slice(),
+            2,
+        ),
     ];
     for (file, name, count) in rows {
         let (heads, steps) = accepted(rt.alloc(), file)?;
@@ -130,10 +276,16 @@ fn accepts_what_is_said(rt: HostRuntime) -> Result<(), Fail> {
         }
         assert_eq!(rt; steps, count, "for {file:?}");
     }
-    for file in [b"".as_slice(), b"\n", b"#", b"# chain A 0\n\n\n#"] {
+    for (file, count) in [
+        (b"".as_slice(), 0),
+        (b"\n", 0),
+        (b"#", 0),
+        (b"# chain A 0\n\n\n#", 0),
+        (b"rounds 1\n#\nrounds 89", 2),
+    ] {
         let (heads, steps) = accepted(rt.alloc(), file)?;
         assert!(rt; heads.is_empty(), "for {file:?}");
-        assert_eq!(rt; steps, 0, "for {file:?}");
+        assert_eq!(rt; steps, count, "for {file:?}");
     }
     Ok(())
 }

@@ -1,11 +1,11 @@
 use Rattle.std.proofs.Common.{◌≡◌, ◌≤◌, ◌+◌, length}
-use Rattle.tcf_text.specs.Schedule.{after_lines, schedule_of, lines_of}
+use Rattle.tcf_text.specs.Schedule.{after_lines, schedule_of, lines_of, meaning}
 use Rattle.tcf_text.proofs.reading.read_schedule.Given as goal
 
 abbrev pub invariant-loop-rest : goal.invariant-loop-rest
 invariant-loop-rest l =
     record {
-      read : schedule_of l.file ≡ after_lines (l.number + 1) l.reading.schedule (lines_of l.rest);
+      read : schedule_of l.file ≡ after_lines (l.number + 1) (meaning l.reading.schedule) (lines_of l.rest);
       counted : l.number + length l.rest ≤ length l.file;
     }
 

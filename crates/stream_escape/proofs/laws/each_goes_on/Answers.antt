@@ -1,0 +1,5 @@
+use Rattle.stream_escape.proofs.Onward.{each_goes_on}
+use Rattle.stream_escape.proofs.laws.each_goes_on.Goals as goal
+
+pub returns : goal.returns
+returns c = each_goes_on

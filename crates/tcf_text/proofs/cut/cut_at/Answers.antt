@@ -1,6 +1,0 @@
-use Rattle.std.proofs.Common.{sym, ◌∙◌}
-use Rattle.tcf_text.proofs.Cuts.{cut_at_place}
-use Rattle.tcf_text.proofs.cut.cut_at.Goals as goal
-
-pub returns-clause-cut : goal.returns-clause-cut
-returns-clause-cut c = cut_at_place _ _ _ (sym c.place_of.ensures ∙ c.in_ok-at.was)

@@ -1,11 +1,9 @@
 -- How runs end.
-use Rattle.std.proofs.Common.{◌≡◌, ℕ, List, [], length, take, refl, ap, sym, ◌∙◌, inl, inr, arith, ◌⊎◌}
+use Rattle.std.proofs.Common.{◌≡◌, ℕ, List, [], ◌++◌, length, append_assoc, refl, ap, sym, ◌∙◌, inl, inr, arith}
 use Rattle.std.proofs.lemmas.List.{append-nil, take_all}
 use Rattle.std.specs.Prelude.{Option, None, Some}
 use Rattle.tcf_outside.specs.Sink.{added}
-use Rattle.tcf_app.specs.declared.exit.Exit.{Exit}
 use Rattle.tcf_app.specs.declared.exit.Exit.TheVariants.{NoMemory}
-use Rattle.tcf_app.specs.Exit.{IsGivenUp}
 use Rattle.tcf_app.specs.Ending.{Ending, Ends}
 
 -- all of the text was told
@@ -20,6 +18,11 @@ ends_whole ending before after told =
 pub added_nothing : (told : Option (List ℕ)) → added [] told ≡ told
 added_nothing None = refl
 added_nothing (Some before) = ap Some (append-nil before)
+
+-- one text after the other was told
+pub added_twice : (first second : List ℕ) (told : Option (List ℕ)) → added second (added first told) ≡ added (first ++ second) told
+added_twice first second None = refl
+added_twice first second (Some before) = ap Some (append_assoc before first second)
 
 -- nothing was told, since memory was wanting
 pub ends_early : (ending : Ending) (told : Option (List ℕ)) → (NoMemory ≡ ending.exit → ⊥) → Ends ending NoMemory told told

@@ -1,4 +1,10 @@
 pub mod Endings
-pub mod Playable
+pub mod Items
+pub mod Frames
+pub mod Answered
+pub mod Stands
+pub mod ShowEnds
+pub mod Outcomes
 pub mod Heard
+pub mod Ways
 pub mod Derived

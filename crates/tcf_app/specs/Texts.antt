@@ -1,11 +1,11 @@
-use Rattle.std.specs.Prelude.{ℕ, List, [], ◌∷◌, ◌++◌, length, codes}
-use Rattle.std.specs.List.{flat_map}
+-- The last lines of the runs that refuse something.
+use Rattle.std.specs.Prelude.{ℕ, List, [], ◌∷◌, ◌++◌, codes}
 use Rattle.std.specs.Fmt.{decimal}
-use Rattle.tcf_text.specs.declared.schedule.ChainHead.{ChainHead}
-use Rattle.tcf_text.specs.declared.schedule.Schedule.{Schedule}
-use Rattle.tcf_text.specs.Log.{log_text}
-use Rattle.chain_world.specs.WorldValue.{WorldValue}
-use Rattle.chain_world.specs.World.{new_world, run}
+use Rattle.tcf_text.specs.declared.schedule.TextFault.{TextFault}
+use Rattle.tcf_text.specs.declared.schedule.TextFault.TheVariants.{Form, Late, Repeat, Unknown, Many}
+use Rattle.tcf_app.specs.declared.exit.BadPlace.{BadPlace}
+use Rattle.tcf_app.specs.declared.exit.StreamWhat.{StreamWhat}
+use Rattle.tcf_app.specs.declared.exit.StreamWhat.TheVariants.{Escape, Long, AfterEnd, Unended, Empty, Kind, Field, Token, Level, Trailing, Body}
 
 unfoldable pub usage_text : List ℕ
 usage_text = codes "usage: tcf chain FILE | show FILE | load NUMBER | agent ADDRESS TURNS [NAME=FILE ..] | value ADDRESS PEER TURNS | client ADDRESS SCRIPT TURNS\n"
@@ -19,35 +19,43 @@ too_long_text = codes "file too long: word 2\n"
 unfoldable pub bad_line_front : List ℕ
 bad_line_front = codes "bad line "
 
-unfoldable pub bad_line_back : List ℕ
-bad_line_back = codes ": form\n"
+unfoldable pub bad_stream_front : List ℕ
+bad_stream_front = codes "bad stream at "
 
-unfoldable pub chain_front : List ℕ
-chain_front = codes "chain "
+-- a colon and a blank
+unfoldable pub colon : List ℕ
+colon = codes ": "
 
-unfoldable pub history_front : List ℕ
-history_front = codes "history "
+-- the word of a line's fault
+unfoldable pub fault_word : TextFault → List ℕ
+fault_word Form = codes "form"
+fault_word Late = codes "late"
+fault_word Repeat = codes "repeat"
+fault_word Unknown = codes "unknown"
+fault_word Many = codes "many"
+
+-- the word of what is bad of a stream
+unfoldable pub what_word : StreamWhat → List ℕ
+what_word Escape = codes "escape"
+what_word Long = codes "long"
+what_word AfterEnd = codes "after-end"
+what_word Unended = codes "unended"
+what_word Empty = codes "empty"
+what_word Kind = codes "kind"
+what_word Field = codes "field"
+what_word Token = codes "token"
+what_word Level = codes "level"
+what_word Trailing = codes "trailing"
+what_word Body = codes "body"
+
+-- the last line where something is bad: its place and what it is
+abbrev pub place_text : List ℕ → ℕ → List ℕ → List ℕ
+place_text front place word = front ++ decimal place ++ colon ++ word ++ 10 ∷ []
 
 -- the last line where a schedule's line is bad
-abbrev pub bad_line_text : ℕ → List ℕ
-bad_line_text line = bad_line_front ++ decimal line ++ bad_line_back
+abbrev pub bad_line_text : ℕ → TextFault → List ℕ
+bad_line_text line what = place_text bad_line_front line (fault_word what)
 
--- the line before a chain's log
-abbrev pub chain_line : List ℕ → List ℕ
-chain_line name = chain_front ++ name ++ 10 ∷ []
-
--- the last line, with the number of the history's inputs
-abbrev pub history_line : ℕ → List ℕ
-history_line count = history_front ++ decimal count ++ 10 ∷ []
-
--- what playing the schedule brings about
-abbrev pub world_of : Schedule → WorldValue
-world_of schedule = run schedule.steps new_world
-
--- each chain with its log
-abbrev pub chains_text : List ChainHead → WorldValue → List ℕ
-chains_text heads w = flat_map (λ head. chain_line head.name ++ log_text w.client.log) heads
-
--- what is printed of a schedule: each chain with the log that playing gives, and the length of the history
-abbrev pub printed : Schedule → List ℕ
-printed schedule = chains_text schedule.chains (world_of schedule) ++ history_line (length (world_of schedule).agent.history)
+-- the last line where a stream is bad
+abbrev pub bad_stream_text : BadPlace → List ℕ
+bad_stream_text bad = place_text bad_stream_front bad.offset (what_word bad.what)

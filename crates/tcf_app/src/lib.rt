@@ -1,11 +1,17 @@
 //! The top call.
 #![tactic(auto)]
 
+mod chain;
 pub mod exit;
-pub mod run;
+mod finish;
+mod laws;
+mod lines;
+mod order;
+mod show;
 pub mod top;
 
-pub use exit::Exit;
+pub use exit::{BadPlace, Exit, StreamWhat};
+pub use laws::one_outcome;
 pub use top::tcf;
 
 #[cfg(test)]

@@ -5,10 +5,10 @@ use std::test::Fail;
 use tcf_outside::{MemoryFiles, MemorySink};
 use tcf_text::TextFault;
 
+mod show;
+
 const HELLO: &str =
     "[\"Locator\",\"RunControl\",\"Breakpoints\",\"Memory\",\"Registers\",\"Processes\",\"Trace\"]";
-
-const BAD_LINE_1: &str = "bad line 1: form\n";
 
 /// The words of this text, which blanks separate.
 fn words_of(alloc: Global, text: &str) -> Result<Vec<String>, Fail> {
@@ -48,6 +48,11 @@ fn schedules_are_played(rt: HostRuntime) -> Result<(), Fail> {
             "chain A 0\nopen A\nrounds 1\nsend A Locator sync\nrounds 1",
             format!(in alloc; "chain A\n{hello}sent 1 Locator sync\nresult 1 2\nhistory 2\n")?,
         ),
+        // The same in pieces, of which the 18th ends between the two bytes that end the message.
+        (
+            "chain A 0\nopen A\nrounds 1\nsend A Locator sync\ntimes 19 deliver A 0 up 1\nrounds 1\n",
+            format!(in alloc; "chain A\n{hello}sent 1 Locator sync\nresult 1 2\nhistory 2\n")?,
+        ),
         // A command before the channel is open is refused, one before the Hello waits for it.
         (
             "chain A 0\nsend A Locator sync\n",
@@ -76,6 +81,8 @@ fn schedules_are_played(rt: HostRuntime) -> Result<(), Fail> {
         // No line says anything.
         ("", format!(in alloc; "history 0\n")?),
         ("# nothing\n\n#\n", format!(in alloc; "history 0\n")?),
+        // Rounds need no chain.
+        ("rounds 3\n", format!(in alloc; "history 0\n")?),
         // Skipped lines may stand anywhere, and 90 steps are allowed.
         (
             "\n#\nchain A 0\n#\nopen A\n\nrounds 89\n",
@@ -92,31 +99,44 @@ fn schedules_are_played(rt: HostRuntime) -> Result<(), Fail> {
 
 #[test]
 fn the_first_bad_line_is_named(rt: HostRuntime) -> Result<(), Fail> {
-    for (file, line, text) in [
-        ("open A", 1, BAD_LINE_1),
-        ("chain A 0 \n", 1, BAD_LINE_1),
-        ("chain  A 0\n", 1, BAD_LINE_1),
-        ("chain A 0\r\n", 1, BAD_LINE_1),
-        ("chain A 1\n", 1, BAD_LINE_1),
-        ("chain ABCDEFGHIJKLMNOPQ 0\n", 1, BAD_LINE_1),
+    for (file, line, what, text) in [
+        // The worked row, and each other reason. No line repeats a name yet.
+        ("open A", 1, TextFault::Unknown, "bad line 1: unknown\n"),
+        ("chain A 0 \n", 1, TextFault::Form, "bad line 1: form\n"),
         (
-            "# one\n\nchain A 0\nopen B\nopen B\n",
-            4,
-            "bad line 4: form\n",
+            "rounds 1\nchain A 0\n",
+            2,
+            TextFault::Late,
+            "bad line 2: late\n",
         ),
-        ("chain A 0\nrounds 01\n", 2, "bad line 2: form\n"),
-        ("chain A 0\nopen A\nrounds 90\n", 3, "bad line 3: form\n"),
-        ("chain A 0\nrounds 90\nopen A\n", 3, "bad line 3: form\n"),
+        (
+            "chain A 0\nopen A\nrounds 90\n",
+            3,
+            TextFault::Many,
+            "bad line 3: many\n",
+        ),
+        (
+            "chain A 0\ntimes 91 deliver A 0 up 1\n",
+            2,
+            TextFault::Many,
+            "bad line 2: many\n",
+        ),
+        // Lines that are skipped are counted, and the first bad line is named.
+        (
+            "# one\n\nchain A 0\nopen B\nopen  B\n",
+            4,
+            TextFault::Unknown,
+            "bad line 4: unknown\n",
+        ),
+        (
+            "chain A 0\nrounds 01\nopen B\n",
+            2,
+            TextFault::Form,
+            "bad line 2: form\n",
+        ),
     ] {
         let (exit, told) = play(&rt, file.as_bytes())?;
-        assert_eq!(rt;
-            exit,
-            Exit::BadText {
-                line,
-                what: TextFault::Form
-            },
-            "of {file}"
-        );
+        assert_eq!(rt; exit, Exit::BadText { line, what }, "of {file}");
         assert_eq!(rt; told.as_str(), text, "of {file}");
     }
     Ok(())
@@ -126,7 +146,15 @@ fn the_first_bad_line_is_named(rt: HostRuntime) -> Result<(), Fail> {
 fn other_words_are_told_the_forms(rt: HostRuntime) -> Result<(), Fail> {
     let usage =
         "usage: tcf chain FILE | show FILE | load NUMBER | agent ADDRESS TURNS [NAME=FILE ..] | value ADDRESS PEER TURNS | client ADDRESS SCRIPT TURNS\n";
-    for text in ["", "chain", "chain f g", "chains f", "load 1"] {
+    for text in [
+        "",
+        "chain",
+        "chain f g",
+        "chains f",
+        "show",
+        "show f g",
+        "load 1",
+    ] {
         let words = words_of(rt.alloc(), text)?;
         let mut files = MemoryFiles::new(rt.alloc());
         let mut out = MemorySink::new(rt.alloc());

@@ -1,0 +1,35 @@
+-- What is printed of a schedule that is played.
+use Rattle.std.specs.Prelude.{ℕ, List, [], ◌∷◌, ◌++◌, length, codes}
+use Rattle.std.specs.List.{flat_map}
+use Rattle.std.specs.Fmt.{decimal}
+use Rattle.tcf_text.specs.declared.schedule.ChainHead.{ChainHead}
+use Rattle.tcf_text.specs.Log.{log_text}
+use Rattle.tcf_text.specs.Schedule.{ScheduleValue}
+use Rattle.chain_world.specs.WorldValue.{WorldValue}
+use Rattle.chain_world.specs.World.{new_world, run}
+
+unfoldable pub chain_front : List ℕ
+chain_front = codes "chain "
+
+unfoldable pub history_front : List ℕ
+history_front = codes "history "
+
+-- the line before a chain's log
+abbrev pub chain_line : List ℕ → List ℕ
+chain_line name = chain_front ++ name ++ 10 ∷ []
+
+-- the last line, with the number of the history's inputs
+abbrev pub history_line : ℕ → List ℕ
+history_line count = history_front ++ decimal count ++ 10 ∷ []
+
+-- what playing the schedule brings about
+abbrev pub world_of : ScheduleValue → WorldValue
+world_of schedule = run schedule.plans new_world
+
+-- each chain with its log
+abbrev pub chains_text : List ChainHead → WorldValue → List ℕ
+chains_text heads w = flat_map (λ head. chain_line head.name ++ log_text w.client.log) heads
+
+-- what is printed of a schedule: each chain with the log that playing gives, and the length of the history
+abbrev pub printed : ScheduleValue → List ℕ
+printed schedule = chains_text schedule.chains (world_of schedule) ++ history_line (length (world_of schedule).agent.history)

@@ -1,0 +1,75 @@
+//! The run of `chain`: the schedule is played, and the log of each chain is printed.
+ghost use Rattle.std.specs.Prelude.{◌≡◌, ◌++◌, IfOk, OnOk};
+ghost use Rattle.tcf_outside.specs.Faults.{Rose};
+ghost use Rattle.tcf_text.specs.Plan.{plans_of};
+ghost use Rattle.tcf_text.specs.Schedule.{meaning, schedule_of, AreSteps};
+ghost use Rattle.tcf_app.specs.Ending.{Ends, played_ending};
+ghost use Rattle.tcf_app.specs.Played.{printed, chain_line, history_line, chains_text};
+
+use crate::exit::Exit;
+use crate::finish::{finish_made, push_line};
+use crate::lines::bad_line;
+use chain_world::{World, read_is_playable};
+use std::alloc::{AllocError, Global};
+use tcf_outside::{Octets, Sink};
+use tcf_text::{ChainHead, Schedule, TextRefusal, read_schedule, write_log};
+
+/// Appends the line before a chain's log.
+#[tactic(auto, unfolding(crate::specs::Played::chain_front))]
+fn push_chain(out: &mut Octets, name: &[u8]) -> Result<(), AllocError>
+    ensures { OnOk result (out.new ≡ out.old ++ chain_line name.now) }
+{
+    push_line(out, b"chain ", name)
+}
+
+/// Appends the last line.
+#[tactic(auto, unfolding(crate::specs::Played::history_front))]
+fn push_history(alloc: Global, out: &mut Octets, count: usize) -> Result<(), AllocError>
+    ensures { OnOk result (out.new ≡ out.old ++ history_line count) }
+{
+    let number = format!(in alloc; "{count}")?;
+    push_line(out, b"history ", number.as_bytes())
+}
+
+/// Appends each chain with its log.
+fn push_chains(out: &mut Octets, heads: &[ChainHead], world: &World) -> Result<(), AllocError>
+    ensures { OnOk result (out.new ≡ out.old ++ chains_text heads.now world.now) }
+{
+    for head in heads {
+        push_chain(out, head.name.as_slice())?;
+        write_log(world.log(), out)?;
+    }
+    Ok(())
+}
+
+/// The text of the schedule, played.
+fn text_of(alloc: Global, schedule: &Schedule) -> Result<Octets, AllocError>
+    requires { AreSteps (plans_of schedule.now.steps) }
+    ensures { IfOk result (λ text. text ≡ printed (meaning schedule.now)) }
+{
+    read_is_playable();
+    let mut world = World::new(alloc);
+    world.play_all(schedule.steps.as_slice())?;
+    let mut text = Octets::new(alloc);
+    push_chains(&mut text, schedule.chains.as_slice(), &world)?;
+    push_history(alloc, &mut text, world.history().len())?;
+    Ok(text)
+}
+
+/// Plays the schedule that the file says, and puts what comes of it.
+pub(crate) fn play_file<S: Sink>(alloc: Global, file: &[u8], out: &mut S) -> Exit
+    ensures ends { Ends (played_ending (schedule_of file.now)) result (S.told out.old) (S.told out.new) }
+    ensures fault { result ≡ Exit.SinkFault → Rose (S.faults out.old) (S.faults out.new) }
+{
+    match read_schedule(alloc, file) {
+        Ok(schedule) => finish_made(out, text_of(alloc, &schedule), Exit::Done),
+        Err(TextRefusal::Bad { line, what }) => {
+            finish_made(
+                out,
+                bad_line(alloc, line, what),
+                Exit::BadText { line, what },
+            )
+        }
+        Err(TextRefusal::NoMemory) => Exit::NoMemory,
+    }
+}

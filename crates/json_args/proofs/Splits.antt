@@ -1,18 +1,13 @@
 -- The parts of a body.
-use Rattle.std.proofs.Common.{◌≡◌, ◌≢◌, ℕ, ◌+◌, ◌-◌, ◌==◌, List, [], ◌∷◌, ◌++◌, length, slice_get, refl, sym, ◌∙◌, ap, subst, inl, inr, arith, append_assoc, add-one}
+use Rattle.std.proofs.Common.{◌≡◌, ◌≢◌, ℕ, ◌+◌, ◌-◌, List, [], ◌∷◌, ◌++◌, length, drop, slice_get, refl, sym, ◌∙◌, ap, subst, inl, inr, arith, append_assoc, add-one}
 use Rattle.std.specs.Prelude.{Option, Some, None, IfSome}
 use Rattle.std.specs.List.{AllByRecursion, onto_first}
-use Rattle.std.proofs.lemmas.Bool.{eq-eqb, ne_eqb, cond-true, cond-false}
+use Rattle.std.proofs.lemmas.Bool.{cond-true, cond-false}
 use Rattle.std.proofs.lemmas.Bool.Decides.{eqb_tells}
 use Rattle.std.proofs.lemmas.List.{append_cancel_left}
 use Rattle.tcf_values.specs.Cut.{Lacks, IsCut}
 use Rattle.json_args.specs.Parts.{Parts, OneReading, joined, parts_of}
-
-parts_front : (front rest : List ℕ) → Lacks 0 front → parts_of (front ++ 0 ∷ rest) ≡ front ∷ parts_of rest
-parts_front [] rest lacks = cond-true (0 == 0) ([] ∷ parts_of rest) (onto_first 0 (parts_of rest)) (eq-eqb 0 0 refl)
-parts_front (b ∷ bs) rest lacks =
-    cond-false (b == 0) ([] ∷ parts_of (bs ++ 0 ∷ rest)) (onto_first b (parts_of (bs ++ 0 ∷ rest))) (ne_eqb b 0 lacks.0)
-    ∙ ap (onto_first b) (parts_front bs rest lacks.1)
+use Rattle.json_args.specs.PartsLaws.{parts_front, of_joined}
 
 -- the first part of a body that is cut at its first zero
 pub parts_cut : (body front rest : List ℕ) → IsCut 0 body front rest → parts_of body ≡ front ∷ parts_of rest
@@ -34,6 +29,10 @@ pub next_part : (body front rest : List ℕ) (k j : ℕ) → IsCut 0 body front 
 next_part body front rest k j is e =
     ap (λ ps. slice_get ps k) (parts_cut body front rest is) ∙ ap (slice_get (front ∷ parts_of rest)) (e ∙ add-one j)
 
+-- what follows the first part has the parts behind it
+pub behind_first : (body front rest : List ℕ) → IsCut 0 body front rest → parts_of rest ≡ drop 1 (parts_of body)
+behind_first body front rest is = ap (drop 1) (sym (parts_cut body front rest is))
+
 has_zero : (front rest : List ℕ) → Lacks 0 (front ++ 0 ∷ rest) → ⊥
 has_zero [] rest lacks = lacks.0 refl
 has_zero (b ∷ bs) rest lacks = has_zero bs rest lacks.1
@@ -45,6 +44,14 @@ nothing_joined body (part ∷ parts) lacks is k = absurd (has_zero part (joined 
 -- a body without a zero has no parts
 pub no_parts : (body : List ℕ) → Lacks 0 body → Parts (parts_of body) body → (k : ℕ) → slice_get (parts_of body) k ≡ None
 no_parts body lacks parts = nothing_joined body (parts_of body) lacks parts.1
+
+nothing_behind : (body : List ℕ) (parts : List (List ℕ)) → Lacks 0 body → body ≡ joined parts → parts ≡ drop 1 parts
+nothing_behind body [] lacks is = refl
+nothing_behind body (part ∷ parts) lacks is = absurd (has_zero part (joined parts) (subst (Lacks 0) is lacks))
+
+-- a body without a zero has no parts, so none behind the first
+pub none_at_all : (body : List ℕ) → Lacks 0 body → Parts (parts_of body) body → parts_of body ≡ drop 1 (parts_of body)
+none_at_all body lacks parts = nothing_behind body (parts_of body) lacks parts.1
 
 -- one more byte in front
 onto_parts : (b : ℕ) (body : List ℕ) (parts : List (List ℕ)) → b ≢ 0 → body ≢ [] → Parts parts body → Parts (onto_first b parts) (b ∷ body)
@@ -92,10 +99,6 @@ all_more (p ∷ ps) part all lacks = (all.0, all_more ps part all.1 lacks)
 -- one more part behind
 pub one_more : (body part : List ℕ) (parts : List (List ℕ)) → Lacks 0 part → Parts parts body → Parts (parts ++ part ∷ []) (body ++ (part ++ 0 ∷ []))
 one_more body part parts lacks is = (all_more parts part is.0 lacks, ap (λ t. t ++ (part ++ 0 ∷ [])) is.1 ∙ sym (joined_more parts part))
-
-of_joined : (parts : List (List ℕ)) → AllByRecursion (Lacks 0) parts → parts_of (joined parts) ≡ parts
-of_joined [] all = refl
-of_joined (part ∷ parts) all = parts_front part (joined parts) all.0 ∙ ap (λ ps. part ∷ ps) (of_joined parts all.1)
 
 -- no body has two readings
 pub one_reading : OneReading

@@ -1,5 +1,5 @@
 -- What a part is read as: JSON (RFC 8259) by `serde_json`, then a kind; `null` is the empty text, false or no texts.
-use Rattle.std.specs.Prelude.{ℕ, ℤ, Bool, false, List, [], ◌∷◌, slice_get, Option, Some, None, option_map, option_and_then, Result, Ok, Err, if◌then◌else◌}
+use Rattle.std.specs.Prelude.{ℕ, ℤ, pos, negsuc, ◌<◌, ◌^◌, Bool, false, List, [], ◌∷◌, slice_get, Option, Some, None, option_map, option_and_then, Result, Ok, Err, if◌then◌else◌}
 use Rattle.std.specs.Option.{ok_or}
 use Rattle.std.specs.Str.{is_utf8}
 use Rattle.base64.specs.GeneralPurpose.{decoded_of}
@@ -24,7 +24,12 @@ text_in (string text) = Some text
 text_in (array _) = None
 text_in (object _) = None
 
--- the whole number, which is one that fits a u64 or an i64
+-- a number that fits a u64 or an i64
+abbrev pub IsWhole : ℤ → Type 0
+IsWhole (pos n) = n < 2 ^ 64
+IsWhole (negsuc n) = n < 2 ^ 63
+
+-- the whole number
 abbrev pub whole_in : Data → Option ℤ
 whole_in null = None
 whole_in (boolean _) = None

@@ -1,11 +1,15 @@
 //! The kinds of a JSON value.
-ghost use Rattle.std.specs.Prelude.{◌≡◌, IfOk, option_copied};
+ghost use Rattle.std.specs.Prelude.{◌≡◌, ◌≢◌, ℕ, List, IfOk, IfSome, IfNone, option_copied};
+ghost use Rattle.base64.specs.Engines.{standard};
+ghost use Rattle.base64.specs.GeneralPurpose.{encode_of, decoded_of, IsBytes};
 ghost use Rattle.serde_json.specs.View.{view, items_view};
-ghost use Rattle.json_args.specs.Kinds.{text_in, whole_in, flag_in, strings_in, texts_in};
+ghost use Rattle.json_args.specs.Kinds.{IsWhole, text_in, whole_in, flag_in, strings_in, texts_in};
 
+use base64::DecodeAllocError;
+use base64::engine::general_purpose::STANDARD;
 use serde_json::Value;
 use std::alloc::{AllocError, Global};
-use tcf_values::{Text, Texts};
+use tcf_values::{Bytes, Text, Texts};
 
 /// The text of a string, and the empty text of `null`.
 pub fn text_of(value: &Value) -> Option<&str>
@@ -20,7 +24,8 @@ pub fn text_of(value: &Value) -> Option<&str>
 
 /// The whole number, if it fits a `u64` or an `i64`.
 pub fn whole_of(value: &Value) -> Option<i128>
-    ensures { result ≡ whole_in (view value.now) }
+    ensures value { result ≡ whole_in (view value.now) }
+    ensures range { IfSome result IsWhole }
 {
     match value.as_u64() {
         Some(number) => Some(i128::from(number)),
@@ -64,5 +69,20 @@ pub fn texts_of(alloc: Global, value: &Value) -> Result<Option<Texts>, AllocErro
     match value.as_array() {
         Some(items) => strings_of(alloc, items),
         None => Ok(None),
+    }
+}
+
+/// The bytes of a text in padded standard base64, decoded from the text as it stands. None comes exactly where the
+/// text isn't such.
+#[tactic(auto, using(crate::proofs::Json::decoded_ok, crate::proofs::Json::decoded_err))]
+pub fn bytes_in(alloc: Global, text: &str) -> Result<Option<Bytes>, AllocError>
+    ensures value { IfOk result (λ found. found ≡ decoded_of standard text.now) }
+    ensures encoded { IfOk result (λ found. IfSome found (λ bytes. text.now ≡ encode_of standard bytes)) }
+    ensures none { IfOk result (λ found. IfNone found ((bytes : List ℕ) → IsBytes bytes → text.now ≢ encode_of standard bytes)) }
+{
+    match STANDARD.decode(alloc, text.as_bytes()) {
+        Ok(bytes) => Ok(Some(Bytes::from_vec(bytes))),
+        Err(DecodeAllocError::OutOfMemory) => Err(AllocError),
+        Err(DecodeAllocError::DecodeError(_)) => Ok(None),
     }
 }

@@ -1,5 +1,5 @@
 //! The parts of a body: each argument is followed by one zero byte.
-ghost use Rattle.std.specs.Prelude.{◌≡◌, ◌≢◌, ◌++◌, ◌∷◌, ◌↔◌, [], ℕ, List, Some, None, length, slice_get, option_copied, IfOk, IfErr, OnOk, OnErr, IsErrOf};
+ghost use Rattle.std.specs.Prelude.{◌≡◌, ◌≢◌, ◌++◌, ◌∷◌, ◌↔◌, [], ℕ, List, Some, None, length, drop, slice_get, option_copied, IfOk, IfErr, OnOk, OnErr, IsErrOf};
 ghost use Rattle.tcf_values.specs.Cut.{Lacks};
 ghost use Rattle.json_args.specs.Parts.{Parts, IsUnended, OneReading, parts_of};
 
@@ -28,6 +28,7 @@ impl<'a> Model for Args<'a> {
 /// Finds the parts of a body. It takes no memory.
 #[tactic(auto, using(crate::proofs::Splits::ended_parts))]
 pub fn split(body: &[u8]) -> Result<Args<'_>, ArgFault>
+    ensures value { IfOk result (λ args. args ≡ parts_of body.now) }
     ensures parts { IfOk result (λ args. Parts args body.now) }
     ensures unended { IsErrOf result ArgFault.NotEnded ↔ IsUnended body.now }
     ensures refusal { IfErr result (λ fault. fault ≡ ArgFault.NotEnded) }
@@ -57,6 +58,17 @@ impl<'a> Args<'a> {
         ensures { option_copied result ≡ slice_get self.now index }
     {
         part_at(self.body, index)
+    }
+
+    /// Takes the first part off. Reading part after part so goes over the body once.
+    #[tactic(auto, using(crate::proofs::Splits::first_part, crate::proofs::Splits::behind_first, crate::proofs::Splits::parts_rest, crate::proofs::Splits::no_parts, crate::proofs::Splits::none_at_all))]
+    pub fn take_first(&mut self) -> Option<&'a [u8]>
+        ensures part { option_copied result ≡ slice_get self.old 0 }
+        ensures rest { self.new ≡ drop 1 self.old }
+    {
+        let (part, rest) = cut_at(0, self.body)?;
+        self.body = rest;
+        Some(part)
     }
 }
 

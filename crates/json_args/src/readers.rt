@@ -2,33 +2,31 @@
 //!
 //! Every reader answers `Missing` where there is no such part, `Syntax` where the part is no JSON text in UTF-8, and
 //! `Shape` where it is JSON of another kind. An empty part is `null`.
-ghost use Rattle.std.specs.Prelude.{◌≡◌, ◌≢◌, ◌↔◌, ℕ, List, slice_get, option_map, IfOk, IfErr, IfSome, IfNone, IsErrOf};
+ghost use Rattle.std.specs.Prelude.{◌≡◌, ◌≢◌, ◌↔◌, ℕ, List, slice_get, option_map, IfOk, IfErr, IsErrOf};
 ghost use Rattle.base64.specs.Engines.{standard};
-ghost use Rattle.base64.specs.GeneralPurpose.{encode_of, decoded_of, IsBytes};
+ghost use Rattle.base64.specs.GeneralPurpose.{encode_of, IsBytes};
 ghost use Rattle.serde_json.specs.View.{view};
-ghost use Rattle.json_args.specs.Kinds.{json_of, value_at, text_at, whole_at, flag_at, texts_at, blob_at};
+ghost use Rattle.json_args.specs.Kinds.{IsWhole, json_of, value_at, text_at, whole_at, flag_at, texts_at, blob_at};
 
 use crate::fault::ArgFault;
-use crate::kinds::{flag_of, text_of, texts_of, whole_of};
+use crate::kinds::{bytes_in, flag_of, text_of, texts_of, whole_of};
 use crate::parts::Args;
-use base64::DecodeAllocError;
-use base64::engine::general_purpose::STANDARD;
 use serde_json::Value;
-use std::alloc::Global;
+use std::alloc::{AllocError, Global};
 use tcf_values::{Bytes, Text, Texts};
 
-/// The JSON value of a part; none where the part is no JSON text in UTF-8.
+/// The JSON value of a part, which is `null` where the part is empty. None comes exactly where the part is no JSON
+/// text in UTF-8.
 #[tactic(auto, using(crate::proofs::Json::json_empty, crate::proofs::Json::json_read, crate::proofs::Json::json_refused))]
-fn json(alloc: Global, part: &[u8]) -> Result<Option<Value>, ArgFault>
-    ensures value { IfOk result (λ found. option_map view found ≡ json_of part.now) }
-    ensures memory { IfErr result (λ fault. fault ≡ ArgFault.NoMemory) }
+pub fn json(alloc: Global, part: &[u8]) -> Result<Option<Value>, AllocError>
+    ensures { IfOk result (λ found. option_map view found ≡ json_of part.now) }
 {
     if part.is_empty() {
         return Ok(Some(Value::Null));
     }
     match Value::from_slice(alloc, part) {
         Ok(value) => Ok(Some(value)),
-        Err(error) if error.is_memory() => Err(ArgFault::NoMemory),
+        Err(error) if error.is_memory() => Err(AllocError),
         Err(_) => Ok(None),
     }
 }
@@ -61,6 +59,7 @@ pub fn text(alloc: Global, args: &Args<'_>, index: usize) -> Result<Text, ArgFau
 /// Reads a whole number from -2^63 to 2^64 - 1, written without a point or an exponent; `null` is none.
 pub fn whole(alloc: Global, args: &Args<'_>, index: usize) -> Result<i128, ArgFault>
     ensures ok { IfOk result (λ number. whole_at args.now index ≡ Ok number) }
+    ensures range { IfOk result IsWhole }
     ensures fault { IfErr result (λ fault. fault ≢ ArgFault.NoMemory → whole_at args.now index ≡ Err fault) }
     ensures missing { IsErrOf result (ArgFault.Missing index) ↔ (slice_get args.now index ≡ None) }
 {
@@ -91,21 +90,6 @@ pub fn texts(alloc: Global, args: &Args<'_>, index: usize) -> Result<Texts, ArgF
     }
 }
 
-/// The bytes of a text in base64; none where it isn't padded standard base64.
-#[tactic(auto, using(crate::proofs::Json::decoded_ok, crate::proofs::Json::decoded_err))]
-fn decoded(alloc: Global, text: &[u8]) -> Result<Option<Bytes>, ArgFault>
-    ensures value { IfOk result (λ bytes. bytes ≡ decoded_of standard text.now) }
-    ensures encoded { IfOk result (λ found. IfSome found (λ bytes. text.now ≡ encode_of standard bytes)) }
-    ensures none { IfOk result (λ found. IfNone found ((bytes : List ℕ) → IsBytes bytes → text.now ≢ encode_of standard bytes)) }
-    ensures memory { IfErr result (λ fault. fault ≡ ArgFault.NoMemory) }
-{
-    match STANDARD.decode(alloc, text) {
-        Ok(bytes) => Ok(Some(Bytes::from_vec(bytes))),
-        Err(DecodeAllocError::OutOfMemory) => Err(ArgFault::NoMemory),
-        Err(DecodeAllocError::DecodeError(_)) => Ok(None),
-    }
-}
-
 /// Reads bytes from a string in padded standard base64; `null` is no bytes. `Base64` comes where the text isn't
 /// such: also where it has blanks or line breaks, lacks its padding, or has spare bits that aren't zero.
 pub fn blob(alloc: Global, args: &Args<'_>, index: usize) -> Result<Bytes, ArgFault>
@@ -115,9 +99,9 @@ pub fn blob(alloc: Global, args: &Args<'_>, index: usize) -> Result<Bytes, ArgFa
     ensures encoded { IfOk result (λ bytes. text_at args.now index ≡ Ok (encode_of standard bytes)) }
     ensures base64 { IsErrOf result (ArgFault.Base64 index) → (bytes : List ℕ) → IsBytes bytes → text_at args.now index ≢ Ok (encode_of standard bytes) }
 {
-    let spelled = text(alloc, args, index)?;
-    match decoded(alloc, spelled.as_bytes())? {
-        Some(bytes) => Ok(bytes),
-        None => Err(ArgFault::Base64 { index }),
-    }
+    let found = value(alloc, args, index)?;
+    let Some(text) = text_of(&found) else {
+        return Err(ArgFault::Shape { index });
+    };
+    bytes_in(alloc, text)?.ok_or(ArgFault::Base64 { index })
 }

@@ -3,5 +3,5 @@ use Rattle.std.proofs.lemmas.Bool.{eqb-true}
 use Rattle.json_args.proofs.Json.{json_empty}
 use Rattle.json_args.proofs.readers.json.Goals as goal
 
-pub returns-then-is_empty-clause-value : goal.returns-then-is_empty-clause-value
-returns-then-is_empty-clause-value c = json_empty c.args.part.now (eqb-true _ _ (sym c.is_empty.ensures ∙ c.if-is_empty.true))
+pub returns-then-is_empty : goal.returns-then-is_empty
+returns-then-is_empty c = json_empty c.args.part.now (eqb-true _ _ (sym c.is_empty.ensures ∙ c.if-is_empty.true))

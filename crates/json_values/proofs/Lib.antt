@@ -1,0 +1,4 @@
+pub mod Decoding
+pub mod Items
+pub mod Objects
+pub mod Texts

@@ -1,0 +1,124 @@
+//! The properties of breakpoints, and their limits.
+ghost use Rattle.std.specs.Prelude.{◌≡◌, true, false, option_map, option_and_then, unwrap_or, nat_le, IfSome};
+ghost use Rattle.std.specs.List.{list_all};
+ghost use Rattle.json_values.specs.Props.{BpRoundTrip, bp_json, bp_in, is_bp, is_short, is_location, are_contexts, bp_from};
+ghost use Rattle.json_values.specs.PropsLaws.{bp_back, bp_plain, bp_shallow};
+
+use crate::canonical::Json;
+use crate::members::{optional_member, put_member, put_some, required_member};
+use serde_json::{Map, Value};
+use std::alloc::{AllocError, Global};
+use tcf_values::{BpProps, Text, Texts};
+
+/// Whether no byte is below 32.
+fn is_printed(bytes: &[u8]) -> bool
+    ensures { result ≡ list_all (λ b. nat_le 32 b) bytes.now }
+{
+    bytes.iter().all(|b| 32 <= *b)
+}
+
+/// Whether a text has at most so many bytes, and none below 32.
+fn is_short_text(most: usize, text: &Text) -> bool
+    ensures { result ≡ is_short most text.now }
+{
+    text.as_bytes().len() <= most && is_printed(text.as_bytes())
+}
+
+/// Whether a location has at most 255 bytes.
+fn has_location(location: &Option<Text>) -> bool
+    ensures { result ≡ is_location location.now }
+{
+    match location {
+        Some(text) => is_short_text(255, text),
+        None => true,
+    }
+}
+
+/// Whether each is a text of at most 64 bytes.
+fn are_short(texts: &[Text]) -> bool
+    ensures { result ≡ list_all (is_short 64) texts.now }
+{
+    texts.iter().all(|text| is_short_text(64, text))
+}
+
+/// Whether there are at most 16 contexts of at most 64 bytes each.
+fn has_contexts(contexts: &Option<Texts>) -> bool
+    ensures { result ≡ are_contexts contexts.now }
+{
+    match contexts {
+        Some(texts) => texts.len() <= 16 && are_short(texts.as_slice()),
+        None => true,
+    }
+}
+
+/// Whether the properties are within their limits: an ID of 1 to 255 bytes, a location of at most 255, at most 16
+/// contexts of at most 64 each, and no byte below 32.
+pub fn is_within_limits(props: &BpProps) -> bool
+    ensures { result ≡ is_bp props.now }
+{
+    !props.id.as_bytes().is_empty()
+        && is_short_text(255, &props.id)
+        && has_location(&props.location)
+        && has_contexts(&props.contexts)
+}
+
+/// The properties that are found; none where one is of another kind, or they aren't within their limits.
+fn props_of(
+    id: Option<Text>,
+    enabled: Option<Option<bool>>,
+    location: Option<Option<Text>>,
+    contexts: Option<Option<Texts>>,
+) -> Option<BpProps>
+    ensures value { result ≡ option_and_then (λ i. bp_from i (option_map (λ e. unwrap_or e false) enabled) location contexts) id }
+    ensures within { IfSome result (λ props. is_bp props ≡ true) }
+{
+    let props = BpProps {
+        id: id?,
+        enabled: enabled?.unwrap_or(false),
+        location: location?,
+        contexts: contexts?,
+    };
+    if is_within_limits(&props) {
+        Some(props)
+    } else {
+        None
+    }
+}
+
+impl Json for BpProps {
+    ghost json = { bp_json };
+
+    ghost json_in = { bp_in };
+
+    ghost IsWithin = { λ props. is_bp props ≡ true };
+
+    ghost nesting = { 2 };
+
+    fn to_value(&self, alloc: Global) -> Result<Value, AllocError> {
+        let mut map = Map::new(alloc);
+        put_some(alloc, &mut map, "ContextIds", &self.contexts)?;
+        put_member(alloc, &mut map, "Enabled", &self.enabled)?;
+        put_member(alloc, &mut map, "ID", &self.id)?;
+        put_some(alloc, &mut map, "Location", &self.location)?;
+        Ok(Value::Object(map))
+    }
+
+    fn from_value(alloc: Global, value: &Value) -> Result<Option<Self>, AllocError> {
+        let id = required_member(alloc, value, "ID")?;
+        let enabled = optional_member(alloc, value, "Enabled")?;
+        let location = optional_member(alloc, value, "Location")?;
+        let contexts = optional_member(alloc, value, "ContextIds")?;
+        Ok(props_of(id, enabled, location, contexts))
+    }
+
+    ghost reads_back = { bp_back };
+
+    ghost plain = { bp_plain };
+
+    ghost shallow = { bp_shallow };
+}
+
+/// The law that what is written of properties within their limits is read as them.
+pub fn bp_round_trip()
+    ensures { BpRoundTrip }
+{}

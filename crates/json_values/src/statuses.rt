@@ -1,0 +1,101 @@
+//! The status of a breakpoint: its instances.
+ghost use Rattle.std.specs.Prelude.{◌≡◌, IfOk, IfSome};
+ghost use Rattle.serde_json.specs.View.{view};
+ghost use Rattle.json_values.specs.Statuses.{instance_json, instance_in, place_in, IsPlace, IsInstance, status_json, status_in, IsStatus};
+ghost use Rattle.json_values.specs.ReplyLaws.{instance_back, instance_plain, instance_shallow, status_back, status_plain, status_shallow};
+
+use crate::canonical::Json;
+use crate::fields::{default_member, is_object};
+use crate::members::member;
+use serde_json::{Value, json};
+use std::alloc::{AllocError, Global};
+use tcf_values::{BpStatus, Instance, Instances, Place, Text};
+
+/// Where the instance of an object stands: an error wins over an address, and one of the two must be there.
+fn place_of(alloc: Global, value: &Value) -> Result<Option<Place>, AllocError>
+    ensures value { IfOk result (λ found. found ≡ place_in (view value.now)) }
+    ensures within { IfOk result (λ found. IfSome found IsPlace) }
+{
+    if let Some(error) = member(value, "Error") {
+        return Ok(Text::from_value(alloc, error)?.map(Place::Error));
+    }
+    match member(value, "Address") {
+        Some(address) => Ok(u32::from_value(alloc, address)?.map(Place::Address)),
+        None => Ok(None),
+    }
+}
+
+impl Json for Instance {
+    ghost json = { instance_json };
+
+    ghost json_in = { instance_in };
+
+    ghost IsWithin = { IsInstance };
+
+    ghost nesting = { 1 };
+
+    fn to_value(&self, alloc: Global) -> Result<Value, AllocError> {
+        let context = self.context.as_str();
+        match &self.place {
+            Place::Address(address) => {
+                json!(in alloc; {"Address": *address, "LocationContext": context})
+            }
+            Place::Error(error) => {
+                json!(in alloc; {"Error": error.as_str(), "LocationContext": context})
+            }
+        }
+    }
+
+    fn from_value(alloc: Global, value: &Value) -> Result<Option<Self>, AllocError> {
+        let Some(place) = place_of(alloc, value)? else {
+            return Ok(None);
+        };
+        let Some(context) = default_member(
+            alloc,
+            value,
+            "LocationContext",
+            Text::from_str(alloc, "")?,
+        )?
+        else {
+            return Ok(None);
+        };
+        Ok(Some(Instance { context, place }))
+    }
+
+    ghost reads_back = { instance_back };
+
+    ghost plain = { instance_plain };
+
+    ghost shallow = { instance_shallow };
+}
+
+impl Json for BpStatus {
+    ghost json = { status_json };
+
+    ghost json_in = { status_in };
+
+    ghost IsWithin = { IsStatus };
+
+    ghost nesting = { 3 };
+
+    fn to_value(&self, alloc: Global) -> Result<Value, AllocError> {
+        let instances = self.instances.to_value(alloc)?;
+        json!(in alloc; {"Instances": instances})
+    }
+
+    fn from_value(alloc: Global, value: &Value) -> Result<Option<Self>, AllocError> {
+        if !is_object(value) {
+            return Ok(None);
+        }
+        match default_member(alloc, value, "Instances", Instances::new(alloc))? {
+            Some(instances) => Ok(Some(BpStatus { instances })),
+            None => Ok(None),
+        }
+    }
+
+    ghost reads_back = { status_back };
+
+    ghost plain = { status_plain };
+
+    ghost shallow = { status_shallow };
+}

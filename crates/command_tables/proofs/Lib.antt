@@ -1,0 +1,5 @@
+pub mod Bodies
+pub mod EachName
+pub mod Endings
+pub mod Places
+pub mod ReadBack

@@ -1,0 +1,7 @@
+pub mod Arguments
+pub mod Canonical
+pub mod Names
+pub mod Places
+pub mod Reading
+pub mod Rows
+pub mod Written

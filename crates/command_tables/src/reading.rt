@@ -1,0 +1,61 @@
+//! What the data of a command is read as.
+ghost use Rattle.std.specs.Prelude.{◌≡◌, ◌≢◌, IfOk, OnOk, OnErr};
+ghost use Rattle.command_tables.specs.Reading.{KnownIsReadable, bad_of, reading_of};
+
+use crate::names::command_name;
+use crate::rows::read_arguments;
+use json_args::{ArgFault, split};
+use std::alloc::{AllocError, Global};
+use tcf_values::Command;
+
+/// What the data of a command is read as.
+#[derive(Debug, Drop)]
+pub enum Reading {
+    /// A command of the tables, whose arguments are read.
+    Known(Command),
+    /// The tables have no such service, or the service no such command.
+    Unknown,
+    /// A command of the tables, with the first argument that can't be read, counted from 0, and the code of the
+    /// refusal: 2 where it is no JSON, 8 where it is no base64, and else 3.
+    Bad { index: usize, code: u8 },
+}
+
+/// The reading of a fault; want of memory is none.
+fn bad(fault: ArgFault) -> Result<Reading, AllocError>
+    ensures ok { IfOk result (λ reading. reading ≡ bad_of fault) }
+    ensures within { IfOk result KnownIsReadable }
+    ensures known { OnOk result (fault ≢ ArgFault.NoMemory) }
+    ensures memory { OnErr result (fault ≡ ArgFault.NoMemory) }
+{
+    match fault {
+        ArgFault::NotEnded => Ok(Reading::Bad { index: 0, code: 3 }),
+        ArgFault::Missing { index } => Ok(Reading::Bad { index, code: 3 }),
+        ArgFault::Syntax { index } => Ok(Reading::Bad { index, code: 2 }),
+        ArgFault::Shape { index } => Ok(Reading::Bad { index, code: 3 }),
+        ArgFault::Base64 { index } => Ok(Reading::Bad { index, code: 8 }),
+        ArgFault::NoMemory => Err(AllocError),
+    }
+}
+
+/// Reads the data of a command. `Unknown` comes exactly where the tables have no command of this service and name;
+/// else `Bad` where an argument can't be read, or where the data isn't ended.
+pub fn read_command(
+    alloc: Global,
+    service: &[u8],
+    name: &[u8],
+    body: &[u8],
+) -> Result<Reading, AllocError>
+    ensures reading { IfOk result (λ reading. reading ≡ reading_of service.now name.now body.now) }
+    ensures readable { IfOk result KnownIsReadable }
+{
+    let Some(command) = command_name(service, name) else {
+        return Ok(Reading::Unknown);
+    };
+    match split(body) {
+        Ok(parts) => match read_arguments(alloc, command, parts) {
+            Ok(command) => Ok(Reading::Known(command)),
+            Err(fault) => bad(fault),
+        },
+        Err(unended) => bad(unended),
+    }
+}

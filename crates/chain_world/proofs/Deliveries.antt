@@ -1,6 +1,5 @@
 -- How a schedule's deliveries are cut doesn't matter.
-use Rattle.std.proofs.Common.{◌≡◌, ℕ, ◌+◌, ◌<◌, Bool, true, false, List, length, refl, ap, ◌∙◌}
-use Rattle.tcf_text.specs.Plan.{Plan, deliver}
+use Rattle.std.proofs.Common.{◌≡◌, ℕ, ◌+◌, ◌<◌, Bool, true, false, length, refl, ap, ◌∙◌}
 use Rattle.chain_world.specs.declared.end.EndState.{EndState}
 use Rattle.chain_world.specs.declared.end.EndState.TheVariants.{Unopened, Opening, Live}
 use Rattle.chain_world.specs.declared.lane.TheConstants.{INBOX_LIMIT}

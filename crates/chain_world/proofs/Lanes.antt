@@ -1,9 +1,9 @@
 -- The reader of a lane stands where the bytes have come.
-use Rattle.std.proofs.Common.{◌≡◌, ℕ, ◌+◌, ◌-◌, ◌<◌, List, [], ◌∷◌, ◌++◌, length, take, refl, sym, subst, ap, ◌∙◌, ◌≤◌, arith, zero-le, false}
+use Rattle.std.proofs.Common.{◌≡◌, ℕ, ◌+◌, ◌-◌, ◌<◌, List, [], ◌∷◌, ◌++◌, refl, sym, subst, ap, ◌∙◌, ◌≤◌, arith, zero-le}
 use Rattle.std.proofs.lemmas.Option.{none-some, same_Some}
-use Rattle.std.specs.Prelude.{Option, None, Some}
+use Rattle.std.specs.Prelude.{Option, Some}
 use Rattle.std.specs.Option.{IsSomeAnd}
-use Rattle.stream_escape.specs.Stream.{Ending, partly, Reads, begun}
+use Rattle.stream_escape.specs.Stream.{Ending, Reads, begun}
 use Rattle.stream_escape.specs.Value.{UnescapeValue, IsBetween}
 use Rattle.tcf_message.specs.Message.{MessageValue}
 use Rattle.chain_world.specs.Marked.{Marked}

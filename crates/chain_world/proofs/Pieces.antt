@@ -1,5 +1,5 @@
 -- Bytes that arrive in pieces.
-use Rattle.std.proofs.Common.{◌≡◌, ℕ, zero, suc, ◌+◌, ◌-◌, ◌<◌, ◌≤◌, Bool, true, false, cond, List, [], ◌∷◌, ◌++◌, length, refl, sym, ◌∙◌, ap, subst, arith, append_assoc, append-nil, inl, inr, ◌⊎◌}
+use Rattle.std.proofs.Common.{◌≡◌, ℕ, zero, suc, ◌+◌, ◌-◌, ◌<◌, ◌≤◌, true, false, List, [], ◌∷◌, ◌++◌, length, refl, sym, ◌∙◌, ap, subst, arith, append_assoc, inl, inr, ◌⊎◌}
 use Rattle.std.specs.Prelude.{◌↔◌, nat_le, nat_lt, sum_by}
 use Rattle.std.proofs.lemmas.Bool.{cases_Bool, cond-true, cond-false, leb-true, leb-false, le-leb, lt-leb, ltb-true, lt-ltb, and_parts, and_from, false≢true}
 use Rattle.std.proofs.lemmas.List.{length-append}
@@ -7,7 +7,7 @@ use Rattle.std.proofs.lemmas.List.Sums.{sum_by-cons}
 use Rattle.chain_world.specs.declared.lane.TheConstants.{INBOX_LIMIT, PIECE_LIMIT}
 use Rattle.chain_world.specs.Marked.{Marked}
 use Rattle.chain_world.specs.LaneValue.{LaneValue}
-use Rattle.chain_world.specs.Lane.{size_of, received, delivered, pieces, bytes_in_flight, all_delivered, is_carrying, IsWithin, OnePieceOrTwo, Keeps, PiecesKeep, AllArrive, ArrivesWithItsLastByte}
+use Rattle.chain_world.specs.Lane.{size_of, received, delivered, pieces, bytes_in_flight, all_delivered, is_carrying, IsWithin, OnePieceOrTwo, PiecesKeep, AllArrive, ArrivesWithItsLastByte}
 
 -- ---- What so many bytes bring
 

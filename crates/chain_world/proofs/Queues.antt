@@ -1,5 +1,5 @@
 -- A world without its pieces: in each direction the messages that aren't taken yet, whether they have come or not.
-use Rattle.std.proofs.Common.{◌≡◌, ℕ, zero, suc, List, [], ◌∷◌, ◌++◌, refl, ap, sym, ◌∙◌, append_assoc, Bool, true, false}
+use Rattle.std.proofs.Common.{◌≡◌, ℕ, zero, suc, List, ◌++◌, refl, ap, sym, ◌∙◌, append_assoc, Bool, true, false}
 use Rattle.chain_world.specs.declared.end.EndState.{EndState}
 use Rattle.chain_world.specs.declared.end.EndState.TheVariants.{Unopened, Opening, Live}
 use Rattle.chain_world.specs.Marked.{Marked, Stepped}

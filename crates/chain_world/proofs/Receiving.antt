@@ -1,13 +1,11 @@
 -- The bytes of one message, read in pieces.
-use Rattle.std.proofs.Common.{◌≡◌, ◌≢◌, ℕ, ◌+◌, ◌-◌, ◌<◌, ◌≤◌, List, [], ◌∷◌, ◌++◌, length, take, drop, false, Ok, refl, sym, ap, ◌∙◌, subst, arith, append-nil, zero-le}
-use Rattle.std.specs.Prelude.{Option, None, IfNone, Result}
+use Rattle.std.proofs.Common.{◌≡◌, ℕ, ◌+◌, ◌<◌, List, [], ◌∷◌, ◌++◌, length, take, drop, false, Ok, refl, sym, ap, ◌∙◌, subst, arith, append-nil, zero-le}
+use Rattle.std.specs.Prelude.{None, IfNone}
 use Rattle.std.proofs.lemmas.List.{take-append-drop, length-drop}
 use Rattle.std.proofs.Math.Seq.{take-add}
 use Rattle.stream_escape.specs.declared.stream.Item.{Item}
 use Rattle.stream_escape.specs.declared.stream.Item.TheVariants.{Message}
-use Rattle.stream_escape.specs.declared.stream.StreamFault.{StreamFault}
-use Rattle.stream_escape.specs.declared.stream.TheConstants.{MESSAGE_LIMIT}
-use Rattle.stream_escape.specs.Stream.{framed, Ending, partly, Reads, begun, message}
+use Rattle.stream_escape.specs.Stream.{framed, partly, Reads, begun, message}
 use Rattle.stream_escape.specs.Value.{UnescapeValue}
 use Rattle.stream_escape.specs.Feeding.{Feeds, Takes}
 use Rattle.stream_escape.specs.Laws.{OneReading, IsBegun, FrontOfFrame}

@@ -1,5 +1,4 @@
 use Rattle.std.proofs.Common.{rules, [], ◌≡◌, take, drop, ap, arith, ◌+◌, ◌-◌}
-use Rattle.std.specs.Prelude.{ℕ}
 use Rattle.stream_escape.specs.declared.stream.StreamFault.TheVariants.{NoMemory}
 use Rattle.stream_escape.specs.Stream.{partly}
 use Rattle.chain_world.proofs.Receiving.{part_read, part_readable}

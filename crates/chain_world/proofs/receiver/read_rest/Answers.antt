@@ -1,7 +1,6 @@
-use Rattle.std.proofs.Common.{false, ◌≡◌, ◌∷◌, [], List, ◌++◌, take, drop, ap, arith, sym, ◌∙◌, rules}
+use Rattle.std.proofs.Common.{false, ◌≡◌, ◌∷◌, [], ◌++◌, take, arith, sym, ◌∙◌, rules}
 use Rattle.std.proofs.lemmas.Grind.{common_steps}
 use Rattle.std.proofs.lemmas.List.{take_rest}
-use Rattle.stream_escape.specs.declared.stream.Item.{Item}
 use Rattle.stream_escape.specs.declared.stream.Item.TheVariants.{Message}
 use Rattle.stream_escape.specs.declared.stream.StreamFault.TheVariants.{NoMemory}
 use Rattle.stream_escape.specs.Stream.{partly}

@@ -1,4 +1,4 @@
-use Rattle.std.proofs.Common.{◌≡◌, [], ◌∷◌, ◌++◌, ◌∙◌, ap, sym, subst}
+use Rattle.std.proofs.Common.{◌≡◌, ◌∙◌, subst}
 use Rattle.tcf_message.specs.Message.{spelling}
 use Rattle.chain_world.specs.LaneValue.{LaneValue}
 use Rattle.chain_world.specs.Lane.{rest_come}

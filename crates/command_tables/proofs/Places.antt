@@ -1,10 +1,8 @@
 -- The parts behind those that are taken.
 use Rattle.std.proofs.Common.{◌≡◌, ℕ, zero, suc, ◌+◌, List, [], ◌∷◌, drop, slice_get, refl, ◌∙◌, ap, sym, arith}
-use Rattle.std.specs.Prelude.{Option, Result}
 use Rattle.std.proofs.Math.Seq.{drop-nil}
-use Rattle.json_args.specs.declared.fault.ArgFault.{ArgFault}
 use Rattle.command_tables.specs.Places.{IsAtItsIndex}
-use Rattle.command_tables.specs.Rows.{Row, arg, then_read}
+use Rattle.command_tables.specs.Rows.{then_read}
 
 first_left : {A : Type 0} (xs : List A) (n : ℕ) → slice_get (drop n xs) 0 ≡ slice_get xs n
 first_left xs zero = refl

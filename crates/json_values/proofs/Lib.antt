@@ -1,4 +1,3 @@
-pub mod Decoding
 pub mod Items
 pub mod Objects
 pub mod Texts

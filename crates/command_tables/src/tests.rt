@@ -1,6 +1,7 @@
 //! What no clause says: that the calls succeed where there is memory, and that the definitions are the tables.
 use super::*;
 use std::alloc::Global;
+use std::process::Abort;
 use std::test::Fail;
 use tcf_values::Command;
 
@@ -33,118 +34,188 @@ fn written_again(
     }
 }
 
+/// The first argument that can't be read is the one that is wanted, with its code.
+fn assert_refused(
+    rt: &impl Abort,
+    alloc: Global,
+    service: &str,
+    name: &str,
+    body: &[u8],
+    want: (usize, u8),
+) -> Result<(), Fail> {
+    let reading = read_command(alloc, service.as_bytes(), name.as_bytes(), body)?;
+    assert_eq!(rt; refusal(&reading), Some(want));
+    Ok(())
+}
+
 #[test]
-fn arguments_are_read_from_the_left(rt: HostRuntime) -> Result<(), Fail> {
-    let alloc = rt.alloc();
-    let reading = read_command(alloc, b"RunControl", b"resume", b"\"P1.1\"\x000\x001\0")?;
+fn a_resume_has_its_mode_and_its_count(rt: HostRuntime) -> Result<(), Fail> {
+    let reading = read_command(
+        rt.alloc(),
+        b"RunControl",
+        b"resume",
+        b"\"P1.1\"\x000\x001\0",
+    )?;
     assert_eq!(rt; resumed(&reading), Some((0, 1)));
-    for (service, name, body, want) in [
-        (
-            "RunControl",
-            "resume",
-            b"\"P1.1\"\x000.5\x001\0".as_slice(),
-            (1, 3),
-        ),
-        (
-            "RunControl",
-            "resume",
-            b"\"P1.1\"\0{\x001\0".as_slice(),
-            (1, 2),
-        ),
-        ("RunControl", "suspend", b"\"P1.1\"".as_slice(), (0, 3)),
-        (
-            "Registers",
-            "set",
-            b"\"P1.1.x5\"\0\"AQ=\"\0".as_slice(),
-            (1, 8),
-        ),
-        ("RunControl", "resume", b"5\0{\0x\0".as_slice(), (0, 3)),
-        (
-            "RunControl",
-            "resume",
-            b"\"P1.1\"\x000\0".as_slice(),
-            (2, 3),
-        ),
-        (
-            "RunControl",
-            "resume",
-            b"\"P1.1\"\x000\0\0".as_slice(),
-            (2, 3),
-        ),
-        (
-            "RunControl",
-            "resume",
-            b"\"P1.1\"\x0018446744073709551616\x001\0".as_slice(),
-            (1, 3),
-        ),
-        ("RunControl", "getState", b"".as_slice(), (0, 3)),
-        ("Breakpoints", "getCapabilities", b"[]\0".as_slice(), (0, 3)),
-        (
-            "Breakpoints",
-            "enable",
-            b"[\"a\",null]\0".as_slice(),
-            (0, 3),
-        ),
-        (
-            "Breakpoints",
-            "add",
-            b"{\"Enabled\":true}\0".as_slice(),
-            (0, 3),
-        ),
-        ("Breakpoints", "add", b"{\"ID\":\"\"}\0".as_slice(), (0, 3)),
-        (
-            "Breakpoints",
-            "set",
-            b"[{\"ID\":\"b\"},{\"ID\":\"c\",\"Location\":5}]\0".as_slice(),
-            (0, 3),
-        ),
-        (
-            "Registers",
-            "getm",
-            b"[[\"P1.1.x5\",0]]\0".as_slice(),
-            (0, 3),
-        ),
-        (
-            "Registers",
-            "getm",
-            b"[[\"P1.1.x5\",0,4,0]]\0".as_slice(),
-            (0, 3),
-        ),
-        (
-            "Registers",
-            "getm",
-            b"[[\"P1.1.x5\",null,4]]\0".as_slice(),
-            (0, 3),
-        ),
-        (
-            "Processes",
-            "start",
-            b"\"\0\"loop\"\0[]\0[]\0true\0".as_slice(),
-            (0, 2),
-        ),
-        (
-            "Processes",
-            "start",
-            b"\"\"\0\"loop\"\0[]\0[]\x001\0".as_slice(),
-            (4, 3),
-        ),
-        (
-            "Memory",
-            "set",
-            b"\"P1\"\x000\x001\x001\x000\0\"A\"\0".as_slice(),
-            (5, 8),
-        ),
-        (
-            "Memory",
-            "set",
-            b"\"P1\"\x000\x001\x001\x000\0".as_slice(),
-            (5, 3),
-        ),
-        ("Trace", "run", b"\"P1.1\"\x0001\0".as_slice(), (1, 2)),
-    ] {
-        let reading = read_command(alloc, service.as_bytes(), name.as_bytes(), body)?;
-        assert_eq!(rt; refusal(&reading), Some(want), "{service} {name} {body:?}");
-    }
+    Ok(())
+}
+
+#[test]
+fn the_first_bad_argument_from_the_left_is_told(rt: HostRuntime) -> Result<(), Fail> {
+    let alloc = rt.alloc();
+    assert_refused(
+        &rt,
+        alloc,
+        "RunControl",
+        "resume",
+        b"\"P1.1\"\x000.5\x001\0",
+        (1, 3),
+    )?;
+    assert_refused(
+        &rt,
+        alloc,
+        "RunControl",
+        "resume",
+        b"\"P1.1\"\0{\x001\0",
+        (1, 2),
+    )?;
+    assert_refused(&rt, alloc, "RunControl", "suspend", b"\"P1.1\"", (0, 3))?;
+    assert_refused(
+        &rt,
+        alloc,
+        "Registers",
+        "set",
+        b"\"P1.1.x5\"\0\"AQ=\"\0",
+        (1, 8),
+    )?;
+    assert_refused(&rt, alloc, "RunControl", "resume", b"5\0{\0x\0", (0, 3))?;
+    assert_refused(
+        &rt,
+        alloc,
+        "RunControl",
+        "resume",
+        b"\"P1.1\"\x000\0",
+        (2, 3),
+    )?;
+    assert_refused(
+        &rt,
+        alloc,
+        "RunControl",
+        "resume",
+        b"\"P1.1\"\x000\0\0",
+        (2, 3),
+    )?;
+    assert_refused(
+        &rt,
+        alloc,
+        "RunControl",
+        "resume",
+        b"\"P1.1\"\x0018446744073709551616\x001\0",
+        (1, 3),
+    )?;
+    assert_refused(&rt, alloc, "RunControl", "getState", b"", (0, 3))?;
+    Ok(())
+}
+
+#[test]
+fn lists_and_properties_that_dont_read_are_told(rt: HostRuntime) -> Result<(), Fail> {
+    let alloc = rt.alloc();
+    assert_refused(
+        &rt,
+        alloc,
+        "Breakpoints",
+        "getCapabilities",
+        b"[]\0",
+        (0, 3),
+    )?;
+    assert_refused(
+        &rt,
+        alloc,
+        "Breakpoints",
+        "enable",
+        b"[\"a\",null]\0",
+        (0, 3),
+    )?;
+    assert_refused(
+        &rt,
+        alloc,
+        "Breakpoints",
+        "add",
+        b"{\"Enabled\":true}\0",
+        (0, 3),
+    )?;
+    assert_refused(&rt, alloc, "Breakpoints", "add", b"{\"ID\":\"\"}\0", (0, 3))?;
+    assert_refused(
+        &rt,
+        alloc,
+        "Breakpoints",
+        "set",
+        b"[{\"ID\":\"b\"},{\"ID\":\"c\",\"Location\":5}]\0",
+        (0, 3),
+    )?;
+    assert_refused(
+        &rt,
+        alloc,
+        "Registers",
+        "getm",
+        b"[[\"P1.1.x5\",0]]\0",
+        (0, 3),
+    )?;
+    assert_refused(
+        &rt,
+        alloc,
+        "Registers",
+        "getm",
+        b"[[\"P1.1.x5\",0,4,0]]\0",
+        (0, 3),
+    )?;
+    assert_refused(
+        &rt,
+        alloc,
+        "Registers",
+        "getm",
+        b"[[\"P1.1.x5\",null,4]]\0",
+        (0, 3),
+    )?;
+    Ok(())
+}
+
+#[test]
+fn arguments_far_to_the_right_are_told(rt: HostRuntime) -> Result<(), Fail> {
+    let alloc = rt.alloc();
+    assert_refused(
+        &rt,
+        alloc,
+        "Processes",
+        "start",
+        b"\"\0\"loop\"\0[]\0[]\0true\0",
+        (0, 2),
+    )?;
+    assert_refused(
+        &rt,
+        alloc,
+        "Processes",
+        "start",
+        b"\"\"\0\"loop\"\0[]\0[]\x001\0",
+        (4, 3),
+    )?;
+    assert_refused(
+        &rt,
+        alloc,
+        "Memory",
+        "set",
+        b"\"P1\"\x000\x001\x001\x000\0\"A\"\0",
+        (5, 8),
+    )?;
+    assert_refused(
+        &rt,
+        alloc,
+        "Memory",
+        "set",
+        b"\"P1\"\x000\x001\x001\x000\0",
+        (5, 3),
+    )?;
+    assert_refused(&rt, alloc, "Trace", "run", b"\"P1.1\"\x0001\0", (1, 2))?;
     Ok(())
 }
 

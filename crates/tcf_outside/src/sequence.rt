@@ -18,6 +18,12 @@ impl Duplicate for u8 {
     }
 }
 
+impl Duplicate for u32 {
+    fn copy(&self) -> Result<Self, AllocError> {
+        Ok(*self)
+    }
+}
+
 /// A list that grows at its end. After want of memory it is as it was.
 #[derive(Debug, Drop)]
 pub struct Sequence<T> {

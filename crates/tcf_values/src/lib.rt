@@ -4,6 +4,7 @@
 pub mod answer;
 pub mod command;
 pub mod cut;
+pub mod effect;
 pub mod errors;
 pub mod event;
 pub mod ids;
@@ -14,6 +15,7 @@ pub mod values;
 pub use answer::Answer;
 pub use command::{Command, is_changing, is_storable};
 pub use cut::cut_at;
+pub use effect::{Effect, Events, Numbers};
 pub use errors::{ErrorReport, format_of_code, report};
 pub use event::EventData;
 pub use ids::{

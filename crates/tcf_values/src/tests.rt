@@ -283,5 +283,16 @@ fn a_copy_shows_what_its_source_shows(rt: HostRuntime) -> Result<(), Fail> {
         format!(in alloc; "{:?}", event.copy()?)?.as_str(),
         format!(in alloc; "{event:?}")?.as_str()
     );
+    let mut effect = Effect {
+        events: Events::new(alloc),
+        progress: Numbers::new(alloc),
+        answer,
+    };
+    effect.events.push(event)?;
+    effect.progress.push(4)?;
+    assert_eq!(rt;
+        format!(in alloc; "{:?}", effect.copy()?)?.as_str(),
+        format!(in alloc; "{effect:?}")?.as_str()
+    );
     Ok(())
 }

@@ -6,10 +6,10 @@ use Rattle.std.proofs.lemmas.Bool.Decides.{eqb_tells}
 use Rattle.json_args.specs.Parts.{IsUnended, parts_of}
 use Rattle.json_args.specs.declared.fault.ArgFault.{ArgFault}
 use Rattle.json_args.specs.declared.fault.ArgFault.TheVariants.{NoMemory, NotEnded}
-use Rattle.command_tables.specs.Names.{name_in}
+use Rattle.service_names.specs.Commands.{name_in}
 use Rattle.command_tables.specs.Reading.{bad_of, is_unended, reading_by, reading_in, reading_of}
 use Rattle.command_tables.specs.Rows.{row_of}
-use Rattle.command_tables.specs.declared.names.CommandName.{CommandName}
+use Rattle.service_names.specs.declared.commands.CommandName.{CommandName}
 use Rattle.command_tables.specs.declared.reading.Reading.{Reading}
 use Rattle.std.specs.declared.alloc.AllocError.{AllocError}
 

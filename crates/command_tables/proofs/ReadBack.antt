@@ -20,13 +20,13 @@ use Rattle.json_values.specs.PlainLaws.{whole_back}
 use Rattle.json_values.specs.Props.{bp_json, bp_in, is_bp}
 use Rattle.json_values.specs.PropsLaws.{bp_back}
 use Rattle.json_values.specs.TextLaws.{text_lacks_zero}
-use Rattle.command_tables.specs.Canonical.{IsReadable, body_of, canonical, named_as, texts_of}
-use Rattle.command_tables.specs.Names.{name_of, service_of}
+use Rattle.command_tables.specs.Canonical.{IsReadable, body_of, canonical, texts_of}
+use Rattle.service_names.specs.CommandLaws.{name_there}
+use Rattle.service_names.specs.Commands.{name_of, named_as, service_of}
 use Rattle.command_tables.specs.Reading.{is_unended, reading_by, reading_in, reading_of}
 use Rattle.command_tables.specs.Rows.{row_of}
 use Rattle.command_tables.specs.Written.{BytesDecode, TextsRead}
 use Rattle.command_tables.specs.declared.reading.Reading.TheVariants.{Known}
-use Rattle.command_tables.proofs.EachName.{name_there}
 
 strings_back : (texts : List (List ℕ)) → strings_in (items_of (map text_json texts)) ≡ Some texts
 strings_back [] = refl

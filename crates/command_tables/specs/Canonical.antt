@@ -1,4 +1,4 @@
--- How a command is written: its name, and the canonical value of each argument.
+-- How the arguments of a command are written: the canonical value of each.
 use Rattle.std.specs.Prelude.{ℕ, ◌≡◌, true, List, [], ◌∷◌, map}
 use Rattle.std.specs.List.{AllByRecursion}
 use Rattle.serde_json.specs.Data.{Data}
@@ -11,52 +11,8 @@ use Rattle.json_values.specs.Plain.{text_json, texts_json, whole_json, flag_json
 use Rattle.json_values.specs.Props.{bp_json, is_bp}
 use Rattle.tcf_values.specs.declared.command.Command.{Command}
 use Rattle.tcf_values.specs.declared.command.Command.TheVariants.{Sync, GetPeers, Redirect, GetContext, GetChildren, GetState, Resume, Suspend, Terminate, BpSet, BpAdd, BpChange, BpEnable, BpDisable, BpRemove, BpIds, BpProperties, BpGetStatus, BpCapabilities, MemGet, MemSet, RegGet, RegSet, RegGetm, RegSetm, ProcContext, ProcChildren, ProcStart, ProcAttach, ProcDetach, ProcTerminate, TraceRun}
-use Rattle.command_tables.specs.declared.names.CommandName.{CommandName}
-use Rattle.command_tables.specs.declared.names.CommandName.TheVariants as service
-use Rattle.command_tables.specs.declared.names.LocatorCommand.TheVariants as locator
-use Rattle.command_tables.specs.declared.names.RunControlCommand.TheVariants as run_control
-use Rattle.command_tables.specs.declared.names.BreakpointsCommand.TheVariants as breakpoints
-use Rattle.command_tables.specs.declared.names.MemoryCommand.TheVariants as memory
-use Rattle.command_tables.specs.declared.names.RegistersCommand.TheVariants as registers
-use Rattle.command_tables.specs.declared.names.ProcessesCommand.TheVariants as processes
-use Rattle.command_tables.specs.declared.names.TraceCommand.TheVariants as trace
 
--- the name of a command
-abbrev pub named_as : Command → CommandName
-named_as Sync = service.Locator locator.Sync
-named_as GetPeers = service.Locator locator.GetPeers
-named_as (Redirect peer) = service.Locator locator.Redirect
-named_as (GetContext id) = service.RunControl run_control.GetContext
-named_as (GetChildren id) = service.RunControl run_control.GetChildren
-named_as (GetState id) = service.RunControl run_control.GetState
-named_as (Resume id mode count) = service.RunControl run_control.Resume
-named_as (Suspend id) = service.RunControl run_control.Suspend
-named_as (Terminate id) = service.RunControl run_control.Terminate
-named_as (BpSet list) = service.Breakpoints breakpoints.Set
-named_as (BpAdd props) = service.Breakpoints breakpoints.Add
-named_as (BpChange props) = service.Breakpoints breakpoints.Change
-named_as (BpEnable ids) = service.Breakpoints breakpoints.Enable
-named_as (BpDisable ids) = service.Breakpoints breakpoints.Disable
-named_as (BpRemove ids) = service.Breakpoints breakpoints.Remove
-named_as BpIds = service.Breakpoints breakpoints.GetIds
-named_as (BpProperties id) = service.Breakpoints breakpoints.GetProperties
-named_as (BpGetStatus id) = service.Breakpoints breakpoints.GetStatus
-named_as (BpCapabilities id) = service.Breakpoints breakpoints.GetCapabilities
-named_as (MemGet id addr word size mode) = service.Memory memory.Get
-named_as (MemSet id addr word size mode bytes) = service.Memory memory.Set
-named_as (RegGet id) = service.Registers registers.Get
-named_as (RegSet id bytes) = service.Registers registers.Set
-named_as (RegGetm list) = service.Registers registers.Getm
-named_as (RegSetm list bytes) = service.Registers registers.Setm
-named_as (ProcContext id) = service.Processes processes.GetContext
-named_as (ProcChildren id attached) = service.Processes processes.GetChildren
-named_as (ProcStart directory file args environment attach) = service.Processes processes.Start
-named_as (ProcAttach id) = service.Processes processes.Attach
-named_as (ProcDetach id) = service.Processes processes.Detach
-named_as (ProcTerminate id) = service.Processes processes.Terminate
-named_as (TraceRun id count) = service.Trace trace.Run
-
--- its arguments
+-- the arguments of a command
 abbrev pub canonical : Command → List Data
 canonical Sync = []
 canonical GetPeers = []

@@ -1,6 +1,5 @@
 pub mod Arguments
 pub mod Canonical
-pub mod Names
 pub mod Places
 pub mod Reading
 pub mod Rows

@@ -4,9 +4,9 @@ use Rattle.json_args.specs.Parts.{parts_of}
 use Rattle.json_args.specs.declared.fault.ArgFault.{ArgFault}
 use Rattle.json_args.specs.declared.fault.ArgFault.TheVariants.{NotEnded, Missing, Syntax, Shape, Base64, NoMemory}
 use Rattle.command_tables.specs.Canonical.{IsReadable}
-use Rattle.command_tables.specs.Names.{name_in}
+use Rattle.service_names.specs.Commands.{name_in}
 use Rattle.command_tables.specs.Rows.{row_of}
-use Rattle.command_tables.specs.declared.names.CommandName.{CommandName}
+use Rattle.service_names.specs.declared.commands.CommandName.{CommandName}
 use Rattle.command_tables.specs.declared.reading.Reading.{Reading}
 use Rattle.command_tables.specs.declared.reading.Reading.TheVariants.{Known, Unknown, Bad}
 use Rattle.tcf_values.specs.declared.command.Command.{Command}

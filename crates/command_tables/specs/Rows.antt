@@ -4,22 +4,22 @@ use Rattle.json_args.specs.declared.fault.ArgFault.{ArgFault}
 use Rattle.tcf_values.specs.declared.command.Command.{Command}
 use Rattle.tcf_values.specs.declared.command.Command.TheVariants.{Sync, GetPeers, Redirect, GetContext, GetChildren, GetState, Resume, Suspend, Terminate, BpSet, BpAdd, BpChange, BpEnable, BpDisable, BpRemove, BpIds, BpProperties, BpGetStatus, BpCapabilities, MemGet, MemSet, RegGet, RegSet, RegGetm, RegSetm, ProcContext, ProcChildren, ProcStart, ProcAttach, ProcDetach, ProcTerminate, TraceRun}
 use Rattle.command_tables.specs.Arguments.{text_part, whole_part, flag_part, texts_part, blob_part, bp_part, props_part, locations_part}
-use Rattle.command_tables.specs.declared.names.CommandName.{CommandName}
-use Rattle.command_tables.specs.declared.names.CommandName.TheVariants as service
-use Rattle.command_tables.specs.declared.names.LocatorCommand.{LocatorCommand}
-use Rattle.command_tables.specs.declared.names.LocatorCommand.TheVariants as locator
-use Rattle.command_tables.specs.declared.names.RunControlCommand.{RunControlCommand}
-use Rattle.command_tables.specs.declared.names.RunControlCommand.TheVariants as run_control
-use Rattle.command_tables.specs.declared.names.BreakpointsCommand.{BreakpointsCommand}
-use Rattle.command_tables.specs.declared.names.BreakpointsCommand.TheVariants as breakpoints
-use Rattle.command_tables.specs.declared.names.MemoryCommand.{MemoryCommand}
-use Rattle.command_tables.specs.declared.names.MemoryCommand.TheVariants as memory
-use Rattle.command_tables.specs.declared.names.RegistersCommand.{RegistersCommand}
-use Rattle.command_tables.specs.declared.names.RegistersCommand.TheVariants as registers
-use Rattle.command_tables.specs.declared.names.ProcessesCommand.{ProcessesCommand}
-use Rattle.command_tables.specs.declared.names.ProcessesCommand.TheVariants as processes
-use Rattle.command_tables.specs.declared.names.TraceCommand.{TraceCommand}
-use Rattle.command_tables.specs.declared.names.TraceCommand.TheVariants as trace
+use Rattle.service_names.specs.declared.commands.CommandName.{CommandName}
+use Rattle.service_names.specs.declared.commands.CommandName.TheVariants as service
+use Rattle.service_names.specs.declared.commands.LocatorCommand.{LocatorCommand}
+use Rattle.service_names.specs.declared.commands.LocatorCommand.TheVariants as locator
+use Rattle.service_names.specs.declared.commands.RunControlCommand.{RunControlCommand}
+use Rattle.service_names.specs.declared.commands.RunControlCommand.TheVariants as run_control
+use Rattle.service_names.specs.declared.commands.BreakpointsCommand.{BreakpointsCommand}
+use Rattle.service_names.specs.declared.commands.BreakpointsCommand.TheVariants as breakpoints
+use Rattle.service_names.specs.declared.commands.MemoryCommand.{MemoryCommand}
+use Rattle.service_names.specs.declared.commands.MemoryCommand.TheVariants as memory
+use Rattle.service_names.specs.declared.commands.RegistersCommand.{RegistersCommand}
+use Rattle.service_names.specs.declared.commands.RegistersCommand.TheVariants as registers
+use Rattle.service_names.specs.declared.commands.ProcessesCommand.{ProcessesCommand}
+use Rattle.service_names.specs.declared.commands.ProcessesCommand.TheVariants as processes
+use Rattle.service_names.specs.declared.commands.TraceCommand.{TraceCommand}
+use Rattle.service_names.specs.declared.commands.TraceCommand.TheVariants as trace
 
 -- what reads the parts that are left, the first of which has the index
 abbrev pub Row : Type 0

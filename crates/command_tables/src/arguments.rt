@@ -2,7 +2,7 @@
 //!
 //! Each method takes the next part, whatever it answers: `Missing` where no part is left, `Syntax` where the part is
 //! no JSON text in UTF-8, and `Shape` where it is JSON of another kind, with the index of the argument.
-ghost use Rattle.std.specs.Prelude.{◌≡◌, ◌≢◌, ◌<◌, ◌^◌, ◌-◌, Ok, Err, IfOk, IfErr, slice_get};
+ghost use Rattle.std.specs.Prelude.{◌≡◌, ◌≢◌, ◌<◌, ◌^◌, ◌-◌, Ok, Err, IfOk, IfErr};
 ghost use Rattle.serde_json.specs.View.{view};
 ghost use Rattle.json_args.specs.Kinds.{IsWhole, value_of};
 ghost use Rattle.command_tables.specs.Arguments.{behind, first_as, part_as, text_part, whole_part, flag_part, texts_part, blob_part};

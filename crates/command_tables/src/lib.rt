@@ -2,15 +2,13 @@
 #![tactic(auto)]
 
 pub mod arguments;
-pub mod names;
 pub mod reading;
 pub mod rows;
 pub mod writing;
 
-pub use names::{CommandName, command_name, names_are_exact};
 pub use reading::{Reading, read_command};
 pub use rows::arguments_are_in_place;
-pub use writing::{WrittenCommand, name_of_command, write_command};
+pub use writing::{WrittenCommand, write_command};
 
 #[cfg(test)]
 mod tests;

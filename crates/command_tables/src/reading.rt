@@ -2,9 +2,9 @@
 ghost use Rattle.std.specs.Prelude.{◌≡◌, ◌≢◌, IfOk, OnOk, OnErr};
 ghost use Rattle.command_tables.specs.Reading.{KnownIsReadable, bad_of, reading_of};
 
-use crate::names::command_name;
 use crate::rows::read_arguments;
 use json_args::{ArgFault, split};
+use service_names::command_named;
 use std::alloc::{AllocError, Global};
 use tcf_values::Command;
 
@@ -48,7 +48,7 @@ pub fn read_command(
     ensures reading { IfOk result (λ reading. reading ≡ reading_of service.now name.now body.now) }
     ensures readable { IfOk result KnownIsReadable }
 {
-    let Some(command) = command_name(service, name) else {
+    let Some(command) = command_named(service, name) else {
         return Ok(Reading::Unknown);
     };
     match split(body) {

@@ -5,11 +5,11 @@ ghost use Rattle.command_tables.specs.Places.{IsAtItsIndex};
 ghost use Rattle.command_tables.specs.Rows.{row_of, locator_row, run_control_row, breakpoints_row, memory_row, registers_row, processes_row, trace_row};
 
 use crate::arguments::Arguments;
-use crate::names::{
+use json_args::{ArgFault, Args};
+use service_names::{
     BreakpointsCommand, CommandName, LocatorCommand, MemoryCommand, ProcessesCommand,
     RegistersCommand, RunControlCommand, TraceCommand,
 };
-use json_args::{ArgFault, Args};
 use std::alloc::Global;
 use tcf_values::Command;
 

@@ -1,20 +1,16 @@
 //! Writing a command.
-ghost use Rattle.std.specs.Prelude.{◌≡◌, ◌++◌, ◌∷◌, [], ℤ, List, true, IfOk, OnOk, OnErr};
+ghost use Rattle.std.specs.Prelude.{◌≡◌, ◌++◌, IfOk, OnOk};
 ghost use Rattle.std.specs.List.{AllByRecursion};
 ghost use Rattle.json_args.specs.Kinds.{IsWhole};
-ghost use Rattle.json_args.specs.Parts.{joined};
 ghost use Rattle.json_values.specs.Locations.{IsLocation};
-ghost use Rattle.command_tables.specs.Canonical.{IsReadable, body_of, canonical, named_as, texts_of};
-ghost use Rattle.command_tables.specs.Names.{name_of, service_of};
+ghost use Rattle.command_tables.specs.Canonical.{IsReadable, body_of, canonical};
 ghost use Rattle.command_tables.specs.Reading.{reading_of};
 ghost use Rattle.command_tables.specs.Written.{BytesDecode, TextsRead};
+ghost use Rattle.service_names.specs.Commands.{name_of, named_as, service_of};
 
-use crate::names::{
-    BreakpointsCommand, CommandName, LocatorCommand, MemoryCommand, ProcessesCommand,
-    RegistersCommand, RunControlCommand, TraceCommand,
-};
 use crate::reading::Reading;
 use json_values::{put, put_blob};
+use service_names::name_of_command;
 use std::alloc::{AllocError, Global};
 use tcf_outside::Octets;
 use tcf_values::{Bytes, Command, Locations, Text, Texts};
@@ -26,48 +22,6 @@ pub struct WrittenCommand {
     pub name: Text,
     /// The arguments, each with its zero.
     pub body: Octets,
-}
-
-/// The name of a command.
-pub fn name_of_command(command: &Command) -> CommandName
-    ensures { result ≡ named_as command.now }
-{
-    match command {
-        Command::Sync => CommandName::Locator(LocatorCommand::Sync),
-        Command::GetPeers => CommandName::Locator(LocatorCommand::GetPeers),
-        Command::Redirect { .. } => CommandName::Locator(LocatorCommand::Redirect),
-        Command::GetContext { .. } => CommandName::RunControl(RunControlCommand::GetContext),
-        Command::GetChildren { .. } => CommandName::RunControl(RunControlCommand::GetChildren),
-        Command::GetState { .. } => CommandName::RunControl(RunControlCommand::GetState),
-        Command::Resume { .. } => CommandName::RunControl(RunControlCommand::Resume),
-        Command::Suspend { .. } => CommandName::RunControl(RunControlCommand::Suspend),
-        Command::Terminate { .. } => CommandName::RunControl(RunControlCommand::Terminate),
-        Command::BpSet { .. } => CommandName::Breakpoints(BreakpointsCommand::Set),
-        Command::BpAdd { .. } => CommandName::Breakpoints(BreakpointsCommand::Add),
-        Command::BpChange { .. } => CommandName::Breakpoints(BreakpointsCommand::Change),
-        Command::BpEnable { .. } => CommandName::Breakpoints(BreakpointsCommand::Enable),
-        Command::BpDisable { .. } => CommandName::Breakpoints(BreakpointsCommand::Disable),
-        Command::BpRemove { .. } => CommandName::Breakpoints(BreakpointsCommand::Remove),
-        Command::BpIds => CommandName::Breakpoints(BreakpointsCommand::GetIds),
-        Command::BpProperties { .. } => CommandName::Breakpoints(BreakpointsCommand::GetProperties),
-        Command::BpGetStatus { .. } => CommandName::Breakpoints(BreakpointsCommand::GetStatus),
-        Command::BpCapabilities { .. } => CommandName::Breakpoints(
-            BreakpointsCommand::GetCapabilities,
-        ),
-        Command::MemGet { .. } => CommandName::Memory(MemoryCommand::Get),
-        Command::MemSet { .. } => CommandName::Memory(MemoryCommand::Set),
-        Command::RegGet { .. } => CommandName::Registers(RegistersCommand::Get),
-        Command::RegSet { .. } => CommandName::Registers(RegistersCommand::Set),
-        Command::RegGetm { .. } => CommandName::Registers(RegistersCommand::Getm),
-        Command::RegSetm { .. } => CommandName::Registers(RegistersCommand::Setm),
-        Command::ProcContext { .. } => CommandName::Processes(ProcessesCommand::GetContext),
-        Command::ProcChildren { .. } => CommandName::Processes(ProcessesCommand::GetChildren),
-        Command::ProcStart { .. } => CommandName::Processes(ProcessesCommand::Start),
-        Command::ProcAttach { .. } => CommandName::Processes(ProcessesCommand::Attach),
-        Command::ProcDetach { .. } => CommandName::Processes(ProcessesCommand::Detach),
-        Command::ProcTerminate { .. } => CommandName::Processes(ProcessesCommand::Terminate),
-        Command::TraceRun { .. } => CommandName::Trace(TraceCommand::Run),
-    }
 }
 
 /// Puts the arguments of `RunControl resume` last.

@@ -1,6 +1,6 @@
 -- What is written of an event is read as it.
-use Rattle.std.proofs.Common.{◌≡◌, ℕ, List, ◌∷◌, true, refl, ◌∙◌, ap}
-use Rattle.std.specs.Prelude.{Option, Some, map, option_and_then}
+use Rattle.std.proofs.Common.{◌≡◌, true, refl, ◌∙◌, ap}
+use Rattle.std.specs.Prelude.{Some, map, option_and_then}
 use Rattle.json_values.specs.Contexts.{IsContext, context_json, context_in}
 use Rattle.json_values.specs.ContextLaws.{context_back}
 use Rattle.json_values.specs.ListLaws.{list_back}
@@ -12,35 +12,19 @@ use Rattle.json_values.specs.ReplyLaws.{range_back, status_back}
 use Rattle.json_values.specs.StateLaws.{hits_back}
 use Rattle.json_values.specs.WordLaws.{word_back}
 use Rattle.reply_tables.proofs.ReadBack.{parts_again}
-use Rattle.reply_tables.specs.EventNames.{kind_of, service_of, name_of, event_named}
+use Rattle.service_names.specs.EventLaws.{event_there}
+use Rattle.service_names.specs.Events.{name_of, service_of, told_as}
 use Rattle.reply_tables.specs.Events.{IsEvent, event_by, event_data, event_in, event_parts, event_read, known_or_bad}
 use Rattle.reply_tables.specs.Parts.{PartsRead, part_text}
-use Rattle.reply_tables.specs.declared.kinds.EventKind.{EventKind}
 use Rattle.reply_tables.specs.declared.replies.ReadEvent.{ReadEvent}
 use Rattle.tcf_values.specs.declared.event.EventData.{EventData}
 use Rattle.tcf_values.specs.declared.values.BpProps.{BpProps}
 use Rattle.tcf_values.specs.declared.values.Range.{Range}
 
-names_back : (kind : EventKind) → event_named (service_of kind) (name_of kind) ≡ Some kind
-names_back EventKind.Hello = refl
-names_back EventKind.CtxAdded = refl
-names_back EventKind.CtxChanged = refl
-names_back EventKind.CtxRemoved = refl
-names_back EventKind.Suspended = refl
-names_back EventKind.Resumed = refl
-names_back EventKind.BpStatusIs = refl
-names_back EventKind.BpAdded = refl
-names_back EventKind.BpChanged = refl
-names_back EventKind.BpRemoved = refl
-names_back EventKind.MemChanged = refl
-names_back EventKind.RegChanged = refl
-names_back EventKind.RegsChanged = refl
-names_back EventKind.Exited = refl
-
 range_again : (range : Range) → IsRange range → range_in (range_json range) ≡ Some range
 range_again range within = range_back range
 
-arguments_back : (event : EventData) → IsEvent event → PartsRead (event_parts event) → event_in (kind_of event) (map part_text (event_parts event)) ≡ Some event
+arguments_back : (event : EventData) → IsEvent event → PartsRead (event_parts event) → event_in (told_as event) (map part_text (event_parts event)) ≡ Some event
 arguments_back (EventData.Hello list) within reads = rw (reads.0, texts_back list)
 arguments_back (EventData.CtxAdded list) within reads = rw (reads.0, list_back context_json context_in IsContext context_back list within)
 arguments_back (EventData.CtxChanged list) within reads = rw (reads.0, list_back context_json context_in IsContext context_back list within)
@@ -58,7 +42,7 @@ arguments_back EventData.RegsChanged within reads = refl
 arguments_back (EventData.Exited id code) within reads = rw (reads.0, reads.1.0, whole_back code)
 
 pub event_back : (event : EventData) → IsEvent event → PartsRead (event_parts event)
-    → event_read (service_of (kind_of event)) (name_of (kind_of event)) (event_data event) ≡ ReadEvent.Known event
+    → event_read (service_of (told_as event)) (name_of (told_as event)) (event_data event) ≡ ReadEvent.Known event
 event_back event within reads =
-    ap (event_by (event_data event)) (names_back (kind_of event))
-    ∙ ap known_or_bad (ap (option_and_then (event_in (kind_of event))) (parts_again (event_parts event)) ∙ arguments_back event within reads)
+    ap (event_by (event_data event)) (event_there (told_as event))
+    ∙ ap known_or_bad (ap (option_and_then (event_in (told_as event))) (parts_again (event_parts event)) ∙ arguments_back event within reads)

@@ -1,14 +1,13 @@
 -- What is written of an answer is read as it.
-use Rattle.std.proofs.Common.{◌≡◌, ℕ, ◌-◌, ◌+◌, ◌==◌, List, [], ◌∷◌, ◌++◌, length, slice_get, Bool, true, false, refl, sym, ◌∙◌, ap, arith}
+use Rattle.std.proofs.Common.{◌≡◌, ℕ, ◌-◌, ◌+◌, ◌==◌, List, [], ◌∷◌, ◌++◌, length, slice_get, Bool, true, false, refl, ◌∙◌, ap, arith}
 use Rattle.std.specs.Prelude.{Option, Some, None, map, option_map, option_and_then}
 use Rattle.std.specs.List.{AllByRecursion}
 use Rattle.std.proofs.lemmas.Bool.{ne_eqb, cond-true, cond-false}
 use Rattle.serde_json.specs.Data.{Data, null}
-use Rattle.serde_json.specs.Find.{as_str}
 use Rattle.serde_json.specs.Written.{compact_text}
 use Rattle.tcf_values.specs.Cut.{Lacks}
 use Rattle.json_args.specs.Kinds.{json_of}
-use Rattle.json_args.specs.Parts.{joined, parts_of}
+use Rattle.json_args.specs.Parts.{joined}
 use Rattle.json_args.specs.PartsLaws.{of_joined}
 use Rattle.json_values.specs.Contexts.{context_json}
 use Rattle.json_values.specs.ContextLaws.{context_back}
@@ -18,7 +17,7 @@ use Rattle.json_values.specs.Processes.{process_json}
 use Rattle.json_values.specs.Props.{bp_json}
 use Rattle.json_values.specs.PropsLaws.{bp_back, texts_back}
 use Rattle.json_values.specs.ReplyLaws.{process_back, report_back, status_back}
-use Rattle.json_values.specs.Reports.{IsReport, report_json}
+use Rattle.json_values.specs.Reports.{report_json}
 use Rattle.json_values.specs.StateLaws.{hits_back, peers_back}
 use Rattle.json_values.specs.Statuses.{status_json}
 use Rattle.json_values.specs.TextLaws.{text_lacks_zero}

@@ -1,5 +1,5 @@
 -- What is read as an event, and what is written as it: its arguments, one a part.
-use Rattle.std.specs.Prelude.{ℕ, ℤ, ◌≡◌, ◌<◌, ◌^◌, true, List, [], ◌∷◌, Option, Some, None, option_map, option_and_then}
+use Rattle.std.specs.Prelude.{ℕ, ◌≡◌, ◌<◌, ◌^◌, true, List, [], ◌∷◌, Option, Some, None, option_map, option_and_then}
 use Rattle.std.specs.List.{AllByRecursion}
 use Rattle.serde_json.specs.Data.{Data, string}
 use Rattle.serde_json.specs.Find.{as_str}
@@ -12,9 +12,9 @@ use Rattle.json_values.specs.Ranges.{IsRange, range_json, range_in}
 use Rattle.json_values.specs.States.{hits_json, hits_in}
 use Rattle.json_values.specs.Statuses.{IsStatus, status_json, status_in}
 use Rattle.json_values.specs.Words.{word_json, word_in}
-use Rattle.reply_tables.specs.EventNames.{event_named}
+use Rattle.service_names.specs.Events.{event_named}
 use Rattle.reply_tables.specs.Parts.{data_of, part_in, ended_parts}
-use Rattle.reply_tables.specs.declared.kinds.EventKind.{EventKind}
+use Rattle.service_names.specs.declared.events.EventName.{EventName}
 use Rattle.reply_tables.specs.declared.replies.ReadEvent.{ReadEvent}
 use Rattle.tcf_values.specs.declared.event.EventData.{EventData}
 
@@ -36,29 +36,29 @@ exited_event parts =
     option_and_then (λ id. option_map (λ code. EventData.Exited id code) (part_in whole_in parts 1)) (part_in text_in parts 0)
 
 -- the arguments of each event
-abbrev pub event_in : EventKind → List (List ℕ) → Option EventData
-event_in EventKind.Hello parts = option_map EventData.Hello (part_in (list_in as_str) parts 0)
-event_in EventKind.CtxAdded parts = option_map EventData.CtxAdded (part_in (list_in context_in) parts 0)
-event_in EventKind.CtxChanged parts = option_map EventData.CtxChanged (part_in (list_in context_in) parts 0)
-event_in EventKind.CtxRemoved parts = option_map EventData.CtxRemoved (part_in (list_in as_str) parts 0)
-event_in EventKind.Suspended parts = suspended_event parts
-event_in EventKind.Resumed parts = option_map EventData.Resumed (part_in text_in parts 0)
-event_in EventKind.BpStatusIs parts = status_event parts
-event_in EventKind.BpAdded parts = option_map EventData.BpAdded (part_in (list_in bp_in) parts 0)
-event_in EventKind.BpChanged parts = option_map EventData.BpChanged (part_in (list_in bp_in) parts 0)
-event_in EventKind.BpRemoved parts = option_map EventData.BpRemoved (part_in (list_in as_str) parts 0)
-event_in EventKind.MemChanged parts = memory_event parts
-event_in EventKind.RegChanged parts = option_map EventData.RegChanged (part_in text_in parts 0)
-event_in EventKind.RegsChanged parts = Some EventData.RegsChanged
-event_in EventKind.Exited parts = exited_event parts
+abbrev pub event_in : EventName → List (List ℕ) → Option EventData
+event_in EventName.Hello parts = option_map EventData.Hello (part_in (list_in as_str) parts 0)
+event_in EventName.CtxAdded parts = option_map EventData.CtxAdded (part_in (list_in context_in) parts 0)
+event_in EventName.CtxChanged parts = option_map EventData.CtxChanged (part_in (list_in context_in) parts 0)
+event_in EventName.CtxRemoved parts = option_map EventData.CtxRemoved (part_in (list_in as_str) parts 0)
+event_in EventName.Suspended parts = suspended_event parts
+event_in EventName.Resumed parts = option_map EventData.Resumed (part_in text_in parts 0)
+event_in EventName.BpStatusIs parts = status_event parts
+event_in EventName.BpAdded parts = option_map EventData.BpAdded (part_in (list_in bp_in) parts 0)
+event_in EventName.BpChanged parts = option_map EventData.BpChanged (part_in (list_in bp_in) parts 0)
+event_in EventName.BpRemoved parts = option_map EventData.BpRemoved (part_in (list_in as_str) parts 0)
+event_in EventName.MemChanged parts = memory_event parts
+event_in EventName.RegChanged parts = option_map EventData.RegChanged (part_in text_in parts 0)
+event_in EventName.RegsChanged parts = Some EventData.RegsChanged
+event_in EventName.Exited parts = exited_event parts
 
 abbrev pub known_or_bad : Option EventData → ReadEvent
 known_or_bad None = ReadEvent.Bad
 known_or_bad (Some event) = ReadEvent.Known event
 
-abbrev pub event_by : List ℕ → Option EventKind → ReadEvent
+abbrev pub event_by : List ℕ → Option EventName → ReadEvent
 event_by body None = ReadEvent.Foreign
-event_by body (Some kind) = known_or_bad (option_and_then (event_in kind) (ended_parts body))
+event_by body (Some event) = known_or_bad (option_and_then (event_in event) (ended_parts body))
 
 -- what an event of these names with this data is read as
 abbrev pub event_read : List ℕ → List ℕ → List ℕ → ReadEvent

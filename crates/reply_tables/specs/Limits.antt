@@ -1,5 +1,5 @@
 -- Which answers a row has: those that its reader gives.
-use Rattle.std.specs.Prelude.{ℕ, ◌≡◌, ◌<◌, ◌^◌, true, List}
+use Rattle.std.specs.Prelude.{◌≡◌, ◌<◌, ◌^◌, true}
 use Rattle.json_values.specs.Contexts.{IsContext}
 use Rattle.json_values.specs.Props.{is_bp}
 use Rattle.json_values.specs.Reports.{IsReport}

@@ -1,5 +1,5 @@
 -- The parts of an answer and of an event: each is empty or the text of a JSON value.
-use Rattle.std.specs.Prelude.{ℕ, ◌≡◌, ◌-◌, ◌==◌, Bool, true, List, [], ◌∷◌, map, length, slice_get, Option, Some, None, option_and_then, if◌then◌else◌}
+use Rattle.std.specs.Prelude.{ℕ, ◌≡◌, ◌-◌, ◌==◌, Bool, true, List, [], map, length, slice_get, Option, Some, None, option_and_then, if◌then◌else◌}
 use Rattle.std.specs.List.{AllByRecursion}
 use Rattle.serde_json.specs.Data.{Data}
 use Rattle.serde_json.specs.Written.{compact_text}

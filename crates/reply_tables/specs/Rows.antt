@@ -1,47 +1,54 @@
 -- What stands in the answer to each command (TCF service pages), one row a line. The service Trace is this project's own.
 use Rattle.tcf_values.specs.declared.command.Command.{Command}
-use Rattle.tcf_values.specs.declared.command.Command.TheVariants.{Sync, GetPeers, Redirect, GetContext, GetChildren, GetState, Resume, Suspend, Terminate, BpSet, BpAdd, BpChange, BpEnable, BpDisable, BpRemove, BpIds, BpProperties, BpGetStatus, BpCapabilities, MemGet, MemSet, RegGet, RegSet, RegGetm, RegSetm, ProcContext, ProcChildren, ProcStart, ProcAttach, ProcDetach, ProcTerminate, TraceRun}
+use Rattle.service_names.specs.Commands.{named_as}
+use Rattle.service_names.specs.declared.commands.CommandName.{CommandName}
+use Rattle.service_names.specs.declared.commands.CommandName.TheVariants as service
+use Rattle.service_names.specs.declared.commands.LocatorCommand.TheVariants as locator
+use Rattle.service_names.specs.declared.commands.RunControlCommand.TheVariants as run_control
+use Rattle.service_names.specs.declared.commands.BreakpointsCommand.TheVariants as breakpoints
+use Rattle.service_names.specs.declared.commands.MemoryCommand.TheVariants as memory
+use Rattle.service_names.specs.declared.commands.RegistersCommand.TheVariants as registers
+use Rattle.service_names.specs.declared.commands.ProcessesCommand.TheVariants as processes
+use Rattle.service_names.specs.declared.commands.TraceCommand.TheVariants as trace
 use Rattle.reply_tables.specs.declared.rows.Kind.{Kind}
 use Rattle.reply_tables.specs.declared.rows.Row.{Row}
 use Rattle.reply_tables.specs.declared.rows.Row.TheVariants.{NoData, ErrorAlone, ErrorNull, ErrorThen, ErrorState, BlobErrorNull}
 
+-- the row of a command by its name
+abbrev pub row_named : CommandName → Row
+row_named (service.Locator locator.Sync) = NoData
+row_named (service.Locator locator.GetPeers) = ErrorThen Kind.Peers
+row_named (service.Locator locator.Redirect) = ErrorAlone
+row_named (service.RunControl run_control.GetContext) = ErrorThen Kind.Context
+row_named (service.RunControl run_control.GetChildren) = ErrorThen Kind.Ids
+row_named (service.RunControl run_control.GetState) = ErrorState
+row_named (service.RunControl run_control.Resume) = ErrorAlone
+row_named (service.RunControl run_control.Suspend) = ErrorAlone
+row_named (service.RunControl run_control.Terminate) = ErrorAlone
+row_named (service.Breakpoints breakpoints.Set) = ErrorAlone
+row_named (service.Breakpoints breakpoints.Add) = ErrorAlone
+row_named (service.Breakpoints breakpoints.Change) = ErrorAlone
+row_named (service.Breakpoints breakpoints.Enable) = ErrorAlone
+row_named (service.Breakpoints breakpoints.Disable) = ErrorAlone
+row_named (service.Breakpoints breakpoints.Remove) = ErrorAlone
+row_named (service.Breakpoints breakpoints.GetIds) = ErrorThen Kind.Ids
+row_named (service.Breakpoints breakpoints.GetProperties) = ErrorThen Kind.Bp
+row_named (service.Breakpoints breakpoints.GetStatus) = ErrorThen Kind.Status
+row_named (service.Breakpoints breakpoints.GetCapabilities) = ErrorThen Kind.Capabilities
+row_named (service.Memory memory.Get) = BlobErrorNull
+row_named (service.Memory memory.Set) = ErrorNull
+row_named (service.Registers registers.Get) = ErrorThen Kind.Blob
+row_named (service.Registers registers.Set) = ErrorAlone
+row_named (service.Registers registers.Getm) = ErrorThen Kind.Blob
+row_named (service.Registers registers.Setm) = ErrorAlone
+row_named (service.Processes processes.GetContext) = ErrorThen Kind.Process
+row_named (service.Processes processes.GetChildren) = ErrorThen Kind.Ids
+row_named (service.Processes processes.Start) = ErrorThen Kind.Process
+row_named (service.Processes processes.Attach) = ErrorAlone
+row_named (service.Processes processes.Detach) = ErrorAlone
+row_named (service.Processes processes.Terminate) = ErrorAlone
+row_named (service.Trace trace.Run) = ErrorThen Kind.Count
+
+-- the row of a command
 abbrev pub row_of : Command → Row
--- Locator
-row_of Sync = NoData
-row_of GetPeers = ErrorThen Kind.Peers
-row_of (Redirect peer) = ErrorAlone
--- RunControl
-row_of (GetContext id) = ErrorThen Kind.Context
-row_of (GetChildren id) = ErrorThen Kind.Ids
-row_of (GetState id) = ErrorState
-row_of (Resume id mode count) = ErrorAlone
-row_of (Suspend id) = ErrorAlone
-row_of (Terminate id) = ErrorAlone
--- Breakpoints
-row_of (BpSet list) = ErrorAlone
-row_of (BpAdd props) = ErrorAlone
-row_of (BpChange props) = ErrorAlone
-row_of (BpEnable ids) = ErrorAlone
-row_of (BpDisable ids) = ErrorAlone
-row_of (BpRemove ids) = ErrorAlone
-row_of BpIds = ErrorThen Kind.Ids
-row_of (BpProperties id) = ErrorThen Kind.Bp
-row_of (BpGetStatus id) = ErrorThen Kind.Status
-row_of (BpCapabilities id) = ErrorThen Kind.Capabilities
--- Memory
-row_of (MemGet id addr word size mode) = BlobErrorNull
-row_of (MemSet id addr word size mode bytes) = ErrorNull
--- Registers
-row_of (RegGet id) = ErrorThen Kind.Blob
-row_of (RegSet id bytes) = ErrorAlone
-row_of (RegGetm list) = ErrorThen Kind.Blob
-row_of (RegSetm list bytes) = ErrorAlone
--- Processes
-row_of (ProcContext id) = ErrorThen Kind.Process
-row_of (ProcChildren id attached) = ErrorThen Kind.Ids
-row_of (ProcStart directory file args environment attach) = ErrorThen Kind.Process
-row_of (ProcAttach id) = ErrorAlone
-row_of (ProcDetach id) = ErrorAlone
-row_of (ProcTerminate id) = ErrorAlone
--- Trace
-row_of (TraceRun id count) = ErrorThen Kind.Count
+row_of command = row_named (named_as command)

@@ -13,7 +13,6 @@ use Rattle.json_values.specs.Statuses.{status_json}
 use Rattle.json_values.specs.Words.{word_json}
 use Rattle.reply_tables.specs.Parts.{data_of}
 use Rattle.reply_tables.specs.Rows.{row_of}
-use Rattle.reply_tables.specs.declared.rows.Kind.{Kind}
 use Rattle.reply_tables.specs.declared.rows.Row.{Row}
 use Rattle.reply_tables.specs.declared.rows.Row.TheVariants.{NoData, ErrorAlone, ErrorNull, ErrorThen, ErrorState, BlobErrorNull}
 use Rattle.tcf_values.specs.Errors.{report_of}

@@ -2,11 +2,11 @@
 ghost use Rattle.std.specs.Prelude.{◌≡◌, IfOk, IfSome};
 ghost use Rattle.reply_tables.specs.Events.{event_in, suspended_event, status_event, memory_event, exited_event, event_read, IsEvent, IfKnown};
 
-use crate::kinds::{EventKind, event_named};
 use crate::parts::{next_hits, next_of, next_text, parts_of};
 use crate::replies::ReadEvent;
 use json_args::Args;
 use json_values::Json;
+use service_names::{EventName, event_named};
 use std::alloc::{AllocError, Global};
 use tcf_values::{EventData, Texts};
 
@@ -73,40 +73,40 @@ fn exited(alloc: Global, parts: &mut Args<'_>) -> Result<Option<EventData>, Allo
     }
 }
 
-/// The event of the kind, read from its arguments.
-fn event_of_kind(
+/// The event of this name, read from its arguments.
+fn event_of(
     alloc: Global,
-    kind: EventKind,
+    event: EventName,
     parts: &mut Args<'_>,
 ) -> Result<Option<EventData>, AllocError>
-    ensures value { IfOk result (λ found. found ≡ event_in kind parts.old) }
+    ensures value { IfOk result (λ found. found ≡ event_in event parts.old) }
     ensures within { IfOk result (λ found. IfSome found IsEvent) }
 {
-    match kind {
-        EventKind::Hello => Ok(next_of(alloc, parts)?.map(|list| EventData::Hello { list })),
-        EventKind::CtxAdded => Ok(next_of(alloc, parts)?.map(|list| EventData::CtxAdded { list })),
-        EventKind::CtxChanged => Ok(next_of(alloc, parts)?.map(|list| EventData::CtxChanged {
+    match event {
+        EventName::Hello => Ok(next_of(alloc, parts)?.map(|list| EventData::Hello { list })),
+        EventName::CtxAdded => Ok(next_of(alloc, parts)?.map(|list| EventData::CtxAdded { list })),
+        EventName::CtxChanged => Ok(next_of(alloc, parts)?.map(|list| EventData::CtxChanged {
             list,
         })),
-        EventKind::CtxRemoved => Ok(next_of(alloc, parts)?.map(|list| EventData::CtxRemoved {
+        EventName::CtxRemoved => Ok(next_of(alloc, parts)?.map(|list| EventData::CtxRemoved {
             list,
         })),
-        EventKind::Suspended => suspended(alloc, parts),
-        EventKind::Resumed => Ok(next_text(alloc, parts)?.map(|id| EventData::Resumed { id })),
-        EventKind::BpStatusIs => status(alloc, parts),
-        EventKind::BpAdded => Ok(next_of(alloc, parts)?.map(|list| EventData::BpAdded { list })),
-        EventKind::BpChanged => Ok(next_of(alloc, parts)?.map(|list| EventData::BpChanged {
+        EventName::Suspended => suspended(alloc, parts),
+        EventName::Resumed => Ok(next_text(alloc, parts)?.map(|id| EventData::Resumed { id })),
+        EventName::BpStatusIs => status(alloc, parts),
+        EventName::BpAdded => Ok(next_of(alloc, parts)?.map(|list| EventData::BpAdded { list })),
+        EventName::BpChanged => Ok(next_of(alloc, parts)?.map(|list| EventData::BpChanged {
             list,
         })),
-        EventKind::BpRemoved => Ok(next_of(alloc, parts)?.map(|list| EventData::BpRemoved {
+        EventName::BpRemoved => Ok(next_of(alloc, parts)?.map(|list| EventData::BpRemoved {
             list,
         })),
-        EventKind::MemChanged => memory(alloc, parts),
-        EventKind::RegChanged => Ok(next_text(alloc, parts)?.map(|id| EventData::RegChanged {
+        EventName::MemChanged => memory(alloc, parts),
+        EventName::RegChanged => Ok(next_text(alloc, parts)?.map(|id| EventData::RegChanged {
             id,
         })),
-        EventKind::RegsChanged => Ok(Some(EventData::RegsChanged)),
-        EventKind::Exited => exited(alloc, parts),
+        EventName::RegsChanged => Ok(Some(EventData::RegsChanged)),
+        EventName::Exited => exited(alloc, parts),
     }
 }
 
@@ -121,13 +121,13 @@ pub fn read_event(
     ensures value { IfOk result (λ found. found ≡ event_read service.now name.now body.now) }
     ensures within { IfOk result (λ found. IfKnown found IsEvent) }
 {
-    let Some(kind) = event_named(service, name) else {
+    let Some(event) = event_named(service, name) else {
         return Ok(ReadEvent::Foreign);
     };
     let Some(mut parts) = parts_of(body) else {
         return Ok(ReadEvent::Bad);
     };
-    match event_of_kind(alloc, kind, &mut parts)? {
+    match event_of(alloc, event, &mut parts)? {
         Some(event) => Ok(ReadEvent::Known(event)),
         None => Ok(ReadEvent::Bad),
     }

@@ -1,15 +1,15 @@
 //! The events, written.
 ghost use Rattle.std.specs.Prelude.{◌≡◌, ◌≤◌, ◌++◌, ◌∷◌, [], Some, IfOk, OnOk};
 ghost use Rattle.serde_json.specs.Read.{max_depth};
-ghost use Rattle.reply_tables.specs.EventNames.{kind_of as the_kind_of, service_of as the_service_of, name_of as the_name_of};
 ghost use Rattle.reply_tables.specs.Events.{event_data, event_parts, event_read, IsEvent};
 ghost use Rattle.reply_tables.specs.Parts.{data_of, PartsRead};
 ghost use Rattle.reply_tables.specs.declared.replies.ReadEvent.{ReadEvent};
+ghost use Rattle.service_names.specs.Events.{name_of, service_of, told_as};
 ghost use Rattle.tcf_values.specs.declared.event.EventData.{EventData};
 
-use crate::kinds::{kind_of, name_of, service_of};
 use crate::replies::WrittenEvent;
 use json_values::{Json, hits_value, put, put_json};
+use service_names::name_of_event;
 use std::alloc::{AllocError, Global};
 use tcf_outside::Octets;
 use tcf_values::{EventData, Text, Texts};
@@ -82,17 +82,17 @@ fn put_event(alloc: Global, event: &EventData, out: &mut Octets) -> Result<(), A
 #[tactic(auto, using(crate::proofs::EventBack::event_back))]
 pub fn write_event(alloc: Global, event: &EventData) -> Result<WrittenEvent, AllocError>
     requires { IsEvent event.now }
-    ensures service { IfOk result (λ written. written.service ≡ the_service_of (the_kind_of event.now)) }
-    ensures name { IfOk result (λ written. written.name ≡ the_name_of (the_kind_of event.now)) }
+    ensures service { IfOk result (λ written. written.service ≡ service_of (told_as event.now)) }
+    ensures name { IfOk result (λ written. written.name ≡ name_of (told_as event.now)) }
     ensures body { IfOk result (λ written. written.body ≡ event_data event.now) }
     ensures reads_back { IfOk result (λ written. event_read written.service written.name written.body ≡ ReadEvent.Known event.now) }
 {
     let mut body = Octets::new(alloc);
     put_event(alloc, event, &mut body)?;
-    let kind = kind_of(event);
+    let name = name_of_event(event);
     Ok(WrittenEvent {
-        service: Text::from_str(alloc, service_of(kind))?,
-        name: Text::from_str(alloc, name_of(kind))?,
+        service: Text::from_str(alloc, name.service())?,
+        name: Text::from_str(alloc, name.name())?,
         body,
     })
 }

@@ -4,8 +4,6 @@
 pub mod answers;
 pub mod event_reading;
 pub mod event_writing;
-pub mod kinds;
-pub mod names;
 pub mod parts;
 pub mod refusals;
 pub mod replies;
@@ -16,7 +14,6 @@ pub mod writing;
 pub use answers::read_answer;
 pub use event_reading::read_event;
 pub use event_writing::write_event;
-pub use kinds::EventKind;
 pub use refusals::write_refusal;
 pub use replies::{ReadAnswer, ReadEvent, WrittenEvent};
 pub use rows::{Kind, Row};

@@ -1,16 +1,15 @@
 //! Refusals, written: the answers to commands whose arguments don't read.
-ghost use Rattle.std.specs.Prelude.{◌≡◌, ◌++◌, ℕ, Some, OnOk, OnErr, IsSome, IfSome};
-ghost use Rattle.json_values.specs.Reports.{report_json};
+ghost use Rattle.std.specs.Prelude.{◌≡◌, ◌++◌, Some, OnOk, OnErr, IsSome, IfSome};
 ghost use Rattle.reply_tables.specs.Answers.{answer_of};
-ghost use Rattle.reply_tables.specs.Names.{row_named as the_row_named};
-ghost use Rattle.reply_tables.specs.Parts.{data_of};
-ghost use Rattle.reply_tables.specs.Written.{failed_parts, refusal_data, IsRefusal};
+ghost use Rattle.reply_tables.specs.Rows.{row_named as the_row_named};
+ghost use Rattle.reply_tables.specs.Written.{refusal_data, IsRefusal};
+ghost use Rattle.service_names.specs.Commands.{name_in};
 ghost use Rattle.tcf_values.specs.Errors.{report_of};
 ghost use Rattle.tcf_values.specs.declared.answer.Answer.{Answer};
 
-use crate::names::row_named;
-use crate::rows::Row;
+use crate::rows::{Row, row_named};
 use crate::writing::put_failed;
+use service_names::command_named;
 use std::alloc::{AllocError, Global};
 use tcf_outside::Octets;
 use tcf_values::report;
@@ -39,14 +38,14 @@ pub fn write_refusal(
     code: u8,
     out: &mut Octets,
 ) -> Result<(), AllocError>
-    requires row { IsSome (the_row_named service.now name.now) }
+    requires command { IsSome (name_in service.now name.now) }
     requires code { IsRefusal code }
-    ensures ok { IfSome (the_row_named service.now name.now) (λ row. OnOk result (out.new ≡ out.old ++ refusal_data row code)) }
+    ensures ok { IfSome (name_in service.now name.now) (λ command. OnOk result (out.new ≡ out.old ++ refusal_data (the_row_named command) code)) }
     ensures err { OnErr result (out.new ≡ out.old) }
-    ensures reads_back { IfSome (the_row_named service.now name.now) (λ row. OnOk result (answer_of row (refusal_data row code) ≡ Some (Answer.Failed (report_of code)))) }
+    ensures reads_back { IfSome (name_in service.now name.now) (λ command. OnOk result (answer_of (the_row_named command) (refusal_data (the_row_named command) code) ≡ Some (Answer.Failed (report_of code)))) }
 {
-    match row_named(service, name) {
-        Some(row) => refuse(alloc, row, code, out),
+    match command_named(service, name) {
+        Some(command) => refuse(alloc, row_named(command), code, out),
         None => unreachable!(),
     }
 }

@@ -1,7 +1,11 @@
 //! What stands in the data of the answer to each command.
 ghost use Rattle.std.specs.Prelude.{◌≡◌};
-ghost use Rattle.reply_tables.specs.Rows.{row_of as the_row_of};
+ghost use Rattle.reply_tables.specs.Rows.{row_named as the_row_named, row_of as the_row_of};
 
+use service_names::{
+    BreakpointsCommand, CommandName, LocatorCommand, MemoryCommand, ProcessesCommand,
+    RegistersCommand, RunControlCommand, TraceCommand, name_of_command,
+};
 use tcf_values::Command;
 
 /// The kind of a result.
@@ -35,26 +39,39 @@ pub enum Row {
     BlobErrorNull,
 }
 
+/// The row of a command by its name.
+pub fn row_named(name: CommandName) -> Row
+    ensures { result ≡ the_row_named name }
+{
+    match name {
+        CommandName::Locator(LocatorCommand::Sync) => Row::NoData,
+        CommandName::Locator(LocatorCommand::GetPeers) => Row::ErrorThen(Kind::Peers),
+        CommandName::RunControl(RunControlCommand::GetContext) => Row::ErrorThen(Kind::Context),
+        CommandName::RunControl(RunControlCommand::GetChildren) => Row::ErrorThen(Kind::Ids),
+        CommandName::RunControl(RunControlCommand::GetState) => Row::ErrorState,
+        CommandName::Breakpoints(BreakpointsCommand::GetIds) => Row::ErrorThen(Kind::Ids),
+        CommandName::Breakpoints(BreakpointsCommand::GetProperties) => Row::ErrorThen(Kind::Bp),
+        CommandName::Breakpoints(BreakpointsCommand::GetStatus) => Row::ErrorThen(Kind::Status),
+        CommandName::Breakpoints(BreakpointsCommand::GetCapabilities) => Row::ErrorThen(
+            Kind::Capabilities,
+        ),
+        CommandName::Memory(MemoryCommand::Get) => Row::BlobErrorNull,
+        CommandName::Memory(MemoryCommand::Set) => Row::ErrorNull,
+        CommandName::Registers(RegistersCommand::Get | RegistersCommand::Getm) => Row::ErrorThen(
+            Kind::Blob,
+        ),
+        CommandName::Processes(ProcessesCommand::GetContext | ProcessesCommand::Start) => {
+            Row::ErrorThen(Kind::Process)
+        }
+        CommandName::Processes(ProcessesCommand::GetChildren) => Row::ErrorThen(Kind::Ids),
+        CommandName::Trace(TraceCommand::Run) => Row::ErrorThen(Kind::Count),
+        _ => Row::ErrorAlone,
+    }
+}
+
 /// The row of a command.
 pub fn row_of(command: &Command) -> Row
     ensures { result ≡ the_row_of command.now }
 {
-    match command {
-        Command::Sync => Row::NoData,
-        Command::GetPeers => Row::ErrorThen(Kind::Peers),
-        Command::GetContext { .. } => Row::ErrorThen(Kind::Context),
-        Command::GetChildren { .. } => Row::ErrorThen(Kind::Ids),
-        Command::GetState { .. } => Row::ErrorState,
-        Command::BpIds => Row::ErrorThen(Kind::Ids),
-        Command::BpProperties { .. } => Row::ErrorThen(Kind::Bp),
-        Command::BpGetStatus { .. } => Row::ErrorThen(Kind::Status),
-        Command::BpCapabilities { .. } => Row::ErrorThen(Kind::Capabilities),
-        Command::MemGet { .. } => Row::BlobErrorNull,
-        Command::MemSet { .. } => Row::ErrorNull,
-        Command::RegGet { .. } | Command::RegGetm { .. } => Row::ErrorThen(Kind::Blob),
-        Command::ProcContext { .. } | Command::ProcStart { .. } => Row::ErrorThen(Kind::Process),
-        Command::ProcChildren { .. } => Row::ErrorThen(Kind::Ids),
-        Command::TraceRun { .. } => Row::ErrorThen(Kind::Count),
-        _ => Row::ErrorAlone,
-    }
+    row_named(name_of_command(command))
 }

@@ -1,6 +1,6 @@
 use Rattle.std.proofs.Common.{◌≡◌, ◌∙◌, ap, rules}
-use Rattle.command_tables.specs.Canonical.{body_of, named_as}
-use Rattle.command_tables.specs.Names.{name_of, service_of}
+use Rattle.command_tables.specs.Canonical.{body_of}
+use Rattle.service_names.specs.Commands.{name_of, named_as, service_of}
 use Rattle.command_tables.specs.Reading.{reading_of}
 use Rattle.command_tables.proofs.ReadBack.{reads_back}
 use Rattle.command_tables.proofs.writing.write_command.Goals as goal

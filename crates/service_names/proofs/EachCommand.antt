@@ -1,69 +1,15 @@
--- The names of the commands.
+-- A command is found exactly by its service and its name.
 use Rattle.std.proofs.Common.{◌≡◌, ℕ, List, [], ◌∷◌, cond, refl, sym, ◌∙◌, ap, subst, inl, inr}
 use Rattle.std.specs.Prelude.{Option, Some, None, option_map, bytes_eq, codes}
 use Rattle.std.specs.Option.{option_or}
 use Rattle.std.proofs.lemmas.Bool.{cases_Bool, cond-true, cond-false}
 use Rattle.std.proofs.lemmas.Slice.Eq.{bytes_eq-Decides}
-use Rattle.command_tables.specs.Names.{NamesAreExact, named, name_in, name_of, service_of, locator_name, run_control_name, breakpoints_name, memory_name, registers_name, processes_name, trace_name, locator_in, run_control_in, breakpoints_in, memory_in, registers_in, processes_in, trace_in, locator_commands, run_control_commands, memory_commands, registers_commands, processes_commands, trace_commands, breakpoints_changing, breakpoints_asking}
-use Rattle.command_tables.specs.declared.names.CommandName.{CommandName}
-use Rattle.command_tables.specs.declared.names.CommandName.TheVariants.{Locator, RunControl, Breakpoints, Memory, Registers, Processes, Trace}
-use Rattle.command_tables.specs.declared.names.LocatorCommand.TheVariants as locator
-use Rattle.command_tables.specs.declared.names.RunControlCommand.TheVariants as run_control
-use Rattle.command_tables.specs.declared.names.BreakpointsCommand.TheVariants as breakpoints
-use Rattle.command_tables.specs.declared.names.MemoryCommand.TheVariants as memory
-use Rattle.command_tables.specs.declared.names.RegistersCommand.TheVariants as registers
-use Rattle.command_tables.specs.declared.names.ProcessesCommand.TheVariants as processes
-use Rattle.command_tables.specs.declared.names.TraceCommand.TheVariants as trace
-
-none_is : {A : Type 0} (x : A) → ◌≡◌ {A = Option A} None (Some x) → ⊥
-none_is x same = cc
-
-some_is : {A : Type 0} (x y : A) → ◌≡◌ {A = Option A} (Some x) (Some y) → x ≡ y
-some_is x y same = cc
-
--- each command is found by its names
-pub name_there : (command : CommandName) → name_in (service_of command) (name_of command) ≡ Some command
-name_there (Locator locator.Sync) = refl
-name_there (Locator locator.GetPeers) = refl
-name_there (Locator locator.Redirect) = refl
-name_there (RunControl run_control.GetContext) = refl
-name_there (RunControl run_control.GetChildren) = refl
-name_there (RunControl run_control.GetState) = refl
-name_there (RunControl run_control.Resume) = refl
-name_there (RunControl run_control.Suspend) = refl
-name_there (RunControl run_control.Terminate) = refl
-name_there (Breakpoints breakpoints.Set) = refl
-name_there (Breakpoints breakpoints.Add) = refl
-name_there (Breakpoints breakpoints.Change) = refl
-name_there (Breakpoints breakpoints.Enable) = refl
-name_there (Breakpoints breakpoints.Disable) = refl
-name_there (Breakpoints breakpoints.Remove) = refl
-name_there (Breakpoints breakpoints.GetIds) = refl
-name_there (Breakpoints breakpoints.GetProperties) = refl
-name_there (Breakpoints breakpoints.GetStatus) = refl
-name_there (Breakpoints breakpoints.GetCapabilities) = refl
-name_there (Memory memory.Get) = refl
-name_there (Memory memory.Set) = refl
-name_there (Registers registers.Get) = refl
-name_there (Registers registers.Set) = refl
-name_there (Registers registers.Getm) = refl
-name_there (Registers registers.Setm) = refl
-name_there (Processes processes.GetContext) = refl
-name_there (Processes processes.GetChildren) = refl
-name_there (Processes processes.Start) = refl
-name_there (Processes processes.Attach) = refl
-name_there (Processes processes.Detach) = refl
-name_there (Processes processes.Terminate) = refl
-name_there (Trace trace.Run) = refl
-
--- what is found has the name
-named_exact : {A : Type 0} (text : A → List ℕ) (all : List A) (name : List ℕ) (a : A) → named text all name ≡ Some a → name ≡ text a
-named_exact text [] name a found = absurd (none_is a found)
-named_exact text (b ∷ bs) name a found =
-    elim (cases_Bool (bytes_eq name (text b))) [
-      | inl e ↦ subst (λ x. name ≡ text x) (some_is b a (sym (cond-true _ _ _ e) ∙ found)) ((bytes_eq-Decides name (text b)).0 e)
-      | inr e ↦ named_exact text bs name a (sym (cond-false _ _ _ e) ∙ found)
-    ]
+use Rattle.service_names.proofs.Found.{named_exact, none_is, some_is}
+use Rattle.service_names.specs.CommandLaws.{name_there}
+use Rattle.service_names.specs.Named.{named}
+use Rattle.service_names.specs.Commands.{NamesAreExact, name_in, name_of, service_of, locator_name, run_control_name, breakpoints_name, memory_name, registers_name, processes_name, trace_name, locator_in, run_control_in, breakpoints_in, memory_in, registers_in, processes_in, trace_in, locator_commands, run_control_commands, memory_commands, registers_commands, processes_commands, trace_commands, breakpoints_changing, breakpoints_asking}
+use Rattle.service_names.specs.declared.commands.CommandName.{CommandName}
+use Rattle.service_names.specs.declared.commands.CommandName.TheVariants.{Locator, RunControl, Breakpoints, Memory, Registers, Processes, Trace}
 
 either_exact : {A : Type 0} (text : A → List ℕ) (name : List ℕ) (first second : Option A)
     → ((a : A) → first ≡ Some a → name ≡ text a) → ((a : A) → second ≡ Some a → name ≡ text a)

@@ -1,26 +1,25 @@
 -- The names of the services' commands (TCF service pages; Trace is this project's own service).
-use Rattle.std.specs.Prelude.{ℕ, ◌≡◌, ◌↔◌, List, [], ◌∷◌, Option, Some, None, option_map, if◌then◌else◌, codes, bytes_eq, find}
+use Rattle.std.specs.Prelude.{ℕ, ◌≡◌, ◌↔◌, List, [], ◌∷◌, Option, None, Some, option_map, if◌then◌else◌, codes, bytes_eq}
 use Rattle.std.specs.Option.{option_or}
-use Rattle.command_tables.specs.declared.names.CommandName.{CommandName}
-use Rattle.command_tables.specs.declared.names.CommandName.TheVariants.{Locator, RunControl, Breakpoints, Memory, Registers, Processes, Trace}
-use Rattle.command_tables.specs.declared.names.LocatorCommand.{LocatorCommand}
-use Rattle.command_tables.specs.declared.names.LocatorCommand.TheVariants as locator
-use Rattle.command_tables.specs.declared.names.RunControlCommand.{RunControlCommand}
-use Rattle.command_tables.specs.declared.names.RunControlCommand.TheVariants as run_control
-use Rattle.command_tables.specs.declared.names.BreakpointsCommand.{BreakpointsCommand}
-use Rattle.command_tables.specs.declared.names.BreakpointsCommand.TheVariants as breakpoints
-use Rattle.command_tables.specs.declared.names.MemoryCommand.{MemoryCommand}
-use Rattle.command_tables.specs.declared.names.MemoryCommand.TheVariants as memory
-use Rattle.command_tables.specs.declared.names.RegistersCommand.{RegistersCommand}
-use Rattle.command_tables.specs.declared.names.RegistersCommand.TheVariants as registers
-use Rattle.command_tables.specs.declared.names.ProcessesCommand.{ProcessesCommand}
-use Rattle.command_tables.specs.declared.names.ProcessesCommand.TheVariants as processes
-use Rattle.command_tables.specs.declared.names.TraceCommand.{TraceCommand}
-use Rattle.command_tables.specs.declared.names.TraceCommand.TheVariants as trace
-
--- the first of these that has the name
-abbrev pub named : {A : Type 0} → (A → List ℕ) → List A → List ℕ → Option A
-named name_of all name = find (λ a. bytes_eq name (name_of a)) all
+use Rattle.tcf_values.specs.declared.command.Command.{Command}
+use Rattle.tcf_values.specs.declared.command.Command.TheVariants.{Sync, GetPeers, Redirect, GetContext, GetChildren, GetState, Resume, Suspend, Terminate, BpSet, BpAdd, BpChange, BpEnable, BpDisable, BpRemove, BpIds, BpProperties, BpGetStatus, BpCapabilities, MemGet, MemSet, RegGet, RegSet, RegGetm, RegSetm, ProcContext, ProcChildren, ProcStart, ProcAttach, ProcDetach, ProcTerminate, TraceRun}
+use Rattle.service_names.specs.Named.{named}
+use Rattle.service_names.specs.declared.commands.CommandName.{CommandName}
+use Rattle.service_names.specs.declared.commands.CommandName.TheVariants.{Locator, RunControl, Breakpoints, Memory, Registers, Processes, Trace}
+use Rattle.service_names.specs.declared.commands.LocatorCommand.{LocatorCommand}
+use Rattle.service_names.specs.declared.commands.LocatorCommand.TheVariants as locator
+use Rattle.service_names.specs.declared.commands.RunControlCommand.{RunControlCommand}
+use Rattle.service_names.specs.declared.commands.RunControlCommand.TheVariants as run_control
+use Rattle.service_names.specs.declared.commands.BreakpointsCommand.{BreakpointsCommand}
+use Rattle.service_names.specs.declared.commands.BreakpointsCommand.TheVariants as breakpoints
+use Rattle.service_names.specs.declared.commands.MemoryCommand.{MemoryCommand}
+use Rattle.service_names.specs.declared.commands.MemoryCommand.TheVariants as memory
+use Rattle.service_names.specs.declared.commands.RegistersCommand.{RegistersCommand}
+use Rattle.service_names.specs.declared.commands.RegistersCommand.TheVariants as registers
+use Rattle.service_names.specs.declared.commands.ProcessesCommand.{ProcessesCommand}
+use Rattle.service_names.specs.declared.commands.ProcessesCommand.TheVariants as processes
+use Rattle.service_names.specs.declared.commands.TraceCommand.{TraceCommand}
+use Rattle.service_names.specs.declared.commands.TraceCommand.TheVariants as trace
 
 abbrev pub locator_name : LocatorCommand → List ℕ
 locator_name locator.Sync = codes "sync"
@@ -146,6 +145,41 @@ name_in service name =
     else if bytes_eq service (codes "Processes") then option_map Processes (processes_in name)
     else if bytes_eq service (codes "Trace") then option_map Trace (trace_in name)
     else None
+
+-- the name of a command
+abbrev pub named_as : Command → CommandName
+named_as Sync = Locator locator.Sync
+named_as GetPeers = Locator locator.GetPeers
+named_as (Redirect peer) = Locator locator.Redirect
+named_as (GetContext id) = RunControl run_control.GetContext
+named_as (GetChildren id) = RunControl run_control.GetChildren
+named_as (GetState id) = RunControl run_control.GetState
+named_as (Resume id mode count) = RunControl run_control.Resume
+named_as (Suspend id) = RunControl run_control.Suspend
+named_as (Terminate id) = RunControl run_control.Terminate
+named_as (BpSet list) = Breakpoints breakpoints.Set
+named_as (BpAdd props) = Breakpoints breakpoints.Add
+named_as (BpChange props) = Breakpoints breakpoints.Change
+named_as (BpEnable ids) = Breakpoints breakpoints.Enable
+named_as (BpDisable ids) = Breakpoints breakpoints.Disable
+named_as (BpRemove ids) = Breakpoints breakpoints.Remove
+named_as BpIds = Breakpoints breakpoints.GetIds
+named_as (BpProperties id) = Breakpoints breakpoints.GetProperties
+named_as (BpGetStatus id) = Breakpoints breakpoints.GetStatus
+named_as (BpCapabilities id) = Breakpoints breakpoints.GetCapabilities
+named_as (MemGet id addr word size mode) = Memory memory.Get
+named_as (MemSet id addr word size mode bytes) = Memory memory.Set
+named_as (RegGet id) = Registers registers.Get
+named_as (RegSet id bytes) = Registers registers.Set
+named_as (RegGetm list) = Registers registers.Getm
+named_as (RegSetm list bytes) = Registers registers.Setm
+named_as (ProcContext id) = Processes processes.GetContext
+named_as (ProcChildren id attached) = Processes processes.GetChildren
+named_as (ProcStart directory file args environment attach) = Processes processes.Start
+named_as (ProcAttach id) = Processes processes.Attach
+named_as (ProcDetach id) = Processes processes.Detach
+named_as (ProcTerminate id) = Processes processes.Terminate
+named_as (TraceRun id count) = Trace trace.Run
 
 -- the law: each command has one service and one name, and no other command has both
 abbrev pub NamesAreExact : Type 0

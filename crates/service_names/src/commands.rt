@@ -1,6 +1,9 @@
 //! The names of the services' commands.
 ghost use Rattle.std.specs.Prelude.{◌≡◌};
-ghost use Rattle.command_tables.specs.Names.{NamesAreExact, named, name_in, name_of, service_of, locator_name, run_control_name, breakpoints_name, memory_name, registers_name, processes_name, trace_name, locator_in, run_control_in, breakpoints_in, memory_in, registers_in, processes_in, trace_in, locator_commands, run_control_commands, memory_commands, registers_commands, processes_commands, trace_commands, breakpoints_changing, breakpoints_asking};
+ghost use Rattle.service_names.specs.Named.{named};
+ghost use Rattle.service_names.specs.Commands.{NamesAreExact, named_as, name_in, name_of, service_of, locator_name, run_control_name, breakpoints_name, memory_name, registers_name, processes_name, trace_name, locator_in, run_control_in, breakpoints_in, memory_in, registers_in, processes_in, trace_in, breakpoints_changing, breakpoints_asking};
+
+use tcf_values::Command;
 
 /// The commands of the service Locator.
 #[derive(Clone, Copy, Debug, PartialEq, Eq)]
@@ -227,8 +230,8 @@ fn trace_command(name: &[u8]) -> Option<TraceCommand>
     }
 }
 
-/// The command of this service and name. None comes exactly where the tables have no such command.
-pub fn command_name(service: &[u8], name: &[u8]) -> Option<CommandName>
+/// The command of this service and name. `None` comes exactly where the services have no such command.
+pub fn command_named(service: &[u8], name: &[u8]) -> Option<CommandName>
     ensures { result ≡ name_in service.now name.now }
 {
     if service == b"Locator".as_slice() {
@@ -367,6 +370,48 @@ impl CommandName {
             CommandName::Processes(command) => processes_text(command),
             CommandName::Trace(command) => trace_text(command),
         }
+    }
+}
+
+/// The name of a command.
+pub fn name_of_command(command: &Command) -> CommandName
+    ensures { result ≡ named_as command.now }
+{
+    match command {
+        Command::Sync => CommandName::Locator(LocatorCommand::Sync),
+        Command::GetPeers => CommandName::Locator(LocatorCommand::GetPeers),
+        Command::Redirect { .. } => CommandName::Locator(LocatorCommand::Redirect),
+        Command::GetContext { .. } => CommandName::RunControl(RunControlCommand::GetContext),
+        Command::GetChildren { .. } => CommandName::RunControl(RunControlCommand::GetChildren),
+        Command::GetState { .. } => CommandName::RunControl(RunControlCommand::GetState),
+        Command::Resume { .. } => CommandName::RunControl(RunControlCommand::Resume),
+        Command::Suspend { .. } => CommandName::RunControl(RunControlCommand::Suspend),
+        Command::Terminate { .. } => CommandName::RunControl(RunControlCommand::Terminate),
+        Command::BpSet { .. } => CommandName::Breakpoints(BreakpointsCommand::Set),
+        Command::BpAdd { .. } => CommandName::Breakpoints(BreakpointsCommand::Add),
+        Command::BpChange { .. } => CommandName::Breakpoints(BreakpointsCommand::Change),
+        Command::BpEnable { .. } => CommandName::Breakpoints(BreakpointsCommand::Enable),
+        Command::BpDisable { .. } => CommandName::Breakpoints(BreakpointsCommand::Disable),
+        Command::BpRemove { .. } => CommandName::Breakpoints(BreakpointsCommand::Remove),
+        Command::BpIds => CommandName::Breakpoints(BreakpointsCommand::GetIds),
+        Command::BpProperties { .. } => CommandName::Breakpoints(BreakpointsCommand::GetProperties),
+        Command::BpGetStatus { .. } => CommandName::Breakpoints(BreakpointsCommand::GetStatus),
+        Command::BpCapabilities { .. } => CommandName::Breakpoints(
+            BreakpointsCommand::GetCapabilities,
+        ),
+        Command::MemGet { .. } => CommandName::Memory(MemoryCommand::Get),
+        Command::MemSet { .. } => CommandName::Memory(MemoryCommand::Set),
+        Command::RegGet { .. } => CommandName::Registers(RegistersCommand::Get),
+        Command::RegSet { .. } => CommandName::Registers(RegistersCommand::Set),
+        Command::RegGetm { .. } => CommandName::Registers(RegistersCommand::Getm),
+        Command::RegSetm { .. } => CommandName::Registers(RegistersCommand::Setm),
+        Command::ProcContext { .. } => CommandName::Processes(ProcessesCommand::GetContext),
+        Command::ProcChildren { .. } => CommandName::Processes(ProcessesCommand::GetChildren),
+        Command::ProcStart { .. } => CommandName::Processes(ProcessesCommand::Start),
+        Command::ProcAttach { .. } => CommandName::Processes(ProcessesCommand::Attach),
+        Command::ProcDetach { .. } => CommandName::Processes(ProcessesCommand::Detach),
+        Command::ProcTerminate { .. } => CommandName::Processes(ProcessesCommand::Terminate),
+        Command::TraceRun { .. } => CommandName::Trace(TraceCommand::Run),
     }
 }
 

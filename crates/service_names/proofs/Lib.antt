@@ -1,0 +1,3 @@
+pub mod EachCommand
+pub mod EachEvent
+pub mod Found

@@ -1,0 +1,5 @@
+pub mod CommandLaws
+pub mod Commands
+pub mod EventLaws
+pub mod Events
+pub mod Named

@@ -17,7 +17,7 @@ use Rattle.chain_world.specs.Marked.{Marked}
 use Rattle.chain_world.specs.Client.{client_sent, client_took}
 use Rattle.chain_world.specs.Agent.{agent_took}
 use Rattle.chain_world.specs.World as world
-use Rattle.chain_world.specs.World.{new_world, up_arrived, down_arrived, taken_up, taken_down, all_up_taken, all_down_taken, round, repeated, played, run}
+use Rattle.chain_world.specs.World.{new_world, up_arrived, down_arrived, taken_up, all_up_taken, all_down_taken, round, repeated, played, run}
 use Rattle.chain_world.specs.Lines.{Accepted, accepted, from_hello, bare_answer_of}
 use Rattle.chain_world.specs.Once.{Once, AnswersPending, is_end, numbers, EndsAll, NothingAfterEnd, ClosesBeforeEnd, IsNoClosed, GoesOnFrom}
 use Rattle.chain_world.specs.Ordered.{IsPlaced, FollowsTarget, IsChannelOf, OpensAt, through, read}

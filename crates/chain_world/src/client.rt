@@ -3,7 +3,7 @@ ghost use Rattle.std.specs.Prelude.{◌≡◌, ◌<◌, ◌∷◌, [], length, N
 ghost use Rattle.std.specs.Fmt.{decimal};
 ghost use Rattle.tcf_message.specs.Message.{HasNoZero, IsToken, IsWellFormed, value_of};
 ghost use Rattle.tcf_text.specs.declared.log.LogLine.TheVariants.{Sent, Event, Progress, Final, Unknown};
-ghost use Rattle.chain_world.specs.Client.{new_client, logged, client_opened, limit_of, refusal, waiting_at, going_at, command_message, client_accepted, client_sent, place_of, answered_at, progress_at, client_heard, client_took};
+ghost use Rattle.chain_world.specs.Client.{new_client, logged, client_opened, limit_of, refusal, client_accepted, client_sent, place_of, answered_at, progress_at, client_heard, client_took};
 ghost use Rattle.chain_world.specs.Lane.{queued_on};
 ghost use Rattle.chain_world.specs.Marked.{unmarked};
 

@@ -1,5 +1,5 @@
 //! One direction of a hop: messages go in, bytes arrive in pieces, and whole messages come out.
-ghost use Rattle.std.specs.Prelude.{◌≡◌, ◌<◌, ◌+◌, ◌∷◌, [], length, true, OnOk};
+ghost use Rattle.std.specs.Prelude.{◌≡◌, ◌<◌, ◌+◌, ◌∷◌, [], length, OnOk};
 ghost use Rattle.std.specs.Option.{IsSomeAnd};
 
 use crate::packet::Packet;

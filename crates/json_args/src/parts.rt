@@ -1,5 +1,5 @@
 //! The parts of a body: each argument is followed by one zero byte.
-ghost use Rattle.std.specs.Prelude.{◌≡◌, ◌≢◌, ◌++◌, ◌∷◌, ◌↔◌, [], ℕ, List, Some, None, length, drop, slice_get, option_copied, IfOk, IfErr, OnOk, OnErr, IsErrOf};
+ghost use Rattle.std.specs.Prelude.{◌≡◌, ◌++◌, ◌∷◌, ◌↔◌, [], ℕ, List, Some, drop, slice_get, option_copied, IfOk, IfErr, OnOk, OnErr, IsErrOf};
 ghost use Rattle.tcf_values.specs.Cut.{Lacks};
 ghost use Rattle.json_args.specs.Parts.{Parts, IsUnended, OneReading, parts_of};
 

@@ -1,9 +1,7 @@
 -- The members of a context.
-use Rattle.std.proofs.Common.{◌≡◌, ℕ, List, Option, Some, None, option_map, refl}
-use Rattle.std.specs.Prelude.{codes, Bool}
-use Rattle.serde_json.specs.Data.{Data, string, boolean, Members, member, no_members}
-use Rattle.serde_json.specs.View.{members_view}
-use Rattle.json_values.specs.Words.{word_json}
+use Rattle.std.proofs.Common.{◌≡◌, Option, Some, None, refl}
+use Rattle.std.specs.Prelude.{codes}
+use Rattle.serde_json.specs.Data.{Data, member, no_members}
 use Rattle.json_values.specs.Members.{put_if, member_if}
 
 -- a name and a parent go to their places

@@ -1,5 +1,5 @@
 -- What is written of a context is read as it; so also of processes, reports, ranges, instances and peers.
-use Rattle.std.proofs.Common.{◌≡◌, ℕ, ◌≤◌, List, rules}
+use Rattle.std.proofs.Common.{◌≡◌, ◌≤◌, rules}
 use Rattle.std.specs.Prelude.{false, Some}
 use Rattle.serde_json.specs.Data.{depth}
 use Rattle.serde_json.specs.Written.{has_float}

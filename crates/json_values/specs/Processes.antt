@@ -1,5 +1,5 @@
 -- What Processes tells of a process (TCF service Processes, properties of contexts).
-use Rattle.std.specs.Prelude.{◌≡◌, Bool, false, List, [], Option, Some, None, option_map, option_and_then, codes}
+use Rattle.std.specs.Prelude.{false, [], Option, option_map, option_and_then, codes}
 use Rattle.serde_json.specs.Data.{Data, boolean, string, object, member, no_members}
 use Rattle.serde_json.specs.Find.{as_bool, as_str}
 use Rattle.json_values.specs.Members.{member_of, or_else}

@@ -1,5 +1,5 @@
 -- Ranges of memory (TCF service Memory, event memoryChanged).
-use Rattle.std.specs.Prelude.{ℤ, pos, ◌≡◌, Bool, Option, Some, None, option_map, option_and_then, if◌then◌else◌, codes}
+use Rattle.std.specs.Prelude.{pos, Option, None, option_map, option_and_then, if◌then◌else◌, codes}
 use Rattle.serde_json.specs.Data.{Data, object, member, no_members}
 use Rattle.json_args.specs.Kinds.{IsWhole, whole_in}
 use Rattle.json_values.specs.Members.{member_of, or_else}

@@ -6,8 +6,8 @@ use Rattle.serde_json.specs.Written.{has_float}
 use Rattle.json_values.specs.ListLaws.{list_back, list_plain, list_shallow}
 use Rattle.json_values.specs.PlainLaws.{whole_back, whole_plain}
 use Rattle.json_values.specs.Processes.{process_json, process_in}
-use Rattle.json_values.specs.Ranges.{IsRange, range_json, range_in}
-use Rattle.json_values.specs.Reports.{IsReport, report_json, report_in}
+use Rattle.json_values.specs.Ranges.{range_json, range_in}
+use Rattle.json_values.specs.Reports.{report_json, report_in}
 use Rattle.json_values.specs.Statuses.{IsInstance, IsStatus, instance_json, instance_in, status_json, status_in}
 use Rattle.tcf_values.specs.declared.errors.ErrorReport.{ErrorReport}
 use Rattle.tcf_values.specs.declared.values.BpStatus.{BpStatus}

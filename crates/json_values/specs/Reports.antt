@@ -1,5 +1,5 @@
 -- Error reports (TCF protocol, error reports).
-use Rattle.std.specs.Prelude.{ℕ, ℤ, ◌≡◌, List, [], Option, Some, None, option_map, option_and_then, codes}
+use Rattle.std.specs.Prelude.{[], Option, option_map, option_and_then, codes}
 use Rattle.serde_json.specs.Data.{Data, string, object, member, no_members}
 use Rattle.serde_json.specs.Find.{as_str}
 use Rattle.json_args.specs.Kinds.{IsWhole, whole_in}

@@ -1,5 +1,5 @@
 -- What is written of the breakpoints that were hit, and of peers, is read as them.
-use Rattle.std.proofs.Common.{◌≡◌, ℕ, ◌≤◌, List, [], ◌∷◌, rules, refl, ap, ◌∙◌, arith}
+use Rattle.std.proofs.Common.{◌≡◌, ℕ, ◌≤◌, List, [], ◌∷◌, rules, refl, arith}
 use Rattle.std.specs.Prelude.{false, Some}
 use Rattle.std.specs.List.{AllByRecursion}
 use Rattle.serde_json.specs.Data.{depth}

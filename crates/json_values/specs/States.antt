@@ -1,5 +1,5 @@
 -- The object that goes with the state of a thread (TCF service RunControl, command getState): which breakpoints it hit.
-use Rattle.std.specs.Prelude.{ℕ, ◌≡◌, Bool, List, [], ◌∷◌, Option, Some, None, if◌then◌else◌, codes}
+use Rattle.std.specs.Prelude.{ℕ, ◌≡◌, List, [], ◌∷◌, Option, Some, None, if◌then◌else◌, codes}
 use Rattle.serde_json.specs.Data.{Data, object, member, no_members}
 use Rattle.serde_json.specs.Find.{as_str}
 use Rattle.json_values.specs.Lists.{list_in}

@@ -1,5 +1,5 @@
 //! What RunControl tells of a process or a thread.
-ghost use Rattle.std.specs.Prelude.{◌≡◌, ◌<◌, ◌^◌, IfOk, IfSome, codes};
+ghost use Rattle.std.specs.Prelude.{◌≡◌, ◌<◌, IfOk, IfSome, codes};
 ghost use Rattle.serde_json.specs.Data.{string, boolean, member, no_members};
 ghost use Rattle.serde_json.specs.View.{view, members_view};
 ghost use Rattle.json_values.specs.Words.{word_json};

@@ -1,8 +1,7 @@
 -- A front of a whole message's bytes.
-use Rattle.std.proofs.Common.{◌≡◌, ◌≢◌, ℕ, suc, ◌≤◌, List, [], ◌∷◌, ◌++◌, length, Bool, true, false, ◌==◌, cond, refl, sym, ◌∙◌, ap, subst, arith, append-nil}
-use Rattle.stream_escape.specs.declared.stream.TheConstants.{MESSAGE_LIMIT}
-use Rattle.stream_escape.specs.Stream.{escaped, framed, further, partly, begun}
-use Rattle.stream_escape.specs.Laws.{IsBegun, FrontOfFrame}
+use Rattle.std.proofs.Common.{◌≡◌, ◌≢◌, ℕ, ◌≤◌, List, [], ◌∷◌, ◌++◌, length, Bool, true, false, ◌==◌, cond, refl, sym, subst, arith}
+use Rattle.stream_escape.specs.Stream.{escaped, framed, further, begun}
+use Rattle.stream_escape.specs.Laws.{FrontOfFrame}
 
 -- the bytes are those of a part of a message, with or without one further byte 3
 record IsPart (message front : List ℕ) : Type 0 where

@@ -1,12 +1,11 @@
 -- Any bytes behind a list that is read are read or refused.
-use Rattle.std.proofs.Common.{◌≡◌, ℕ, zero, suc, ◌+◌, ◌<◌, ◌≤◌, List, [], ◌∷◌, ◌++◌, length, Bool, true, false, ◌==◌, nat_lt, refl, sym, ap, ◌∙◌, subst, arith, append_assoc, append-nil, length-append, add-zero, ltb-true, ltb-false, ⊎_elim, ◌≢◌, inl, inr, ◌⊎◌}
+use Rattle.std.proofs.Common.{◌≡◌, ℕ, zero, suc, ◌+◌, ◌<◌, ◌≤◌, List, [], ◌∷◌, ◌++◌, length, Bool, true, false, nat_lt, refl, sym, subst, arith, append_assoc, append-nil, length-append, add-zero, ltb-true, ltb-false, ⊎_elim, ◌≢◌, inl, inr, ◌⊎◌}
 use Rattle.std.proofs.lemmas.Bool.{cases_eq}
 use Rattle.stream_escape.specs.declared.stream.TheConstants.{MESSAGE_LIMIT}
 use Rattle.stream_escape.specs.declared.stream.Item.{Item}
 use Rattle.stream_escape.specs.declared.stream.Item.TheVariants.{Message, End}
 use Rattle.stream_escape.specs.declared.stream.StreamFault.{StreamFault}
-use Rattle.stream_escape.specs.Stream.{Ending, partly, ended, Reads, Cause, Refuses}
-use Rattle.stream_escape.specs.Feeding.{Continues}
+use Rattle.stream_escape.specs.Stream.{Ending, partly, ended, Refuses}
 use Rattle.stream_escape.specs.Progress.{IsRefused}
 use Rattle.stream_escape.specs.Laws.{AreRead, AreRefused, EachGoesOn}
 use Rattle.stream_escape.proofs.Machine.{escaped_plain}

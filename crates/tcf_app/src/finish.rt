@@ -2,7 +2,7 @@
 ghost use Rattle.std.specs.Prelude.{◌≡◌, ◌++◌, ◌∷◌, [], IfOk, OnOk, OnErr};
 ghost use Rattle.tcf_outside.specs.Faults.{Rose};
 ghost use Rattle.tcf_app.specs.Exit.{IsGivenUp};
-ghost use Rattle.tcf_app.specs.Ending.{Ending, Ends};
+ghost use Rattle.tcf_app.specs.Ending.{Ends};
 
 use crate::exit::Exit;
 use std::alloc::AllocError;

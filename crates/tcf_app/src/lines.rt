@@ -1,5 +1,5 @@
 //! The last lines that name a place.
-ghost use Rattle.std.specs.Prelude.{◌≡◌, decimal, IfOk};
+ghost use Rattle.std.specs.Prelude.{◌≡◌, IfOk};
 ghost use Rattle.tcf_app.specs.Texts.{fault_word, what_word, place_text, bad_line_text, bad_stream_text};
 
 use crate::exit::{BadPlace, StreamWhat};

@@ -1,8 +1,7 @@
 //! The run of `show`: a stream is read in pieces, and the lines of each piece's messages are put.
-ghost use Rattle.std.specs.Prelude.{◌≡◌, ◌≢◌, ◌==◌, ◌+◌, ◌++◌, ◌∷◌, [], ℕ, List, None, Some, Option, length, take, count_by, IfOk, OnOk, OnErr, Err};
+ghost use Rattle.std.specs.Prelude.{◌≡◌, ◌≢◌, ◌==◌, ◌+◌, ◌++◌, ◌∷◌, [], ℕ, List, None, Some, Option, take, count_by, IfOk, OnOk, OnErr, Err};
 ghost use Rattle.tcf_outside.specs.Faults.{Rose};
 ghost use Rattle.tcf_outside.specs.Sink.{added};
-ghost use Rattle.stream_escape.specs.Stream.{framed};
 ghost use Rattle.stream_escape.specs.Value.{capped, IsBetween};
 ghost use Rattle.tcf_message.specs.Message.{reading};
 ghost use Rattle.tcf_app.specs.Show.{Shown, what_of, nothing, shown_message, shown_items, unended, IsShown};

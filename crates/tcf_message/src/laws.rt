@@ -1,6 +1,4 @@
 //! Laws of the definitions: functions that do nothing, whose contracts hold of all lists of bytes.
-ghost use Rattle.std.specs.Prelude.{◌≡◌, List, ℕ, Ok, Err, ◌↔◌};
-ghost use Rattle.tcf_message.specs.Message.{MessageValue, IsWellFormed, Says, spelling, reading};
 ghost use Rattle.tcf_message.specs.Fault.{IsReadBack, IsOneSpelling, AreFaults, IsOneAnswer, IsAnswered, IsDecimalToken};
 
 /// No two messages have one spelling.

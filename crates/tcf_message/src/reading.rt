@@ -1,5 +1,5 @@
 //! Reading a message: the fields from the left, and the limit of the body last.
-ghost use Rattle.std.specs.Prelude.{◌≡◌, IfOk, IfErr, Ok, Err};
+ghost use Rattle.std.specs.Prelude.{IfOk, IfErr, Ok, Err};
 ghost use Rattle.tcf_message.specs.Message.{MessageValue, Says, Gives, value_of, reading, by_kind, command_of, final_of, progress_of, not_known_of, event_of, flow_of};
 ghost use Rattle.tcf_message.specs.Fault.{IsFault};
 

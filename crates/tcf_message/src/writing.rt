@@ -1,5 +1,5 @@
 //! Writing a message in its one spelling.
-ghost use Rattle.std.specs.Prelude.{◌≡◌, ◌++◌, ◌∷◌, [], codes, OnOk, OnErr};
+ghost use Rattle.std.specs.Prelude.{◌≡◌, ◌++◌, [], codes, OnOk, OnErr};
 ghost use Rattle.std.specs.Fmt.{decimal, signed_decimal};
 ghost use Rattle.tcf_message.specs.Message.{◌•◌, IsWellFormed, HasPut, value_of, spelling};
 

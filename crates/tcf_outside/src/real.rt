@@ -1,5 +1,5 @@
 //! The real objects: files of the system and its standard output. They tell nothing of what they hold or took.
-ghost use Rattle.std.specs.Prelude.{◌≡◌, ℕ, None};
+ghost use Rattle.std.specs.Prelude.{◌≡◌, None};
 
 use crate::files::{FileRead, Files, ReadRefusal};
 use crate::sequence::Octets;

@@ -1,9 +1,9 @@
 //! What one line of a schedule says.
-ghost use Rattle.std.specs.Prelude.{◌≡◌, ℕ, List, option_copied, option_map};
+ghost use Rattle.std.specs.Prelude.{◌≡◌, option_copied, option_map};
 ghost use Rattle.std.specs.Char.{is_ascii_alphanumeric};
 ghost use Rattle.std.specs.List.{list_all};
 ghost use Rattle.tcf_values.specs.Cut.{cut_of};
-ghost use Rattle.tcf_text.specs.Line.{is_name, chain_word, open_word, send_word, deliver_word, rounds_word, times_word, zero_word, up_word, down_word, sync_command, name_of, direction_of, header_of, sending_of, amount_of, delivery_of, behind, repetition_of, delivering, repeating, step_of, value_behind, value_of};
+ghost use Rattle.tcf_text.specs.Line.{chain_word, open_word, send_word, deliver_word, rounds_word, times_word, zero_word, up_word, down_word, sync_command, name_of, direction_of, header_of, sending_of, amount_of, delivery_of, behind, repetition_of, delivering, repeating, step_of, value_of};
 ghost use Rattle.tcf_text.specs.Said.{delivery_said, step_said, said};
 
 use tcf_values::{cut_at, number_within};

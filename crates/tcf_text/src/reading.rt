@@ -1,9 +1,9 @@
 //! The reading of a schedule, line by line.
-ghost use Rattle.std.specs.Prelude.{◌≡◌, ◌+◌, ◌<◌, ◌≤◌, ◌^◌, ◌∷◌, [], Ok, length, IfOk, IfErr, OnOk, true};
-ghost use Rattle.tcf_text.specs.Line.{LineValue, header, step};
+ghost use Rattle.std.specs.Prelude.{◌≡◌, ◌+◌, ◌<◌, ◌≤◌, ◌∷◌, [], Ok, length, IfOk, IfErr, OnOk, true};
+ghost use Rattle.tcf_text.specs.Line.{step};
 ghost use Rattle.tcf_text.specs.Plan.{plan_of, plans_of, send as plan_send};
 ghost use Rattle.tcf_text.specs.Refusal.{Refuses};
-ghost use Rattle.tcf_text.specs.Said.{delivery_said, step_said, said};
+ghost use Rattle.tcf_text.specs.Said.{delivery_said, step_said};
 ghost use Rattle.tcf_text.specs.Schedule.{lines_of, schedule_of, is_skipped, locator_word, sync_word, meaning, step_size, step_count, nothing, has_chain, has_step, is_named, chain_in, is_known, plan_in, with_chain, with_plan, after_line, after_value, at_line, AreSteps};
 
 use crate::line::{Delivery, LineSays, StepSays, line_says};

@@ -1,7 +1,7 @@
 //! How a log is shown: each line's text, and the log's as a whole.
 #![tactic(auto, using(crate::proofs::Growth::grows_later))]
 
-ghost use Rattle.std.specs.Prelude.{◌≡◌, ◌<◌, ◌++◌, ◌∷◌, [], length, decimal, true, OnOk, OnErr};
+ghost use Rattle.std.specs.Prelude.{◌≡◌, ◌<◌, ◌++◌, ◌∷◌, decimal, true, OnOk, OnErr};
 ghost use Rattle.std.specs.Fmt.{digit_glyph};
 ghost use Rattle.tcf_text.specs.Log.{sent_word, hello_word, event_word, unknown_word, refused_front, end_front, is_hidden, shown_byte, shown, word_text, rest_text, args_text, mark_text, refused_reason, end_cause, numbered, named_text, line_words, line_text, log_text, Grows};
 

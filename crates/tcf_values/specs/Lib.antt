@@ -1,6 +1,8 @@
 pub mod Changing
 pub mod Cut
+pub mod Effects
 pub mod Errors
+pub mod Faults
 pub mod Ids
 pub mod Number
 pub mod Spelling

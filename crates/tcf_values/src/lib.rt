@@ -7,6 +7,7 @@ pub mod cut;
 pub mod effect;
 pub mod errors;
 pub mod event;
+pub mod faults;
 pub mod ids;
 pub mod number;
 pub mod text;
@@ -18,6 +19,7 @@ pub use cut::cut_at;
 pub use effect::{Effect, Events, Numbers};
 pub use errors::{ErrorReport, format_of_code, report};
 pub use event::EventData;
+pub use faults::{Fault, Refusal};
 pub use ids::{
     ContextId, PC, RegisterId, context_id, context_round_trip, context_text, register_id,
     register_round_trip, register_text,

@@ -296,3 +296,30 @@ fn a_copy_shows_what_its_source_shows(rt: HostRuntime) -> Result<(), Fail> {
     );
     Ok(())
 }
+
+#[test]
+fn a_command_that_fails_gives_its_report_alone(rt: HostRuntime) -> Result<(), Fail> {
+    for (fault, code, text) in [
+        (Fault::Other, 1, "other"),
+        (Fault::AlreadyStopped, 10, "already-stopped"),
+        (Fault::AlreadyRunning, 12, "already-running"),
+        (Fault::AlreadyAttached, 13, "already-attached"),
+        (Fault::IsRunning, 14, "is-running"),
+        (Fault::BadSize, 15, "bad-size"),
+        (Fault::BadContext, 16, "bad-context"),
+        (Fault::BadAddress, 17, "bad-address"),
+        (Fault::BadNumber, 20, "bad-number"),
+        (Fault::Unsupported, 23, "unsupported"),
+    ] {
+        let effect = Effect::failed(rt.alloc(), fault)?;
+        assert!(rt; effect.events.is_empty() && effect.progress.is_empty());
+        match effect.answer {
+            Answer::Failed(report) => {
+                assert_eq!(rt; report.code, code);
+                assert_eq!(rt; report.format.as_str(), text);
+            }
+            _ => assert!(rt; false, "{code} is no failure"),
+        }
+    }
+    Ok(())
+}

@@ -10,9 +10,9 @@ use Rattle.std.proofs.lemmas.Slice.Eq.{bytes_eq-Decides}
 use Rattle.std.proofs.lemmas.Str.Parse.{digit_at}
 use Rattle.tcf_values.specs.Cut.{Lacks, cut_of}
 use Rattle.tcf_values.specs.Number.{number_of}
-use Rattle.tcf_values.proofs.Cuts.{lacks_by_index, cut_there, cut_found}
-use Rattle.tcf_values.proofs.Numbers.{number_there, number_found}
-use Rattle.tcf_values.proofs.Options.{and_then_found, map_found}
+use Rattle.tcf_values.specs.CutLaws.{lacks_by_index, cut_there, cut_found}
+use Rattle.tcf_values.specs.NumberLaws.{number_there, number_found}
+use Rattle.tcf_values.specs.OptionLaws.{and_then_found, map_found}
 use Rattle.tcf_text.specs.Line.{is_name, up_word, down_word, direction_word, spaced, both, behind, before, name_of, direction_of}
 
 -- what is read has this text, and is read from it

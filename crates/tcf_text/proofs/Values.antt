@@ -3,8 +3,8 @@ use Rattle.std.proofs.Common.{◌≡◌, ℕ, ◌≤◌, Bool, true, List, ◌�
 use Rattle.std.specs.Prelude.{Option, Some, option_map, option_and_then, bytes_eq, decimal}
 use Rattle.tcf_values.specs.Cut.{Lacks, cut_of}
 use Rattle.tcf_values.specs.Number.{number_of}
-use Rattle.tcf_values.proofs.Cuts.{cut_found}
-use Rattle.tcf_values.proofs.Options.{and_then_found, map_found}
+use Rattle.tcf_values.specs.CutLaws.{cut_found}
+use Rattle.tcf_values.specs.OptionLaws.{and_then_found, map_found}
 use Rattle.tcf_text.specs.Line.{LineStep, opens, sends, delivers, rounds, times, LineValue, header, step, is_name, IsLineStep, IsLine, chain_word, open_word, send_word, deliver_word, rounds_word, times_word, zero_word, sync_command, direction_word, spaced, step_spelling, spelling, Says, behind, name_of, direction_of, header_of, sending_of, amount_of, delivery_of, repetition_of, delivering, repeating, step_of, value_behind, value_of, ReadsTheText}
 use Rattle.tcf_text.proofs.Grammar.{IsExact, both_exact, behind_exact, before_exact, guarded, two_ways, same_bytes, number_exact, number_words, name_exact, name_words, direction_exact, direction_words, letters_lack}
 

@@ -11,9 +11,9 @@ use Rattle.tcf_values.specs.Ids.{behind_of, positive_of, process_of, thread_of, 
 use Rattle.tcf_values.specs.Spelling.{IsNumber, SpellsContext}
 use Rattle.tcf_values.specs.declared.ids.ContextId.{ContextId}
 use Rattle.tcf_values.specs.declared.ids.ContextId.TheVariants.{Process, Thread}
-use Rattle.tcf_values.proofs.Cuts.{lacks_by_index, cut_there, cut_missing, cut_found}
-use Rattle.tcf_values.proofs.Numbers.{number_there, number_found}
-use Rattle.tcf_values.proofs.Options.{some_same, and_then_found, map_found, none_or_some}
+use Rattle.tcf_values.specs.CutLaws.{lacks_by_index, cut_there, cut_missing, cut_found}
+use Rattle.tcf_values.specs.NumberLaws.{number_there, number_found}
+use Rattle.tcf_values.specs.OptionLaws.{some_same, and_then_found, map_found, none_or_some}
 
 -- digits have no dot
 pub decimal_lacks_dot : (n : ℕ) → n < 2 ^ 32 → Lacks 46 (decimal n)

@@ -10,9 +10,9 @@ use Rattle.tcf_values.specs.Number.{number_of}
 use Rattle.tcf_values.specs.Spelling.{IsNumber, register_name, SpellsRegister}
 use Rattle.tcf_values.specs.declared.ids.RegisterId.{RegisterId}
 use Rattle.tcf_values.proofs.Contexts.{decimal_lacks_dot, positive_there, positive_found, behind_found, behind_there}
-use Rattle.tcf_values.proofs.Cuts.{cut_there, cut_found}
-use Rattle.tcf_values.proofs.Numbers.{number_there, number_found}
-use Rattle.tcf_values.proofs.Options.{some_same, and_then_found, map_found, none_or_some}
+use Rattle.tcf_values.specs.CutLaws.{cut_there, cut_found}
+use Rattle.tcf_values.specs.NumberLaws.{number_there, number_found}
+use Rattle.tcf_values.specs.OptionLaws.{some_same, and_then_found, map_found, none_or_some}
 
 small_index : (i : ℕ) → i ≤ 31 → index_of (120 ∷ decimal i) ≡ Some i
 small_index i small =

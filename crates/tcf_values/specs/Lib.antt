@@ -1,9 +1,12 @@
 pub mod Changing
 pub mod Cut
+pub mod CutLaws
 pub mod Effects
 pub mod Errors
 pub mod Faults
 pub mod Ids
 pub mod Number
+pub mod NumberLaws
+pub mod OptionLaws
 pub mod Spelling
 pub mod Storable

@@ -11,7 +11,7 @@ fn place_of(byte: u8, text: &[u8]) -> Option<usize>
 
 /// What stands before the first such byte, and what stands behind it. None comes exactly where there is no such
 /// byte.
-#[tactic(auto, using(crate::proofs::Cuts::lacks_without_place, crate::proofs::Cuts::cut_missing))]
+#[tactic(auto, using(crate::specs::CutLaws::lacks_without_place, crate::specs::CutLaws::cut_missing))]
 pub fn cut_at(byte: u8, text: &[u8]) -> Option<(&[u8], &[u8])>
     ensures value { option_map (λ parts. (parts.0.now, parts.1.now)) result ≡ cut_of byte text.now }
     ensures cut { IfSome result (λ parts. IsCut byte text.now parts.0.now parts.1.now) }

@@ -27,7 +27,7 @@ fn positive_number(digits: &[u8]) -> Option<u32>
 }
 
 /// The number that the digits say.
-#[tactic(auto, using(crate::proofs::Numbers::zero_found, crate::proofs::Numbers::zero_or_more))]
+#[tactic(auto, using(crate::specs::NumberLaws::zero_found, crate::specs::NumberLaws::zero_or_more))]
 fn plain_number(digits: &[u8]) -> Option<u32>
     ensures found { IfSome result (λ n. digits.now ≡ decimal n) }
     ensures none { IfNone result ((n : ℕ) → n < 2 ^ 32 → digits.now ≢ decimal n) }
@@ -40,7 +40,7 @@ fn plain_number(digits: &[u8]) -> Option<u32>
 
 /// The number from `low` to `high` that the digits say. None comes exactly where they say no such number: also
 /// where they have a sign or a leading zero, and where there are none.
-#[tactic(auto, using(crate::proofs::Numbers::number_there, crate::proofs::Numbers::number_out, crate::proofs::Numbers::number_gone))]
+#[tactic(auto, using(crate::specs::NumberLaws::number_there, crate::specs::NumberLaws::number_out, crate::specs::NumberLaws::number_gone))]
 pub fn number_within(digits: &[u8], low: u32, high: u32) -> Option<u32>
     ensures value { result ≡ number_of low high digits.now }
     ensures least { IfSome result (λ number. low ≤ number) }

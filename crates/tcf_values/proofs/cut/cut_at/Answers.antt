@@ -1,5 +1,5 @@
 use Rattle.std.proofs.Common.{sym, ◌∙◌}
-use Rattle.tcf_values.proofs.Cuts.{cut_at_place, cut_there}
+use Rattle.tcf_values.specs.CutLaws.{cut_at_place, cut_there}
 use Rattle.tcf_values.proofs.cut.cut_at.Goals as goal
 
 pub returns-clause-value : goal.returns-clause-value

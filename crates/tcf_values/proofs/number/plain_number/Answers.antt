@@ -1,5 +1,5 @@
 use Rattle.std.proofs.Common.{◌≡◌, [], ◌∷◌, rules}
-use Rattle.tcf_values.proofs.Numbers.{zero_found}
+use Rattle.tcf_values.specs.NumberLaws.{zero_found}
 use Rattle.tcf_values.proofs.number.plain_number.Goals as goal
 
 pub returns-then-eq-clause-found : goal.returns-then-eq-clause-found

@@ -1,6 +1,6 @@
 use Rattle.std.proofs.Common.{◌≡◌, get_or, true}
 use Rattle.std.specs.Int.{is_in_range}
-use Rattle.tcf_values.proofs.Numbers.{front_of_decimal, read_found, read_none, utf8_of_decimal}
+use Rattle.tcf_values.specs.NumberLaws.{front_of_decimal, read_found, read_none, utf8_of_decimal}
 use Rattle.tcf_values.proofs.number.positive_number.Goals as goal
 
 pub returns-then-not-has_plain_front-clause-none : goal.returns-then-not-has_plain_front-clause-none

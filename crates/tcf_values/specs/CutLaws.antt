@@ -8,7 +8,7 @@ use Rattle.std.proofs.lemmas.Option.{none-some}
 use Rattle.std.proofs.lemmas.List.{take_rest, drop_more, length-take, get_or-take, take-append-drop}
 use Rattle.std.proofs.lemmas.List.Quantifiers.{position-Some}
 use Rattle.tcf_values.specs.Cut.{Lacks, IsCut, cut_of}
-use Rattle.tcf_values.proofs.Options.{some_same, map_found}
+use Rattle.tcf_values.specs.OptionLaws.{some_same, map_found}
 
 -- a text lacks a byte that no index has
 pub lacks_by_index : (byte : ℕ) (text : List ℕ) → ((k : ℕ) → k < length text → get_or text k 0 ≢ byte) → Lacks byte text

@@ -5,3 +5,5 @@ pub mod Starting
 pub mod Contexts
 pub mod Lending
 pub mod Laws
+pub mod Named
+pub mod Changes

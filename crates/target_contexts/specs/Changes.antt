@@ -1,0 +1,19 @@
+-- The target with one process changed.
+use Rattle.std.specs.Prelude.{ℕ, Option, Some, None}
+use Rattle.target_contexts.specs.Live.{process_of, with_process}
+use Rattle.target_contexts.specs.TargetsValue.{TargetsValue}
+use Rattle.target_contexts.specs.declared.process.Process.{Process}
+
+abbrev pub with_change_at : (Process → Process) → ℕ → Option Process → TargetsValue → TargetsValue
+with_change_at change number None targets = targets
+with_change_at change number (Some process) targets =
+    record targets { processes = with_process number (change process) targets.processes }
+
+-- the live process of this number is changed; where there is none, nothing is
+abbrev pub with_change : (Process → Process) → ℕ → TargetsValue → TargetsValue
+with_change change number targets = with_change_at change number (process_of number targets.processes) targets
+
+-- the process of a number, where there is a number
+abbrev pub with_change_of : (Process → Process) → Option ℕ → TargetsValue → TargetsValue
+with_change_of change None targets = targets
+with_change_of change (Some number) targets = with_change change number targets

@@ -1,0 +1,36 @@
+-- What an ID names among the live processes (TCF services RunControl, Memory and Registers, where the agent chooses
+-- IDs).
+use Rattle.std.specs.Prelude.{ℕ, ◌==◌, Bool, true, false, List, Option, Some, None, option_and_then, if◌then◌else◌}
+use Rattle.tcf_values.specs.Ids.{context_of}
+use Rattle.tcf_values.specs.declared.ids.ContextId.{ContextId}
+use Rattle.tcf_values.specs.declared.ids.ContextId.TheVariants as ids
+use Rattle.target_contexts.specs.Live.{process_of}
+use Rattle.target_contexts.specs.declared.process.Process.{Process}
+use Rattle.target_contexts.specs.declared.process.ThreadState.{ThreadState}
+use Rattle.target_contexts.specs.declared.process.ThreadState.TheVariants.{Running, Suspended}
+
+-- the process whose one thread this is, which has the number 1
+abbrev pub thread_for : ContextId → Option ℕ
+thread_for (ids.Process number) = None
+thread_for (ids.Thread number thread) = if thread == 1 then Some number else None
+
+-- the process that an ID stands for: a thread's stands for its process
+abbrev pub number_for : ContextId → Option ℕ
+number_for (ids.Process number) = Some number
+number_for (ids.Thread number thread) = if thread == 1 then Some number else None
+
+-- the number of a process that a text stands for, and that of the process whose thread it names
+abbrev pub number_named : List ℕ → Option ℕ
+number_named id = option_and_then number_for (context_of id)
+
+abbrev pub thread_named : List ℕ → Option ℕ
+thread_named id = option_and_then thread_for (context_of id)
+
+-- the live process of a number, where there is a number
+abbrev pub process_at_number : Option ℕ → List (ℕ × Process) → Option Process
+process_at_number number rows = option_and_then (λ n. process_of n rows) number
+
+-- the thread runs
+abbrev pub runs : ThreadState → Bool
+runs (Running left) = true
+runs (Suspended reason hits) = false

@@ -1,0 +1,3 @@
+pub mod Ranges
+pub mod PartSteps
+pub mod Lawful

@@ -1,0 +1,8 @@
+use Rattle.data_services.proofs.Lawful.{memory_set_is_got, register_set_is_got}
+use Rattle.data_services.proofs.laws.what_is_set_is_got.Goals as goal
+
+pub returns : goal.returns
+returns c = record {
+  memory = memory_set_is_got c.a_change_changes_one.ensures;
+  register = register_set_is_got c.a_change_changes_one.ensures;
+}

@@ -1,0 +1,66 @@
+-- Laws of the commands of Memory and Registers, over every target.
+use Rattle.std.specs.Prelude.{ℕ, ℤ, ◌≡◌, ◌≢◌, ◌==◌, ◌<◌, Bool, true, false, List, [], length, slice_index, Option, Some, None}
+use Rattle.std.specs.List.{list_any}
+use Rattle.tcf_values.specs.Changing.{changes}
+use Rattle.tcf_values.specs.Ids.{register_of}
+use Rattle.tcf_values.specs.declared.answer.Answer.TheVariants.{Blob, Failed, Nothing}
+use Rattle.tcf_values.specs.declared.command.Command.{Command}
+use Rattle.tcf_values.specs.declared.command.Command.TheVariants.{MemGet, MemSet, RegGet, RegSet, RegSetm}
+use Rattle.tcf_values.specs.declared.errors.ErrorReport.{ErrorReport}
+use Rattle.tcf_values.specs.declared.ids.RegisterId.{RegisterId}
+use Rattle.target_contexts.specs.Live.{process_of}
+use Rattle.target_contexts.specs.TargetsValue.{TargetsValue}
+use Rattle.target_contexts.specs.declared.process.Process.{Process}
+use Rattle.data_services.specs.Commands.{data_after, data_effect}
+use Rattle.tcf_values.specs.Effects.{gives}
+use Rattle.target_contexts.specs.Named.{number_named}
+use Rattle.data_services.specs.Named.{process_named, holder_of}
+use Rattle.data_services.specs.Parts.{parts_named}
+
+-- a command that an error answers changes nothing, and no event tells of it
+abbrev pub FailureChangesNothing : Type 0
+FailureChangesNothing = (command : Command) (targets : TargetsValue) (report : ErrorReport) → (data_effect command targets).answer ≡ Failed report →
+    (data_after command targets ≡ targets) × ((data_effect command targets).events ≡ [])
+
+-- a command that only asks changes nothing, and no event tells of it
+abbrev pub AskingChangesNothing : Type 0
+AskingChangesNothing = (command : Command) (targets : TargetsValue) → changes command ≡ false →
+    (data_after command targets ≡ targets) × ((data_effect command targets).events ≡ [])
+
+-- ---- the processes that a command can write
+
+abbrev pub is_number : ℕ → Option ℕ → Bool
+is_number number None = false
+is_number number (Some named) = named == number
+
+abbrev pub is_process : ℕ → Option RegisterId → Bool
+is_process number None = false
+is_process number (Some register) = register.process == number
+
+-- the command sets memory of the process, or a register of its thread
+abbrev pub writes : ℕ → Command → Bool
+writes number (MemSet id addr word size mode bytes) = is_number number (number_named id)
+writes number (RegSet id bytes) = is_process number (register_of id)
+writes number (RegSetm list bytes) = list_any (λ part. part.register.process == number) (parts_named list)
+writes number _ = false
+
+-- every other process is as it was
+abbrev pub OthersStay : Type 0
+OthersStay = (command : Command) (targets : TargetsValue) (number : ℕ) → writes number command ≡ false →
+    process_of number (data_after command targets).processes ≡ process_of number targets.processes
+
+-- ---- what is set is got
+
+-- from the same range of the same process, whose memory has all its bytes
+abbrev pub MemorySetIsGot : Type 0
+MemorySetIsGot = (id : List ℕ) (addr word size mode : ℤ) (bytes : List ℕ) (targets : TargetsValue) (process : Process) →
+    process_named id targets.processes ≡ Some process → length process.memory ≡ 65536 →
+    let set = MemSet id addr word size mode bytes in
+    (data_effect set targets).answer ≡ Nothing → data_effect (MemGet id addr word size mode) (data_after set targets) ≡ gives (Blob bytes)
+
+-- from a register other than x0 of a thread that has its 32 registers; a byte is below 256
+abbrev pub RegisterSetIsGot : Type 0
+RegisterSetIsGot = (id bytes : List ℕ) (targets : TargetsValue) (register : RegisterId) (process : Process) →
+    register_of id ≡ Some register → register.index ≢ 0 → holder_of id targets.processes ≡ Some process → length process.cpu.x ≡ 32 → ((i : ℕ) → slice_index bytes i < 256) →
+    let set = RegSet id bytes in
+    (data_effect set targets).answer ≡ Nothing → data_effect (RegGet id) (data_after set targets) ≡ gives (Blob bytes)

@@ -1,0 +1,162 @@
+//! The commands of the service Memory.
+ghost use Rattle.std.specs.Prelude.{◌≡◌, ◌+◌, ◌≤◌, ◌<◌, pos, length, false, true, IfErr, IfOk, OnErr, OnOk, unsigned_abs};
+ghost use Rattle.data_services.specs.Bytes.{part_of, with_part};
+ghost use Rattle.tcf_values.specs.Faults.{IsDue};
+ghost use Rattle.target_contexts.specs.Named.{number_named};
+ghost use Rattle.data_services.specs.Named.{process_named};
+ghost use Rattle.data_services.specs.MemoryRows.{is_no_size, is_outside, memory_get_fault, memory_bytes, memory_set_fault, memory_events, memory_after};
+
+use crate::named::live_process;
+use rv32i_core::Memory;
+use std::alloc::{AllocError, Global};
+use target_contexts::Targets;
+use tcf_values::{
+    Bytes, ContextId, EventData, Events, Fault, Range, Ranges, Refusal, Text, context_text,
+};
+
+/// How many bytes a memory has, and how many one access can have.
+const MOST: i128 = 65_536;
+
+/// Where the bytes of a set go.
+#[derive(Clone, Copy, Debug)]
+struct Span {
+    process: u32,
+    first: u32,
+}
+
+/// Memory.get: the bytes of a range. Of size and address any number can be asked for.
+pub(crate) fn get(
+    alloc: Global,
+    targets: &Targets,
+    id: &Text,
+    addr: i128,
+    size: i128,
+) -> Result<Bytes, Refusal>
+    ensures bytes { IfOk result (λ bytes. bytes ≡ memory_bytes addr size (process_named id.now targets.now.processes)) }
+    ensures free { OnOk result (memory_get_fault id.now addr size targets.now.processes ≡ None) }
+    ensures due { IfErr result (IsDue (memory_get_fault id.now addr size targets.now.processes)) }
+{
+    let number = live_process(targets, id)?;
+    let process = targets.process(number).ok_or(Fault::BadContext)?;
+    let count = access_size(size)?;
+    let first = first_place(addr, count)?;
+    Ok(range_of(alloc, &process.memory, first, count)?)
+}
+
+/// Memory.set: puts the bytes over those of a range, and tells of the change. Of size and address any number can be
+/// asked for. A refused call changes nothing.
+pub(crate) fn set(
+    alloc: Global,
+    targets: &mut Targets,
+    id: &Text,
+    addr: i128,
+    size: i128,
+    bytes: &Bytes,
+) -> Result<Events, Refusal>
+    ensures events { IfOk result (λ events. events ≡ memory_events (number_named id.now) addr size) }
+    ensures free { OnOk result (memory_set_fault id.now addr size bytes.now targets.old.processes ≡ None) }
+    ensures after { OnOk result (targets.new ≡ memory_after id.now addr bytes.now targets.old) }
+    ensures due { IfErr result (IsDue (memory_set_fault id.now addr size bytes.now targets.old.processes)) }
+    ensures kept { OnErr result (targets.new ≡ targets.old) }
+{
+    let span = span_to_set(targets, id, addr, size, bytes)?;
+    let events = memory_changed(alloc, span.process, addr, size)?;
+    if let Some(process) = targets.process_mut(span.process) {
+        put(&mut process.memory, span.first, bytes.as_slice());
+    }
+    Ok(events)
+}
+
+/// The checks of a set.
+fn span_to_set(
+    targets: &Targets,
+    id: &Text,
+    addr: i128,
+    size: i128,
+    bytes: &Bytes,
+) -> Result<Span, Fault>
+    ensures process { IfOk result (λ span. number_named id.now ≡ Some span.process) }
+    ensures positive { IfOk result (λ span. 0 < span.process) }
+    ensures first { IfOk result (λ span. span.first ≡ unsigned_abs addr) }
+    ensures inside { IfOk result (λ span. span.first + length bytes.now ≤ 65536) }
+    ensures free { OnOk result (memory_set_fault id.now addr size bytes.now targets.now.processes ≡ None) }
+    ensures due { IfErr result (λ fault. memory_set_fault id.now addr size bytes.now targets.now.processes ≡ Some fault) }
+{
+    let process = live_process(targets, id)?;
+    let count = access_size(size)?;
+    if bytes.len() != count as usize {
+        return Err(Fault::BadSize);
+    }
+    let first = first_place(addr, count)?;
+    Ok(Span { process, first })
+}
+
+/// The size of an access, which is from 0 to 65,536.
+fn access_size(size: i128) -> Result<u32, Fault>
+    ensures size { IfOk result (λ count. size ≡ pos count) }
+    ensures most { IfOk result (λ count. count ≤ 65536) }
+    ensures free { OnOk result (is_no_size size ≡ false) }
+    ensures due { OnErr result (is_no_size size ≡ true) }
+    ensures fault { IfErr result (λ fault. fault ≡ Fault.BadSize) }
+{
+    if size < 0 || size > MOST {
+        return Err(Fault::BadSize);
+    }
+    Ok(size as u32)
+}
+
+/// The first address of a range that lies in memory.
+fn first_place(addr: i128, count: u32) -> Result<u32, Fault>
+    requires { count ≤ 65536 }
+    ensures first { IfOk result (λ first. addr ≡ pos first) }
+    ensures inside { IfOk result (λ first. first + count ≤ 65536) }
+    ensures free { OnOk result (is_outside addr (pos count) ≡ false) }
+    ensures due { OnErr result (is_outside addr (pos count) ≡ true) }
+    ensures fault { IfErr result (λ fault. fault ≡ Fault.BadAddress) }
+{
+    if addr < 0 || addr > MOST - i128::from(count) {
+        return Err(Fault::BadAddress);
+    }
+    Ok(addr as u32)
+}
+
+/// The bytes of a range. No other byte is read.
+#[tactic(auto, using(crate::proofs::Ranges::part_more))]
+fn range_of(alloc: Global, memory: &Memory, first: u32, count: u32) -> Result<Bytes, AllocError>
+    requires { first + count ≤ 65536 }
+    ensures { IfOk result (λ bytes. bytes ≡ part_of first count memory.now) }
+{
+    let mut bytes = Vec::with_capacity(alloc, count as usize)?;
+    for offset in 0..count {
+        if let Some(byte) = memory.read(first + offset) {
+            bytes.push(byte)?;
+        }
+    }
+    Ok(Bytes::from_vec(bytes))
+}
+
+/// Puts the bytes over those from an address on. No other byte is written.
+#[tactic(auto, using(crate::proofs::Ranges::nothing_put))]
+fn put(memory: &mut Memory, first: u32, bytes: &[u8])
+    requires { first + length bytes.now ≤ 65536 }
+    ensures { memory.new ≡ with_part first bytes.now memory.old }
+{
+    for (offset, byte) in bytes.iter().enumerate() {
+        memory.write(first + offset as u32, *byte);
+    }
+}
+
+/// What tells of a set: nothing where it has no byte, else the process and the range.
+fn memory_changed(alloc: Global, process: u32, addr: i128, size: i128) -> Result<Events, AllocError>
+    requires { 0 < process }
+    ensures { IfOk result (λ events. events ≡ memory_events (Some process) addr size) }
+{
+    let mut events = Events::new(alloc);
+    if size > 0 {
+        let mut list = Ranges::new(alloc);
+        list.push(Range { addr, size })?;
+        let id = context_text(alloc, ContextId::Process(process))?;
+        events.push(EventData::MemChanged { id, list })?;
+    }
+    Ok(events)
+}

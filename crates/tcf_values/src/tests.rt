@@ -1,6 +1,7 @@
 //! What no clause says: that the calls succeed where there is memory, and that the definitions are the rules.
 use super::*;
 use std::alloc::Global;
+use std::process::Abort;
 use std::test::Fail;
 
 #[test]
@@ -297,29 +298,42 @@ fn a_copy_shows_what_its_source_shows(rt: HostRuntime) -> Result<(), Fail> {
     Ok(())
 }
 
-#[test]
-fn a_command_that_fails_gives_its_report_alone(rt: HostRuntime) -> Result<(), Fail> {
-    for (fault, code, text) in [
-        (Fault::Other, 1, "other"),
-        (Fault::AlreadyStopped, 10, "already-stopped"),
-        (Fault::AlreadyRunning, 12, "already-running"),
-        (Fault::AlreadyAttached, 13, "already-attached"),
-        (Fault::IsRunning, 14, "is-running"),
-        (Fault::BadSize, 15, "bad-size"),
-        (Fault::BadContext, 16, "bad-context"),
-        (Fault::BadAddress, 17, "bad-address"),
-        (Fault::BadNumber, 20, "bad-number"),
-        (Fault::Unsupported, 23, "unsupported"),
-    ] {
-        let effect = Effect::failed(rt.alloc(), fault)?;
-        assert!(rt; effect.events.is_empty() && effect.progress.is_empty());
-        match effect.answer {
-            Answer::Failed(report) => {
-                assert_eq!(rt; report.code, code);
-                assert_eq!(rt; report.format.as_str(), text);
-            }
-            _ => assert!(rt; false, "{code} is no failure"),
+fn assert_fails(
+    rt: &impl Abort,
+    alloc: Global,
+    fault: Fault,
+    code: i128,
+    format: &str,
+) -> Result<(), Fail> {
+    let effect = Effect::failed(alloc, fault)?;
+    assert!(rt; effect.events.is_empty());
+    assert!(rt; effect.progress.is_empty());
+    match &effect.answer {
+        Answer::Failed(report) => {
+            assert_eq!(rt; report.code, code);
+            assert_eq!(rt; report.format.as_str(), format);
         }
+        _ => assert!(rt; false),
     }
     Ok(())
+}
+
+#[test]
+fn a_command_that_fails_gives_its_report_alone(rt: HostRuntime) -> Result<(), Fail> {
+    let alloc = rt.alloc();
+    assert_fails(&rt, alloc, Fault::Other, 1, "other")?;
+    assert_fails(&rt, alloc, Fault::AlreadyStopped, 10, "already-stopped")?;
+    assert_fails(&rt, alloc, Fault::AlreadyRunning, 12, "already-running")?;
+    assert_fails(&rt, alloc, Fault::AlreadyAttached, 13, "already-attached")?;
+    assert_fails(&rt, alloc, Fault::IsRunning, 14, "is-running")
+}
+
+#[test]
+fn a_value_out_of_its_bounds_has_its_report(rt: HostRuntime) -> Result<(), Fail> {
+    let alloc = rt.alloc();
+    assert_fails(&rt, alloc, Fault::BadSize, 15, "bad-size")?;
+    assert_fails(&rt, alloc, Fault::BadContext, 16, "bad-context")?;
+    assert_fails(&rt, alloc, Fault::BadAddress, 17, "bad-address")?;
+    assert_fails(&rt, alloc, Fault::BadNumber, 20, "bad-number")?;
+    assert_fails(&rt, alloc, Fault::Unsupported, 23, "unsupported")
 }

@@ -1,0 +1,10 @@
+use Rattle.std.proofs.Common.{◌≡◌, ap, subst, ◌∙◌}
+use Rattle.std.specs.Prelude.{Result, Ok, Err, IfOk}
+use Rattle.tcf_values.specs.declared.values.BpProps.{BpProps}
+use Rattle.breakpoints.specs.Rows.{ids_of}
+use Rattle.breakpoints.proofs.Filtered.{filter_all}
+use Rattle.breakpoints.proofs.breakpoints.Breakpoints.ids.Goals as goal
+
+-- everything is chosen
+pub returns-clause-ids : goal.returns-clause-ids
+returns-clause-ids c = rw (filter_all c.args.self.now) at c.ids_of.ensures.ids

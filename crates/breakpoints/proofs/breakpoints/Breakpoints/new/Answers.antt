@@ -1,0 +1,12 @@
+use Rattle.std.proofs.Common.{◌≡◌, List, [], ◌≤◌, length, sym, subst, arith}
+use Rattle.std.specs.List.{IsDistinct}
+use Rattle.breakpoints.specs.Keyed.{IsKept}
+use Rattle.breakpoints.proofs.breakpoints.Breakpoints.new.Goals as goal
+
+none_kept : IsKept []
+unfolding IsDistinct
+none_kept = record { keyed = tt; orderly = record { differ = tt; few = omega arith } }
+
+-- a map without entries
+pub invariant_of-result : goal.invariant_of-result
+invariant_of-result c = subst IsKept (sym c.new.ensures.empty) none_kept

@@ -1,0 +1,7 @@
+use Rattle.std.proofs.Common.{rules}
+use Rattle.indexmap.proofs.CallerLemmas.{filter-RetainsPairs}
+use Rattle.breakpoints.proofs.rows.take_out.Goals as goal
+
+-- what is retained passes the test
+pub returns-clause-entries : goal.returns-clause-entries
+returns-clause-entries c = filter-RetainsPairs _ _ _ (λ k v b w g call. search rules) _ _ c.retain.ensures.filtered

@@ -1,0 +1,98 @@
+//! The map that keeps the breakpoints, each under its ID, in the order of the list.
+ghost use Rattle.std.specs.Prelude.{◌≡◌, ◌≤◌, ◌++◌, not, bytes_eq, filter, length, map, is_some, Some, IfOk, IfSome, IfNone, IsOk, OnOk, OnErr, true, false, if◌then◌else◌};
+ghost use Rattle.std.specs.List.{IsDistinct};
+ghost use Rattle.indexmap.specs.IndexMap.{keys, spare, values};
+ghost use Rattle.breakpoints.specs.Changes.{has_twice, row_with_flag, row_with_props};
+ghost use Rattle.breakpoints.specs.Keyed.{AreApart, AreKeyed, IsKept, with_values};
+ghost use Rattle.breakpoints.specs.Rows.{is_there, rows_for};
+ghost use Rattle.breakpoints.specs.Selecting.{selects};
+
+use crate::selection::{Selection, is_among, selects};
+use indexmap::IndexMap;
+use std::alloc::{AllocError, Global};
+use tcf_values::{BpProps, Duplicate, Text};
+
+/// Each breakpoint beside the channel that owns it.
+pub(crate) type Rows = IndexMap<Vec<u8>, (u64, BpProps)>;
+
+/// New breakpoints of a channel, each under its ID; `None` where an ID is given twice.
+pub(crate) fn keyed(
+    alloc: Global,
+    channel: u64,
+    list: &[BpProps],
+) -> Result<Option<Rows>, AllocError>
+    ensures twice { IfOk result (λ made. is_some made ≡ not (has_twice (map (λ props. props.id) list.now))) }
+    ensures rows { IfOk result (λ made. IfSome made (λ rows. values rows ≡ rows_for channel list.now)) }
+    ensures keyed { IfOk result (λ made. IfSome made (λ rows. AreKeyed rows.entries)) }
+{
+    let mut rows = IndexMap::with_capacity(alloc, list.len())?;
+    for props in list {
+        let id = Vec::from_slice(alloc, props.id.as_bytes())?;
+        if rows.insert(id, (channel, props.copy()?))?.is_some() {
+            return Ok(None);
+        }
+    }
+    Ok(Some(rows))
+}
+
+/// Takes out the chosen. The others keep their order, and no room is lost.
+pub(crate) fn take_out(rows: &mut Rows, leaving: Selection<'_>)
+    ensures entries { rows.new.entries ≡ filter (λ entry. not (selects leaving.entry entry.1)) rows.old.entries }
+    ensures room { spare rows.old ≤ spare rows.new }
+{
+    rows.retain(
+        |_id: &Vec<u8>, row: &mut (u64, BpProps)| -> bool
+            ensures { (result ≡ not (selects leaving.entry row.old)) × (row.new ≡ row.old) }
+        { !selects(leaving, row) },
+    );
+}
+
+/// Puts `fresh` in the place of the chosen, last. Memory is taken before anything changes.
+pub(crate) fn replace(
+    rows: &mut Rows,
+    leaving: Selection<'_>,
+    mut fresh: Rows,
+) -> Result<(), AllocError>
+    requires { AreApart fresh.entries (filter (λ entry. not (selects leaving entry.1)) rows.old.entries) }
+    ensures entries { OnOk result (rows.new.entries ≡ filter (λ entry. not (selects leaving.entry entry.1)) rows.old.entries ++ fresh.entries) }
+    ensures unique { OnOk result (IsDistinct (λ x y. bytes_eq x.items y.items) (keys rows.new)) }
+    ensures kept { OnErr result (rows.new.entries ≡ rows.old.entries) }
+{
+    rows.reserve(fresh.len())?;
+    take_out(rows, leaving);
+    rows.append(&mut fresh).unwrap();
+    Ok(())
+}
+
+/// Puts the properties in the place of those of the same ID, and answers whether there are some.
+pub(crate) fn set_props(rows: &mut Rows, props: BpProps) -> bool
+    requires { IsKept rows.old.entries }
+    ensures found { result ≡ is_there props.id (values rows.old) }
+    ensures entries { rows.new.entries ≡ with_values (row_with_props props) rows.old.entries }
+{
+    match rows.get_mut(props.id.as_bytes()) {
+        Some(row) => {
+            row.1 = props;
+            true
+        }
+        None => false,
+    }
+}
+
+/// Enables or disables a breakpoint, where it is named.
+fn set_flag(row: &mut (u64, BpProps), ids: &[Text], enabled: bool)
+    ensures { row.new ≡ row_with_flag enabled ids.now row.old }
+{
+    if is_among(ids, row.1.id.as_bytes()) {
+        row.1.enabled = enabled;
+    }
+}
+
+/// Enables or disables the named ones.
+pub(crate) fn set_flags(rows: &mut Rows, ids: &[Text], enabled: bool)
+    ensures { rows.new.entries ≡ with_values (row_with_flag enabled ids.now) rows.old.entries }
+{
+    for index in 0..rows.len() {
+        set_flag(&mut rows[index], ids, enabled);
+    }
+}

@@ -92,7 +92,7 @@ fn memory_set(
     rt: &(impl Abort + AllocGlobal),
     targets: &mut Targets,
     (id, addr, size): (&str, i128, i128),
-    bytes: &[u8],
+    bytes: &str,
     answer: &str,
     event: &str,
 ) -> Result<(), Fail> {
@@ -102,7 +102,7 @@ fn memory_set(
         word: 1,
         size,
         mode: 0,
-        bytes: Bytes::from_slice(rt.alloc(), bytes)?,
+        bytes: Bytes::from_slice(rt.alloc(), bytes.as_bytes())?,
     };
     assert_effect(rt, &apply(rt.alloc(), targets, &command)?, answer, event)
 }
@@ -123,13 +123,13 @@ fn register_set(
     rt: &(impl Abort + AllocGlobal),
     targets: &mut Targets,
     id: &str,
-    bytes: &[u8],
+    bytes: &str,
     answer: &str,
     event: &str,
 ) -> Result<(), Fail> {
     let command = Command::RegSet {
         id: Text::from_str(rt.alloc(), id)?,
-        bytes: Bytes::from_slice(rt.alloc(), bytes)?,
+        bytes: Bytes::from_slice(rt.alloc(), bytes.as_bytes())?,
     };
     assert_effect(rt, &apply(rt.alloc(), targets, &command)?, answer, event)
 }
@@ -162,13 +162,13 @@ fn registers_set(
     rt: &(impl Abort + AllocGlobal),
     targets: &mut Targets,
     list: &[(&str, i128, i128)],
-    bytes: &[u8],
+    bytes: &str,
     answer: &str,
     event: &str,
 ) -> Result<(), Fail> {
     let command = Command::RegSetm {
         list: locations(rt.alloc(), list)?,
-        bytes: Bytes::from_slice(rt.alloc(), bytes)?,
+        bytes: Bytes::from_slice(rt.alloc(), bytes.as_bytes())?,
     };
     assert_effect(rt, &apply(rt.alloc(), targets, &command)?, answer, event)
 }
@@ -228,28 +228,21 @@ fn the_whole_memory_is_got(rt: HostRuntime) -> Result<(), Fail> {
 fn a_range_of_memory_is_set(rt: HostRuntime) -> Result<(), Fail> {
     let mut targets = targets(rt.alloc())?;
     for (id, addr, size, bytes, answer, event) in [
-        (
-            "P1",
-            0,
-            4,
-            [5, 0, 0, 0].as_slice(),
-            "done",
-            "memoryChanged P1 0 4",
-        ),
+        ("P1", 0, 4, "\x05\0\0\0", "done", "memoryChanged P1 0 4"),
         (
             "P1.1",
             65_535,
             1,
-            [9].as_slice(),
+            "\x09",
             "done",
             "memoryChanged P1 65535 1",
         ),
-        ("P3", 1, 1, [7].as_slice(), "done", "memoryChanged P3 1 1"),
-        ("P1", 65_536, 0, [].as_slice(), "done", ""),
-        ("P1", 65_534, 3, [1, 2, 3].as_slice(), "17 bad-address", ""),
-        ("P1", -1, 2, [1].as_slice(), "15 bad-size", ""),
-        ("P1", i128::MAX, i128::MIN, [].as_slice(), "15 bad-size", ""),
-        ("P4", -1, -1, [1].as_slice(), "16 bad-context", ""),
+        ("P3", 1, 1, "\x07", "done", "memoryChanged P3 1 1"),
+        ("P1", 65_536, 0, "", "done", ""),
+        ("P1", 65_534, 3, "\x01\x02\x03", "17 bad-address", ""),
+        ("P1", -1, 2, "\x01", "15 bad-size", ""),
+        ("P1", i128::MAX, i128::MIN, "", "15 bad-size", ""),
+        ("P4", -1, -1, "\x01", "16 bad-context", ""),
     ] {
         memory_set(&rt, &mut targets, (id, addr, size), bytes, answer, event)?;
     }
@@ -270,27 +263,22 @@ fn a_register_is_set_and_got(rt: HostRuntime) -> Result<(), Fail> {
     for (id, bytes, answer, event) in [
         (
             "P1.1.x31",
-            [1, 2, 3, 4].as_slice(),
+            "\x01\x02\x03\x04",
             "done",
             "registerChanged P1.1.x31",
         ),
-        (
-            "P1.1.pc",
-            [4, 0, 0, 0].as_slice(),
-            "done",
-            "registerChanged P1.1.pc",
-        ),
-        ("P1.1.pc", [6, 0, 0, 0].as_slice(), "17 bad-address", ""),
+        ("P1.1.pc", "\x04\0\0\0", "done", "registerChanged P1.1.pc"),
+        ("P1.1.pc", "\x06\0\0\0", "17 bad-address", ""),
         (
             "P1.1.x0",
-            [7, 7, 7, 7].as_slice(),
+            "\x07\x07\x07\x07",
             "done",
             "registerChanged P1.1.x0",
         ),
-        ("P1.1.pc", [1, 0, 0].as_slice(), "15 bad-size", ""),
-        ("P1.1.x1", [1, 0, 0, 0, 0].as_slice(), "15 bad-size", ""),
-        ("P3.1.pc", [].as_slice(), "14 is-running", ""),
-        ("P3.2.pc", [].as_slice(), "16 bad-context", ""),
+        ("P1.1.pc", "\x01\0\0", "15 bad-size", ""),
+        ("P1.1.x1", "\x01\0\0\0\0", "15 bad-size", ""),
+        ("P3.1.pc", "", "14 is-running", ""),
+        ("P3.2.pc", "", "16 bad-context", ""),
     ] {
         register_set(&rt, &mut targets, id, bytes, answer, event)?;
     }
@@ -322,140 +310,128 @@ fn x0_reads_0_whatever_stands_there(rt: HostRuntime) -> Result<(), Fail> {
 }
 
 #[test]
-fn locations_are_set_in_order(rt: HostRuntime) -> Result<(), Fail> {
+fn two_locations_are_set_in_order(rt: HostRuntime) -> Result<(), Fail> {
     let mut targets = targets(rt.alloc())?;
-    for (list, bytes, answer, event) in [
+    for (first, second, bytes, answer, event) in [
         (
-            [("P1.1.x0", 0, 4), ("P1.1.x1", 0, 1)].as_slice(),
-            [7; 5].as_slice(),
+            ("P1.1.x0", 0, 4),
+            ("P1.1.x1", 0, 1),
+            "\x07\x07\x07\x07\x07",
             "done",
             "contextChanged",
         ),
         (
-            [("P1.1.x2", 0, 4), ("P1.1.x2", 1, 2)].as_slice(),
-            [1, 2, 3, 4, 8, 9].as_slice(),
+            ("P1.1.x2", 0, 4),
+            ("P1.1.x2", 1, 2),
+            "\x01\x02\x03\x04\x08\x09",
             "done",
             "registerChanged P1.1.x2",
         ),
         (
-            [("P1.1.x3", 0, 1), ("P2.1.x3", 0, 1)].as_slice(),
-            [5, 6].as_slice(),
+            ("P1.1.x3", 0, 1),
+            ("P2.1.x3", 0, 1),
+            "\x05\x06",
             "done",
             "contextChanged",
         ),
-        ([].as_slice(), [].as_slice(), "done", ""),
-        ([].as_slice(), [1].as_slice(), "15 bad-size", ""),
         (
-            [("P1.1.x3", 0, 2)].as_slice(),
-            [1].as_slice(),
+            ("P1.1.x3", 0, 1),
+            ("P2.1.x3", 0, 1),
+            "\x05",
             "15 bad-size",
             "",
         ),
         (
-            [("P3.1.x3", 0, 2)].as_slice(),
-            [1].as_slice(),
+            ("P1.1.x1", 0, 1),
+            ("P1.1.pc", 0, 1),
+            "\x09\x01",
+            "17 bad-address",
+            "",
+        ),
+        (
+            ("P1.1.pc", 0, 1),
+            ("P1.1.pc", 0, 1),
+            "\x02\x08",
+            "done",
+            "registerChanged P1.1.pc",
+        ),
+        (
+            ("P1.1.pc", 0, 1),
+            ("P1.1.pc", 0, 1),
+            "\x04\x02",
+            "17 bad-address",
+            "",
+        ),
+        (
+            ("P1.1.pc", 0, 1),
+            ("P2.1.pc", 0, 1),
+            "\x04\x03",
+            "17 bad-address",
+            "",
+        ),
+        (
+            ("P1.1.x4", 0, 1),
+            ("P3.1.x4", 0, 1),
+            "\x04",
             "14 is-running",
             "",
         ),
     ] {
-        registers_set(&rt, &mut targets, list, bytes, answer, event)?;
+        registers_set(&rt, &mut targets, &[first, second], bytes, answer, event)?;
     }
-    for (list, want) in [
+    for (first, second, want) in [
         (
-            [("P1.1.x0", 0, 4), ("P1.1.x1", 0, 4)].as_slice(),
+            ("P1.1.x0", 0, 4),
+            ("P1.1.x1", 0, 4),
             "[0, 0, 0, 0, 7, 0, 0, 0]",
         ),
-        ([("P1.1.x2", 0, 4)].as_slice(), "[1, 8, 9, 4]"),
+        (("P1.1.x2", 0, 4), ("P1.1.x4", 0, 1), "[1, 8, 9, 4, 0]"),
+        (("P1.1.x3", 0, 2), ("P2.1.x3", 0, 2), "[5, 0, 6, 0]"),
         (
-            [("P1.1.x3", 0, 2), ("P2.1.x3", 0, 2)].as_slice(),
-            "[5, 0, 6, 0]",
+            ("P1.1.pc", 0, 4),
+            ("P2.1.pc", 0, 4),
+            "[8, 0, 0, 0, 0, 0, 0, 0]",
         ),
-        ([].as_slice(), "[]"),
     ] {
-        registers_get(&rt, &mut targets, list, want)?;
+        registers_get(&rt, &mut targets, &[first, second], want)?;
     }
     Ok(())
 }
 
 #[test]
-fn a_pc_that_would_be_off_is_refused(rt: HostRuntime) -> Result<(), Fail> {
+fn one_location_or_none_is_set(rt: HostRuntime) -> Result<(), Fail> {
     let mut targets = targets(rt.alloc())?;
-    for (list, bytes, answer, event) in [
-        (
-            [("P1.1.pc", 0, 4)].as_slice(),
-            [2, 0, 0, 0].as_slice(),
-            "17 bad-address",
-            "",
-        ),
-        (
-            [("P1.1.x1", 0, 1), ("P1.1.pc", 0, 1)].as_slice(),
-            [9, 1].as_slice(),
-            "17 bad-address",
-            "",
-        ),
-        (
-            [("P1.1.pc", 0, 1), ("P1.1.pc", 0, 1)].as_slice(),
-            [2, 8].as_slice(),
-            "done",
-            "registerChanged P1.1.pc",
-        ),
-        (
-            [("P1.1.pc", 0, 1), ("P1.1.pc", 0, 1)].as_slice(),
-            [4, 2].as_slice(),
-            "17 bad-address",
-            "",
-        ),
-        (
-            [("P1.1.pc", 0, 1), ("P2.1.pc", 0, 1)].as_slice(),
-            [4, 3].as_slice(),
-            "17 bad-address",
-            "",
-        ),
-        (
-            [("P2.1.pc", 0, 1), ("P2.1.pc", 1, 1)].as_slice(),
-            [12, 1].as_slice(),
-            "done",
-            "registerChanged P2.1.pc",
-        ),
-        (
-            [("P1.1.pc", 0, 4)].as_slice(),
-            [2, 0, 0].as_slice(),
-            "15 bad-size",
-            "",
-        ),
-    ] {
-        registers_set(&rt, &mut targets, list, bytes, answer, event)?;
-    }
-    let list = [("P1.1.pc", 0, 4), ("P2.1.pc", 0, 4), ("P1.1.x1", 0, 1)];
-    registers_get(&rt, &mut targets, &list, "[8, 0, 0, 0, 12, 1, 0, 0, 0]")
+    let pc = [("P1.1.pc", 0, 4)];
+    registers_set(&rt, &mut targets, &pc, "\x02\0\0\0", "17 bad-address", "")?;
+    registers_set(&rt, &mut targets, &pc, "\x02\0\0", "15 bad-size", "")?;
+    registers_get(&rt, &mut targets, &pc, "[0, 0, 0, 0]")?;
+    registers_set(&rt, &mut targets, &[], "", "done", "")?;
+    registers_set(&rt, &mut targets, &[], "\x01", "15 bad-size", "")?;
+    registers_get(&rt, &mut targets, &[], "[]")
 }
 
 #[test]
 fn the_first_location_that_fails_decides(rt: HostRuntime) -> Result<(), Fail> {
     let mut targets = targets(rt.alloc())?;
-    for (list, want) in [
+    for (first, second, want) in [
+        (("P1.1.x1", 3, 2), ("P4.1.x1", 0, 1), "15 bad-size"),
+        (("P4.1.x1", 0, 1), ("P1.1.x1", 3, 2), "16 bad-context"),
+        (("P3.1.x1", -1, 0), ("P4.1.x1", 0, 1), "14 is-running"),
+        (("P1.1.x1", 0, 1), ("P1.1.x1", -1, 1), "15 bad-size"),
+        (("P1.1.x1", 0, 1), ("P1.1.x1", 0, 0), "15 bad-size"),
         (
-            [("P1.1.x1", 3, 2), ("P4.1.x1", 0, 1)].as_slice(),
+            ("P1.1.x1", 0, 1),
+            ("P1.1.x1", i128::MAX, i128::MAX),
             "15 bad-size",
         ),
         (
-            [("P4.1.x1", 0, 1), ("P1.1.x1", 3, 2)].as_slice(),
-            "16 bad-context",
-        ),
-        ([("P3.1.x1", -1, 0)].as_slice(), "14 is-running"),
-        ([("P1.1.x1", -1, 1)].as_slice(), "15 bad-size"),
-        ([("P1.1.x1", 0, 0)].as_slice(), "15 bad-size"),
-        (
-            [("P1.1.x1", i128::MAX, i128::MAX)].as_slice(),
+            ("P1.1.x1", 0, 1),
+            ("P1.1.x1", i128::MIN, i128::MAX),
             "15 bad-size",
         ),
-        (
-            [("P1.1.x1", i128::MIN, i128::MAX)].as_slice(),
-            "15 bad-size",
-        ),
-        ([("P1.1.x1", 4, i128::MIN)].as_slice(), "15 bad-size"),
+        (("P1.1.x1", 0, 1), ("P1.1.x1", 4, i128::MIN), "15 bad-size"),
     ] {
-        registers_get(&rt, &mut targets, list, want)?;
+        registers_get(&rt, &mut targets, &[first, second], want)?;
     }
     Ok(())
 }
@@ -464,9 +440,10 @@ fn the_first_location_that_fails_decides(rt: HostRuntime) -> Result<(), Fail> {
 fn there_are_at_most_256_locations(rt: HostRuntime) -> Result<(), Fail> {
     let mut targets = targets(rt.alloc())?;
     let list = [("P1.1.x1", 0, 1); 257];
-    let bytes = [6; 257];
+    registers_set(&rt, &mut targets, &list[1..], "", "15 bad-size", "")?;
+    registers_set(&rt, &mut targets, &list, "", "15 bad-size", "")?;
+    registers_get(&rt, &mut targets, &list, "15 bad-size")?;
+    let text = String::from_utf8(vec![in rt.alloc(); b'6'; 256]?)?;
     let event = "registerChanged P1.1.x1";
-    registers_set(&rt, &mut targets, &list[1..], &bytes[1..], "done", event)?;
-    registers_set(&rt, &mut targets, &list, &bytes, "15 bad-size", "")?;
-    registers_get(&rt, &mut targets, &list, "15 bad-size")
+    registers_set(&rt, &mut targets, &list[1..], text.as_str(), "done", event)
 }

@@ -5,6 +5,8 @@ ghost use Rattle.breakpoints.specs.Rows.{IsOrderly, ids_of, is_there, others, ow
 ghost use Rattle.breakpoints.specs.Selecting.{selected, selects, unselected};
 ghost use Rattle.breakpoints.specs.Status.{hits_of, status_of};
 
+mod statuses;
+
 use crate::instance::instances_of;
 use crate::rows::{Rows, keyed, replace, set_flags, set_props, take_out};
 use crate::selection::{Selection, is_among, selects};

@@ -1,0 +1,33 @@
+//! The status of every breakpoint, as events.
+ghost use Rattle.std.specs.Prelude.{◌≡◌, ◌++◌, IfOk, OnOk};
+ghost use Rattle.breakpoints.specs.Statuses.{status_event, statuses_of};
+
+use super::Breakpoints;
+use crate::instance::instances_of;
+use std::alloc::{AllocError, Global};
+use tcf_values::{BpProps, BpStatus, Duplicate, EventData, Events};
+
+impl Breakpoints {
+    /// Puts last the events that tell the status of every breakpoint, in the order of the list, where these processes
+    /// are attached, by their numbers in order. After want of memory some of them are there.
+    pub fn add_statuses(&self, attached: &[u32], events: &mut Events) -> Result<(), AllocError>
+        ensures { OnOk result (events.new ≡ events.old ++ statuses_of attached.now self.now) }
+    {
+        let alloc = *self.map.allocator();
+        for row in self.map.values() {
+            events.push(status_event(alloc, &row.1, attached)?)?;
+        }
+        Ok(())
+    }
+}
+
+fn status_event(alloc: Global, props: &BpProps, attached: &[u32]) -> Result<EventData, AllocError>
+    ensures { IfOk result (λ event. event ≡ status_event attached.now props.now) }
+{
+    Ok(EventData::BpStatusIs {
+        id: props.id.copy()?,
+        status: BpStatus {
+            instances: instances_of(alloc, props, attached)?,
+        },
+    })
+}

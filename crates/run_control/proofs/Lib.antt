@@ -1,0 +1,5 @@
+pub mod Contexts
+pub mod Chosen
+pub mod Positive
+pub mod Steps
+pub mod Traces

@@ -1,0 +1,11 @@
+pub mod Naming
+pub mod Refusing
+pub mod Telling
+pub mod Asking
+pub mod Steering
+pub mod Attaching
+pub mod Ending
+pub mod Executing
+pub mod Ticking
+pub mod Tracing
+pub mod Commands

@@ -1,0 +1,70 @@
+-- Resume and suspend (TCF service RunControl): their checks, what they leave and what they tell.
+use Rattle.std.specs.Prelude.{ℕ, ℤ, pos, int_lt, unsigned_abs, Bool, not, ◌&&◌, ◌||◌, if◌then◌else◌, List, [], ◌∷◌, Option, Some, None, is_none}
+use Rattle.std.specs.Ordering.{int_eq}
+use Rattle.tcf_values.specs.Faults.{first_fault}
+use Rattle.tcf_values.specs.declared.event.EventData.{EventData}
+use Rattle.tcf_values.specs.declared.faults.Fault.{Fault}
+use Rattle.tcf_values.specs.declared.faults.Fault.TheVariants.{Other, AlreadyStopped, AlreadyRunning, BadContext, BadNumber, Unsupported}
+use Rattle.target_contexts.specs.Changes.{with_change}
+use Rattle.target_contexts.specs.Live.{process_of}
+use Rattle.target_contexts.specs.Named.{process_at_number, thread_named}
+use Rattle.target_contexts.specs.Starting.{suspended_text}
+use Rattle.target_contexts.specs.TargetsValue.{TargetsValue}
+use Rattle.target_contexts.specs.declared.process.Process.{Process}
+use Rattle.target_contexts.specs.declared.process.ThreadState.{ThreadState}
+use Rattle.target_contexts.specs.declared.process.ThreadState.TheVariants.{Running, Suspended}
+use Rattle.run_control.specs.Naming.{is_running, is_suspended, is_unattached}
+use Rattle.run_control.specs.Telling.{suspended_events}
+
+-- the live process whose thread a text names
+abbrev pub thread_there : List ℕ → List (ℕ × Process) → Option Process
+thread_there id rows = process_at_number (thread_named id) rows
+
+abbrev pub with_state : ThreadState → Process → Process
+with_state state process = record process { state = state }
+
+-- ---- resume: mode 0 goes on, and mode 2 steps so many instructions
+
+abbrev pub is_step : ℤ → Bool
+is_step mode = int_eq mode (pos 2)
+
+abbrev pub is_no_mode : ℤ → Bool
+is_no_mode mode = not (int_eq mode (pos 0)) && not (is_step mode)
+
+-- how many instructions there can be at most: mode 0 takes the count 1
+abbrev pub most_steps : ℤ → ℤ
+most_steps mode = if is_step mode then pos 64 else pos 1
+
+abbrev pub is_no_count : ℤ → ℤ → Bool
+is_no_count most count = int_lt count (pos 1) || int_lt most count
+
+abbrev pub resume_fault : List ℕ → ℤ → ℤ → List (ℕ × Process) → Option Fault
+resume_fault id mode count rows = first_fault (
+    (is_none (thread_there id rows), BadContext)
+    ∷ (is_no_mode mode, Unsupported)
+    ∷ (is_no_count (most_steps mode) count, BadNumber)
+    ∷ (is_running (thread_there id rows), AlreadyRunning)
+    ∷ [])
+
+-- how many instructions are left to execute, where they are counted
+abbrev pub left_by : ℤ → ℤ → Option ℕ
+left_by mode count = if is_step mode then Some (unsigned_abs count) else None
+
+abbrev pub resume_after : Option ℕ → ℕ → TargetsValue → TargetsValue
+resume_after left number targets = with_change (with_state (Running left)) number targets
+
+-- ---- suspend
+
+abbrev pub suspend_fault : List ℕ → List (ℕ × Process) → Option Fault
+suspend_fault id rows = first_fault (
+    (is_none (thread_there id rows), BadContext)
+    ∷ (is_suspended (thread_there id rows), AlreadyStopped)
+    ∷ (is_unattached (thread_there id rows), Other)
+    ∷ [])
+
+abbrev pub suspend_after : ℕ → TargetsValue → TargetsValue
+suspend_after number targets = with_change (with_state (Suspended suspended_text [])) number targets
+
+-- told of the target after it
+abbrev pub suspend_events : ℕ → TargetsValue → List EventData
+suspend_events number targets = suspended_events number (process_of number targets.processes)

@@ -1,0 +1,145 @@
+-- Trace.run: several instructions of a suspended thread at once. Trace is this project's own service.
+use Rattle.std.specs.Prelude.{ℕ, zero, suc, ℤ, pos, ◌==◌, Bool, not, if◌then◌else◌, List, [], ◌∷◌, ◌++◌, length, map, take, Option, Some, None, is_none}
+use Rattle.std.specs.Option.{option_map_or}
+use Rattle.tcf_values.specs.Faults.{first_fault}
+use Rattle.tcf_values.specs.declared.event.EventData.{EventData}
+use Rattle.tcf_values.specs.declared.faults.Fault.{Fault}
+use Rattle.tcf_values.specs.declared.faults.Fault.TheVariants.{AlreadyRunning, BadContext, BadNumber}
+use Rattle.tcf_values.specs.declared.values.BpProps.{BpProps}
+use Rattle.rv32i_core.specs.Machine.{Step, goes_on, ends, excepts, machine}
+use Rattle.target_contexts.specs.Changes.{with_change}
+use Rattle.target_contexts.specs.Live.{process_of}
+use Rattle.target_contexts.specs.TargetsValue.{TargetsValue}
+use Rattle.target_contexts.specs.declared.process.Process.{Process}
+use Rattle.target_contexts.specs.declared.process.ThreadState.TheVariants.{Suspended}
+use Rattle.run_control.specs.Executing.{fate_by, hits_at, settled, settled_events, step_text}
+use Rattle.run_control.specs.Naming.{is_empty, is_running}
+use Rattle.run_control.specs.Steering.{is_no_count, thread_there}
+use Rattle.run_control.specs.declared.executing.Executed.{Executed}
+use Rattle.run_control.specs.declared.executing.Executed.TheVariants.{Plain, Hit, Exit, Exception}
+use Rattle.run_control.specs.declared.executing.Fate.{Fate}
+use Rattle.run_control.specs.declared.tracing.Traced.{Traced}
+
+abbrev pub trace_fault : List ℕ → ℤ → List (ℕ × Process) → Option Fault
+trace_fault id count rows = first_fault (
+    (is_none (thread_there id rows), BadContext)
+    ∷ (is_no_count (pos 64) count, BadNumber)
+    ∷ (is_running (thread_there id rows), AlreadyRunning)
+    ∷ [])
+
+-- ---- the states of a trace
+
+-- the process after one instruction, where its machine goes on
+abbrev pub next_by : Step → Process → Option Process
+next_by (goes_on cpu memory) process = Some (record process { cpu = cpu; memory = memory })
+next_by (ends code) process = None
+next_by excepts process = None
+
+abbrev pub next_of : Process → Option Process
+next_of process = next_by (machine process.cpu process.memory) process
+
+-- the states that a process comes to, one after the other, as far as its machine goes on and so many at most
+abbrev pub run_from : ℕ → Process → List Process
+run_from zero process = []
+run_from (suc count) process = option_map_or (λ next. next ∷ run_from count next) (next_of process) []
+
+-- up to the first that hits a breakpoint, with that one
+abbrev pub up_to_hit : List (ℕ × BpProps) → ℕ → List Process → List Process
+up_to_hit bps number [] = []
+up_to_hit bps number (state ∷ states) =
+    state ∷ (if is_empty (hits_at bps number state) then up_to_hit bps number states else [])
+
+abbrev pub states_of : List (ℕ × BpProps) → ℕ → ℕ → Process → List Process
+states_of bps number count process = up_to_hit bps number (run_from count process)
+
+-- the state in which a trace stops; the first where no instruction is executed
+abbrev pub last_of : Process → List Process → Process
+last_of process [] = process
+last_of process (state ∷ states) = last_of state states
+
+-- ---- why it stops
+
+-- the hits in the last state; none where no instruction is executed
+abbrev pub last_hits : List (ℕ × BpProps) → ℕ → Process → List Process → List (List ℕ)
+last_hits bps number process [] = []
+last_hits bps number process (state ∷ states) = hits_at bps number (last_of state states)
+
+-- the machine doesn't go on
+abbrev pub halt_by : Step → Executed
+halt_by (goes_on cpu memory) = Plain
+halt_by (ends code) = Exit code
+halt_by excepts = Exception
+
+-- breakpoints are hit, or all instructions that were asked for are executed, or the machine doesn't go on
+abbrev pub stop_by : List (List ℕ) → Bool → Process → Executed
+stop_by hits all last =
+    if not (is_empty hits) then Hit hits
+    else if all then Plain
+    else halt_by (machine last.cpu last.memory)
+
+abbrev pub stop_of : List (ℕ × BpProps) → ℕ → ℕ → Process → List Process → Executed
+stop_of bps number count process states =
+    stop_by (last_hits bps number process states) (length states == count) (last_of process states)
+
+-- ---- the addresses of the executed instructions
+
+-- an ECALL that exits is executed, and an instruction that raises an exception isn't
+abbrev pub exit_address : Process → Executed → List ℕ
+exit_address last Plain = []
+exit_address last (Hit hits) = []
+exit_address last (Exit code) = last.cpu.pc ∷ []
+exit_address last Exception = []
+
+-- each state but the last has executed the instruction at its pc
+abbrev pub addresses_of : Process → List Process → Executed → List ℕ
+addresses_of process states stop =
+    map (λ state. state.cpu.pc) (take (length states) (process ∷ states)) ++ exit_address (last_of process states) stop
+
+-- ---- the trace as a whole
+
+pub record Trace : Type 0 where
+  pub process : Process  -- as it is then
+  pub addresses : List ℕ  -- of the executed instructions, in order
+  pub stop : Executed  -- why it stops
+
+abbrev pub trace_by : List (ℕ × BpProps) → ℕ → ℕ → Process → List Process → Trace
+trace_by bps number count process states =
+    let stop = stop_of bps number count process states in
+    record { process = last_of process states; addresses = addresses_of process states stop; stop = stop }
+
+abbrev pub trace_of : List (ℕ × BpProps) → ℕ → ℕ → Process → Trace
+trace_of bps number count process = trace_by bps number count process (states_of bps number count process)
+
+-- ---- what becomes of the process: where all are executed, its thread is suspended by the step
+
+abbrev pub trace_fate : Process → Trace → Fate
+trace_fate process trace = fate_by (Suspended step_text []) process.attached trace.stop
+
+abbrev pub traced_of : List (ℕ × BpProps) → ℕ → ℕ → Process → Traced
+traced_of bps number count process =
+    let trace = trace_of bps number count process in
+    record { addresses = trace.addresses; fate = trace_fate process trace }
+
+abbrev pub traced_at : List (ℕ × BpProps) → ℕ → ℕ → Option Process → TargetsValue → TargetsValue
+traced_at bps number count None targets = targets
+traced_at bps number count (Some process) targets =
+    let trace = trace_of bps number count process in
+    settled number (trace_fate process trace) (with_change (λ _. trace.process) number targets)
+
+abbrev pub trace_after : List (ℕ × BpProps) → ℕ → ℕ → TargetsValue → TargetsValue
+trace_after bps count number targets = traced_at bps number count (process_of number targets.processes) targets
+
+abbrev pub traced_events_at : List (ℕ × BpProps) → ℕ → ℕ → Option Process → TargetsValue → List EventData
+traced_events_at bps number count None after = []
+traced_events_at bps number count (Some process) after =
+    settled_events bps number (trace_fate process (trace_of bps number count process)) after
+
+abbrev pub trace_events : List (ℕ × BpProps) → ℕ → ℕ → TargetsValue → TargetsValue → List EventData
+trace_events bps count number targets after = traced_events_at bps number count (process_of number targets.processes) after
+
+abbrev pub addresses_at : List (ℕ × BpProps) → ℕ → ℕ → Option Process → List ℕ
+addresses_at bps number count None = []
+addresses_at bps number count (Some process) = (trace_of bps number count process).addresses
+
+abbrev pub trace_addresses : List (ℕ × BpProps) → ℕ → ℕ → TargetsValue → List ℕ
+trace_addresses bps count number targets = addresses_at bps number count (process_of number targets.processes)

@@ -1,0 +1,72 @@
+//! The end of a process.
+ghost use Rattle.std.specs.Prelude.{◌≡◌, ◌<◌, None, IfErr, IfOk, OnOk};
+ghost use Rattle.tcf_values.specs.Faults.{IsDue};
+ghost use Rattle.target_contexts.specs.Named.{number_named};
+ghost use Rattle.run_control.specs.Asking.{process_fault};
+ghost use Rattle.run_control.specs.Commands.{events_of, left_of, terminate_code};
+ghost use Rattle.run_control.specs.Ending.{end_after, end_events, terminate_fault};
+ghost use Rattle.run_control.specs.Naming.{process_named};
+ghost use Rattle.run_control.specs.Refusing.{IfDue};
+
+use crate::named::{live, live_process};
+use crate::telling::{tell_ended, tell_statuses};
+use breakpoints::Breakpoints;
+use std::alloc::{AllocError, Global};
+use target_contexts::Targets;
+use tcf_values::{Events, Refusal, Text};
+
+/// The code of a process that is terminated.
+const TERMINATED: i32 = -1;
+
+/// Ends a process, and tells of it: contextRemoved, exited with the code, and the statuses after the end.
+pub(crate) fn end(
+    alloc: Global,
+    targets: &mut Targets,
+    bps: &Breakpoints,
+    number: u32,
+    code: i32,
+) -> Result<Events, AllocError>
+    requires { 0 < number }
+    ensures events { IfOk result (λ events. events ≡ end_events bps.now number code targets.new) }
+    ensures after { OnOk result (targets.new ≡ end_after number targets.old) }
+{
+    let mut events = Events::new(alloc);
+    tell_ended(alloc, number, code, &mut events)?;
+    targets.remove(number);
+    tell_statuses(targets, bps, &mut events)?;
+    Ok(events)
+}
+
+/// RunControl.terminate: ends the process that a process's or a thread's ID stands for.
+pub(crate) fn terminate(
+    alloc: Global,
+    targets: &mut Targets,
+    bps: &Breakpoints,
+    id: &Text,
+) -> Result<Events, Refusal>
+    ensures events { IfOk result (λ events. events ≡ events_of (λ number. end_events bps.now number terminate_code targets.new) (number_named id.now)) }
+    ensures free { OnOk result (terminate_fault id.now targets.old.processes ≡ None) }
+    ensures after { OnOk result (targets.new ≡ left_of end_after (number_named id.now) targets.old) }
+    ensures due { IfErr result (IsDue (terminate_fault id.now targets.old.processes)) }
+    ensures kept { IfErr result (λ refusal. IfDue refusal (targets.new ≡ targets.old)) }
+{
+    let number = live(targets, id)?;
+    Ok(end(alloc, targets, bps, number, TERMINATED)?)
+}
+
+/// Processes.terminate: ends a process.
+pub(crate) fn terminate_process(
+    alloc: Global,
+    targets: &mut Targets,
+    bps: &Breakpoints,
+    id: &Text,
+) -> Result<Events, Refusal>
+    ensures events { IfOk result (λ events. events ≡ events_of (λ number. end_events bps.now number terminate_code targets.new) (process_named id.now)) }
+    ensures free { OnOk result (process_fault id.now targets.old.processes ≡ None) }
+    ensures after { OnOk result (targets.new ≡ left_of end_after (process_named id.now) targets.old) }
+    ensures due { IfErr result (IsDue (process_fault id.now targets.old.processes)) }
+    ensures kept { IfErr result (λ refusal. IfDue refusal (targets.new ≡ targets.old)) }
+{
+    let number = live_process(targets, id)?;
+    Ok(end(alloc, targets, bps, number, TERMINATED)?)
+}

@@ -1,0 +1,75 @@
+//! Which live process a text names, and what is asked of it.
+ghost use Rattle.std.specs.Prelude.{◌≡◌, ◌<◌, Some, None, IfErr, IfOk, IsSome, OnOk};
+ghost use Rattle.target_contexts.specs.Live.{process_of};
+ghost use Rattle.target_contexts.specs.Named.{number_named, process_at_number, thread_named};
+ghost use Rattle.run_control.specs.Naming.{is_attached, is_running, process_named};
+
+use target_contexts::Targets;
+use tcf_values::{ContextId, Fault, Text, context_id};
+
+/// The live process whose thread a text names.
+pub(crate) fn live_thread(targets: &Targets, id: &Text) -> Result<u32, Fault>
+    ensures number { IfOk result (λ number. thread_named id.now ≡ Some number) }
+    ensures positive { IfOk result (λ number. 0 < number) }
+    ensures found { OnOk result (IsSome (process_at_number (thread_named id.now) targets.now.processes)) }
+    ensures fault { IfErr result (λ fault. fault ≡ Fault.BadContext) }
+    ensures missing { IfErr result (λ _. process_at_number (thread_named id.now) targets.now.processes ≡ None) }
+{
+    targets.live_thread(id.as_bytes()).ok_or(Fault::BadContext)
+}
+
+/// The live process that a text stands for, as the ID of the process or of its thread.
+pub(crate) fn live(targets: &Targets, id: &Text) -> Result<u32, Fault>
+    ensures number { IfOk result (λ number. number_named id.now ≡ Some number) }
+    ensures positive { IfOk result (λ number. 0 < number) }
+    ensures found { OnOk result (IsSome (process_at_number (number_named id.now) targets.now.processes)) }
+    ensures fault { IfErr result (λ fault. fault ≡ Fault.BadContext) }
+    ensures missing { IfErr result (λ _. process_at_number (number_named id.now) targets.now.processes ≡ None) }
+{
+    targets.live(id.as_bytes()).ok_or(Fault::BadContext)
+}
+
+/// The process that a text names, whether it lives or not. A thread's ID names none.
+fn process_named(id: &Text) -> Option<u32>
+    ensures { result ≡ process_named id.now }
+{
+    match context_id(id.as_bytes())? {
+        ContextId::Process(number) => Some(number),
+        ContextId::Thread(..) => None,
+    }
+}
+
+/// The live process that a text names. A thread's ID names none.
+pub(crate) fn live_process(targets: &Targets, id: &Text) -> Result<u32, Fault>
+    ensures number { IfOk result (λ number. process_named id.now ≡ Some number) }
+    ensures positive { IfOk result (λ number. 0 < number) }
+    ensures found { OnOk result (IsSome (process_at_number (process_named id.now) targets.now.processes)) }
+    ensures fault { IfErr result (λ fault. fault ≡ Fault.BadContext) }
+    ensures missing { IfErr result (λ _. process_at_number (process_named id.now) targets.now.processes ≡ None) }
+{
+    let number = process_named(id).ok_or(Fault::BadContext)?;
+    match targets.process(number) {
+        Some(_) => Ok(number),
+        None => Err(Fault::BadContext),
+    }
+}
+
+/// Whether the thread of a live process runs.
+pub(crate) fn is_running(targets: &Targets, number: u32) -> bool
+    ensures { result ≡ is_running (process_of number targets.now.processes) }
+{
+    match targets.process(number) {
+        Some(process) => process.state.runs(),
+        None => false,
+    }
+}
+
+/// Whether a live process is attached.
+pub(crate) fn is_attached(targets: &Targets, number: u32) -> bool
+    ensures { result ≡ is_attached (process_of number targets.now.processes) }
+{
+    match targets.process(number) {
+        Some(process) => process.attached,
+        None => false,
+    }
+}

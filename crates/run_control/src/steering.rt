@@ -1,0 +1,157 @@
+//! Resume and suspend.
+ghost use Rattle.std.specs.Prelude.{◌≡◌, ◌<◌, ◌≤ℤ◌, pos, [], Some, None, IfErr, IfOk, OnErr, OnOk};
+ghost use Rattle.tcf_values.specs.Faults.{IsDue};
+ghost use Rattle.target_contexts.specs.Changes.{with_change};
+ghost use Rattle.target_contexts.specs.Named.{thread_named};
+ghost use Rattle.target_contexts.specs.Starting.{suspended_text};
+ghost use Rattle.run_control.specs.Commands.{events_of, left_of};
+ghost use Rattle.run_control.specs.Refusing.{IfDue};
+ghost use Rattle.run_control.specs.Steering.{is_no_count, left_by, most_steps, resume_after, resume_fault, suspend_after, suspend_events, suspend_fault, with_state};
+ghost use Rattle.run_control.specs.Telling.{resumed_events};
+
+use crate::named::{is_attached, is_running, live_thread};
+use crate::telling::{tell_resumed, tell_suspended};
+use std::alloc::{AllocError, Global};
+use target_contexts::{Targets, ThreadState};
+use tcf_values::{Events, Fault, Refusal, Text, Texts};
+
+/// The mode that goes on.
+const GO: i128 = 0;
+
+/// The mode that steps so many instructions.
+const STEP: i128 = 2;
+
+/// How many instructions can be stepped or traced at once.
+pub(crate) const MOST_STEPS: i128 = 64;
+
+#[tactic(auto, unfolding(target_contexts::specs::Starting::suspended_text))]
+fn suspended_text(alloc: Global) -> Result<Text, AllocError>
+    ensures { IfOk result (λ text. text ≡ suspended_text) }
+{
+    Text::from_str(alloc, "Suspended")
+}
+
+/// The state of a thread that is suspended on request.
+pub(crate) fn suspended(alloc: Global) -> Result<ThreadState, AllocError>
+    ensures { IfOk result (λ state. state ≡ ThreadState.Suspended suspended_text []) }
+{
+    Ok(ThreadState::Suspended {
+        reason: suspended_text(alloc)?,
+        hits: Texts::new(alloc),
+    })
+}
+
+/// Gives the thread of a live process another state.
+pub(crate) fn set_state(targets: &mut Targets, number: u32, state: ThreadState)
+    ensures { targets.new ≡ with_change (with_state state) number targets.old }
+{
+    if let Some(process) = targets.process_mut(number) {
+        process.state = state;
+    }
+}
+
+/// Whether a count is below 1 or above the most that there can be.
+pub(crate) fn is_no_count(most: i128, count: i128) -> bool
+    ensures { result ≡ is_no_count most count }
+{
+    count < 1 || most < count
+}
+
+/// RunControl.resume: the thread runs, in mode 2 until so many instructions are executed. Of mode and count any number
+/// can be asked for. A refused call changes nothing.
+pub(crate) fn resume(
+    alloc: Global,
+    targets: &mut Targets,
+    id: &Text,
+    mode: i128,
+    count: i128,
+) -> Result<Events, Refusal>
+    ensures events { IfOk result (λ events. events ≡ events_of resumed_events (thread_named id.now)) }
+    ensures free { OnOk result (resume_fault id.now mode count targets.old.processes ≡ None) }
+    ensures after { OnOk result (targets.new ≡ left_of (resume_after (left_by mode count)) (thread_named id.now) targets.old) }
+    ensures due { IfErr result (IsDue (resume_fault id.now mode count targets.old.processes)) }
+    ensures kept { OnErr result (targets.new ≡ targets.old) }
+{
+    let number = to_resume(targets, id, mode, count)?;
+    let mut events = Events::new(alloc);
+    tell_resumed(alloc, number, &mut events)?;
+    set_state(targets, number, resumed(mode, count));
+    Ok(events)
+}
+
+/// The state of a thread that is resumed: in mode 2 so many instructions are left to execute.
+fn resumed(mode: i128, count: i128) -> ThreadState
+    requires lower_bound { pos 1 ≤ℤ count }
+    requires upper_bound { count ≤ℤ pos 64 }
+    ensures { result ≡ ThreadState.Running (left_by mode count) }
+{
+    if mode == STEP {
+        ThreadState::Running {
+            left: Some(count as u32),
+        }
+    } else {
+        ThreadState::Running { left: None }
+    }
+}
+
+/// The checks of a resume.
+fn to_resume(targets: &Targets, id: &Text, mode: i128, count: i128) -> Result<u32, Fault>
+    ensures number { IfOk result (λ number. thread_named id.now ≡ Some number) }
+    ensures positive { IfOk result (λ number. 0 < number) }
+    ensures lower_bound { OnOk result (pos 1 ≤ℤ count) }
+    ensures upper_bound { OnOk result (count ≤ℤ pos 64) }
+    ensures free { OnOk result (resume_fault id.now mode count targets.now.processes ≡ None) }
+    ensures due { IfErr result (λ fault. resume_fault id.now mode count targets.now.processes ≡ Some fault) }
+{
+    let number = live_thread(targets, id)?;
+    if mode != GO && mode != STEP {
+        return Err(Fault::Unsupported);
+    }
+    if is_no_count(most_steps(mode), count) {
+        return Err(Fault::BadNumber);
+    }
+    if is_running(targets, number) {
+        return Err(Fault::AlreadyRunning);
+    }
+    Ok(number)
+}
+
+/// How many instructions a mode can have at most: mode 0 takes the count 1.
+fn most_steps(mode: i128) -> i128
+    ensures value { result ≡ most_steps mode }
+    ensures upper_bound { result ≤ℤ pos 64 }
+{
+    if mode == STEP { MOST_STEPS } else { 1 }
+}
+
+/// RunControl.suspend: the thread is suspended on request.
+pub(crate) fn suspend(alloc: Global, targets: &mut Targets, id: &Text) -> Result<Events, Refusal>
+    ensures events { IfOk result (λ events. events ≡ events_of (λ number. suspend_events number targets.new) (thread_named id.now)) }
+    ensures free { OnOk result (suspend_fault id.now targets.old.processes ≡ None) }
+    ensures after { OnOk result (targets.new ≡ left_of suspend_after (thread_named id.now) targets.old) }
+    ensures due { IfErr result (IsDue (suspend_fault id.now targets.old.processes)) }
+    ensures kept { IfErr result (λ refusal. IfDue refusal (targets.new ≡ targets.old)) }
+{
+    let number = to_suspend(targets, id)?;
+    let state = suspended(alloc)?;
+    set_state(targets, number, state);
+    let mut events = Events::new(alloc);
+    tell_suspended(alloc, targets, number, &mut events)?;
+    Ok(events)
+}
+
+/// The checks of a suspend.
+fn to_suspend(targets: &Targets, id: &Text) -> Result<u32, Fault>
+    ensures number { IfOk result (λ number. thread_named id.now ≡ Some number) }
+    ensures free { OnOk result (suspend_fault id.now targets.now.processes ≡ None) }
+    ensures due { IfErr result (λ fault. suspend_fault id.now targets.now.processes ≡ Some fault) }
+{
+    let number = live_thread(targets, id)?;
+    if !is_running(targets, number) {
+        return Err(Fault::AlreadyStopped);
+    }
+    if !is_attached(targets, number) {
+        return Err(Fault::Other);
+    }
+    Ok(number)
+}

@@ -1,0 +1,139 @@
+//! Trace.run: several instructions of a suspended thread at once.
+ghost use Rattle.std.specs.Prelude.{◌≡◌, ◌<◌, ◌≤◌, ◌≤ℤ◌, pos, length, unsigned_abs, Some, None, IfErr, IfOk, IfSome, OnOk, option_map};
+ghost use Rattle.tcf_values.specs.Faults.{IsDue};
+ghost use Rattle.target_contexts.specs.Changes.{with_change};
+ghost use Rattle.target_contexts.specs.Live.{process_of};
+ghost use Rattle.target_contexts.specs.Named.{thread_named};
+ghost use Rattle.run_control.specs.Commands.{left_of, trace_given};
+ghost use Rattle.run_control.specs.Refusing.{IfDue};
+ghost use Rattle.run_control.specs.Tracing.{trace_after, trace_fault, trace_of, traced_of};
+
+use crate::executing::{Executed, Fate, execute_one, fate_of, settle, stopped_by_step};
+use crate::named::{is_running, live_thread};
+use crate::steering::{MOST_STEPS, is_no_count};
+use breakpoints::Breakpoints;
+use std::alloc::{AllocError, Global};
+use target_contexts::{Process, Targets};
+use tcf_values::{Answer, Effect, Fault, Numbers, Refusal, Text};
+
+/// The addresses of the executed instructions, and what becomes of the process.
+#[derive(Debug, Drop)]
+struct Traced {
+    addresses: Numbers,
+    fate: Fate,
+}
+
+/// Executes up to count instructions, until breakpoints are hit, an exception is raised or the process exits, and
+/// answers how many were executed. Of the count any number can be asked for.
+pub(crate) fn run(
+    alloc: Global,
+    targets: &mut Targets,
+    bps: &Breakpoints,
+    id: &Text,
+    count: i128,
+) -> Result<Effect, Refusal>
+    ensures effect { IfOk result (λ effect. effect ≡ trace_given bps.now (unsigned_abs count) (thread_named id.now) targets.old targets.new) }
+    ensures free { OnOk result (trace_fault id.now count targets.old.processes ≡ None) }
+    ensures after { OnOk result (targets.new ≡ left_of (trace_after bps.now (unsigned_abs count)) (thread_named id.now) targets.old) }
+    ensures due { IfErr result (IsDue (trace_fault id.now count targets.old.processes)) }
+    ensures kept { IfErr result (λ refusal. IfDue refusal (targets.new ≡ targets.old)) }
+{
+    let number = to_trace(targets, id, count)?;
+    Ok(trace(alloc, targets, bps, number, count as u32)?)
+}
+
+/// The checks of a trace.
+fn to_trace(targets: &Targets, id: &Text, count: i128) -> Result<u32, Fault>
+    ensures number { IfOk result (λ number. thread_named id.now ≡ Some number) }
+    ensures positive { IfOk result (λ number. 0 < number) }
+    ensures lower_bound { OnOk result (pos 1 ≤ℤ count) }
+    ensures upper_bound { OnOk result (count ≤ℤ pos 64) }
+    ensures free { OnOk result (trace_fault id.now count targets.now.processes ≡ None) }
+    ensures due { IfErr result (λ fault. trace_fault id.now count targets.now.processes ≡ Some fault) }
+{
+    let number = live_thread(targets, id)?;
+    if is_no_count(MOST_STEPS, count) {
+        return Err(Fault::BadNumber);
+    }
+    if is_running(targets, number) {
+        return Err(Fault::AlreadyRunning);
+    }
+    Ok(number)
+}
+
+/// Executes up to count instructions of a live process, and settles what becomes of it.
+fn trace(
+    alloc: Global,
+    targets: &mut Targets,
+    bps: &Breakpoints,
+    number: u32,
+    count: u32,
+) -> Result<Effect, AllocError>
+    requires { 0 < number }
+    ensures effect { IfOk result (λ effect. effect ≡ trace_given bps.now count (Some number) targets.old targets.new) }
+    ensures after { OnOk result (targets.new ≡ trace_after bps.now count number targets.old) }
+{
+    match execute_trace(alloc, targets, bps, number, count)? {
+        Some(Traced { addresses, fate }) => {
+            let executed = addresses.len() as u32;
+            let events = settle(alloc, targets, bps, number, fate)?;
+            Ok(Effect {
+                events,
+                progress: addresses,
+                answer: Answer::Count(executed),
+            })
+        }
+        None => Ok(Effect::gives(alloc, Answer::Count(0))),
+    }
+}
+
+/// Executes the instructions, and answers what becomes of the process; `None` where it doesn't live.
+fn execute_trace(
+    alloc: Global,
+    targets: &mut Targets,
+    bps: &Breakpoints,
+    number: u32,
+    count: u32,
+) -> Result<Option<Traced>, AllocError>
+    ensures done { IfOk result (λ traced. traced ≡ option_map (λ process. traced_of bps.now number count process) (process_of number targets.old.processes)) }
+    ensures few { IfOk result (λ traced. IfSome traced (λ some. length some.addresses ≤ count)) }
+    ensures after { OnOk result (targets.new ≡ with_change (λ process. (trace_of bps.now number count process).process) number targets.old) }
+{
+    match targets.process_mut(number) {
+        Some(process) => {
+            let attached = process.attached;
+            let plain = stopped_by_step(alloc)?;
+            let (addresses, stop) = execute_up_to(alloc, process, bps, number, count)?;
+            let fate = fate_of(alloc, plain, attached, stop)?;
+            Ok(Some(Traced { addresses, fate }))
+        }
+        None => Ok(None),
+    }
+}
+
+/// Executes up to count instructions of a process. The answer has their addresses, and what came of the last one.
+fn execute_up_to(
+    alloc: Global,
+    process: &mut Process,
+    bps: &Breakpoints,
+    number: u32,
+    count: u32,
+) -> Result<(Numbers, Executed), AllocError>
+    ensures trace { IfOk result (λ done. trace_of bps.now number count process.old ≡ record { process = process.new; addresses = done.0; stop = done.1 }) }
+    ensures few { IfOk result (λ done. length done.0 ≤ count) }
+{
+    let mut addresses = Numbers::new(alloc);
+    for _step in 0..count {
+        let pc = process.cpu.pc;
+        let executed = execute_one(process, bps, number)?;
+        match executed {
+            Executed::Plain => addresses.push(pc)?,
+            Executed::Hit(_) | Executed::Exit(_) => {
+                addresses.push(pc)?;
+                return Ok((addresses, executed));
+            }
+            Executed::Exception => return Ok((addresses, executed)),
+        }
+    }
+    Ok((addresses, Executed::Plain))
+}

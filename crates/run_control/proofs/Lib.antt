@@ -3,3 +3,7 @@ pub mod Chosen
 pub mod Positive
 pub mod Steps
 pub mod Traces
+pub mod Changed
+pub mod Soundness
+pub mod Commanded
+pub mod Touched

@@ -9,3 +9,4 @@ pub mod Executing
 pub mod Ticking
 pub mod Tracing
 pub mod Commands
+pub mod Laws

@@ -7,6 +7,7 @@ mod attaching;
 mod commands;
 mod ending;
 mod executing;
+mod laws;
 mod named;
 mod steering;
 mod telling;
@@ -14,6 +15,10 @@ mod ticking;
 mod tracing;
 
 pub use commands::apply;
+pub use laws::{
+    a_command_keeps_threads_attached, a_tick_keeps_threads_attached, a_tick_touches_one,
+    an_end_is_told_once,
+};
 pub use tcf_values::{Effect, Events, Numbers};
 pub use telling::attached;
 pub use ticking::step;

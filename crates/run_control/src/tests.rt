@@ -564,3 +564,19 @@ fn processes_are_told_by_their_service(rt: HostRuntime) -> Result<(), Fail> {
     assert_eq!(rt; numbers.as_slice(), [1].as_slice());
     Ok(())
 }
+
+#[test]
+fn an_image_that_is_too_large_is_not_started(rt: HostRuntime) -> Result<(), Fail> {
+    let alloc = rt.alloc();
+    let mut images = Vec::new(alloc);
+    images.push(Image {
+        name: Text::from_str(alloc, "large")?,
+        bytes: Bytes::from_vec(vec![in alloc; 0; 65_537]?),
+    })?;
+    let m = &mut Debugged {
+        targets: Targets::new(alloc, images)?,
+        bps: Breakpoints::new(alloc),
+    };
+    m.run(&rt, &start(alloc, "large", true)?, "15 bad-size")?;
+    m.run(&rt, &start(alloc, "larger", true)?, "1 other")
+}

@@ -34,13 +34,9 @@ struct Debugged {
 }
 
 impl Debugged {
-    fn run(
-        &mut self,
-        rt: &(impl Abort + AllocGlobal),
-        command: &Command,
-        want: &str,
-    ) -> Result<(), Fail> {
-        let effect = apply(rt.alloc(), &mut self.targets, &self.bps, command)?;
+    fn run(&mut self, rt: &(impl Abort + AllocGlobal), ask: Ask, want: &str) -> Result<(), Fail> {
+        let command = command(rt.alloc(), ask)?;
+        let effect = apply(rt.alloc(), &mut self.targets, &self.bps, &command)?;
         let text = effect_text(rt.alloc(), &effect)?;
         assert_eq!(rt; text.as_str(), want);
         Ok(())
@@ -196,6 +192,24 @@ fn effect_text(alloc: Global, effect: &Effect) -> Result<String, AllocError> {
     Ok(text)
 }
 
+/// A command, by its arguments.
+#[derive(Clone, Copy)]
+enum Ask {
+    Start(&'static str, bool),
+    Resume(i128, i128),
+    Trace(i128),
+    Suspend,
+    Terminate(&'static str),
+    End(&'static str),
+    Attach,
+    Detach,
+    Context(&'static str),
+    Children(&'static str),
+    State,
+    Process(&'static str),
+    Processes(&'static str, bool),
+}
+
 fn start(alloc: Global, file: &str, attach: bool) -> Result<Command, AllocError> {
     Ok(Command::ProcStart {
         directory: Text::from_str(alloc, "")?,
@@ -206,241 +220,191 @@ fn start(alloc: Global, file: &str, attach: bool) -> Result<Command, AllocError>
     })
 }
 
-fn resume(alloc: Global, id: &str, mode: i128, count: i128) -> Result<Command, AllocError> {
-    Ok(Command::Resume {
-        id: Text::from_str(alloc, id)?,
-        mode,
-        count,
-    })
+/// A command on the thread P1.1.
+fn on_thread(ask: Ask, id: Text) -> Command {
+    match ask {
+        Ask::Resume(mode, count) => Command::Resume { id, mode, count },
+        Ask::Trace(count) => Command::TraceRun { id, count },
+        Ask::Suspend => Command::Suspend { id },
+        _ => Command::GetState { id },
+    }
 }
 
-fn trace(alloc: Global, id: &str, count: i128) -> Result<Command, AllocError> {
-    Ok(Command::TraceRun {
-        id: Text::from_str(alloc, id)?,
-        count,
-    })
+/// A command on the process or the thread of an ID.
+fn on_context(ask: Ask, id: Text) -> Command {
+    match ask {
+        Ask::Terminate(_) => Command::Terminate { id },
+        Ask::End(_) => Command::ProcTerminate { id },
+        Ask::Attach => Command::ProcAttach { id },
+        Ask::Detach => Command::ProcDetach { id },
+        Ask::Context(_) => Command::GetContext { id },
+        Ask::Children(_) => Command::GetChildren { id },
+        Ask::Processes(_, attached) => Command::ProcChildren { id, attached },
+        _ => Command::ProcContext { id },
+    }
 }
 
-/// Each of these commands has an ID and nothing more.
-fn suspend(alloc: Global, id: &str) -> Result<Command, AllocError> {
-    Ok(Command::Suspend {
-        id: Text::from_str(alloc, id)?,
-    })
-}
-
-fn terminate(alloc: Global, id: &str) -> Result<Command, AllocError> {
-    Ok(Command::Terminate {
-        id: Text::from_str(alloc, id)?,
-    })
-}
-
-fn end(alloc: Global, id: &str) -> Result<Command, AllocError> {
-    Ok(Command::ProcTerminate {
-        id: Text::from_str(alloc, id)?,
-    })
-}
-
-fn attach(alloc: Global, id: &str) -> Result<Command, AllocError> {
-    Ok(Command::ProcAttach {
-        id: Text::from_str(alloc, id)?,
-    })
-}
-
-fn detach(alloc: Global, id: &str) -> Result<Command, AllocError> {
-    Ok(Command::ProcDetach {
-        id: Text::from_str(alloc, id)?,
-    })
-}
-
-fn context(alloc: Global, id: &str) -> Result<Command, AllocError> {
-    Ok(Command::GetContext {
-        id: Text::from_str(alloc, id)?,
-    })
-}
-
-fn children(alloc: Global, id: &str) -> Result<Command, AllocError> {
-    Ok(Command::GetChildren {
-        id: Text::from_str(alloc, id)?,
-    })
-}
-
-fn state(alloc: Global, id: &str) -> Result<Command, AllocError> {
-    Ok(Command::GetState {
-        id: Text::from_str(alloc, id)?,
-    })
-}
-
-fn process(alloc: Global, id: &str) -> Result<Command, AllocError> {
-    Ok(Command::ProcContext {
-        id: Text::from_str(alloc, id)?,
-    })
-}
-
-fn processes(alloc: Global, id: &str, attached: bool) -> Result<Command, AllocError> {
-    Ok(Command::ProcChildren {
-        id: Text::from_str(alloc, id)?,
-        attached,
-    })
+fn command(alloc: Global, ask: Ask) -> Result<Command, AllocError> {
+    match ask {
+        Ask::Start(file, attach) => start(alloc, file, attach),
+        Ask::Resume(..) | Ask::Trace(_) | Ask::Suspend | Ask::State => {
+            Ok(on_thread(ask, Text::from_str(alloc, "P1.1")?))
+        }
+        Ask::Attach | Ask::Detach => Ok(on_context(ask, Text::from_str(alloc, "P1")?)),
+        Ask::Terminate(id)
+        | Ask::End(id)
+        | Ask::Context(id)
+        | Ask::Children(id)
+        | Ask::Process(id)
+        | Ask::Processes(id, _) => Ok(on_context(ask, Text::from_str(alloc, id)?)),
+    }
 }
 
 const T1: ContextId = ContextId::Thread(1, 1);
 
-const STARTED: &str = "added P1 false 0 P1.1 true 5; suspended P1.1 0 Suspended; ";
+/// Starts an image attached.
+fn started(
+    rt: &(impl Abort + AllocGlobal),
+    m: &mut Debugged,
+    file: &'static str,
+) -> Result<(), Fail> {
+    let told = "added P1 false 0 P1.1 true 5; suspended P1.1 0 Suspended; ";
+    let want = format!(in rt.alloc(); "{told}P1 {file} true")?;
+    m.run(rt, Ask::Start(file, true), want.as_str())
+}
+
+/// The same, where there is a breakpoint.
+fn started_at(
+    rt: &(impl Abort + AllocGlobal),
+    m: &mut Debugged,
+    file: &'static str,
+) -> Result<(), Fail> {
+    let told = "added P1 false 0 P1.1 true 5; suspended P1.1 0 Suspended; status b1 1; ";
+    let want = format!(in rt.alloc(); "{told}P1 {file} true")?;
+    m.run(rt, Ask::Start(file, true), want.as_str())
+}
 
 #[test]
 fn three_steps_end_at_the_exception(rt: HostRuntime) -> Result<(), Fail> {
-    let alloc = rt.alloc();
-    let m = &mut machine(alloc)?;
-    let want = format!(in alloc; "{STARTED}P1 a true")?;
-    m.run(&rt, &start(alloc, "a", true)?, want.as_str())?;
-    m.run(&rt, &resume(alloc, "P1.1", 2, 3)?, "resumed P1.1; done")?;
+    let m = &mut machine(rt.alloc())?;
+    started(&rt, m, "a")?;
+    m.run(&rt, Ask::Resume(2, 3), "resumed P1.1; done")?;
     m.tick(&rt, T1, Some(""))?;
     m.tick(&rt, T1, Some(""))?;
     m.tick(&rt, T1, Some("suspended P1.1 8 Exception; "))?;
     m.tick(&rt, T1, None)?;
-    m.run(&rt, &state(alloc, "P1.1")?, "stands 8 Exception")
+    m.run(&rt, Ask::State, "stands 8 Exception")
 }
 
 #[test]
 fn the_last_step_suspends(rt: HostRuntime) -> Result<(), Fail> {
-    let alloc = rt.alloc();
-    let m = &mut machine(alloc)?;
-    let want = format!(in alloc; "{STARTED}P1 loop true")?;
-    m.run(&rt, &start(alloc, "loop", true)?, want.as_str())?;
-    m.run(&rt, &resume(alloc, "P1.1", 2, 2)?, "resumed P1.1; done")?;
+    let m = &mut machine(rt.alloc())?;
+    started(&rt, m, "loop")?;
+    m.run(&rt, Ask::Resume(2, 2), "resumed P1.1; done")?;
     m.tick(&rt, T1, Some(""))?;
     m.tick(&rt, T1, Some("suspended P1.1 8 Step; "))?;
-    m.run(&rt, &state(alloc, "P1.1")?, "stands 8 Step")
+    m.run(&rt, Ask::State, "stands 8 Step")
 }
 
 #[test]
 fn a_breakpoint_suspends_at_the_new_pc(rt: HostRuntime) -> Result<(), Fail> {
-    let alloc = rt.alloc();
-    let m = &mut machine_with(alloc, "4")?;
-    let want = format!(in alloc; "{STARTED}status b1 1; P1 loop true")?;
-    m.run(&rt, &start(alloc, "loop", true)?, want.as_str())?;
-    m.run(&rt, &resume(alloc, "P1.1", 0, 1)?, "resumed P1.1; done")?;
+    let m = &mut machine_with(rt.alloc(), "4")?;
+    started_at(&rt, m, "loop")?;
+    m.run(&rt, Ask::Resume(0, 1), "resumed P1.1; done")?;
     m.tick(&rt, T1, Some("suspended P1.1 4 Breakpoint b1; "))?;
-    m.run(&rt, &resume(alloc, "P1.1", 2, 3)?, "resumed P1.1; done")?;
+    m.run(&rt, Ask::Resume(2, 3), "resumed P1.1; done")?;
     m.tick(&rt, T1, Some(""))?;
     m.tick(&rt, T1, Some(""))?;
     m.tick(&rt, T1, Some("suspended P1.1 4 Breakpoint b1; "))?;
-    m.run(&rt, &state(alloc, "P1.1")?, "stands 4 Breakpoint b1")
+    m.run(&rt, Ask::State, "stands 4 Breakpoint b1")
 }
 
 #[test]
 fn a_running_thread_is_not_resumed(rt: HostRuntime) -> Result<(), Fail> {
-    let alloc = rt.alloc();
-    let m = &mut machine(alloc)?;
-    let want = format!(in alloc; "{STARTED}P1 a true")?;
-    m.run(&rt, &start(alloc, "a", true)?, want.as_str())?;
-    m.run(&rt, &resume(alloc, "P1.1", 0, 1)?, "resumed P1.1; done")?;
-    m.run(&rt, &resume(alloc, "P1.1", 0, 1)?, "12 already-running")?;
-    m.run(&rt, &trace(alloc, "P1.1", 1)?, "12 already-running")?;
-    m.run(
-        &rt,
-        &suspend(alloc, "P1.1")?,
-        "suspended P1.1 0 Suspended; done",
-    )?;
-    m.run(&rt, &suspend(alloc, "P1.1")?, "10 already-stopped")?;
-    m.run(&rt, &resume(alloc, "P1.1", 1, 1)?, "23 unsupported")?;
-    m.run(&rt, &resume(alloc, "P1.1", 0, 2)?, "20 bad-number")?;
-    m.run(&rt, &resume(alloc, "P1.1", 2, 65)?, "20 bad-number")
+    let m = &mut machine(rt.alloc())?;
+    started(&rt, m, "a")?;
+    m.run(&rt, Ask::Resume(0, 1), "resumed P1.1; done")?;
+    m.run(&rt, Ask::Resume(0, 1), "12 already-running")?;
+    m.run(&rt, Ask::Trace(1), "12 already-running")?;
+    m.run(&rt, Ask::Suspend, "suspended P1.1 0 Suspended; done")?;
+    m.run(&rt, Ask::Suspend, "10 already-stopped")?;
+    m.run(&rt, Ask::Resume(1, 1), "23 unsupported")?;
+    m.run(&rt, Ask::Resume(0, 2), "20 bad-number")?;
+    m.run(&rt, Ask::Resume(2, 65), "20 bad-number")
 }
 
 #[test]
 fn a_trace_tells_each_address(rt: HostRuntime) -> Result<(), Fail> {
-    let alloc = rt.alloc();
-    let m = &mut machine(alloc)?;
-    let want = format!(in alloc; "{STARTED}P1 loop true")?;
-    m.run(&rt, &start(alloc, "loop", true)?, want.as_str())?;
-    m.run(
-        &rt,
-        &trace(alloc, "P1.1", 2)?,
-        "suspended P1.1 8 Step; at 0; at 4; 2",
-    )?;
-    m.run(
-        &rt,
-        &trace(alloc, "P1.1", 2)?,
-        "suspended P1.1 4 Step; at 8; at 0; 2",
-    )?;
-    m.run(&rt, &trace(alloc, "P1.1", 0)?, "20 bad-number")?;
-    m.run(&rt, &trace(alloc, "P1.1", 65)?, "20 bad-number")?;
-    m.run(&rt, &trace(alloc, "P2.1", 1)?, "16 bad-context")
+    let m = &mut machine(rt.alloc())?;
+    started(&rt, m, "loop")?;
+    m.run(&rt, Ask::Trace(2), "suspended P1.1 8 Step; at 0; at 4; 2")?;
+    m.run(&rt, Ask::Trace(2), "suspended P1.1 4 Step; at 8; at 0; 2")?;
+    m.run(&rt, Ask::Trace(0), "20 bad-number")?;
+    m.run(&rt, Ask::Trace(65), "20 bad-number")?;
+    m.run(&rt, Ask::Terminate("P2.1"), "16 bad-context")
 }
 
 #[test]
 fn a_trace_ends_at_a_hit(rt: HostRuntime) -> Result<(), Fail> {
-    let alloc = rt.alloc();
-    let m = &mut machine_with(alloc, "8")?;
-    let want = format!(in alloc; "{STARTED}status b1 1; P1 loop true")?;
-    m.run(&rt, &start(alloc, "loop", true)?, want.as_str())?;
+    let m = &mut machine_with(rt.alloc(), "8")?;
+    started_at(&rt, m, "loop")?;
     m.run(
         &rt,
-        &trace(alloc, "P1.1", 64)?,
+        Ask::Trace(64),
         "suspended P1.1 8 Breakpoint b1; at 0; at 4; 2",
     )?;
     m.run(
         &rt,
-        &trace(alloc, "P1.1", 3)?,
+        Ask::Trace(3),
         "suspended P1.1 8 Breakpoint b1; at 8; at 0; at 4; 3",
     )
 }
 
 #[test]
 fn a_trace_ends_at_an_exception_or_an_exit(rt: HostRuntime) -> Result<(), Fail> {
-    let alloc = rt.alloc();
-    let m = &mut machine(alloc)?;
-    let want = format!(in alloc; "{STARTED}P1 a true")?;
-    m.run(&rt, &start(alloc, "a", true)?, want.as_str())?;
+    let m = &mut machine(rt.alloc())?;
+    started(&rt, m, "a")?;
     m.run(
         &rt,
-        &trace(alloc, "P1.1", 64)?,
+        Ask::Trace(64),
         "suspended P1.1 8 Exception; at 0; at 4; 2",
     )?;
-    m.run(
-        &rt,
-        &trace(alloc, "P1.1", 64)?,
-        "suspended P1.1 8 Exception; 0",
-    )?;
-    let n = &mut machine_with(alloc, "4")?;
-    let want = format!(in alloc; "{STARTED}status b1 1; P1 exit true")?;
-    n.run(&rt, &start(alloc, "exit", true)?, want.as_str())?;
+    m.run(&rt, Ask::Trace(64), "suspended P1.1 8 Exception; 0")?;
+    let n = &mut machine_with(rt.alloc(), "4")?;
+    started_at(&rt, n, "exit")?;
     n.run(
         &rt,
-        &trace(alloc, "P1.1", 1)?,
+        Ask::Trace(1),
         "suspended P1.1 4 Breakpoint b1; at 0; 1",
     )?;
     n.run(
         &rt,
-        &trace(alloc, "P1.1", 64)?,
+        Ask::Trace(64),
         "removed P1.1 P1; exited P1 -7; status b1 0; at 4; at 8; 2",
     )
 }
 
 #[test]
 fn an_exception_ends_what_is_not_attached(rt: HostRuntime) -> Result<(), Fail> {
-    let alloc = rt.alloc();
-    let m = &mut machine(alloc)?;
+    let m = &mut machine(rt.alloc())?;
     m.run(
         &rt,
-        &start(alloc, "a", false)?,
+        Ask::Start("a", false),
         "added P1 false 0 P1.1 false 0; P1 a false",
     )?;
     m.tick(&rt, T1, Some(""))?;
     m.tick(&rt, T1, Some(""))?;
     m.tick(&rt, T1, Some("removed P1.1 P1; exited P1 -2; "))?;
     m.tick(&rt, T1, None)?;
-    m.run(&rt, &state(alloc, "P1.1")?, "16 bad-context")
+    m.run(&rt, Ask::State, "16 bad-context")
 }
 
 #[test]
 fn a_running_process_exits_with_its_code(rt: HostRuntime) -> Result<(), Fail> {
-    let alloc = rt.alloc();
-    let m = &mut machine_with(alloc, "4")?;
+    let m = &mut machine_with(rt.alloc(), "4")?;
     m.run(
         &rt,
-        &start(alloc, "exit", false)?,
+        Ask::Start("exit", false),
         "added P1 false 0 P1.1 false 0; status b1 0; P1 exit false",
     )?;
     m.tick(&rt, ContextId::Process(1), None)?;
@@ -456,110 +420,89 @@ fn a_running_process_exits_with_its_code(rt: HostRuntime) -> Result<(), Fail> {
 
 #[test]
 fn attach_suspends_and_detach_forgets_the_count(rt: HostRuntime) -> Result<(), Fail> {
-    let alloc = rt.alloc();
-    let m = &mut machine_with(alloc, "8")?;
+    let m = &mut machine_with(rt.alloc(), "8")?;
     m.run(
         &rt,
-        &start(alloc, "loop", false)?,
+        Ask::Start("loop", false),
         "added P1 false 0 P1.1 false 0; status b1 0; P1 loop false",
     )?;
     m.run(
         &rt,
-        &attach(alloc, "P1")?,
+        Ask::Attach,
         "changed P1.1 true 5; suspended P1.1 0 Suspended; status b1 1; done",
     )?;
-    m.run(&rt, &attach(alloc, "P1")?, "13 already-attached")?;
-    m.run(&rt, &resume(alloc, "P1.1", 2, 1)?, "resumed P1.1; done")?;
-    m.run(
-        &rt,
-        &detach(alloc, "P1")?,
-        "changed P1.1 false 0; status b1 0; done",
-    )?;
+    m.run(&rt, Ask::Attach, "13 already-attached")?;
+    m.run(&rt, Ask::Resume(2, 1), "resumed P1.1; done")?;
+    m.run(&rt, Ask::Detach, "changed P1.1 false 0; status b1 0; done")?;
     m.tick(&rt, T1, Some(""))?;
     m.tick(&rt, T1, Some(""))?;
-    m.run(&rt, &suspend(alloc, "P1.1")?, "1 other")?;
-    m.run(&rt, &detach(alloc, "P1")?, "1 other")
+    m.run(&rt, Ask::Suspend, "1 other")?;
+    m.run(&rt, Ask::Detach, "1 other")
 }
 
 #[test]
 fn detach_resumes_a_suspended_thread(rt: HostRuntime) -> Result<(), Fail> {
-    let alloc = rt.alloc();
-    let m = &mut machine(alloc)?;
-    let want = format!(in alloc; "{STARTED}P1 loop true")?;
-    m.run(&rt, &start(alloc, "loop", true)?, want.as_str())?;
-    m.run(
-        &rt,
-        &detach(alloc, "P1")?,
-        "changed P1.1 false 0; resumed P1.1; done",
-    )?;
-    m.run(&rt, &state(alloc, "P1.1")?, "runs")?;
-    m.run(&rt, &process(alloc, "P1")?, "P1 loop false")
+    let m = &mut machine(rt.alloc())?;
+    started(&rt, m, "loop")?;
+    m.run(&rt, Ask::Detach, "changed P1.1 false 0; resumed P1.1; done")?;
+    m.run(&rt, Ask::State, "runs")?;
+    m.run(&rt, Ask::Process("P1"), "P1 loop false")
 }
 
 #[test]
 fn a_process_ends_once(rt: HostRuntime) -> Result<(), Fail> {
-    let alloc = rt.alloc();
-    let m = &mut machine(alloc)?;
-    let want = format!(in alloc; "{STARTED}P1 a true")?;
-    m.run(&rt, &start(alloc, "a", true)?, want.as_str())?;
+    let m = &mut machine(rt.alloc())?;
+    started(&rt, m, "a")?;
     m.run(
         &rt,
-        &start(alloc, "a", false)?,
+        Ask::Start("a", false),
         "added P2 false 0 P2.1 false 0; P2 a false",
     )?;
     m.run(
         &rt,
-        &terminate(alloc, "P1.1")?,
+        Ask::Terminate("P1.1"),
         "removed P1.1 P1; exited P1 -1; done",
     )?;
-    m.run(&rt, &terminate(alloc, "P1")?, "16 bad-context")?;
-    m.run(&rt, &end(alloc, "P2.1")?, "16 bad-context")?;
-    m.run(
-        &rt,
-        &end(alloc, "P2")?,
-        "removed P2.1 P2; exited P2 -1; done",
-    )?;
-    m.run(&rt, &start(alloc, "b", true)?, "1 other")?;
-    m.run(&rt, &children(alloc, "")?, "")
+    m.run(&rt, Ask::Terminate("P1"), "16 bad-context")?;
+    m.run(&rt, Ask::End("P2.1"), "16 bad-context")?;
+    m.run(&rt, Ask::End("P2"), "removed P2.1 P2; exited P2 -1; done")?;
+    m.run(&rt, Ask::Start("b", true), "1 other")?;
+    m.run(&rt, Ask::Children(""), "")
 }
 
 #[test]
 fn processes_and_threads_are_told(rt: HostRuntime) -> Result<(), Fail> {
-    let alloc = rt.alloc();
-    let m = &mut machine(alloc)?;
-    let want = format!(in alloc; "{STARTED}P1 a true")?;
-    m.run(&rt, &start(alloc, "a", true)?, want.as_str())?;
+    let m = &mut machine(rt.alloc())?;
+    started(&rt, m, "a")?;
     m.run(
         &rt,
-        &start(alloc, "a", false)?,
+        Ask::Start("a", false),
         "added P2 false 0 P2.1 false 0; P2 a false",
     )?;
-    m.run(&rt, &context(alloc, "P1")?, " P1 false 0")?;
-    m.run(&rt, &context(alloc, "P2.1")?, " P2.1 false 0")?;
-    m.run(&rt, &context(alloc, "P3")?, "16 bad-context")?;
-    m.run(&rt, &children(alloc, "")?, " P1 P2")?;
-    m.run(&rt, &children(alloc, "P2")?, " P2.1")?;
-    m.run(&rt, &children(alloc, "P2.1")?, "")?;
-    m.run(&rt, &children(alloc, "P2.2")?, "16 bad-context")
+    m.run(&rt, Ask::Context("P1"), " P1 false 0")?;
+    m.run(&rt, Ask::Context("P2.1"), " P2.1 false 0")?;
+    m.run(&rt, Ask::Context("P3"), "16 bad-context")?;
+    m.run(&rt, Ask::Children(""), " P1 P2")?;
+    m.run(&rt, Ask::Children("P2"), " P2.1")?;
+    m.run(&rt, Ask::Children("P2.1"), "")?;
+    m.run(&rt, Ask::Children("P2.2"), "16 bad-context")
 }
 
 #[test]
 fn processes_are_told_by_their_service(rt: HostRuntime) -> Result<(), Fail> {
-    let alloc = rt.alloc();
-    let m = &mut machine(alloc)?;
-    let want = format!(in alloc; "{STARTED}P1 a true")?;
-    m.run(&rt, &start(alloc, "a", true)?, want.as_str())?;
+    let m = &mut machine(rt.alloc())?;
+    started(&rt, m, "a")?;
     m.run(
         &rt,
-        &start(alloc, "a", false)?,
+        Ask::Start("a", false),
         "added P2 false 0 P2.1 false 0; P2 a false",
     )?;
-    m.run(&rt, &process(alloc, "P1")?, "P1 a true")?;
-    m.run(&rt, &process(alloc, "P1.1")?, "16 bad-context")?;
-    m.run(&rt, &processes(alloc, "", false)?, " P1 P2")?;
-    m.run(&rt, &processes(alloc, "", true)?, " P1")?;
-    m.run(&rt, &processes(alloc, "P2", false)?, "")?;
-    m.run(&rt, &processes(alloc, "P2.1", false)?, "16 bad-context")?;
+    m.run(&rt, Ask::Process("P1"), "P1 a true")?;
+    m.run(&rt, Ask::Process("P1.1"), "16 bad-context")?;
+    m.run(&rt, Ask::Processes("", false), " P1 P2")?;
+    m.run(&rt, Ask::Processes("", true), " P1")?;
+    m.run(&rt, Ask::Processes("P2", false), "")?;
+    m.run(&rt, Ask::Processes("P2.1", false), "16 bad-context")?;
     let numbers = attached(&m.targets)?;
     assert_eq!(rt; numbers.as_slice(), [1].as_slice());
     Ok(())
@@ -577,6 +520,6 @@ fn an_image_that_is_too_large_is_not_started(rt: HostRuntime) -> Result<(), Fail
         targets: Targets::new(alloc, images)?,
         bps: Breakpoints::new(alloc),
     };
-    m.run(&rt, &start(alloc, "large", true)?, "15 bad-size")?;
-    m.run(&rt, &start(alloc, "larger", true)?, "1 other")
+    m.run(&rt, Ask::Start("large", true), "15 bad-size")?;
+    m.run(&rt, Ask::Start("larger", true), "1 other")
 }

@@ -1,4 +1,7 @@
 //! What no clause says: that calls succeed where there is memory, and that the definitions are the rules.
+ghost use Rattle.std.specs.Prelude.{◌+◌, ◌<◌, ◌^◌, IsTrue};
+ghost use Rattle.breakpoints.specs.Changes.{changes_list};
+
 use super::*;
 use std::process::Abort;
 use std::test::Fail;
@@ -106,323 +109,248 @@ fn assert_step(
     Ok(())
 }
 
-fn set(alloc: Global, ids: &str) -> Result<Command, AllocError>
-    ensures { IfOk result (λ command. IsTrue (changes_list command)) }
-{
-    Ok(Command::BpSet {
-        list: props(alloc, ids)?,
-    })
+fn assert_set(
+    rt: &impl Abort,
+    list: &mut Breakpoints,
+    channel: u64,
+    ids: &str,
+    want: (&str, &str),
+) -> Result<(), Fail> {
+    let command = Command::BpSet {
+        list: props(*list.map.allocator(), ids)?,
+    };
+    assert_step(rt, list, channel, &command, want.0, want.1)
 }
 
-fn add(alloc: Global, id: &str, enabled: bool) -> Result<Command, AllocError>
-    ensures { IfOk result (λ command. IsTrue (changes_list command)) }
-{
-    Ok(Command::BpAdd {
-        props: bare(alloc, id, enabled)?,
-    })
+fn assert_add(
+    rt: &impl Abort,
+    list: &mut Breakpoints,
+    channel: u64,
+    id: &str,
+    want: (&str, &str),
+) -> Result<(), Fail> {
+    let command = Command::BpAdd {
+        props: bare(*list.map.allocator(), id, false)?,
+    };
+    assert_step(rt, list, channel, &command, want.0, want.1)
 }
 
-fn change(alloc: Global, id: &str, enabled: bool) -> Result<Command, AllocError>
-    ensures { IfOk result (λ command. IsTrue (changes_list command)) }
-{
-    Ok(Command::BpChange {
-        props: bare(alloc, id, enabled)?,
-    })
+fn assert_change(
+    rt: &impl Abort,
+    list: &mut Breakpoints,
+    channel: u64,
+    id: &str,
+    want: (&str, &str),
+) -> Result<(), Fail> {
+    let command = Command::BpChange {
+        props: bare(*list.map.allocator(), id, false)?,
+    };
+    assert_step(rt, list, channel, &command, want.0, want.1)
 }
 
-fn enable(alloc: Global, ids: &str) -> Result<Command, AllocError>
-    ensures { IfOk result (λ command. IsTrue (changes_list command)) }
-{
-    Ok(Command::BpEnable {
-        ids: texts(alloc, ids)?,
-    })
+fn assert_enable(
+    rt: &impl Abort,
+    list: &mut Breakpoints,
+    ids: &str,
+    want: (&str, &str),
+) -> Result<(), Fail> {
+    let command = Command::BpEnable {
+        ids: texts(*list.map.allocator(), ids)?,
+    };
+    assert_step(rt, list, BOB, &command, want.0, want.1)
 }
 
-fn disable(alloc: Global, ids: &str) -> Result<Command, AllocError>
-    ensures { IfOk result (λ command. IsTrue (changes_list command)) }
-{
-    Ok(Command::BpDisable {
-        ids: texts(alloc, ids)?,
-    })
+fn assert_disable(
+    rt: &impl Abort,
+    list: &mut Breakpoints,
+    ids: &str,
+    want: (&str, &str),
+) -> Result<(), Fail> {
+    let command = Command::BpDisable {
+        ids: texts(*list.map.allocator(), ids)?,
+    };
+    assert_step(rt, list, ALICE, &command, want.0, want.1)
 }
 
-fn remove(alloc: Global, ids: &str) -> Result<Command, AllocError>
-    ensures { IfOk result (λ command. IsTrue (changes_list command)) }
-{
-    Ok(Command::BpRemove {
-        ids: texts(alloc, ids)?,
-    })
+fn assert_remove(
+    rt: &impl Abort,
+    list: &mut Breakpoints,
+    ids: &str,
+    want: (&str, &str),
+) -> Result<(), Fail> {
+    let command = Command::BpRemove {
+        ids: texts(*list.map.allocator(), ids)?,
+    };
+    assert_step(rt, list, BOB, &command, want.0, want.1)
+}
+
+/// Puts one breakpoint last, and says nothing of it.
+fn put(list: &mut Breakpoints, channel: u64, props: BpProps) -> Result<(), AllocError> {
+    let _ = list.apply(channel, &Command::BpAdd { props })?;
+    Ok(())
 }
 
 /// Alice has a and b, then Bob has c, enabled, then Alice has d.
 fn four(alloc: Global) -> Result<Breakpoints, AllocError> {
     let mut list = Breakpoints::new(alloc);
-    let _ = list.apply(ALICE, &add(alloc, "a", false)?)?;
-    let _ = list.apply(ALICE, &add(alloc, "b", false)?)?;
-    let _ = list.apply(BOB, &add(alloc, "c", true)?)?;
-    let _ = list.apply(ALICE, &add(alloc, "d", false)?)?;
+    put(&mut list, ALICE, bare(alloc, "a", false)?)?;
+    put(&mut list, ALICE, bare(alloc, "b", false)?)?;
+    put(&mut list, BOB, bare(alloc, "c", true)?)?;
+    put(&mut list, ALICE, bare(alloc, "d", false)?)?;
     Ok(list)
 }
 
 #[test]
 fn set_replaces_the_channels_own_alone(rt: HostRuntime) -> Result<(), Fail> {
-    let alloc = rt.alloc();
-    let list = &mut four(alloc)?;
-    assert_step(
+    let mut list = four(rt.alloc())?;
+    assert_set(&rt, &mut list, BOB, "e f", ("-c +e f ~", "1a 1b 1d 2e 2f "))?;
+    assert_set(
         &rt,
-        list,
-        BOB,
-        &set(alloc, "e f")?,
-        "-c +e f ~",
-        "1a 1b 1d 2e 2f ",
-    )?;
-    assert_step(
-        &rt,
-        list,
+        &mut list,
         ALICE,
-        &set(alloc, "b a")?,
-        "-a b d +b a ~",
-        "2e 2f 1b 1a ",
+        "b a",
+        ("-a b d +b a ~", "2e 2f 1b 1a "),
     )?;
-    assert_step(&rt, list, ALICE, &set(alloc, "")?, "-b a +~", "2e 2f ")?;
-    assert_step(&rt, list, ALICE, &set(alloc, "")?, "-+~", "2e 2f ")
+    assert_set(&rt, &mut list, ALICE, "", ("-b a +~", "2e 2f "))?;
+    assert_set(&rt, &mut list, ALICE, "", ("-+~", "2e 2f "))
 }
 
 #[test]
 fn set_is_refused_where_an_id_is_taken_or_given_twice(rt: HostRuntime) -> Result<(), Fail> {
-    let alloc = rt.alloc();
-    let list = &mut four(alloc)?;
-    let before = "1a 1b 2c+ 1d ";
-    assert_step(&rt, list, ALICE, &set(alloc, "e c")?, "failed 1", before)?;
-    assert_step(&rt, list, ALICE, &set(alloc, "e f e")?, "failed 1", before)?;
-    assert_step(&rt, list, BOB, &set(alloc, "c d")?, "failed 1", before)?;
-    assert_step(&rt, list, 3, &set(alloc, "a")?, "failed 1", before)
+    let mut list = four(rt.alloc())?;
+    let refused = ("failed 1", "1a 1b 2c+ 1d ");
+    assert_set(&rt, &mut list, ALICE, "e c", refused)?;
+    assert_set(&rt, &mut list, ALICE, "e f e", refused)?;
+    assert_set(&rt, &mut list, BOB, "c d", refused)?;
+    assert_set(&rt, &mut list, 3, "a", refused)
 }
 
 #[test]
 fn add_puts_one_last_where_its_id_is_new(rt: HostRuntime) -> Result<(), Fail> {
-    let alloc = rt.alloc();
-    let list = &mut Breakpoints::new(alloc);
-    assert_step(&rt, list, ALICE, &add(alloc, "a", true)?, "-+a+ ~", "1a+ ")?;
-    assert_step(&rt, list, BOB, &add(alloc, "b", false)?, "-+b ~", "1a+ 2b ")?;
-    assert_step(
-        &rt,
-        list,
-        ALICE,
-        &add(alloc, "a", false)?,
-        "failed 1",
-        "1a+ 2b ",
-    )?;
-    assert_step(
-        &rt,
-        list,
-        ALICE,
-        &add(alloc, "b", false)?,
-        "failed 1",
-        "1a+ 2b ",
-    )?;
-    assert_step(
-        &rt,
-        list,
-        ALICE,
-        &add(alloc, "A", false)?,
-        "-+A ~",
-        "1a+ 2b 1A ",
-    )
+    let mut list = Breakpoints::new(rt.alloc());
+    assert_add(&rt, &mut list, ALICE, "a", ("-+a ~", "1a "))?;
+    assert_add(&rt, &mut list, BOB, "b", ("-+b ~", "1a 2b "))?;
+    assert_add(&rt, &mut list, ALICE, "a", ("failed 1", "1a 2b "))?;
+    assert_add(&rt, &mut list, ALICE, "b", ("failed 1", "1a 2b "))?;
+    assert_add(&rt, &mut list, ALICE, "A", ("-+A ~", "1a 2b 1A "))
 }
 
 #[test]
 fn change_replaces_in_place_and_the_owner_stays(rt: HostRuntime) -> Result<(), Fail> {
-    let alloc = rt.alloc();
-    let list = &mut four(alloc)?;
-    assert_step(
-        &rt,
-        list,
-        BOB,
-        &change(alloc, "b", true)?,
-        "-+~b+ ",
-        "1a 1b+ 2c+ 1d ",
-    )?;
-    assert_step(
-        &rt,
-        list,
-        BOB,
-        &change(alloc, "b", true)?,
-        "-+~b+ ",
-        "1a 1b+ 2c+ 1d ",
-    )?;
-    assert_step(
-        &rt,
-        list,
-        ALICE,
-        &change(alloc, "c", false)?,
-        "-+~c ",
-        "1a 1b+ 2c 1d ",
-    )?;
-    assert_step(
-        &rt,
-        list,
-        ALICE,
-        &change(alloc, "e", false)?,
-        "failed 1",
-        "1a 1b+ 2c 1d ",
-    )
+    let mut list = four(rt.alloc())?;
+    assert_change(&rt, &mut list, ALICE, "c", ("-+~c ", "1a 1b 2c 1d "))?;
+    assert_change(&rt, &mut list, BOB, "b", ("-+~b ", "1a 1b 2c 1d "))?;
+    assert_change(&rt, &mut list, ALICE, "e", ("failed 1", "1a 1b 2c 1d "))
 }
 
 #[test]
-fn enable_and_disable_tell_those_that_change(rt: HostRuntime) -> Result<(), Fail> {
-    let alloc = rt.alloc();
-    let list = &mut four(alloc)?;
-    assert_step(
-        &rt,
-        list,
-        BOB,
-        &enable(alloc, "d c a d")?,
-        "-+~a+ d+ ",
-        "1a+ 1b 2c+ 1d+ ",
-    )?;
-    assert_step(
-        &rt,
-        list,
-        ALICE,
-        &enable(alloc, "a d")?,
-        "-+~",
-        "1a+ 1b 2c+ 1d+ ",
-    )?;
-    assert_step(
-        &rt,
-        list,
-        ALICE,
-        &enable(alloc, "b e")?,
-        "failed 1",
-        "1a+ 1b 2c+ 1d+ ",
-    )?;
-    assert_step(
-        &rt,
-        list,
-        ALICE,
-        &disable(alloc, "c b c")?,
-        "-+~c ",
-        "1a+ 1b 2c 1d+ ",
-    )?;
-    assert_step(
-        &rt,
-        list,
-        ALICE,
-        &disable(alloc, "e a")?,
-        "failed 1",
-        "1a+ 1b 2c 1d+ ",
-    )?;
-    assert_step(
-        &rt,
-        list,
-        ALICE,
-        &disable(alloc, "")?,
-        "-+~",
-        "1a+ 1b 2c 1d+ ",
-    )
+fn enable_tells_those_that_change(rt: HostRuntime) -> Result<(), Fail> {
+    let mut list = four(rt.alloc())?;
+    assert_enable(&rt, &mut list, "d c a d", ("-+~a+ d+ ", "1a+ 1b 2c+ 1d+ "))?;
+    assert_enable(&rt, &mut list, "a d", ("-+~", "1a+ 1b 2c+ 1d+ "))?;
+    assert_enable(&rt, &mut list, "b e", ("failed 1", "1a+ 1b 2c+ 1d+ "))
+}
+
+#[test]
+fn disable_tells_those_that_change(rt: HostRuntime) -> Result<(), Fail> {
+    let mut list = four(rt.alloc())?;
+    assert_disable(&rt, &mut list, "e c", ("failed 1", "1a 1b 2c+ 1d "))?;
+    assert_disable(&rt, &mut list, "c b c", ("-+~c ", "1a 1b 2c 1d "))?;
+    assert_disable(&rt, &mut list, "", ("-+~", "1a 1b 2c 1d "))
 }
 
 #[test]
 fn remove_tells_in_the_order_of_the_list(rt: HostRuntime) -> Result<(), Fail> {
-    let alloc = rt.alloc();
-    let list = &mut four(alloc)?;
-    assert_step(
-        &rt,
-        list,
-        BOB,
-        &remove(alloc, "c e")?,
-        "failed 1",
-        "1a 1b 2c+ 1d ",
-    )?;
-    assert_step(
-        &rt,
-        list,
-        BOB,
-        &remove(alloc, "d c a c d")?,
-        "-a c d +~",
-        "1b ",
-    )?;
-    assert_step(&rt, list, BOB, &remove(alloc, "a")?, "failed 1", "1b ")?;
-    assert_step(&rt, list, BOB, &remove(alloc, "")?, "-+~", "1b ")
+    let mut list = four(rt.alloc())?;
+    assert_remove(&rt, &mut list, "c e", ("failed 1", "1a 1b 2c+ 1d "))?;
+    assert_remove(&rt, &mut list, "d c a c d", ("-a c d +~", "1b "))?;
+    assert_remove(&rt, &mut list, "a", ("failed 1", "1b "))?;
+    assert_remove(&rt, &mut list, "", ("-+~", "1b "))
+}
+
+/// The IDs that go with a channel, and the list after it.
+fn assert_gone(
+    rt: &impl Abort,
+    list: &mut Breakpoints,
+    channel: u64,
+    want: (&str, &str),
+) -> Result<(), Fail> {
+    let alloc = *list.map.allocator();
+    let told = list.gone(channel)?;
+    assert_eq!(rt; joined(alloc, told.as_slice())?.as_str(), want.0);
+    assert_eq!(rt; listed(alloc, list)?.as_str(), want.1);
+    Ok(())
 }
 
 #[test]
 fn a_channel_that_goes_takes_its_own_along(rt: HostRuntime) -> Result<(), Fail> {
-    let alloc = rt.alloc();
-    let mut list = four(alloc)?;
-    for (channel, want_told, want_list) in [
-        (3, "", "1a 1b 2c+ 1d "),
-        (ALICE, "a b d ", "2c+ "),
-        (ALICE, "", "2c+ "),
-        (BOB, "c ", ""),
-    ] {
-        let told = list.gone(channel)?;
-        assert_eq!(rt; joined(alloc, told.as_slice())?.as_str(), want_told);
-        assert_eq!(rt; listed(alloc, &list)?.as_str(), want_list);
-    }
-    Ok(())
+    let mut list = four(rt.alloc())?;
+    assert_gone(&rt, &mut list, 3, ("", "1a 1b 2c+ 1d "))?;
+    assert_gone(&rt, &mut list, ALICE, ("a b d ", "2c+ "))?;
+    assert_gone(&rt, &mut list, ALICE, ("", "2c+ "))?;
+    assert_gone(&rt, &mut list, BOB, ("c ", ""))
 }
 
 /// So many disabled breakpoints, of the IDs from `first` on.
-fn many(alloc: Global, first: u32, count: u32) -> Result<Command, AllocError>
+fn many(alloc: Global, first: u32, count: u32) -> Result<Props, AllocError>
     requires { first + count < 2 ^ 32 }
-    ensures { IfOk result (λ command. IsTrue (changes_list command)) }
 {
     let mut list = Props::new(alloc);
     for number in first..first + count {
         list.push(bare(alloc, format!(in alloc; "b{number}")?.as_str(), false)?)?;
     }
-    Ok(Command::BpSet { list })
+    Ok(list)
 }
 
-/// How many breakpoints there are after a command of a channel, and whether it is done.
+/// Sets so many breakpoints, of the IDs from `first` on: whether it is done, and how many there are then.
 fn assert_count(
     rt: &impl Abort,
     list: &mut Breakpoints,
     channel: u64,
-    command: &Command,
-    is_done: bool,
-    count: usize,
+    new: (u32, u32),
+    want: (bool, usize),
 ) -> Result<(), Fail>
-    requires { IsTrue (changes_list command.now) }
+    requires { new.0 + new.1 < 2 ^ 32 }
 {
-    let done = list.apply(channel, command)?;
-    assert_eq!(rt; matches!(done, BpDone::Changed { .. }), is_done);
-    assert_eq!(rt; list.ids()?.len(), count);
+    let command = Command::BpSet {
+        list: many(*list.map.allocator(), new.0, new.1)?,
+    };
+    let done = list.apply(channel, &command)?;
+    assert_eq!(rt; matches!(done, BpDone::Changed { .. }), want.0);
+    assert_eq!(rt; list.ids()?.len(), want.1);
     Ok(())
 }
 
 #[test]
 fn there_are_at_most_256(rt: HostRuntime) -> Result<(), Fail> {
-    let alloc = rt.alloc();
-    let list = &mut Breakpoints::new(alloc);
-    assert_count(&rt, list, ALICE, &many(alloc, 0, 257)?, false, 0)?;
-    assert_count(&rt, list, ALICE, &many(alloc, 0, 255)?, true, 255)?;
-    assert_count(&rt, list, BOB, &many(alloc, 1000, 2)?, false, 255)?;
-    assert_count(&rt, list, BOB, &many(alloc, 1000, 1)?, true, 256)?;
-    assert_count(&rt, list, ALICE, &add(alloc, "x", true)?, false, 256)?;
-    assert_count(&rt, list, ALICE, &many(alloc, 500, 255)?, true, 256)?;
-    assert_count(&rt, list, ALICE, &many(alloc, 0, 256)?, false, 256)?;
-    assert_count(&rt, list, ALICE, &many(alloc, 0, 2)?, true, 3)
+    let mut list = Breakpoints::new(rt.alloc());
+    assert_count(&rt, &mut list, ALICE, (0, 257), (false, 0))?;
+    assert_count(&rt, &mut list, ALICE, (0, 255), (true, 255))?;
+    assert_count(&rt, &mut list, BOB, (1000, 2), (false, 255))?;
+    assert_count(&rt, &mut list, BOB, (1000, 1), (true, 256))?;
+    assert_count(&rt, &mut list, 3, (2000, 1), (false, 256))?;
+    assert_count(&rt, &mut list, ALICE, (500, 255), (true, 256))?;
+    assert_count(&rt, &mut list, ALICE, (0, 256), (false, 256))?;
+    assert_count(&rt, &mut list, ALICE, (0, 2), (true, 3))
+}
+
+/// Whether the breakpoint of this ID is there, and enabled.
+fn assert_enabled(rt: &impl Abort, list: &Breakpoints, id: &[u8], want: Option<bool>) {
+    assert_eq!(rt; list.props(id).map(|props| props.enabled), want);
 }
 
 #[test]
 fn properties_and_ids_are_those_of_the_list(rt: HostRuntime) -> Result<(), Fail> {
-    let alloc = rt.alloc();
-    let list = four(alloc)?;
-    assert_eq!(rt; joined(alloc, list.ids()?.as_slice())?.as_str(), "a b c d ");
-    for (id, want) in [
-        ("a", Some(false)),
-        ("c", Some(true)),
-        ("e", None),
-        ("", None),
-    ] {
-        assert_eq!(rt; list.props(id.as_bytes()).map(|props| props.enabled), want);
-    }
-    assert!(rt; list.props(b"\xff").is_none());
-    let id = list.props(b"d").map(|props| props.id.as_str());
-    assert_eq!(rt; id, Some("d"));
+    let list = four(rt.alloc())?;
+    assert_eq!(rt;
+        joined(rt.alloc(), list.ids()?.as_slice())?.as_str(),
+        "a b c d "
+    );
+    assert_enabled(&rt, &list, b"a", Some(false));
+    assert_enabled(&rt, &list, b"c", Some(true));
+    assert_enabled(&rt, &list, b"e", None);
+    assert_enabled(&rt, &list, b"", None);
+    assert_enabled(&rt, &list, b"\xff", None);
     Ok(())
 }
 
@@ -441,7 +369,7 @@ fn one(
         props.contexts = Some(texts(alloc, contexts)?);
     }
     let mut list = Breakpoints::new(alloc);
-    let _ = list.apply(ALICE, &Command::BpAdd { props })?;
+    put(&mut list, ALICE, props)?;
     Ok(list)
 }
 
@@ -523,70 +451,89 @@ fn more_that_is_no_address(rt: HostRuntime) -> Result<(), Fail> {
     assert_place(&rt, alloc, "x10", "P1!bad-location ")?;
     assert_place(&rt, alloc, "00x10", "P1!bad-location ")?;
     assert_place(&rt, alloc, "4294967312", "P1!bad-location ")?;
-    assert_place(&rt, alloc, "\u{664}", "P1!bad-location ")?;
-    assert_status(&rt, &one(alloc, true, None, "P1")?, "P1!bad-location ")
+    assert_place(&rt, alloc, "\u{664}", "P1!bad-location ")
+}
+
+/// The status of a breakpoint at 16 with these ContextIds.
+fn assert_instances(
+    rt: &impl Abort,
+    alloc: Global,
+    enabled: bool,
+    contexts: &str,
+    want: &str,
+) -> Result<(), Fail> {
+    assert_status(rt, &one(alloc, enabled, Some("16"), contexts)?, want)
 }
 
 #[test]
 fn instances_are_in_the_attached_processes_that_are_named(rt: HostRuntime) -> Result<(), Fail> {
     let alloc = rt.alloc();
-    let place = Some("16");
-    assert_status(&rt, &one(alloc, true, place, "")?, "P1@16 P2@16 P7@16 ")?;
-    assert_status(&rt, &one(alloc, false, place, "")?, "")?;
-    assert_status(&rt, &one(alloc, true, place, "P7 P1")?, "P1@16 P7@16 ")?;
+    assert_instances(&rt, alloc, true, "", "P1@16 P2@16 P7@16 ")?;
+    assert_instances(&rt, alloc, false, "", "")?;
+    assert_instances(&rt, alloc, true, "P7 P1", "P1@16 P7@16 ")?;
+    assert_instances(&rt, alloc, true, "P1.7 P1 P2.1", "P1@16 P2@16 ")?;
+    assert_instances(&rt, alloc, true, "P3 P10", "")?;
+    assert_instances(&rt, alloc, true, "p1 P01 1 P1.1.x0 P P1.0", "")
+}
+
+#[test]
+fn there_is_no_status_without_a_breakpoint(rt: HostRuntime) -> Result<(), Fail> {
+    let list = one(rt.alloc(), true, None, "")?;
     assert_status(
         &rt,
-        &one(alloc, true, place, "P1.7 P1 P2.1")?,
-        "P1@16 P2@16 ",
+        &list,
+        "P1!bad-location P2!bad-location P7!bad-location ",
     )?;
-    assert_status(&rt, &one(alloc, true, place, "P3 P10")?, "")?;
-    assert_status(
-        &rt,
-        &one(alloc, true, place, "p1 P01 1 P1.1.x0 P P1.0")?,
-        "",
-    )?;
-    assert!(rt; one(alloc, true, place, "")?.status(b"c", &[1])?.is_none());
+    assert!(rt; list.status(b"c", &[1])?.is_none());
     Ok(())
 }
 
-/// What a thread of a process hits at `pc`, where a is enabled at 16, b disabled at 16, c enabled at 16 for P2, d
-/// enabled at 0x10, and e enabled without an address.
+/// An enabled breakpoint with this Location and these ContextIds.
+fn placed(alloc: Global, id: &str, location: &str, contexts: &str) -> Result<BpProps, AllocError> {
+    let mut props = bare(alloc, id, true)?;
+    props.location = Some(text(alloc, location)?);
+    if !contexts.is_empty() {
+        props.contexts = Some(texts(alloc, contexts)?);
+    }
+    Ok(props)
+}
+
+/// a is enabled at 16, b disabled at 16, c enabled at 16 for P2, d enabled at 0x10 for both, and e at no address.
+fn five(alloc: Global) -> Result<Breakpoints, AllocError> {
+    let mut list = Breakpoints::new(alloc);
+    put(&mut list, ALICE, placed(alloc, "a", "16", "")?)?;
+    let mut disabled = placed(alloc, "b", "16", "")?;
+    disabled.enabled = false;
+    put(&mut list, ALICE, disabled)?;
+    put(&mut list, ALICE, placed(alloc, "c", "16", "P2.3")?)?;
+    put(&mut list, ALICE, placed(alloc, "d", "0x10", "P1 P2")?)?;
+    put(&mut list, ALICE, placed(alloc, "e", "17", "")?)?;
+    Ok(list)
+}
+
+/// What a thread of a process hits at `pc`.
 fn assert_hits(
     rt: &impl Abort,
-    alloc: Global,
+    list: &Breakpoints,
     process: u32,
     attached: bool,
     pc: u32,
     want: &str,
 ) -> Result<(), Fail> {
-    let mut list = Breakpoints::new(alloc);
-    for (id, enabled, location, contexts) in [
-        ("a", true, "16", ""),
-        ("b", false, "16", ""),
-        ("c", true, "16", "P2.3"),
-        ("d", true, "0x10", "P1 P2"),
-        ("e", true, "17", ""),
-    ] {
-        let mut props = bare(alloc, id, enabled)?;
-        props.location = Some(text(alloc, location)?);
-        if !contexts.is_empty() {
-            props.contexts = Some(texts(alloc, contexts)?);
-        }
-        let _ = list.apply(ALICE, &Command::BpAdd { props })?;
-    }
     let hits = list.hits(process, attached, pc)?;
+    let alloc = *list.map.allocator();
     assert_eq!(rt; joined(alloc, hits.as_slice())?.as_str(), want);
     Ok(())
 }
 
 #[test]
 fn a_thread_hits_what_has_an_instance_at_its_pc(rt: HostRuntime) -> Result<(), Fail> {
-    let alloc = rt.alloc();
-    assert_hits(&rt, alloc, 1, true, 16, "a d ")?;
-    assert_hits(&rt, alloc, 2, true, 16, "a c d ")?;
-    assert_hits(&rt, alloc, 3, true, 16, "a ")?;
-    assert_hits(&rt, alloc, 1, false, 16, "")?;
-    assert_hits(&rt, alloc, 1, true, 20, "")?;
-    assert_hits(&rt, alloc, 1, true, 17, "")?;
-    assert_hits(&rt, alloc, 1, true, 0, "")
+    let list = five(rt.alloc())?;
+    assert_hits(&rt, &list, 1, true, 16, "a d ")?;
+    assert_hits(&rt, &list, 2, true, 16, "a c d ")?;
+    assert_hits(&rt, &list, 3, true, 16, "a ")?;
+    assert_hits(&rt, &list, 1, false, 16, "")?;
+    assert_hits(&rt, &list, 1, true, 20, "")?;
+    assert_hits(&rt, &list, 1, true, 17, "")?;
+    assert_hits(&rt, &list, 1, true, 0, "")
 }

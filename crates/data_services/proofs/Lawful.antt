@@ -18,14 +18,14 @@ use Rattle.target_contexts.specs.Live.{process_of}
 use Rattle.target_contexts.specs.TargetsValue.{TargetsValue}
 use Rattle.target_contexts.specs.declared.process.Process.{Process}
 use Rattle.data_services.specs.Bytes.{part_of, with_part, word_bytes, word_of}
-use Rattle.target_contexts.specs.Changes.{with_change, with_change_of}
-use Rattle.data_services.specs.Commands.{data_after, data_effect, data_fault, data_given, targets_by}
+use Rattle.target_contexts.specs.Changes.{targets_by, with_change, with_change_of}
+use Rattle.data_services.specs.Commands.{data_after, data_effect, data_fault, data_given}
 use Rattle.tcf_values.specs.Effects.{effect_by, failed, gives}
 use Rattle.tcf_values.specs.Faults.{first_fault}
 use Rattle.data_services.specs.Laws.{AskingChangesNothing, FailureChangesNothing, MemorySetIsGot, OthersStay, RegisterSetIsGot, is_number, is_process}
 use Rattle.data_services.specs.MemoryRows.{is_no_size, is_outside, memory_after, memory_bytes, memory_set_fault, with_memory}
-use Rattle.target_contexts.specs.Named.{number_named, runs}
-use Rattle.data_services.specs.Named.{is_running, process_named, process_with, holder_of}
+use Rattle.target_contexts.specs.Named.{is_running, number_named, runs}
+use Rattle.data_services.specs.Named.{process_named, process_with, holder_of}
 use Rattle.data_services.specs.Parts.{number_in, parts_named, with_bytes, with_number, with_parts}
 use Rattle.data_services.specs.RegisterRows.{register_after, register_bytes, register_set_fault, with_word}
 use Rattle.tcf_values.specs.declared.faults.Fault.{Fault}

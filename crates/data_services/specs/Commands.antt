@@ -1,5 +1,5 @@
 -- What the commands of Memory and Registers give and what they change, in the order of the services' pages.
-use Rattle.std.specs.Prelude.{Bool, true, false, List, [], ◌∷◌, Option, Some, None}
+use Rattle.std.specs.Prelude.{Bool, true, false, List, [], ◌∷◌, Option, None}
 use Rattle.tcf_values.specs.Ids.{register_of}
 use Rattle.tcf_values.specs.declared.answer.Answer.TheVariants.{Blob, Nothing}
 use Rattle.tcf_values.specs.declared.command.Command.{Command}
@@ -10,6 +10,7 @@ use Rattle.target_contexts.specs.TargetsValue.{TargetsValue}
 use Rattle.data_services.specs.Bytes.{word_of}
 use Rattle.tcf_values.specs.Effects.{effect_by, gives, tells}
 use Rattle.data_services.specs.MemoryRows.{memory_get_fault, memory_bytes, memory_set_fault, memory_events, memory_after}
+use Rattle.target_contexts.specs.Changes.{targets_by}
 use Rattle.target_contexts.specs.Named.{number_named}
 use Rattle.data_services.specs.Named.{process_named, holder_of}
 use Rattle.data_services.specs.Parts.{bytes_of, parts_named}
@@ -53,10 +54,6 @@ data_left (MemSet id addr word size mode bytes) targets = memory_after id addr b
 data_left (RegSet id bytes) targets = register_after (register_of id) (word_of bytes) targets
 data_left (RegSetm list bytes) targets = registers_after list bytes targets
 data_left _ targets = targets
-
-abbrev pub targets_by : Option Fault → TargetsValue → TargetsValue → TargetsValue
-targets_by None left targets = left
-targets_by (Some fault) left targets = targets
 
 -- the events and the answer of a command
 abbrev pub data_effect : Command → TargetsValue → Effect

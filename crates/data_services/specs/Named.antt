@@ -1,9 +1,9 @@
 -- What an ID names among the live processes (TCF services Memory and Registers).
-use Rattle.std.specs.Prelude.{ℕ, ◌==◌, Bool, false, List, Option, Some, None, option_and_then, if◌then◌else◌}
+use Rattle.std.specs.Prelude.{ℕ, ◌==◌, List, Option, None, option_and_then, if◌then◌else◌}
 use Rattle.tcf_values.specs.Ids.{register_of}
 use Rattle.tcf_values.specs.declared.ids.RegisterId.{RegisterId}
 use Rattle.target_contexts.specs.Live.{process_of}
-use Rattle.target_contexts.specs.Named.{number_named, process_at_number, runs}
+use Rattle.target_contexts.specs.Named.{number_named, process_at_number}
 use Rattle.target_contexts.specs.declared.process.Process.{Process}
 
 -- the live process that a text stands for
@@ -17,8 +17,3 @@ process_with rows register = if register.thread == 1 then process_of register.pr
 -- the live process whose thread has the register of this text
 abbrev pub holder_of : List ℕ → List (ℕ × Process) → Option Process
 holder_of id rows = option_and_then (process_with rows) (register_of id)
-
--- the thread is there and runs
-abbrev pub is_running : Option Process → Bool
-is_running None = false
-is_running (Some process) = runs process.state

@@ -12,7 +12,8 @@ use Rattle.target_contexts.specs.declared.process.Process.{Process}
 use Rattle.data_services.specs.Bytes.{word_bytes, word_of}
 use Rattle.target_contexts.specs.Changes.{with_change}
 use Rattle.tcf_values.specs.Faults.{first_fault}
-use Rattle.data_services.specs.Named.{is_running, holder_of}
+use Rattle.target_contexts.specs.Named.{is_running}
+use Rattle.data_services.specs.Named.{holder_of}
 use Rattle.data_services.specs.Parts.{number_in, with_number, parts_named, with_parts, names_off, sizes}
 use Rattle.tcf_values.specs.declared.faults.Fault.{Fault}
 use Rattle.tcf_values.specs.declared.faults.Fault.TheVariants.{BadContext, IsRunning, BadSize, BadAddress}

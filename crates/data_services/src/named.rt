@@ -2,8 +2,8 @@
 ghost use Rattle.std.specs.Prelude.{◌≡◌, ◌<◌, IfErr, IfOk, OnOk, IsSome};
 ghost use Rattle.target_contexts.specs.Live.{process_of};
 ghost use Rattle.tcf_values.specs.Ids.{register_of};
-ghost use Rattle.target_contexts.specs.Named.{number_named};
-ghost use Rattle.data_services.specs.Named.{process_named, holder_of, is_running};
+ghost use Rattle.target_contexts.specs.Named.{is_running, number_named};
+ghost use Rattle.data_services.specs.Named.{process_named, holder_of};
 ghost use Rattle.data_services.specs.RegisterRows.{register_get_fault};
 
 use target_contexts::{THREAD, Targets};

@@ -9,11 +9,11 @@ use Rattle.tcf_values.specs.declared.faults.Fault.{Fault}
 use Rattle.tcf_values.specs.declared.faults.Fault.TheVariants.{Other, AlreadyStopped, AlreadyRunning, BadContext, BadNumber, Unsupported}
 use Rattle.tcf_values.specs.declared.values.BpProps.{BpProps}
 use Rattle.rv32i_core.specs.Machine.{Step, goes_on, ends, excepts, machine}
-use Rattle.target_contexts.specs.Changes.{with_change}
+use Rattle.target_contexts.specs.Changes.{targets_by, with_change}
 use Rattle.target_contexts.specs.Images.{image_of}
 use Rattle.target_contexts.specs.Laws.{ChangesOne, EndsOne, StartsOne}
 use Rattle.target_contexts.specs.Live.{IsOrderly, process_of}
-use Rattle.target_contexts.specs.Named.{number_named, process_at_number, runs, thread_named}
+use Rattle.target_contexts.specs.Named.{is_running, is_suspended, is_unattached, number_named, process_at_number, runs, thread_named}
 use Rattle.target_contexts.specs.Starting.{new_process, suspended_text, with_started}
 use Rattle.target_contexts.specs.TargetsValue.{TargetsValue}
 use Rattle.target_contexts.specs.declared.process.Image.{Image}
@@ -21,11 +21,11 @@ use Rattle.target_contexts.specs.declared.process.Process.{Process}
 use Rattle.target_contexts.specs.declared.process.ThreadState.{ThreadState}
 use Rattle.target_contexts.specs.declared.process.ThreadState.TheVariants.{Running, Suspended}
 use Rattle.run_control.specs.Attaching.{attach_after, attached, detach_after, detached}
-use Rattle.run_control.specs.Commands.{left_of, run_after, run_fault, run_left, targets_by}
+use Rattle.run_control.specs.Commands.{left_of, run_after, run_fault, run_left}
 use Rattle.run_control.specs.Ending.{end_after}
 use Rattle.run_control.specs.Executing.{hits_at, settled, step_text}
 use Rattle.run_control.specs.Laws.{AreSound, CommandsKeepSound, IsSound, needs_debugger}
-use Rattle.run_control.specs.Naming.{is_empty, is_running, is_suspended, is_unattached, process_named}
+use Rattle.run_control.specs.Naming.{is_empty, process_named}
 use Rattle.run_control.specs.Steering.{is_no_count, is_no_mode, left_by, most_steps, resume_after, resume_fault, suspend_after, suspend_fault, thread_there, with_state}
 use Rattle.run_control.specs.Tracing.{Trace, last_of, next_by, next_of, run_from, trace_after, trace_fate, trace_fault, trace_of, traced_at, up_to_hit}
 use Rattle.run_control.specs.declared.executing.Fate.{Fate}

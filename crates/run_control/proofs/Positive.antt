@@ -3,8 +3,8 @@ use Rattle.std.proofs.Common.{◌≡◌, ℕ, ◌<◌, ◌≤◌, Bool, true, fa
 use Rattle.std.specs.List.{AllByRecursion}
 use Rattle.std.proofs.lemmas.List.Elements.{All-from_recursion}
 use Rattle.target_contexts.specs.Live.{IsOrderly, Rise, numbers_of, process_of}
+use Rattle.target_contexts.specs.Named.{attached_in, is_attached}
 use Rattle.target_contexts.specs.declared.process.Process.{Process}
-use Rattle.run_control.specs.Naming.{attached_in, is_attached}
 
 above : (low : ℕ) (numbers : List ℕ) (next : ℕ) → Rise low numbers next → AllByRecursion (λ n. 0 < n) numbers
 above low [] next rise = tt

@@ -7,12 +7,13 @@ use Rattle.breakpoints.specs.Statuses.{statuses_of}
 use Rattle.target_contexts.specs.Changes.{with_change}
 use Rattle.target_contexts.specs.Laws.{AgreeBut, ChangesOne, EndsOne}
 use Rattle.target_contexts.specs.Live.{IsOrderly, process_of}
+use Rattle.target_contexts.specs.Named.{attached_in}
 use Rattle.target_contexts.specs.TargetsValue.{TargetsValue}
 use Rattle.target_contexts.specs.declared.process.Process.{Process}
 use Rattle.run_control.specs.Ending.{end_after}
 use Rattle.run_control.specs.Executing.{settled, stepped}
 use Rattle.run_control.specs.Laws.{AreSound, EndsOnce, TicksKeepSound, TouchesOne, exits_in}
-use Rattle.run_control.specs.Naming.{attached_in, process_id}
+use Rattle.run_control.specs.Naming.{process_id}
 use Rattle.run_control.specs.Steering.{with_state}
 use Rattle.run_control.specs.Ticking.{running_number, tick_fate, ticked, ticked_at}
 use Rattle.run_control.specs.declared.executing.Fate.{Fate}

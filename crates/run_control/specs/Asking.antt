@@ -15,11 +15,11 @@ use Rattle.tcf_values.specs.declared.values.RunState.{RunState}
 use Rattle.tcf_values.specs.declared.values.RunState.TheVariants as told
 use Rattle.target_contexts.specs.Contexts.{context_of as data_of}
 use Rattle.target_contexts.specs.Live.{numbers_of}
-use Rattle.target_contexts.specs.Named.{process_at_number, thread_named}
+use Rattle.target_contexts.specs.Named.{attached_in, process_at_number, thread_named}
 use Rattle.target_contexts.specs.declared.process.Process.{Process}
 use Rattle.target_contexts.specs.declared.process.ThreadState.{ThreadState}
 use Rattle.target_contexts.specs.declared.process.ThreadState.TheVariants.{Running, Suspended}
-use Rattle.run_control.specs.Naming.{attached_in, is_empty, process_id, process_named, thread_id}
+use Rattle.run_control.specs.Naming.{is_empty, process_id, process_named, thread_id}
 
 -- ---- RunControl.getContext
 

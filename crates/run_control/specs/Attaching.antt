@@ -8,14 +8,14 @@ use Rattle.tcf_values.specs.declared.faults.Fault.TheVariants.{Other, AlreadyAtt
 use Rattle.tcf_values.specs.declared.values.BpProps.{BpProps}
 use Rattle.target_contexts.specs.Changes.{with_change}
 use Rattle.target_contexts.specs.Live.{process_of}
-use Rattle.target_contexts.specs.Named.{process_at_number}
+use Rattle.target_contexts.specs.Named.{is_attached, is_suspended, is_unattached, process_at_number}
 use Rattle.target_contexts.specs.Starting.{refusal_of, suspended_text}
 use Rattle.target_contexts.specs.TargetsValue.{TargetsValue}
 use Rattle.target_contexts.specs.declared.process.Process.{Process}
 use Rattle.target_contexts.specs.declared.process.ThreadState.TheVariants.{Running, Suspended}
 use Rattle.target_contexts.specs.declared.targets.StartRefusal.{StartRefusal}
 use Rattle.target_contexts.specs.declared.targets.StartRefusal.TheVariants as refusals
-use Rattle.run_control.specs.Naming.{is_attached, is_suspended, is_unattached, process_named}
+use Rattle.run_control.specs.Naming.{process_named}
 use Rattle.run_control.specs.Telling.{added_events, changed_events, resumed_events, statuses_in, suspended_events}
 
 -- the live process that a text names

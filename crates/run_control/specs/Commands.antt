@@ -9,13 +9,14 @@ use Rattle.tcf_values.specs.declared.effect.Effect.{Effect}
 use Rattle.tcf_values.specs.declared.event.EventData.{EventData}
 use Rattle.tcf_values.specs.declared.faults.Fault.{Fault}
 use Rattle.tcf_values.specs.declared.values.BpProps.{BpProps}
-use Rattle.target_contexts.specs.Named.{number_named, process_at_number, thread_named}
+use Rattle.target_contexts.specs.Changes.{targets_by}
+use Rattle.target_contexts.specs.Named.{is_suspended, number_named, process_at_number, thread_named}
 use Rattle.target_contexts.specs.Starting.{started}
 use Rattle.target_contexts.specs.TargetsValue.{TargetsValue}
 use Rattle.run_control.specs.Asking.{children_fault, children_named, context_answer, context_fault, data_named, process_answer, process_fault, processes_fault, processes_named, state_answer, state_fault}
 use Rattle.run_control.specs.Attaching.{attach_after, attach_events, attach_fault, detach_after, detach_events, detach_fault, process_there, start_events, start_fault}
 use Rattle.run_control.specs.Ending.{end_after, end_events, terminate_fault}
-use Rattle.run_control.specs.Naming.{is_suspended, process_named}
+use Rattle.run_control.specs.Naming.{process_named}
 use Rattle.run_control.specs.Steering.{left_by, resume_after, resume_fault, suspend_after, suspend_events, suspend_fault, thread_there}
 use Rattle.run_control.specs.Telling.{resumed_events}
 use Rattle.run_control.specs.Tracing.{trace_addresses, trace_after, trace_events, trace_fault}
@@ -121,10 +122,6 @@ run_given (TraceRun id count) bps targets after = trace_given bps (unsigned_abs 
 run_given _ bps targets after = gives answers.Nothing
 
 -- ---- a command that fails gives its report alone, and changes nothing
-
-abbrev pub targets_by : Option Fault → TargetsValue → TargetsValue → TargetsValue
-targets_by None left targets = left
-targets_by (Some fault) left targets = targets
 
 -- the events, the progress and the answer of a command
 abbrev pub run_effect : Command → List (ℕ × BpProps) → TargetsValue → Effect

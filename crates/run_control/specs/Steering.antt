@@ -7,13 +7,12 @@ use Rattle.tcf_values.specs.declared.faults.Fault.{Fault}
 use Rattle.tcf_values.specs.declared.faults.Fault.TheVariants.{Other, AlreadyStopped, AlreadyRunning, BadContext, BadNumber, Unsupported}
 use Rattle.target_contexts.specs.Changes.{with_change}
 use Rattle.target_contexts.specs.Live.{process_of}
-use Rattle.target_contexts.specs.Named.{process_at_number, thread_named}
+use Rattle.target_contexts.specs.Named.{is_running, is_suspended, is_unattached, process_at_number, thread_named}
 use Rattle.target_contexts.specs.Starting.{suspended_text}
 use Rattle.target_contexts.specs.TargetsValue.{TargetsValue}
 use Rattle.target_contexts.specs.declared.process.Process.{Process}
 use Rattle.target_contexts.specs.declared.process.ThreadState.{ThreadState}
 use Rattle.target_contexts.specs.declared.process.ThreadState.TheVariants.{Running, Suspended}
-use Rattle.run_control.specs.Naming.{is_running, is_suspended, is_unattached}
 use Rattle.run_control.specs.Telling.{suspended_events}
 
 -- the live process whose thread a text names

@@ -6,11 +6,12 @@ use Rattle.tcf_values.specs.declared.values.BpProps.{BpProps}
 use Rattle.breakpoints.specs.Statuses.{statuses_of}
 use Rattle.target_contexts.specs.Contexts.{process_data, thread_data}
 use Rattle.target_contexts.specs.Live.{process_of}
+use Rattle.target_contexts.specs.Named.{attached_in}
 use Rattle.target_contexts.specs.TargetsValue.{TargetsValue}
 use Rattle.target_contexts.specs.declared.process.Process.{Process}
 use Rattle.target_contexts.specs.declared.process.ThreadState.{ThreadState}
 use Rattle.target_contexts.specs.declared.process.ThreadState.TheVariants.{Running, Suspended}
-use Rattle.run_control.specs.Naming.{attached_in, thread_id}
+use Rattle.run_control.specs.Naming.{thread_id}
 
 -- contextAdded, with the process and its thread
 abbrev pub added_events : ℕ → Option Process → List EventData

@@ -6,13 +6,12 @@ use Rattle.tcf_values.specs.declared.ids.ContextId.{ContextId}
 use Rattle.tcf_values.specs.declared.values.BpProps.{BpProps}
 use Rattle.target_contexts.specs.Changes.{with_change}
 use Rattle.target_contexts.specs.Live.{process_of}
-use Rattle.target_contexts.specs.Named.{thread_for}
+use Rattle.target_contexts.specs.Named.{is_running, thread_for}
 use Rattle.target_contexts.specs.TargetsValue.{TargetsValue}
 use Rattle.target_contexts.specs.declared.process.Process.{Process}
 use Rattle.target_contexts.specs.declared.process.ThreadState.{ThreadState}
 use Rattle.target_contexts.specs.declared.process.ThreadState.TheVariants.{Running, Suspended}
 use Rattle.run_control.specs.Executing.{executed_of, fate_by, settled, settled_events, step_text, stepped}
-use Rattle.run_control.specs.Naming.{is_running}
 use Rattle.run_control.specs.declared.executing.Fate.{Fate}
 
 -- the process whose thread this is, where it lives and runs

@@ -9,11 +9,12 @@ use Rattle.tcf_values.specs.declared.values.BpProps.{BpProps}
 use Rattle.rv32i_core.specs.Machine.{Step, goes_on, ends, excepts, machine}
 use Rattle.target_contexts.specs.Changes.{with_change}
 use Rattle.target_contexts.specs.Live.{process_of}
+use Rattle.target_contexts.specs.Named.{is_running}
 use Rattle.target_contexts.specs.TargetsValue.{TargetsValue}
 use Rattle.target_contexts.specs.declared.process.Process.{Process}
 use Rattle.target_contexts.specs.declared.process.ThreadState.TheVariants.{Suspended}
 use Rattle.run_control.specs.Executing.{fate_by, hits_at, settled, settled_events, step_text}
-use Rattle.run_control.specs.Naming.{is_empty, is_running}
+use Rattle.run_control.specs.Naming.{is_empty}
 use Rattle.run_control.specs.Steering.{is_no_count, thread_there}
 use Rattle.run_control.specs.declared.executing.Executed.{Executed}
 use Rattle.run_control.specs.declared.executing.Executed.TheVariants.{Plain, Hit, Exit, Exception}

@@ -3,8 +3,8 @@ ghost use Rattle.std.specs.Prelude.{◌≡◌, ◌<◌, map, All, if◌then◌el
 ghost use Rattle.tcf_values.specs.Faults.{IsDue};
 ghost use Rattle.tcf_values.specs.Ids.{context_of};
 ghost use Rattle.target_contexts.specs.Live.{numbers_of, process_of};
-ghost use Rattle.target_contexts.specs.Named.{process_at_number, thread_named};
-ghost use Rattle.run_control.specs.Naming.{attached_in, is_empty, process_id, process_named};
+ghost use Rattle.target_contexts.specs.Named.{attached_in, process_at_number, thread_named};
+ghost use Rattle.run_control.specs.Naming.{is_empty, process_id, process_named};
 ghost use Rattle.run_control.specs.Asking.{children_fault, children_named, children_of, context_answer, context_fault, data_named, process_answer, process_answer_of, process_fault, processes_fault, processes_named, run_state, state_answer, state_fault};
 
 use crate::named::{live_process, live_thread};

@@ -3,11 +3,12 @@ ghost use Rattle.std.specs.Prelude.{◌≡◌, ◌<◌, Some, None, IfErr, IfOk,
 ghost use Rattle.tcf_values.specs.Effects.{tells};
 ghost use Rattle.tcf_values.specs.Faults.{IsDue};
 ghost use Rattle.target_contexts.specs.Changes.{with_change};
+ghost use Rattle.target_contexts.specs.Named.{is_suspended};
 ghost use Rattle.target_contexts.specs.Starting.{started};
 ghost use Rattle.run_control.specs.Asking.{process_answer};
 ghost use Rattle.run_control.specs.Attaching.{attach_after, attach_events, attach_fault, detach_after, detach_events, detach_fault, process_there, start_events, start_fault};
 ghost use Rattle.run_control.specs.Commands.{events_of, left_of};
-ghost use Rattle.run_control.specs.Naming.{is_suspended, process_named};
+ghost use Rattle.run_control.specs.Naming.{process_named};
 ghost use Rattle.run_control.specs.Refusing.{IfDue};
 
 use crate::asking::process_answer;

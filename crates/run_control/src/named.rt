@@ -1,8 +1,8 @@
 //! Which live process a text names, and what is asked of it.
 ghost use Rattle.std.specs.Prelude.{◌≡◌, ◌<◌, Some, None, IfErr, IfOk, IsSome, OnOk};
 ghost use Rattle.target_contexts.specs.Live.{process_of};
-ghost use Rattle.target_contexts.specs.Named.{number_named, process_at_number, thread_named};
-ghost use Rattle.run_control.specs.Naming.{is_attached, is_running, process_named};
+ghost use Rattle.target_contexts.specs.Named.{is_attached, is_running, number_named, process_at_number, thread_named};
+ghost use Rattle.run_control.specs.Naming.{process_named};
 
 use target_contexts::Targets;
 use tcf_values::{ContextId, Fault, Text, context_id};

@@ -1,7 +1,8 @@
 //! What the services tell of a process and its thread, as they are.
 ghost use Rattle.std.specs.Prelude.{◌≡◌, ◌<◌, ◌++◌, ◌∷◌, [], filter, All, IfOk, OnOk};
 ghost use Rattle.target_contexts.specs.Live.{process_of};
-ghost use Rattle.run_control.specs.Naming.{attached_in, is_attached, process_id, thread_id};
+ghost use Rattle.target_contexts.specs.Named.{attached_in, is_attached};
+ghost use Rattle.run_control.specs.Naming.{process_id, thread_id};
 ghost use Rattle.run_control.specs.Telling.{added_events, changed_events, resumed_events, statuses_in, suspended_events};
 
 use crate::named::is_attached;

@@ -1,5 +1,6 @@
--- The target with one process changed.
+-- The target with one process changed, and after a command.
 use Rattle.std.specs.Prelude.{ℕ, Option, Some, None}
+use Rattle.tcf_values.specs.declared.faults.Fault.{Fault}
 use Rattle.target_contexts.specs.Live.{process_of, with_process}
 use Rattle.target_contexts.specs.TargetsValue.{TargetsValue}
 use Rattle.target_contexts.specs.declared.process.Process.{Process}
@@ -17,3 +18,8 @@ with_change change number targets = with_change_at change number (process_of num
 abbrev pub with_change_of : (Process → Process) → Option ℕ → TargetsValue → TargetsValue
 with_change_of change None targets = targets
 with_change_of change (Some number) targets = with_change change number targets
+
+-- the target that a command leaves, or the target before it where a check fails
+abbrev pub targets_by : Option Fault → TargetsValue → TargetsValue → TargetsValue
+targets_by None left targets = left
+targets_by (Some fault) left targets = targets

@@ -1,10 +1,10 @@
 -- What an ID names among the live processes (TCF services RunControl, Memory and Registers, where the agent chooses
--- IDs).
-use Rattle.std.specs.Prelude.{ℕ, ◌==◌, Bool, true, false, List, Option, Some, None, option_and_then, if◌then◌else◌}
+-- IDs), and what is asked of a live process.
+use Rattle.std.specs.Prelude.{ℕ, ◌==◌, Bool, true, false, not, List, filter, Option, Some, None, option_and_then, if◌then◌else◌}
 use Rattle.tcf_values.specs.Ids.{context_of}
 use Rattle.tcf_values.specs.declared.ids.ContextId.{ContextId}
 use Rattle.tcf_values.specs.declared.ids.ContextId.TheVariants as ids
-use Rattle.target_contexts.specs.Live.{process_of}
+use Rattle.target_contexts.specs.Live.{numbers_of, process_of}
 use Rattle.target_contexts.specs.declared.process.Process.{Process}
 use Rattle.target_contexts.specs.declared.process.ThreadState.{ThreadState}
 use Rattle.target_contexts.specs.declared.process.ThreadState.TheVariants.{Running, Suspended}
@@ -34,3 +34,25 @@ process_at_number number rows = option_and_then (λ n. process_of n rows) number
 abbrev pub runs : ThreadState → Bool
 runs (Running left) = true
 runs (Suspended reason hits) = false
+
+-- ---- a live process, where it is there
+
+abbrev pub is_running : Option Process → Bool
+is_running None = false
+is_running (Some process) = runs process.state
+
+abbrev pub is_suspended : Option Process → Bool
+is_suspended None = false
+is_suspended (Some process) = not (runs process.state)
+
+abbrev pub is_attached : Option Process → Bool
+is_attached None = false
+is_attached (Some process) = process.attached
+
+abbrev pub is_unattached : Option Process → Bool
+is_unattached None = false
+is_unattached (Some process) = not process.attached
+
+-- the numbers of the attached processes, in order
+abbrev pub attached_in : List (ℕ × Process) → List ℕ
+attached_in rows = filter (λ number. is_attached (process_of number rows)) (numbers_of rows)

@@ -1,7 +1,7 @@
 use Rattle.std.proofs.Common.{◌≡◌, ℕ, Bool, List, filter, sym, ap, ◌∙◌}
 use Rattle.std.proofs.lemmas.Result.{IfOk-weaker}
 use Rattle.target_contexts.specs.Live.{process_of}
-use Rattle.run_control.specs.Naming.{is_attached}
+use Rattle.target_contexts.specs.Named.{is_attached}
 use Rattle.run_control.proofs.Positive.{positive_attached}
 use Rattle.run_control.proofs.telling.attached.Goals as goal
 

@@ -2,7 +2,7 @@ use Rattle.std.proofs.Common.{◌≡◌, ℕ, ◌+◌, Bool, List, get_or, drop,
 use Rattle.std.specs.Global.{Vec}
 use Rattle.std.proofs.lemmas.List.{drop_more}
 use Rattle.target_contexts.specs.Live.{process_of}
-use Rattle.run_control.specs.Naming.{is_attached}
+use Rattle.target_contexts.specs.Named.{is_attached}
 use Rattle.run_control.proofs.Chosen.{one_kept, one_passed}
 use Rattle.run_control.proofs.telling.attached_among.Goals as goal
 use Rattle.run_control.proofs.telling.attached_among.Goals.{then-is_attached+in_ok-push, else-is_attached}

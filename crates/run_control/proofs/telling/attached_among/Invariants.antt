@@ -1,6 +1,6 @@
 use Rattle.std.proofs.Common.{◌≡◌, ◌++◌, drop, filter}
 use Rattle.target_contexts.specs.Live.{process_of}
-use Rattle.run_control.specs.Naming.{is_attached}
+use Rattle.target_contexts.specs.Named.{is_attached}
 use Rattle.run_control.proofs.telling.attached_among.Given as goal
 
 -- those so far, and those among the numbers that are left

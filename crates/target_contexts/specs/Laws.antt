@@ -1,5 +1,5 @@
--- The laws of a list of live processes: to start, change or end one leaves the others as they are.
-use Rattle.std.specs.Prelude.{ℕ, ◌≡◌, ◌≢◌, List, [], ◌∷◌, ◌++◌, Some}
+-- The laws of a list of live processes: to start, change or end one leaves the others as they are, and the list orderly.
+use Rattle.std.specs.Prelude.{ℕ, ◌≡◌, ◌≢◌, ◌+◌, ◌^◌, ◌<◌, List, [], ◌∷◌, ◌++◌, length, Some}
 use Rattle.target_contexts.specs.Live.{IsLive, IsOrderly, numbers_of, process_of, with_process, without}
 use Rattle.target_contexts.specs.declared.process.Process.{Process}
 
@@ -24,3 +24,18 @@ abbrev pub EndsOne : Type 0
 EndsOne = (rows : List (ℕ × Process)) (next number : ℕ) → IsOrderly rows next →
     let new = without number rows in
     (IsLive number new → ⊥) × AgreeBut number rows new
+
+-- ---- what always holds of the list and the next number
+
+-- where there is room for one more, and a number for it
+abbrev pub StartStaysOrderly : Type 0
+StartStaysOrderly = (rows : List (ℕ × Process)) (next : ℕ) (process : Process) → IsOrderly rows next →
+    length rows < 64 → next < 2 ^ 32 → IsOrderly (rows ++ (next, process) ∷ []) (next + 1)
+
+-- whether or not there is a process of this number
+abbrev pub ChangeStaysOrderly : Type 0
+ChangeStaysOrderly = (rows : List (ℕ × Process)) (next number : ℕ) (process : Process) → IsOrderly rows next →
+    IsOrderly (with_process number process rows) next
+
+abbrev pub EndStaysOrderly : Type 0
+EndStaysOrderly = (rows : List (ℕ × Process)) (next number : ℕ) → IsOrderly rows next → IsOrderly (without number rows) next

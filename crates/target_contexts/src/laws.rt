@@ -1,5 +1,6 @@
-//! The laws of a list of live processes: to start, change or end one leaves the others as they are.
-ghost use Rattle.target_contexts.specs.Laws.{ChangesOne, EndsOne, StartsOne};
+//! The laws of a list of live processes: to start, change or end one leaves the others as they are, and the list
+//! orderly.
+ghost use Rattle.target_contexts.specs.Laws.{ChangeStaysOrderly, ChangesOne, EndStaysOrderly, EndsOne, StartStaysOrderly, StartsOne};
 
 /// The law that a process that starts is the one of its number, and that all others stay.
 pub fn a_start_adds_one()
@@ -14,4 +15,12 @@ pub fn a_change_changes_one()
 /// The law that a process that ends is gone, and that all others stay.
 pub fn an_end_ends_one()
     ensures { EndsOne }
+{}
+
+/// The law that at most 64 processes live, under numbers from 1 on that rise strictly and lie below the next one, which
+/// is at most 2^32: where this holds, it holds after a start, a change and an end.
+pub fn they_stay_orderly()
+    ensures start { StartStaysOrderly }
+    ensures change { ChangeStaysOrderly }
+    ensures end { EndStaysOrderly }
 {}

@@ -8,7 +8,7 @@ mod process;
 mod targets;
 
 pub use context::THREAD;
-pub use laws::{a_change_changes_one, a_start_adds_one, an_end_ends_one};
+pub use laws::{a_change_changes_one, a_start_adds_one, an_end_ends_one, they_stay_orderly};
 pub use named::{number_for, thread_for};
 pub use process::{Image, Process, ThreadState};
 pub use targets::{StartRefusal, Targets};

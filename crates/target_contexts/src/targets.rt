@@ -158,6 +158,14 @@ impl Targets {
         numbers_in(self.alloc, &self.live)
     }
 
+    /// What always holds of the processes: at most 64 live, under numbers from 1 on that rise strictly and lie below the
+    /// next one, which is at most 2^32. The call does nothing.
+    pub fn are_orderly(&self)
+        ensures { IsOrderly self.now.processes self.now.next }
+    {
+        let _next = self.next;
+    }
+
     /// What RunControl tells of a live process, or of its thread, which has the number 1; `None` exactly where there
     /// is no such process or thread.
     pub fn context(&self, id: ContextId) -> Result<Option<ContextData>, AllocError>

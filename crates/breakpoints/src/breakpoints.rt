@@ -11,6 +11,7 @@ use crate::instance::instances_of;
 use crate::rows::{Rows, keyed, replace, set_flags, set_props, take_out};
 use crate::selection::{Selection, is_among, selects};
 use indexmap::IndexMap;
+pub use statuses::status_event;
 use std::alloc::{AllocError, Global};
 use std::marker::Model;
 use tcf_values::{BpProps, BpStatus, Command, Duplicate, Props, Text, Texts};

@@ -8,5 +8,5 @@ mod laws;
 mod rows;
 mod selection;
 
-pub use breakpoints::{BpDone, Breakpoints};
+pub use breakpoints::{BpDone, Breakpoints, status_event};
 pub use laws::{a_gone_channel_owns_nothing, a_hit_is_an_instance, the_list_stays_orderly};

@@ -1,4 +1,4 @@
-//! The status of every breakpoint, as events.
+//! The status of breakpoints, as events.
 ghost use Rattle.std.specs.Prelude.{◌≡◌, ◌++◌, IfOk, OnOk};
 ghost use Rattle.breakpoints.specs.Statuses.{status_event, statuses_of};
 
@@ -21,7 +21,13 @@ impl Breakpoints {
     }
 }
 
-fn status_event(alloc: Global, props: &BpProps, attached: &[u32]) -> Result<EventData, AllocError>
+/// The event that tells the status of a breakpoint with these properties, where these processes are attached, by their
+/// numbers in order.
+pub fn status_event(
+    alloc: Global,
+    props: &BpProps,
+    attached: &[u32],
+) -> Result<EventData, AllocError>
     ensures { IfOk result (λ event. event ≡ status_event attached.now props.now) }
 {
     Ok(EventData::BpStatusIs {

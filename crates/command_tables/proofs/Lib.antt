@@ -1,4 +1,5 @@
 pub mod Bodies
 pub mod Endings
+pub mod Legal
 pub mod Places
 pub mod ReadBack

@@ -1,10 +1,10 @@
 -- What the data of a command is read as.
-use Rattle.std.specs.Prelude.{ℕ, Bool, false, not, ◌==◌, List, [], ◌∷◌, Option, Some, None, Result, Ok, Err, if◌then◌else◌}
+use Rattle.std.specs.Prelude.{ℕ, ◌≡◌, Bool, false, not, ◌==◌, List, [], ◌∷◌, Option, Some, None, IsSome, Result, Ok, Err, if◌then◌else◌}
 use Rattle.json_args.specs.Parts.{parts_of}
 use Rattle.json_args.specs.declared.fault.ArgFault.{ArgFault}
 use Rattle.json_args.specs.declared.fault.ArgFault.TheVariants.{NotEnded, Missing, Syntax, Shape, Base64, NoMemory}
 use Rattle.command_tables.specs.Canonical.{IsReadable}
-use Rattle.service_names.specs.Commands.{name_in}
+use Rattle.service_names.specs.Commands.{name_in, named_as}
 use Rattle.command_tables.specs.Rows.{row_of}
 use Rattle.service_names.specs.declared.commands.CommandName.{CommandName}
 use Rattle.command_tables.specs.declared.reading.Reading.{Reading}
@@ -39,8 +39,9 @@ reading_in body (Some command) = if is_unended body then bad_of NotEnded else re
 abbrev pub reading_of : List ℕ → List ℕ → List ℕ → Reading
 reading_of service name body = reading_in body (name_in service name)
 
--- what is known can be sent
-abbrev pub KnownIsReadable : Reading → Type 0
-KnownIsReadable (Known command) = IsReadable command
-KnownIsReadable Unknown = Unit {0}
-KnownIsReadable (Bad index code) = Unit {0}
+-- what data of this service and name is read as: a known command has that name and is within the limits of what is
+-- read, and what is bad is a fault of an argument
+abbrev pub IsReading : List ℕ → List ℕ → Reading → Type 0
+IsReading service name (Known command) = (name_in service name ≡ Some (named_as command)) × IsReadable command
+IsReading service name Unknown = name_in service name ≡ None
+IsReading service name (Bad index code) = IsSome (name_in service name) × ((fault : ArgFault) × (bad_of fault ≡ Bad index code))

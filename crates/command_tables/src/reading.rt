@@ -1,6 +1,6 @@
 //! What the data of a command is read as.
 ghost use Rattle.std.specs.Prelude.{◌≡◌, ◌≢◌, IfOk, OnOk, OnErr};
-ghost use Rattle.command_tables.specs.Reading.{KnownIsReadable, bad_of, reading_of};
+ghost use Rattle.command_tables.specs.Reading.{IsReading, bad_of, reading_of};
 
 use crate::rows::read_arguments;
 use json_args::{ArgFault, split};
@@ -23,7 +23,6 @@ pub enum Reading {
 /// The reading of a fault; want of memory is none.
 fn bad(fault: ArgFault) -> Result<Reading, AllocError>
     ensures ok { IfOk result (λ reading. reading ≡ bad_of fault) }
-    ensures within { IfOk result KnownIsReadable }
     ensures known { OnOk result (fault ≢ ArgFault.NoMemory) }
     ensures memory { OnErr result (fault ≡ ArgFault.NoMemory) }
 {
@@ -46,7 +45,7 @@ pub fn read_command(
     body: &[u8],
 ) -> Result<Reading, AllocError>
     ensures reading { IfOk result (λ reading. reading ≡ reading_of service.now name.now body.now) }
-    ensures readable { IfOk result KnownIsReadable }
+    ensures legal { IfOk result (IsReading service.now name.now) }
 {
     let Some(command) = command_named(service, name) else {
         return Ok(Reading::Unknown);

@@ -2,6 +2,7 @@
 ghost use Rattle.std.specs.Prelude.{◌≡◌, ◌≢◌, Ok, Err, IfOk, IfErr};
 ghost use Rattle.command_tables.specs.Canonical.{IsReadable};
 ghost use Rattle.command_tables.specs.Places.{IsAtItsIndex};
+ghost use Rattle.service_names.specs.Commands.{named_as};
 ghost use Rattle.command_tables.specs.Rows.{row_of, locator_row, run_control_row, breakpoints_row, memory_row, registers_row, processes_row, trace_row};
 
 use crate::arguments::Arguments;
@@ -17,6 +18,7 @@ use tcf_values::Command;
 fn read_locator(command: LocatorCommand, arguments: &mut Arguments<'_>) -> Result<Command, ArgFault>
     requires { arguments.now.index ≡ 0 }
     ensures ok { IfOk result (λ made. locator_row command 0 arguments.old.parts ≡ Ok made) }
+    ensures named { IfOk result (λ made. named_as made ≡ CommandName.Locator command) }
     ensures within { IfOk result IsReadable }
     ensures fault { IfErr result (λ fault. fault ≢ ArgFault.NoMemory → locator_row command 0 arguments.old.parts ≡ Err fault) }
 {
@@ -36,6 +38,7 @@ fn read_run_control(
 ) -> Result<Command, ArgFault>
     requires { arguments.now.index ≡ 0 }
     ensures ok { IfOk result (λ made. run_control_row command 0 arguments.old.parts ≡ Ok made) }
+    ensures named { IfOk result (λ made. named_as made ≡ CommandName.RunControl command) }
     ensures within { IfOk result IsReadable }
     ensures fault { IfErr result (λ fault. fault ≢ ArgFault.NoMemory → run_control_row command 0 arguments.old.parts ≡ Err fault) }
 {
@@ -70,6 +73,7 @@ fn read_breakpoints(
 ) -> Result<Command, ArgFault>
     requires { arguments.now.index ≡ 0 }
     ensures ok { IfOk result (λ made. breakpoints_row command 0 arguments.old.parts ≡ Ok made) }
+    ensures named { IfOk result (λ made. named_as made ≡ CommandName.Breakpoints command) }
     ensures within { IfOk result IsReadable }
     ensures fault { IfErr result (λ fault. fault ≢ ArgFault.NoMemory → breakpoints_row command 0 arguments.old.parts ≡ Err fault) }
 {
@@ -109,6 +113,7 @@ fn read_breakpoints(
 fn read_memory(command: MemoryCommand, arguments: &mut Arguments<'_>) -> Result<Command, ArgFault>
     requires { arguments.now.index ≡ 0 }
     ensures ok { IfOk result (λ made. memory_row command 0 arguments.old.parts ≡ Ok made) }
+    ensures named { IfOk result (λ made. named_as made ≡ CommandName.Memory command) }
     ensures within { IfOk result IsReadable }
     ensures fault { IfErr result (λ fault. fault ≢ ArgFault.NoMemory → memory_row command 0 arguments.old.parts ≡ Err fault) }
 {
@@ -138,6 +143,7 @@ fn read_registers(
 ) -> Result<Command, ArgFault>
     requires { arguments.now.index ≡ 0 }
     ensures ok { IfOk result (λ made. registers_row command 0 arguments.old.parts ≡ Ok made) }
+    ensures named { IfOk result (λ made. named_as made ≡ CommandName.Registers command) }
     ensures within { IfOk result IsReadable }
     ensures fault { IfErr result (λ fault. fault ≢ ArgFault.NoMemory → registers_row command 0 arguments.old.parts ≡ Err fault) }
 {
@@ -166,6 +172,7 @@ fn read_processes(
 ) -> Result<Command, ArgFault>
     requires { arguments.now.index ≡ 0 }
     ensures ok { IfOk result (λ made. processes_row command 0 arguments.old.parts ≡ Ok made) }
+    ensures named { IfOk result (λ made. named_as made ≡ CommandName.Processes command) }
     ensures within { IfOk result IsReadable }
     ensures fault { IfErr result (λ fault. fault ≢ ArgFault.NoMemory → processes_row command 0 arguments.old.parts ≡ Err fault) }
 {
@@ -200,6 +207,7 @@ fn read_processes(
 fn read_trace(command: TraceCommand, arguments: &mut Arguments<'_>) -> Result<Command, ArgFault>
     requires { arguments.now.index ≡ 0 }
     ensures ok { IfOk result (λ made. trace_row command 0 arguments.old.parts ≡ Ok made) }
+    ensures named { IfOk result (λ made. named_as made ≡ CommandName.Trace command) }
     ensures within { IfOk result IsReadable }
     ensures fault { IfErr result (λ fault. fault ≢ ArgFault.NoMemory → trace_row command 0 arguments.old.parts ≡ Err fault) }
 {
@@ -219,6 +227,7 @@ pub fn read_arguments(
     parts: Args<'_>,
 ) -> Result<Command, ArgFault>
     ensures ok { IfOk result (λ made. row_of command 0 parts.entry ≡ Ok made) }
+    ensures named { IfOk result (λ made. named_as made ≡ command) }
     ensures within { IfOk result IsReadable }
     ensures fault { IfErr result (λ fault. fault ≢ ArgFault.NoMemory → row_of command 0 parts.entry ≡ Err fault) }
 {

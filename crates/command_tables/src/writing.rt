@@ -1,5 +1,5 @@
 //! Writing a command.
-ghost use Rattle.std.specs.Prelude.{◌≡◌, ◌++◌, IfOk, OnOk};
+ghost use Rattle.std.specs.Prelude.{◌≡◌, ◌≤◌, ◌++◌, length, IfOk, OnOk};
 ghost use Rattle.std.specs.List.{AllByRecursion};
 ghost use Rattle.json_args.specs.Kinds.{IsWhole};
 ghost use Rattle.json_values.specs.Locations.{IsLocation};
@@ -148,10 +148,10 @@ fn put_trace_run(alloc: Global, id: &Text, count: &i128, out: &mut Bytes) -> Res
     put(alloc, count, out)
 }
 
-/// Puts the arguments of the command last.
-#[tactic(auto, using(crate::proofs::Bodies::set_after_get))]
-fn put_arguments(alloc: Global, command: &Command, out: &mut Bytes) -> Result<(), AllocError>
-    requires { IsReadable command.now }
+/// Puts the argument of a command that has no more than one last.
+fn put_argument(alloc: Global, command: &Command, out: &mut Bytes) -> Result<(), AllocError>
+    requires readable { IsReadable command.now }
+    requires single { length (canonical command.now) ≤ 1 }
     ensures ok { OnOk result (out.new ≡ out.old ++ body_of command.now) }
     ensures reads { OnOk result (TextsRead (canonical command.now)) }
     ensures decodes { OnOk result (BytesDecode command.now) }
@@ -178,6 +178,19 @@ fn put_arguments(alloc: Global, command: &Command, out: &mut Bytes) -> Result<()
         Command::BpAdd { props } | Command::BpChange { props } => put(alloc, props, out),
         Command::BpSet { list } => put(alloc, list, out),
         Command::RegGetm { list } => put(alloc, list, out),
+        _ => unreachable!(),
+    }
+}
+
+/// Puts the arguments of the command last.
+#[tactic(auto, using(crate::proofs::Bodies::set_after_get))]
+fn put_arguments(alloc: Global, command: &Command, out: &mut Bytes) -> Result<(), AllocError>
+    requires { IsReadable command.now }
+    ensures ok { OnOk result (out.new ≡ out.old ++ body_of command.now) }
+    ensures reads { OnOk result (TextsRead (canonical command.now)) }
+    ensures decodes { OnOk result (BytesDecode command.now) }
+{
+    match command {
         Command::Resume { id, mode, count } => put_resume(alloc, id, mode, count, out),
         Command::MemGet {
             id,
@@ -208,6 +221,7 @@ fn put_arguments(alloc: Global, command: &Command, out: &mut Bytes) -> Result<()
             attach,
         } => put_proc_start(alloc, directory, file, args, environment, attach, out),
         Command::TraceRun { id, count } => put_trace_run(alloc, id, count, out),
+        _ => put_argument(alloc, command, out),
     }
 }
 

@@ -1,6 +1,6 @@
 -- The reading of a fault is one that data of a command's names has.
 use Rattle.std.proofs.Common.{◌≡◌, List, ℕ, refl, sym, subst}
-use Rattle.std.specs.Prelude.{Option, Some, IsSome, Result, Ok, Err, IfOk}
+use Rattle.std.specs.Prelude.{Some, IsSome, Result, Ok, Err, IfOk}
 use Rattle.json_args.specs.declared.fault.ArgFault.{ArgFault}
 use Rattle.json_args.specs.declared.fault.ArgFault.TheVariants.{NotEnded, Missing, Syntax, Shape, Base64, NoMemory}
 use Rattle.service_names.specs.Commands.{name_in}

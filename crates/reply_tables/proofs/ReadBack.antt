@@ -1,5 +1,5 @@
 -- What is written of an answer is read as it.
-use Rattle.std.proofs.Common.{◌≡◌, ℕ, ◌-◌, ◌+◌, ◌==◌, List, [], ◌∷◌, ◌++◌, length, slice_get, Bool, true, false, refl, ◌∙◌, ap, arith}
+use Rattle.std.proofs.Common.{◌≡◌, ℕ, ◌-◌, ◌==◌, List, [], ◌∷◌, ◌++◌, length, slice_get, Bool, true, false, refl, ◌∙◌, ap, arith}
 use Rattle.std.specs.Prelude.{Option, Some, None, map, option_map, option_and_then}
 use Rattle.std.specs.List.{AllByRecursion}
 use Rattle.std.proofs.lemmas.Bool.{ne_eqb, cond-true, cond-false}
@@ -24,10 +24,10 @@ use Rattle.json_values.specs.TextLaws.{text_lacks_zero}
 use Rattle.json_values.specs.WordLaws.{word_back}
 use Rattle.json_values.specs.Words.{word_json}
 use Rattle.reply_tables.specs.Answers.{answer_in, answer_of, answer_read, in_parts, result_in}
-use Rattle.reply_tables.specs.Limits.{HasKind, HasNone, HasState, IsAnswerTo, IsOfRow, IsState}
+use Rattle.reply_tables.specs.Limits.{HasKind, HasNone, HasState, IsAnswerTo, IsOfRow}
 use Rattle.reply_tables.specs.Parts.{data_of, ended_parts, is_end, part_text, PartsRead}
 use Rattle.reply_tables.specs.Rows.{row_of}
-use Rattle.reply_tables.specs.Written.{answer_data, answer_parts, bare_parts, failed_parts, result_parts, state_parts, capabilities_json, BytesDecode}
+use Rattle.reply_tables.specs.Written.{answer_data, answer_parts, bare_parts, failed_parts, result_parts, state_parts, capabilities_json, IsTyped, IsTypedState}
 use Rattle.reply_tables.specs.declared.rows.Kind.{Kind}
 use Rattle.reply_tables.specs.declared.rows.Row.{Row}
 use Rattle.reply_tables.specs.declared.rows.Row.TheVariants.{NoData, ErrorAlone, ErrorNull, ErrorThen, ErrorState, BlobErrorNull}
@@ -144,45 +144,45 @@ result_back (ErrorThen one) kind d answer has is reads = in_back (ErrorThen one)
 result_back ErrorState kind d answer has is reads = absurd has
 result_back BlobErrorNull kind d answer has is reads = in_back BlobErrorNull (result_parts BlobErrorNull d) _ (result_before kind d answer has is reads)
 
-state_within : (state : RunState) → IsState state → PartsRead (None ∷ state_parts state)
+state_again : (state : RunState) → IsTypedState state → PartsRead (None ∷ state_parts state)
     → answer_in ErrorState (map part_text (None ∷ state_parts state)) ≡ Some (Answer.State state)
-state_within Running within reads = rw (json_nothing, reads.1.0)
-state_within (Suspended pc reason hits) within reads =
-    rw (json_nothing, reads.1.0, reads.1.1.0, word_back pc within, reads.1.1.1.0, reads.1.1.1.1.0, hits_back hits)
+state_again Running typed reads = rw (json_nothing, reads.1.0)
+state_again (Suspended pc reason hits) typed reads =
+    rw (json_nothing, reads.1.0, reads.1.1.0, word_back pc typed, reads.1.1.1.0, reads.1.1.1.1.0, hits_back hits)
 
-state_back : (row : Row) (state : RunState) → HasState row → IsState state → PartsRead (None ∷ state_parts state)
+state_back : (row : Row) (state : RunState) → HasState row → IsTypedState state → PartsRead (None ∷ state_parts state)
     → answer_of row (data_of (None ∷ state_parts state)) ≡ Some (Answer.State state)
-state_back NoData state has within reads = absurd has
-state_back ErrorAlone state has within reads = absurd has
-state_back ErrorNull state has within reads = absurd has
-state_back (ErrorThen kind) state has within reads = absurd has
-state_back ErrorState state has within reads = in_back ErrorState (None ∷ state_parts state) _ (state_within state within reads)
-state_back BlobErrorNull state has within reads = absurd has
+state_back NoData state has typed reads = absurd has
+state_back ErrorAlone state has typed reads = absurd has
+state_back ErrorNull state has typed reads = absurd has
+state_back (ErrorThen kind) state has typed reads = absurd has
+state_back ErrorState state has typed reads = in_back ErrorState (None ∷ state_parts state) _ (state_again state typed reads)
+state_back BlobErrorNull state has typed reads = absurd has
 
-row_back : (row : Row) (answer : Answer) → IsOfRow row answer → PartsRead (answer_parts row answer) → BytesDecode answer
+row_back : (row : Row) (answer : Answer) → IsOfRow row answer → PartsRead (answer_parts row answer) → IsTyped answer
     → answer_of row (data_of (answer_parts row answer)) ≡ Some answer
-row_back row (Answer.Failed report) within reads decode = failed_back row report reads
-row_back row Answer.Nothing within reads decode = bare_back row within
-row_back row (Answer.Context context) within reads decode =
+row_back row (Answer.Failed report) within reads typed = failed_back row report reads
+row_back row Answer.Nothing within reads typed = bare_back row within
+row_back row (Answer.Context context) within reads typed =
     result_back row Kind.Context (context_json context) _ within.0 (ap (option_map Answer.Context) (context_back context within.1)) reads
-row_back row (Answer.Ids ids) within reads decode =
+row_back row (Answer.Ids ids) within reads typed =
     result_back row Kind.Ids (texts_json ids) _ within (ap (option_map Answer.Ids) (texts_back ids)) reads
-row_back row (Answer.State state) within reads decode = state_back row state within.0 within.1 reads
-row_back row (Answer.Process process) within reads decode =
+row_back row (Answer.State state) within reads typed = state_back row state within typed reads
+row_back row (Answer.Process process) within reads typed =
     result_back row Kind.Process (process_json process) _ within (ap (option_map Answer.Process) (process_back process)) reads
-row_back row (Answer.Bp props) within reads decode =
+row_back row (Answer.Bp props) within reads typed =
     result_back row Kind.Bp (bp_json props) _ within.0 (ap (option_map Answer.Bp) (bp_back props within.1)) reads
-row_back row (Answer.Status status) within reads decode =
+row_back row (Answer.Status status) within reads typed =
     result_back row Kind.Status (status_json status) _ within.0 (ap (option_map Answer.Status) (status_back status within.1)) reads
-row_back row Answer.Capabilities within reads decode = result_back row Kind.Capabilities capabilities_json _ within refl reads
-row_back row (Answer.Blob bytes) within reads decode =
-    result_back row Kind.Blob (blob_json bytes) _ within (ap (option_map Answer.Blob) decode) reads
-row_back row (Answer.Peers ids) within reads decode =
+row_back row Answer.Capabilities within reads typed = result_back row Kind.Capabilities capabilities_json _ within refl reads
+row_back row (Answer.Blob bytes) within reads typed =
+    result_back row Kind.Blob (blob_json bytes) _ within (ap (option_map Answer.Blob) typed) reads
+row_back row (Answer.Peers ids) within reads typed =
     result_back row Kind.Peers (peers_json ids) _ within (ap (option_map Answer.Peers) (peers_back ids)) reads
-row_back row (Answer.Count count) within reads decode =
-    result_back row Kind.Count (word_json count) _ within.0 (ap (option_map Answer.Count) (word_back count within.1)) reads
+row_back row (Answer.Count count) within reads typed =
+    result_back row Kind.Count (word_json count) _ within (ap (option_map Answer.Count) (word_back count typed)) reads
 
 -- what is written of an answer is read as it
-pub answer_back : (command : Command) (answer : Answer) → IsAnswerTo command answer → PartsRead (answer_parts (row_of command) answer) → BytesDecode answer
+pub answer_back : (command : Command) (answer : Answer) → IsAnswerTo command answer → PartsRead (answer_parts (row_of command) answer) → IsTyped answer
     → answer_read command (answer_data command answer) ≡ Some answer
-answer_back command answer within reads decode = row_back (row_of command) answer within reads decode
+answer_back command answer within reads typed = row_back (row_of command) answer within reads typed

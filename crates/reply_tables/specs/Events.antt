@@ -90,7 +90,7 @@ IsEvent (EventData.Hello list) = Unit {0}
 IsEvent (EventData.CtxAdded list) = AllByRecursion IsContext list
 IsEvent (EventData.CtxChanged list) = AllByRecursion IsContext list
 IsEvent (EventData.CtxRemoved list) = Unit {0}
-IsEvent (EventData.Suspended id pc reason hits) = pc < 2 ^ 32
+IsEvent (EventData.Suspended id pc reason hits) = Unit {0}
 IsEvent (EventData.Resumed id) = Unit {0}
 IsEvent (EventData.BpStatusIs id status) = IsStatus status
 IsEvent (EventData.BpAdded list) = AllByRecursion (λ props. is_bp props ≡ true) list
@@ -100,6 +100,11 @@ IsEvent (EventData.MemChanged id list) = AllByRecursion IsRange list
 IsEvent (EventData.RegChanged id) = Unit {0}
 IsEvent EventData.RegsChanged = Unit {0}
 IsEvent (EventData.Exited id code) = IsWhole code
+
+-- what the types say of the numbers of an event: an address has 32 bits
+abbrev pub IsTypedEvent : EventData → Type 0
+IsTypedEvent (EventData.Suspended id pc reason hits) = pc < 2 ^ 32
+IsTypedEvent _ = Unit {0}
 
 abbrev pub IfKnown : ReadEvent → (EventData → Type 0) → Type 0
 IfKnown ReadEvent.Foreign Fine = Unit {0}

@@ -1,5 +1,5 @@
 -- Which answers a row has: those that its reader gives.
-use Rattle.std.specs.Prelude.{◌≡◌, ◌<◌, ◌^◌, true}
+use Rattle.std.specs.Prelude.{◌≡◌, true}
 use Rattle.json_values.specs.Contexts.{IsContext}
 use Rattle.json_values.specs.Props.{is_bp}
 use Rattle.json_values.specs.Reports.{IsReport}
@@ -10,12 +10,6 @@ use Rattle.reply_tables.specs.declared.rows.Row.{Row}
 use Rattle.reply_tables.specs.declared.rows.Row.TheVariants.{NoData, ErrorAlone, ErrorNull, ErrorThen, ErrorState, BlobErrorNull}
 use Rattle.tcf_values.specs.declared.answer.Answer.{Answer}
 use Rattle.tcf_values.specs.declared.command.Command.{Command}
-use Rattle.tcf_values.specs.declared.values.RunState.{RunState}
-use Rattle.tcf_values.specs.declared.values.RunState.TheVariants.{Running, Suspended}
-
-abbrev pub IsState : RunState → Type 0
-IsState Running = Unit {0}
-IsState (Suspended pc reason hits) = pc < 2 ^ 32
 
 -- the rows that have a result of the kind
 abbrev pub HasKind : Row → Kind → Type 0
@@ -50,14 +44,14 @@ IsOfRow row (Answer.Failed report) = IsReport report
 IsOfRow row Answer.Nothing = HasNone row
 IsOfRow row (Answer.Context context) = HasKind row Kind.Context × IsContext context
 IsOfRow row (Answer.Ids ids) = HasKind row Kind.Ids
-IsOfRow row (Answer.State state) = HasState row × IsState state
+IsOfRow row (Answer.State state) = HasState row
 IsOfRow row (Answer.Process process) = HasKind row Kind.Process
 IsOfRow row (Answer.Bp props) = HasKind row Kind.Bp × (is_bp props ≡ true)
 IsOfRow row (Answer.Status status) = HasKind row Kind.Status × IsStatus status
 IsOfRow row Answer.Capabilities = HasKind row Kind.Capabilities
 IsOfRow row (Answer.Blob bytes) = HasKind row Kind.Blob
 IsOfRow row (Answer.Peers ids) = HasKind row Kind.Peers
-IsOfRow row (Answer.Count count) = HasKind row Kind.Count × (count < 2 ^ 32)
+IsOfRow row (Answer.Count count) = HasKind row Kind.Count
 
 abbrev pub IsAnswerTo : Command → Answer → Type 0
 IsAnswerTo command answer = IsOfRow (row_of command) answer

@@ -1,5 +1,5 @@
 -- What is written as the answer to a command.
-use Rattle.std.specs.Prelude.{ℕ, ◌≡◌, ◌⊎◌, true, false, List, [], ◌∷◌, Option, Some, None, codes}
+use Rattle.std.specs.Prelude.{ℕ, ◌≡◌, ◌<◌, ◌^◌, ◌⊎◌, true, false, List, [], ◌∷◌, Option, Some, None, codes}
 use Rattle.serde_json.specs.Data.{Data, null, boolean, string, object, member, no_members}
 use Rattle.json_values.specs.Blobs.{blob_in}
 use Rattle.json_values.specs.Contexts.{context_json}
@@ -83,7 +83,14 @@ IsRefusal code = (code ≡ 2) ⊎ (code ≡ 3) ⊎ (code ≡ 8)
 abbrev pub refusal_data : Row → ℕ → List ℕ
 refusal_data row code = data_of (failed_parts row (report_json (report_of code)))
 
--- the base64 of the bytes of an answer stands for them
-abbrev pub BytesDecode : Answer → Type 0
-BytesDecode (Answer.Blob bytes) = blob_in (blob_json bytes) ≡ Some bytes
-BytesDecode _ = Unit {0}
+-- what the type of a state says of its number
+abbrev pub IsTypedState : RunState → Type 0
+IsTypedState Running = Unit {0}
+IsTypedState (Suspended pc reason hits) = pc < 2 ^ 32
+
+-- what the types say of an answer's numbers and bytes: numbers have 32 bits, and the base64 of bytes stands for them
+abbrev pub IsTyped : Answer → Type 0
+IsTyped (Answer.State state) = IsTypedState state
+IsTyped (Answer.Blob bytes) = blob_in (blob_json bytes) ≡ Some bytes
+IsTyped (Answer.Count count) = count < 2 ^ 32
+IsTyped _ = Unit {0}

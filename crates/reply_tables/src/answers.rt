@@ -3,7 +3,7 @@ ghost use Rattle.std.specs.Prelude.{◌≡◌, ◌∷◌, ℕ, List, drop, optio
 ghost use Rattle.json_args.specs.Kinds.{json_of};
 ghost use Rattle.json_values.specs.Reports.{IsReport};
 ghost use Rattle.reply_tables.specs.Answers.{error_in, result_in, state_in, suspended_in, answer_in, in_parts, answer_of, answer_read, known_or_bad, IfKnown};
-ghost use Rattle.reply_tables.specs.Limits.{IsOfRow, IsState, IsAnswerTo};
+ghost use Rattle.reply_tables.specs.Limits.{IsOfRow, IsAnswerTo};
 ghost use Rattle.reply_tables.specs.Parts.{part_in};
 
 use crate::parts::{next_flag, next_hits, next_of, next_text, next_value, parts_of};
@@ -75,8 +75,7 @@ fn result_answer(
 
 /// What stands behind the flag of a suspended thread.
 fn suspended(alloc: Global, parts: &mut Args<'_>) -> Result<Option<RunState>, AllocError>
-    ensures value { (error flag : List ℕ) → IfOk result (λ found. found ≡ suspended_in (error ∷ flag ∷ parts.old)) }
-    ensures within { IfOk result (λ found. IfSome found IsState) }
+    ensures { (error flag : List ℕ) → IfOk result (λ found. found ≡ suspended_in (error ∷ flag ∷ parts.old)) }
 {
     let Some(pc) = next_of::<u32>(alloc, parts)? else {
         return Ok(None);
@@ -92,8 +91,7 @@ fn suspended(alloc: Global, parts: &mut Args<'_>) -> Result<Option<RunState>, Al
 
 /// The state behind the error. Of a running thread only the flag is read.
 fn state(alloc: Global, parts: &mut Args<'_>) -> Result<Option<RunState>, AllocError>
-    ensures value { (error : List ℕ) → IfOk result (λ found. found ≡ state_in (error ∷ parts.old)) }
-    ensures within { IfOk result (λ found. IfSome found IsState) }
+    ensures { (error : List ℕ) → IfOk result (λ found. found ≡ state_in (error ∷ parts.old)) }
 {
     match next_flag(alloc, parts)? {
         Some(true) => suspended(alloc, parts),

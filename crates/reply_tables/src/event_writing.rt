@@ -1,7 +1,7 @@
 //! The events, written.
 ghost use Rattle.std.specs.Prelude.{◌≡◌, ◌≤◌, ◌++◌, ◌∷◌, [], Some, IfOk, OnOk};
 ghost use Rattle.serde_json.specs.Read.{max_depth};
-ghost use Rattle.reply_tables.specs.Events.{event_data, event_parts, event_read, IsEvent};
+ghost use Rattle.reply_tables.specs.Events.{event_data, event_parts, event_read, IsEvent, IsTypedEvent};
 ghost use Rattle.reply_tables.specs.Parts.{data_of, PartsRead};
 ghost use Rattle.reply_tables.specs.declared.replies.ReadEvent.{ReadEvent};
 ghost use Rattle.service_names.specs.Events.{name_of, service_of, told_as};
@@ -23,13 +23,14 @@ fn put_suspended(
     hits: &Texts,
     out: &mut Octets,
 ) -> Result<(), AllocError>
-    requires { IsEvent (EventData.Suspended id.now pc.now reason.now hits.now) }
     ensures ok { OnOk result (out.new ≡ out.old ++ data_of (event_parts (EventData.Suspended id.now pc.now reason.now hits.now))) }
     ensures reads { OnOk result (PartsRead (event_parts (EventData.Suspended id.now pc.now reason.now hits.now))) }
+    ensures typed { OnOk result (IsTypedEvent (EventData.Suspended id.now pc.now reason.now hits.now)) }
 {
+    let pc = *pc;
     let object = hits_value(alloc, hits)?;
     put(alloc, id, out)?;
-    put(alloc, pc, out)?;
+    put(alloc, &pc, out)?;
     put(alloc, reason, out)?;
     put_json(alloc, &object, out)
 }
@@ -58,6 +59,7 @@ fn put_event(alloc: Global, event: &EventData, out: &mut Octets) -> Result<(), A
     requires { IsEvent event.now }
     ensures ok { OnOk result (out.new ≡ out.old ++ event_data event.now) }
     ensures reads { OnOk result (PartsRead (event_parts event.now)) }
+    ensures typed { OnOk result (IsTypedEvent event.now) }
 {
     match event {
         EventData::Hello { list } | EventData::CtxRemoved { list } => put(alloc, list, out),

@@ -7,11 +7,12 @@ ghost use Rattle.serde_json.specs.Written.{has_float};
 ghost use Rattle.json_values.specs.Peers.{peers_json};
 ghost use Rattle.json_values.specs.Plain.{blob_json};
 ghost use Rattle.json_values.specs.Reports.{IsReport, report_json};
+ghost use Rattle.json_values.specs.Words.{word_json};
 ghost use Rattle.reply_tables.specs.Answers.{answer_read};
-ghost use Rattle.reply_tables.specs.Limits.{IsOfRow, IsAnswerTo, IsState};
+ghost use Rattle.reply_tables.specs.Limits.{IsOfRow, IsAnswerTo};
 ghost use Rattle.reply_tables.specs.Parts.{data_of, PartsRead};
 ghost use Rattle.tcf_values.specs.declared.answer.Answer.{Answer};
-ghost use Rattle.reply_tables.specs.Written.{failed_parts, bare_parts, result_parts, state_parts, answer_parts, answer_data, capabilities_json, BytesDecode};
+ghost use Rattle.reply_tables.specs.Written.{failed_parts, bare_parts, result_parts, state_parts, answer_parts, answer_data, capabilities_json, IsTyped, IsTypedState};
 
 use crate::rows::{Row, row_of};
 use json_values::{Json, blob_value, hits_value, peers_value, put, put_empty, put_json};
@@ -118,9 +119,9 @@ fn put_result<T: Json>(
 /// Puts the parts of an answer with a state last.
 #[tactic(auto, using(crate::proofs::Bodies::part_then))]
 fn put_state(alloc: Global, state: &RunState, out: &mut Octets) -> Result<(), AllocError>
-    requires { IsState state.now }
     ensures ok { OnOk result (out.new ≡ out.old ++ data_of (None ∷ state_parts state.now)) }
     ensures reads { OnOk result (PartsRead (None ∷ state_parts state.now)) }
+    ensures typed { OnOk result (IsTypedState state.now) }
 {
     put_empty(alloc, out)?;
     match state {
@@ -131,9 +132,10 @@ fn put_state(alloc: Global, state: &RunState, out: &mut Octets) -> Result<(), Al
             put_null(alloc, out)
         }
         RunState::Suspended { pc, reason, hits } => {
+            let pc = *pc;
             let object = hits_value(alloc, hits)?;
             put(alloc, &true, out)?;
-            put(alloc, pc, out)?;
+            put(alloc, &pc, out)?;
             put(alloc, reason, out)?;
             put_json(alloc, &object, out)
         }
@@ -160,7 +162,7 @@ fn put_capabilities(alloc: Global, row: Row, out: &mut Octets) -> Result<(), All
 fn put_bytes(alloc: Global, row: Row, bytes: &Bytes, out: &mut Octets) -> Result<(), AllocError>
     ensures ok { OnOk result (out.new ≡ out.old ++ data_of (result_parts row (blob_json bytes.now))) }
     ensures reads { OnOk result (PartsRead (result_parts row (blob_json bytes.now))) }
-    ensures decode { OnOk result (BytesDecode (Answer.Blob bytes.now)) }
+    ensures typed { OnOk result (IsTyped (Answer.Blob bytes.now)) }
 {
     let value = blob_value(alloc, bytes.as_slice())?;
     put_value(alloc, row, &value, out)
@@ -175,12 +177,22 @@ fn put_peers(alloc: Global, row: Row, ids: &Texts, out: &mut Octets) -> Result<(
     put_value(alloc, row, &value, out)
 }
 
+/// Puts the parts of an answer with a count last.
+fn put_count(alloc: Global, row: Row, count: &u32, out: &mut Octets) -> Result<(), AllocError>
+    ensures ok { OnOk result (out.new ≡ out.old ++ data_of (result_parts row (word_json count.now))) }
+    ensures reads { OnOk result (PartsRead (result_parts row (word_json count.now))) }
+    ensures typed { OnOk result (IsTyped (Answer.Count count.now)) }
+{
+    let count = *count;
+    put_result(alloc, row, &count, out)
+}
+
 /// Puts the parts of an answer of the row last.
 fn put_answer(alloc: Global, row: Row, answer: &Answer, out: &mut Octets) -> Result<(), AllocError>
     requires { IsOfRow row answer.now }
     ensures ok { OnOk result (out.new ≡ out.old ++ data_of (answer_parts row answer.now)) }
     ensures reads { OnOk result (PartsRead (answer_parts row answer.now)) }
-    ensures decode { OnOk result (BytesDecode answer.now) }
+    ensures typed { OnOk result (IsTyped answer.now) }
 {
     match answer {
         Answer::Failed(report) => put_failed(alloc, row, report, out),
@@ -194,7 +206,7 @@ fn put_answer(alloc: Global, row: Row, answer: &Answer, out: &mut Octets) -> Res
         Answer::Capabilities => put_capabilities(alloc, row, out),
         Answer::Blob(bytes) => put_bytes(alloc, row, bytes, out),
         Answer::Peers(ids) => put_peers(alloc, row, ids, out),
-        Answer::Count(count) => put_result(alloc, row, count, out),
+        Answer::Count(count) => put_count(alloc, row, count, out),
     }
 }
 

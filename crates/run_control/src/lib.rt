@@ -22,3 +22,6 @@ pub use laws::{
 pub use tcf_values::{Effect, Events, Numbers};
 pub use telling::attached;
 pub use ticking::step;
+
+#[cfg(test)]
+mod tests;

@@ -132,3 +132,74 @@ fn the_first_location_that_fails_decides(rt: HostRuntime) -> Result<(), Fail> {
     }
     Ok(())
 }
+
+/// Sets parts of registers of P1.1.
+fn assert_set(
+    rt: &(impl Abort + AllocGlobal),
+    targets: &mut Targets,
+    list: &[(&str, i128, i128)],
+    bytes: &[u8],
+    want: (&str, &str),
+) -> Result<(), Fail> {
+    let command = Command::RegSetm {
+        list: locations(rt.alloc(), list)?,
+        bytes: Bytes::from_slice(rt.alloc(), bytes)?,
+    };
+    let effect = apply(rt.alloc(), targets, &command)?;
+    assert_effect(rt, &effect, want.0, want.1)
+}
+
+#[test]
+fn a_pc_that_is_no_multiple_of_4_is_refused(rt: HostRuntime) -> Result<(), Fail> {
+    let mut targets = targets(rt.alloc())?;
+    let list = [("P1.1.pc", 0, 4)];
+    assert_set(
+        &rt,
+        &mut targets,
+        &list,
+        &[2, 0, 0, 0],
+        ("17 bad-address", ""),
+    )?;
+    registers_get(&rt, &mut targets, &list, "[0, 0, 0, 0]")
+}
+
+#[test]
+fn x0_takes_its_bytes_and_stays_0(rt: HostRuntime) -> Result<(), Fail> {
+    let mut targets = targets(rt.alloc())?;
+    let list = [("P1.1.x0", 0, 4), ("P1.1.x1", 0, 1)];
+    assert_set(
+        &rt,
+        &mut targets,
+        &list,
+        &[7; 5],
+        ("done", "contextChanged"),
+    )?;
+    let whole = [("P1.1.x0", 0, 4), ("P1.1.x1", 0, 4)];
+    registers_get(&rt, &mut targets, &whole, "[0, 0, 0, 0, 7, 0, 0, 0]")
+}
+
+/// Reads memory of P1.
+fn memory_get(
+    rt: &(impl Abort + AllocGlobal),
+    targets: &mut Targets,
+    addr: i128,
+    size: i128,
+    want: &str,
+) -> Result<(), Fail> {
+    let command = Command::MemGet {
+        id: Text::from_str(rt.alloc(), "P1")?,
+        addr,
+        word: 1,
+        size,
+        mode: 0,
+    };
+    assert_effect(rt, &apply(rt.alloc(), targets, &command)?, want, "")
+}
+
+#[test]
+fn a_range_ends_within_memory(rt: HostRuntime) -> Result<(), Fail> {
+    let mut targets = targets(rt.alloc())?;
+    memory_get(&rt, &mut targets, 65_535, 1, "[0]")?;
+    memory_get(&rt, &mut targets, 65_535, 2, "17 bad-address")?;
+    memory_get(&rt, &mut targets, 0, 65_537, "15 bad-size")
+}

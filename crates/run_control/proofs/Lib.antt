@@ -7,3 +7,5 @@ pub mod Changed
 pub mod Soundness
 pub mod Commanded
 pub mod Touched
+pub mod Orderly
+pub mod Runs

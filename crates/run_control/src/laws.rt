@@ -1,7 +1,7 @@
-//! The laws of run control, over every target.
-ghost use Rattle.run_control.specs.Laws.{CommandsKeepSound, EndsOnce, TicksKeepSound, TouchesOne};
+//! The laws of run control, over every target and over whole runs.
+ghost use Rattle.run_control.specs.Laws.{CommandsKeepSound, EndsOnce, RunsStayOrderly, RunsStaySound, TicksKeepSound, TouchesOne};
 
-use target_contexts::{a_change_changes_one, a_start_adds_one, an_end_ends_one};
+use target_contexts::{a_change_changes_one, a_start_adds_one, an_end_ends_one, they_stay_orderly};
 
 /// The law that the end of a process is told by one exit with its code, that the process is gone, and that all others
 /// stay.
@@ -35,4 +35,16 @@ pub fn a_tick_keeps_threads_attached()
 {
     a_change_changes_one();
     an_end_ends_one();
+}
+
+/// The law over whole runs: after any commands and ticks, whatever breakpoints there are at each, the processes are
+/// orderly, a suspended thread's process is attached, and so is that of a thread whose instructions are counted.
+pub fn every_run_keeps_threads_attached()
+    ensures orderly { RunsStayOrderly }
+    ensures attached { RunsStaySound }
+{
+    a_change_changes_one();
+    they_stay_orderly();
+    a_command_keeps_threads_attached();
+    a_tick_keeps_threads_attached();
 }

@@ -17,8 +17,11 @@ mod tracing;
 pub use commands::apply;
 pub use laws::{
     a_command_keeps_threads_attached, a_tick_keeps_threads_attached, a_tick_touches_one,
-    an_end_is_told_once,
+    an_end_is_told_once, every_run_keeps_threads_attached,
 };
 pub use tcf_values::{Effect, Events, Numbers};
 pub use telling::attached;
 pub use ticking::step;
+
+#[cfg(test)]
+mod tests;

@@ -1,0 +1,118 @@
+-- The processes stay orderly through each command and each tick.
+use Rattle.std.proofs.Common.{◌≡◌, ℕ, ◌^◌, ◌<◌, Bool, true, false, cond, List, [], length, nat_le, nat_lt, leb-false, Option, Some, None, option_map, refl, ap, sym, ◌∙◌, arith}
+use Rattle.std.specs.Option.{option_map_or}
+use Rattle.std.specs.Prelude.{unsigned_abs}
+use Rattle.std.proofs.lemmas.Bool.{ltb-false}
+use Rattle.tcf_values.specs.declared.command.Command.{Command}
+use Rattle.tcf_values.specs.declared.command.Command.TheVariants.{Resume, Suspend, Terminate, ProcStart, ProcAttach, ProcDetach, ProcTerminate, TraceRun}
+use Rattle.tcf_values.specs.declared.faults.Fault.{Fault}
+use Rattle.tcf_values.specs.declared.ids.ContextId.{ContextId}
+use Rattle.tcf_values.specs.declared.values.BpProps.{BpProps}
+use Rattle.target_contexts.specs.Changes.{targets_by, with_change}
+use Rattle.target_contexts.specs.Images.{image_of}
+use Rattle.target_contexts.specs.Laws.{ChangesOne, EndStaysOrderly, StartStaysOrderly}
+use Rattle.target_contexts.specs.Live.{IsOrderly, process_of}
+use Rattle.target_contexts.specs.Named.{number_named, thread_named}
+use Rattle.target_contexts.specs.Starting.{new_process, refusal_for, with_started}
+use Rattle.target_contexts.specs.TargetsValue.{TargetsValue}
+use Rattle.target_contexts.specs.declared.process.Image.{Image}
+use Rattle.target_contexts.specs.declared.process.Process.{Process}
+use Rattle.target_contexts.specs.declared.process.ThreadState.TheVariants.{Running, Suspended}
+use Rattle.target_contexts.specs.declared.targets.StartRefusal.{StartRefusal}
+use Rattle.target_contexts.specs.declared.targets.StartRefusal.TheVariants.{Full, Size, Numbers}
+use Rattle.target_contexts.specs.Starting.{suspended_text}
+use Rattle.run_control.specs.Attaching.{attach_after, attached, detach_after, detached, start_fault_for}
+use Rattle.run_control.specs.Commands.{left_of, run_after, run_fault, run_left}
+use Rattle.run_control.specs.Ending.{end_after}
+use Rattle.run_control.specs.Executing.{settled, stepped}
+use Rattle.run_control.specs.Naming.{process_named}
+use Rattle.run_control.specs.Steering.{left_by, resume_after, suspend_after, with_state}
+use Rattle.run_control.specs.Ticking.{running_number, tick_after, tick_fate, ticked, ticked_at}
+use Rattle.run_control.specs.Tracing.{Trace, trace_after, trace_fate, trace_of, traced_at}
+use Rattle.run_control.specs.declared.executing.Fate.{Fate}
+use Rattle.run_control.specs.declared.executing.Fate.TheVariants.{Ends, Lives}
+use Rattle.run_control.proofs.Changed.{orderly_change}
+
+abbrev pub AreOrderly : TargetsValue → Type 0
+AreOrderly targets = IsOrderly targets.processes targets.next
+
+-- ---- an end, and what becomes of a process
+
+end_orderly : EndStaysOrderly → (n : ℕ) (targets : TargetsValue) → AreOrderly targets → AreOrderly (end_after n targets)
+end_orderly ended n targets orderly = ended targets.processes targets.next n orderly
+
+settled_orderly : ChangesOne → EndStaysOrderly → (n : ℕ) (fate : Fate) (targets : TargetsValue) → AreOrderly targets → AreOrderly (settled n fate targets)
+settled_orderly changes ended n (Ends code) targets orderly = end_orderly ended n targets orderly
+settled_orderly changes ended n (Lives state) targets orderly = orderly_change changes (with_state state) n targets orderly
+
+ticked_orderly : ChangesOne → EndStaysOrderly → (bps : List (ℕ × BpProps)) (n : ℕ) (found : Option Process) (targets : TargetsValue) → AreOrderly targets → AreOrderly (ticked_at bps n found targets)
+ticked_orderly changes ended bps n None targets orderly = orderly
+ticked_orderly changes ended bps n (Some process) targets orderly =
+    settled_orderly changes ended n (tick_fate bps n process) (with_change stepped n targets) (orderly_change changes stepped n targets orderly)
+
+trace_orderly : ChangesOne → EndStaysOrderly → (bps : List (ℕ × BpProps)) (n count : ℕ) (found : Option Process) (targets : TargetsValue) → AreOrderly targets → AreOrderly (traced_at bps n count found targets)
+trace_orderly changes ended bps n count None targets orderly = orderly
+trace_orderly changes ended bps n count (Some process) targets orderly =
+    let trace : Trace = trace_of bps n count process in
+    let change = λ (q : Process). trace.process in
+    settled_orderly changes ended n (trace_fate process trace) (with_change change n targets) (orderly_change changes change n targets orderly)
+
+-- ---- a start that isn't refused
+
+no_fault : (refusal : Option StartRefusal) → option_map start_fault_for refusal ≡ None → refusal ≡ None
+no_fault None free = refl
+no_fault (Some refusal) free = absurd cc
+
+room_by : (full large used : Bool) → cond full (Some Full) (cond large (Some Size) (cond used (Some Numbers) None)) ≡ None → (full ≡ false) × (used ≡ false)
+room_by true large used free = absurd cc
+room_by false true used free = absurd cc
+room_by false false true free = absurd cc
+room_by false false false free = (refl, refl)
+
+start_orderly : StartStaysOrderly → (attach : Bool) (targets : TargetsValue) (image : Option Image) → refusal_for image (length targets.processes) targets.next ≡ None → AreOrderly targets → AreOrderly (with_started attach targets image)
+start_orderly starts attach targets None free orderly = orderly
+start_orderly starts attach targets (Some image) free orderly =
+    let room = room_by (nat_le 64 (length targets.processes)) (nat_lt 65536 (length image.bytes)) (nat_lt 4294967295 targets.next) free in
+    let few : length targets.processes < 64 = leb-false 64 (length targets.processes) room.0 in
+    let small : targets.next < 2 ^ 32 = omega (arith, ltb-false 4294967295 targets.next room.1) in
+    starts targets.processes targets.next (new_process attach image) orderly few small
+
+-- ---- each command, and each tick
+
+kept_by : (fault : Option Fault) (left targets : TargetsValue) → (fault ≡ None → AreOrderly left) → AreOrderly targets → AreOrderly (targets_by fault left targets)
+kept_by None left targets given orderly = given refl
+kept_by (Some fault) left targets given orderly = orderly
+
+left_orderly : (change : ℕ → TargetsValue → TargetsValue) (named : Option ℕ) (targets : TargetsValue) → ((n : ℕ) → AreOrderly (change n targets)) → AreOrderly targets → AreOrderly (left_of change named targets)
+left_orderly change None targets given orderly = orderly
+left_orderly change (Some n) targets given orderly = given n
+
+run_left_orderly : ChangesOne → StartStaysOrderly → EndStaysOrderly → (command : Command) (bps : List (ℕ × BpProps)) (targets : TargetsValue) → AreOrderly targets → run_fault command targets ≡ None → AreOrderly (run_left command bps targets)
+run_left_orderly changes starts ended (Resume id mode count) bps targets orderly free =
+    left_orderly (resume_after (left_by mode count)) (thread_named id) targets (λ n. orderly_change changes (with_state (Running (left_by mode count))) n targets orderly) orderly
+run_left_orderly changes starts ended (Suspend id) bps targets orderly free =
+    left_orderly suspend_after (thread_named id) targets (λ n. orderly_change changes (with_state (Suspended suspended_text [])) n targets orderly) orderly
+run_left_orderly changes starts ended (Terminate id) bps targets orderly free =
+    left_orderly end_after (number_named id) targets (λ n. end_orderly ended n targets orderly) orderly
+run_left_orderly changes starts ended (ProcStart directory file args environment attach) bps targets orderly free =
+    start_orderly starts attach targets (image_of file targets.images) (no_fault (refusal_for (image_of file targets.images) (length targets.processes) targets.next) free) orderly
+run_left_orderly changes starts ended (ProcAttach id) bps targets orderly free =
+    left_orderly attach_after (process_named id) targets (λ n. orderly_change changes attached n targets orderly) orderly
+run_left_orderly changes starts ended (ProcDetach id) bps targets orderly free =
+    left_orderly detach_after (process_named id) targets (λ n. orderly_change changes detached n targets orderly) orderly
+run_left_orderly changes starts ended (ProcTerminate id) bps targets orderly free =
+    left_orderly end_after (process_named id) targets (λ n. end_orderly ended n targets orderly) orderly
+run_left_orderly changes starts ended (TraceRun id count) bps targets orderly free =
+    left_orderly (trace_after bps (unsigned_abs count)) (thread_named id) targets (λ n. trace_orderly changes ended bps n (unsigned_abs count) (process_of n targets.processes) targets orderly) orderly
+run_left_orderly changes starts ended command bps targets orderly free = orderly
+
+pub run_orderly : ChangesOne → StartStaysOrderly → EndStaysOrderly → (command : Command) (bps : List (ℕ × BpProps)) (targets : TargetsValue) → AreOrderly targets → AreOrderly (run_after command bps targets)
+run_orderly changes starts ended command bps targets orderly =
+    kept_by (run_fault command targets) (run_left command bps targets) targets (run_left_orderly changes starts ended command bps targets orderly) orderly
+
+tick_named : ChangesOne → EndStaysOrderly → (bps : List (ℕ × BpProps)) (number : Option ℕ) (targets : TargetsValue) → AreOrderly targets → AreOrderly (option_map_or (λ n. ticked bps n targets) number targets)
+tick_named changes ended bps None targets orderly = orderly
+tick_named changes ended bps (Some number) targets orderly = ticked_orderly changes ended bps number (process_of number targets.processes) targets orderly
+
+pub tick_orderly : ChangesOne → EndStaysOrderly → (thread : ContextId) (bps : List (ℕ × BpProps)) (targets : TargetsValue) → AreOrderly targets → AreOrderly (tick_after bps thread targets)
+tick_orderly changes ended thread bps targets orderly = tick_named changes ended bps (running_number thread targets.processes) targets orderly

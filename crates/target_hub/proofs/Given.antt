@@ -1,0 +1,245 @@
+-- The events of each command can be written.
+use Rattle.std.proofs.Common.{◌≡◌, ℕ, ℤ, pos, negsuc, neg_ℤ, ◌+ℤ◌, ◌<◌, ◌^◌, Bool, true, false, cond, ◌||◌, List, [], ◌∷◌, ◌++◌, map, Option, Some, None, refl, sym, ap, subst, slice_get, ◌+◌, ◌≤◌, arith, lit<, ltb}
+use Rattle.std.proofs.lemmas.Bool.{ltb-false}
+use Rattle.std.specs.Prelude.{int_lt, unsigned_abs}
+use Rattle.std.specs.List.{AllByRecursion}
+use Rattle.json_values.specs.Props.{is_bp}
+use Rattle.json_values.specs.Ranges.{IsRange}
+use Rattle.reply_tables.specs.Events.{IsEvent}
+use Rattle.command_tables.specs.Canonical.{IsReadable}
+use Rattle.service_names.specs.Commands.{named_as}
+use Rattle.service_names.specs.declared.commands.CommandName.{CommandName}
+use Rattle.service_names.specs.declared.commands.CommandName.TheVariants as service
+use Rattle.tcf_values.specs.Effects.{effect_by, failed, gives}
+use Rattle.tcf_values.specs.Faults.{first_fault}
+use Rattle.tcf_values.specs.declared.command.Command.{Command}
+use Rattle.tcf_values.specs.declared.command.Command.TheVariants.{Sync, GetPeers, Redirect, GetContext, GetChildren, GetState, Resume, Suspend, Terminate, BpSet, BpAdd, BpChange, BpEnable, BpDisable, BpRemove, BpIds, BpProperties, BpGetStatus, BpCapabilities, MemGet, MemSet, RegGet, RegSet, RegGetm, RegSetm, ProcContext, ProcChildren, ProcStart, ProcAttach, ProcDetach, ProcTerminate, TraceRun}
+use Rattle.tcf_values.specs.declared.effect.Effect.{Effect}
+use Rattle.tcf_values.specs.declared.event.EventData.{EventData}
+use Rattle.tcf_values.specs.declared.event.EventData.TheVariants.{MemChanged, RegChanged, RegsChanged}
+use Rattle.tcf_values.specs.declared.faults.Fault.{Fault}
+use Rattle.tcf_values.specs.declared.values.BpProps.{BpProps}
+use Rattle.tcf_values.specs.declared.values.Location.{Location}
+use Rattle.target_contexts.specs.Live.{process_of}
+use Rattle.target_contexts.specs.Named.{attached_in, is_suspended, number_named, thread_named}
+use Rattle.target_contexts.specs.TargetsValue.{TargetsValue}
+use Rattle.breakpoints.specs.Changes.{added_by, changed_by, changes_list, done, is_refused, is_switched, removed_by, switched, with_flag}
+use Rattle.breakpoints.specs.Statuses.{status_event}
+use Rattle.breakpoints.specs.declared.breakpoints.BpDone.{BpDone}
+use Rattle.breakpoints.specs.declared.breakpoints.BpDone.TheVariants.{Failed, Changed}
+use Rattle.data_services.specs.Commands.{data_effect, data_fault, data_given}
+use Rattle.data_services.specs.MemoryRows.{is_no_size, is_outside, memory_events}
+use Rattle.data_services.specs.RegisterRows.{events_from, name_one}
+use Rattle.run_control.specs.Commands.{events_of, run_effect, run_fault, run_given, run_left, terminate_code, trace_given}
+use Rattle.run_control.specs.Attaching.{attach_events, detach_events, process_there, start_events}
+use Rattle.run_control.specs.Ending.{end_events}
+use Rattle.run_control.specs.Naming.{process_named}
+use Rattle.run_control.specs.Steering.{suspend_events}
+use Rattle.run_control.specs.Telling.{added_events, changed_events, resumed_events, statuses_in, suspended_events}
+use Rattle.target_hub.specs.BreakpointsRows.{ask_answer, ask_fault, breakpoints_effect, effect_of, removed_events, status_events}
+use Rattle.target_hub.specs.BreakpointsRows as bp_rows
+use Rattle.target_hub.specs.Execution.{effect_in, exec_effect}
+use Rattle.target_hub.specs.Limits.{AreEvents, AreReadable}
+use Rattle.target_hub.specs.declared.target.Target.{Target}
+use Rattle.target_hub.proofs.Lists.{all_append, all_filter, all_map, all_mapped}
+use Rattle.target_hub.proofs.Told.{added_fit, changed_fit, end_fits, status_fits, statuses_fit, suspended_fit, trace_fits}
+
+-- ---- a command that fails tells nothing
+
+none_told : (fault : Fault) → AreEvents (failed fault).events
+unfolding failed
+none_told fault = tt
+
+pub by_fault : (fault : Option Fault) (given : Effect) → (fault ≡ None → AreEvents given.events) → AreEvents (effect_by fault given).events
+by_fault None given fit = fit refl
+by_fault (Some fault) given fit = none_told fault
+
+-- ---- RunControl, Processes and Trace
+
+of_fit : (events : ℕ → List EventData) (named : Option ℕ) → ((number : ℕ) → AreEvents (events number)) → AreEvents (events_of events named)
+of_fit events None each = tt
+of_fit events (Some number) each = each number
+
+test_fit : (test : Bool) (one other : List EventData) → AreEvents one → AreEvents other → AreEvents (cond test one other)
+test_fit true one other fit also = fit
+test_fit false one other fit also = also
+
+three : (xs ys zs : List EventData) → AreEvents xs → AreEvents ys → AreEvents zs → AreEvents (xs ++ (ys ++ zs))
+three xs ys zs first second third = all_append IsEvent xs (ys ++ zs) first (all_append IsEvent ys zs second third)
+
+trace_fit : (bps : List (ℕ × BpProps)) (count : ℕ) (named : Option ℕ) (targets after : TargetsValue) → AreEvents (trace_given bps count named targets after).events
+trace_fit bps count None targets after = tt
+trace_fit bps count (Some number) targets after = trace_fits bps count number targets after
+
+resumed_fit : (number : ℕ) → AreEvents (resumed_events number)
+resumed_fit number = (tt, tt)
+
+ended_fit : (bps : List (ℕ × BpProps)) (after : TargetsValue) (number : ℕ) → AreEvents (end_events bps number terminate_code after)
+ended_fit bps after number = end_fits bps number terminate_code after (lit< {m = 0} {n = 2 ^ 63} tt)
+
+started_fit : (bps : List (ℕ × BpProps)) (number : ℕ) (after : TargetsValue) → AreEvents (start_events bps number after)
+started_fit bps number after =
+    let process = process_of number after.processes in
+    three (added_events number process) (suspended_events number process) (statuses_in bps after)
+    (added_fit number process) (suspended_fit number process) (statuses_fit (attached_in after.processes) bps)
+
+attached_fit : (bps : List (ℕ × BpProps)) (after : TargetsValue) (number : ℕ) → AreEvents (attach_events bps number after)
+attached_fit bps after number =
+    let process = process_of number after.processes in
+    three (changed_events number process) (suspended_events number process) (statuses_in bps after)
+    (changed_fit number process) (suspended_fit number process) (statuses_fit (attached_in after.processes) bps)
+
+detached_fit : (bps : List (ℕ × BpProps)) (was_suspended : Bool) (after : TargetsValue) (number : ℕ) → AreEvents (detach_events bps was_suspended number after)
+detached_fit bps was_suspended after number =
+    let process = process_of number after.processes in
+    three (changed_events number process) (cond was_suspended (resumed_events number) []) (statuses_in bps after)
+    (changed_fit number process) (test_fit was_suspended (resumed_events number) [] (resumed_fit number) tt) (statuses_fit (attached_in after.processes) bps)
+
+run_fit : (command : Command) (bps : List (ℕ × BpProps)) (targets after : TargetsValue) → AreEvents (run_given command bps targets after).events
+run_fit (GetContext id) bps targets after = tt
+run_fit (GetChildren id) bps targets after = tt
+run_fit (GetState id) bps targets after = tt
+run_fit (Resume id mode count) bps targets after = of_fit resumed_events (thread_named id) resumed_fit
+run_fit (Suspend id) bps targets after =
+    of_fit (λ number. suspend_events number after) (thread_named id) (λ number. suspended_fit number (process_of number after.processes))
+run_fit (Terminate id) bps targets after = of_fit (λ number. end_events bps number terminate_code after) (number_named id) (ended_fit bps after)
+run_fit (ProcContext id) bps targets after = tt
+run_fit (ProcChildren id attached) bps targets after = tt
+run_fit (ProcStart directory file args environment attach) bps targets after = started_fit bps targets.next after
+run_fit (ProcAttach id) bps targets after = of_fit (λ number. attach_events bps number after) (process_named id) (attached_fit bps after)
+run_fit (ProcDetach id) bps targets after =
+    let was_suspended = is_suspended (process_there id targets.processes) in
+    of_fit (λ number. detach_events bps was_suspended number after) (process_named id) (detached_fit bps was_suspended after)
+run_fit (ProcTerminate id) bps targets after = of_fit (λ number. end_events bps number terminate_code after) (process_named id) (ended_fit bps after)
+run_fit (TraceRun id count) bps targets after = trace_fit bps (unsigned_abs count) (thread_named id) targets after
+run_fit _ bps targets after = tt
+
+pub run_told : (command : Command) (bps : List (ℕ × BpProps)) (targets : TargetsValue) → AreEvents (run_effect command bps targets).events
+run_told command bps targets = by_fault (run_fault command targets) _ (λ _. run_fit command bps targets (run_left command bps targets))
+
+-- ---- Memory and Registers: a range that is set lies in memory
+
+or_right : (a b : Bool) → (a || b) ≡ false → b ≡ false
+or_right true b neither = absurd cc
+or_right false b neither = neither
+
+-- four checks, of which the second and the last pass
+four_pass : (a b c d : Bool) (e f g h : Fault) → first_fault ((a, e) ∷ (b, f) ∷ (c, g) ∷ (d, h) ∷ []) ≡ None → (b ≡ false) × (d ≡ false)
+four_pass true b c d e f g h none = absurd cc
+four_pass false true c d e f g h none = absurd cc
+four_pass false false true d e f g h none = absurd cc
+four_pass false false false true e f g h none = absurd cc
+four_pass false false false false e f g h none = (refl, refl)
+
+range_whole : (addr size : ℤ) → is_no_size size ≡ false → is_outside addr size ≡ false → IsRange (record { addr = addr; size = size })
+range_whole (negsuc a) size sized inside = absurd cc
+range_whole (pos a) (negsuc n) sized inside = absurd cc
+range_whole (pos a) (pos n) sized inside =
+    let few : n ≤ 65536 = ltb-false 65536 n (or_right (int_lt (pos n) (pos 0)) (int_lt (pos 65536) (pos n)) sized) in
+    let low : a + n ≤ 65536 = ltb-false 65536 (a + n) (or_right (int_lt (pos a) (pos 0)) (int_lt (pos 65536) (pos (a + n))) inside) in
+    ((omega arith), (omega arith))
+
+if_told : (test : Bool) (event : EventData) → IsEvent event → AreEvents (cond test (event ∷ []) [])
+if_told true event fits = (fits, tt)
+if_told false event fits = tt
+
+memory_fit : (named : Option ℕ) (addr size : ℤ) → IsRange (record { addr = addr; size = size }) → AreEvents (memory_events named addr size)
+memory_fit None addr size whole = tt
+memory_fit (Some number) addr size whole = if_told _ (MemChanged _ _) (whole, tt)
+
+several_fit : (first : Option Location) (list : List Location) → AreEvents (events_from first list)
+several_fit None list = tt
+several_fit (Some first) list = test_fit (name_one first.register list) (RegChanged first.register ∷ []) (RegsChanged ∷ []) (tt, tt) (tt, tt)
+
+data_fit : (command : Command) (targets : TargetsValue) → data_fault command targets ≡ None → AreEvents (data_given command targets).events
+data_fit (MemGet id addr word size mode) targets none = tt
+data_fit (MemSet id addr word size mode bytes) targets none =
+    let pass = four_pass _ _ _ _ _ _ _ _ none in memory_fit (number_named id) addr size (range_whole addr size pass.0 pass.1)
+data_fit (RegGet id) targets none = tt
+data_fit (RegSet id bytes) targets none = (tt, tt)
+data_fit (RegGetm list) targets none = tt
+data_fit (RegSetm list bytes) targets none = several_fit (slice_get list 0) list
+data_fit _ targets none = tt
+
+pub data_told : (command : Command) (targets : TargetsValue) → AreEvents (data_effect command targets).events
+data_told command targets = by_fault (data_fault command targets) _ (data_fit command targets)
+
+-- ---- Breakpoints
+
+abbrev pub AreProps : List BpProps → Type 0
+AreProps list = AllByRecursion (λ props. is_bp props ≡ true) list
+
+pub removed_fit : (ids : List (List ℕ)) → AreEvents (removed_events ids)
+removed_fit [] = tt
+removed_fit (id ∷ ids) = (tt, tt)
+
+new_fit : (list : List BpProps) → AreProps list → AreEvents (bp_rows.added_events list)
+new_fit [] fit = tt
+new_fit (props ∷ list) fit = (fit, tt)
+
+other_fit : (list : List BpProps) → AreProps list → AreEvents (bp_rows.changed_events list)
+other_fit [] fit = tt
+other_fit (props ∷ list) fit = (fit, tt)
+
+status_all : (attached : List ℕ) (list : List BpProps) → AreEvents (status_events attached list)
+status_all attached list = all_map IsEvent (status_event attached) list (status_fits attached)
+
+done_fit : (attached : List ℕ) (removed : List (List ℕ)) (added changed : List BpProps) → AreProps added → AreProps changed → AreEvents (effect_of attached (Changed removed added changed)).events
+done_fit attached removed added changed new other =
+    all_append IsEvent _ _ (removed_fit removed)
+    (three _ _ _ (new_fit added new) (other_fit changed other)
+    (all_append IsEvent _ _ (status_all attached added) (status_all attached changed)))
+
+switched_fit : (enabled : Bool) (ids : List (List ℕ)) (rows : List (ℕ × BpProps)) → AreReadable rows → AreProps (switched enabled ids rows)
+switched_fit enabled ids rows readable =
+    all_mapped (λ row. is_bp row.1 ≡ true) (λ props. is_bp props ≡ true) (λ row. with_flag enabled row.1) _ (λ row is. is)
+    (all_filter (λ row. is_bp row.1 ≡ true) (is_switched enabled ids) rows readable)
+
+added_readable : (command : Command) → IsReadable command → AreProps (added_by command)
+added_readable (BpSet list) readable = readable
+added_readable (BpAdd props) readable = (readable, tt)
+added_readable _ readable = tt
+
+changed_readable : (command : Command) (rows : List (ℕ × BpProps)) → IsReadable command → AreReadable rows → AreProps (changed_by command rows)
+changed_readable (BpChange props) rows readable all = (readable, tt)
+changed_readable (BpEnable ids) rows readable all = switched_fit true ids rows all
+changed_readable (BpDisable ids) rows readable all = switched_fit false ids rows all
+changed_readable _ rows readable all = tt
+
+unless_refused : (attached : List ℕ) (refused : Bool) (other : BpDone) → AreEvents (effect_of attached other).events → AreEvents (effect_of attached (cond refused (Failed 1) other)).events
+unless_refused attached true other fit = tt
+unless_refused attached false other fit = fit
+
+change_told : (channel : ℕ) (command : Command) (attached : List ℕ) (rows : List (ℕ × BpProps)) → IsReadable command → AreReadable rows → AreEvents (effect_of attached (done channel command rows)).events
+change_told channel command attached rows readable all =
+    let removed = removed_by channel command rows in
+    let added = added_by command in
+    let changed = changed_by command rows in
+    unless_refused attached (is_refused channel command rows) (Changed removed added changed)
+    (done_fit attached removed added changed (added_readable command readable) (changed_readable command rows readable all))
+
+either_told : (test : Bool) (one other : Effect) → AreEvents one.events → AreEvents other.events → AreEvents (cond test one other).events
+either_told true one other fit also = fit
+either_told false one other fit also = also
+
+pub breakpoints_told : (channel : ℕ) (command : Command) (target : Target) → IsReadable command → AreReadable target.breakpoints → AreEvents (breakpoints_effect channel command target).events
+breakpoints_told channel command target readable all =
+    let attached = attached_in target.contexts.processes in
+    let answer = gives (ask_answer command attached target.breakpoints) in
+    either_told (changes_list command) (effect_of attached (done channel command target.breakpoints)) (effect_by (ask_fault command target) answer)
+    (change_told channel command attached target.breakpoints readable all) (by_fault (ask_fault command target) answer (λ _. tt))
+
+-- ---- every service
+
+told_in : (name : CommandName) (channel : ℕ) (command : Command) (target : Target) → IsReadable command → AreReadable target.breakpoints → AreEvents (effect_in name channel command target).events
+told_in (service.Locator name) channel command target readable all = tt
+told_in (service.RunControl name) channel command target readable all = run_told command target.breakpoints target.contexts
+told_in (service.Breakpoints name) channel command target readable all = breakpoints_told channel command target readable all
+told_in (service.Memory name) channel command target readable all = data_told command target.contexts
+told_in (service.Registers name) channel command target readable all = data_told command target.contexts
+told_in (service.Processes name) channel command target readable all = run_told command target.breakpoints target.contexts
+told_in (service.Trace name) channel command target readable all = run_told command target.breakpoints target.contexts
+
+pub exec_told : (channel : ℕ) (command : Command) (target : Target) → IsReadable command → AreReadable target.breakpoints → AreEvents (exec_effect channel command target).events
+unfolding exec_effect
+exec_told channel command target readable all = told_in (named_as command) channel command target readable all

@@ -1,0 +1,228 @@
+-- Each event that the target tells can be written.
+use Rattle.std.proofs.Common.{◌≡◌, ℕ, ℤ, pos, negsuc, neg_ℤ, ◌<◌, ◌^◌, ◌-◌, ◌%◌, ◌==◌, ltb, Bool, true, false, cond, ◌&&◌, List, [], ◌∷◌, ◌++◌, map, Option, Some, None, option_and_then, option_map, refl, sym, ap, subst, suc, drop, length, arith, lit<}
+use Rattle.std.proofs.lemmas.Bool.{ltb-true}
+use Rattle.std.specs.List.{AllByRecursion}
+use Rattle.std.specs.Option.{IfSome}
+use Rattle.std.specs.Str.Parse.{digits_value}
+use Rattle.json_args.specs.Kinds.{IsWhole}
+use Rattle.json_values.specs.Contexts.{IsContext}
+use Rattle.json_values.specs.Statuses.{IsInstance, IsPlace}
+use Rattle.reply_tables.specs.Events.{IsEvent}
+use Rattle.tcf_values.specs.declared.event.EventData.{EventData}
+use Rattle.tcf_values.specs.declared.ids.ContextId.{ContextId}
+use Rattle.tcf_values.specs.declared.values.BpProps.{BpProps}
+use Rattle.tcf_values.specs.declared.values.ContextData.{ContextData}
+use Rattle.tcf_values.specs.declared.values.Instance.{Instance}
+use Rattle.tcf_values.specs.declared.values.Place.{Place}
+use Rattle.breakpoints.specs.Address.{address_in, address_of, is_address, is_numeral, is_prefixed}
+use Rattle.breakpoints.specs.Status.{instance_of, instances_of, is_for, place_at, place_of}
+use Rattle.breakpoints.specs.Statuses.{status_event, statuses_of}
+use Rattle.rv32i_core.specs.Integers.{signed, sum, unsigned}
+use Rattle.rv32i_core.specs.Bytes.{is_inside, word_at}
+use Rattle.rv32i_core.specs.Listing.{instruction_of}
+use Rattle.rv32i_core.specs.Machine.{Step, goes_on, ends, excepts, decoded_step, effect, is_taken, jump_step, load_step, loaded, next_step, store_step, stored, machine}
+use Rattle.rv32i_core.specs.Registers.{following, register_of, with_register}
+use Rattle.rv32i_core.specs.declared.instructions.Instruction.{Instruction}
+use Rattle.rv32i_core.specs.declared.instructions.Instruction.TheVariants.{Lui, Auipc, Jal, Jalr, Load, ImmOp, Branch, Store, Op, Fence, Ecall, Ebreak}
+use Rattle.rv32i_core.specs.declared.registers.Cpu.{Cpu}
+use Rattle.target_contexts.specs.Contexts.{process_data, thread_data}
+use Rattle.target_contexts.specs.Live.{process_of}
+use Rattle.target_contexts.specs.Named.{attached_in}
+use Rattle.target_contexts.specs.TargetsValue.{TargetsValue}
+use Rattle.target_contexts.specs.declared.process.Process.{Process}
+use Rattle.target_contexts.specs.declared.process.ThreadState.{ThreadState}
+use Rattle.target_contexts.specs.declared.process.ThreadState.TheVariants.{Running, Suspended}
+use Rattle.run_control.specs.Ending.{end_events}
+use Rattle.run_control.specs.Executing.{executed_by, executed_with, exception_code, fate_by, settled_events, step_text}
+use Rattle.run_control.specs.Telling.{added_events, changed_events, resumed_events, statuses_in, stop_events, suspended_events}
+use Rattle.run_control.specs.Ticking.{counted, running_number, ticked_events, ticked_events_at}
+use Rattle.run_control.specs.Tracing.{halt_by, last_hits, last_of, states_of, stop_by, trace_events, traced_events_at}
+use Rattle.target_hub.specs.Limits.{AreEvents}
+use Rattle.target_hub.specs.Passing.{tick_told}
+use Rattle.target_hub.specs.declared.target.Target.{Target}
+use Rattle.target_hub.proofs.Lists.{all_append, all_map}
+
+-- ---- statuses: an address lies below 65,536
+
+first_of : (a b : Bool) → (a && b) ≡ true → a ≡ true
+first_of true b both = refl
+first_of false b both = absurd cc
+
+second_of : (a b : Bool) → (a && b) ≡ true → b ≡ true
+second_of true b both = both
+second_of false b both = absurd cc
+
+below : (numeral : Bool) (n : ℕ) → (numeral && is_address n) ≡ true → n < 2 ^ 32
+below numeral n both =
+    let small : n < 65536 = ltb-true n 65536 (first_of _ _ (second_of numeral _ both)) in
+    omega arith
+
+address_small : (b : Bool) (n : ℕ) → (b ≡ true → n < 2 ^ 32) → IsPlace (place_at (cond b (Some n) None))
+address_small true n small = small refl
+address_small false n small = tt
+
+in_small : (radix : ℕ) (digits : List ℕ) → IsPlace (place_at (address_in radix digits))
+in_small radix digits =
+    let n = digits_value radix digits in
+    let numeral = is_numeral radix digits in
+    address_small (numeral && is_address n) n (below numeral n)
+
+of_small : (prefixed : Bool) (one other : Option ℕ) → IsPlace (place_at one) → IsPlace (place_at other) → IsPlace (place_at (cond prefixed one other))
+of_small true one other small also = small
+of_small false one other small also = also
+
+place_fits : (location : Option (List ℕ)) → IsPlace (place_of location)
+place_fits None = tt
+place_fits (Some text) = of_small (is_prefixed text) (address_in 16 (drop 2 text)) (address_in 10 text) (in_small 16 (drop 2 text)) (in_small 10 text)
+
+some_fit : (props : BpProps) (numbers : List ℕ) (enabled : Bool) → AllByRecursion IsInstance (cond enabled (map (instance_of props) numbers) [])
+some_fit props numbers true = all_map IsInstance (instance_of props) numbers (λ _. place_fits props.location)
+some_fit props numbers false = tt
+
+pub instances_fit : (props : BpProps) (attached : List ℕ) → AllByRecursion IsInstance (instances_of props attached)
+instances_fit props attached = some_fit props _ props.enabled
+
+pub status_fits : (attached : List ℕ) (props : BpProps) → IsEvent (status_event attached props)
+status_fits attached props = instances_fit props attached
+
+pub statuses_fit : (attached : List ℕ) (rows : List (ℕ × BpProps)) → AreEvents (statuses_of attached rows)
+statuses_fit attached rows = all_map IsEvent (λ row. status_event attached row.1) rows (λ row. status_fits attached row.1)
+
+-- ---- contexts
+
+pub process_within : (number : ℕ) (process : Process) → IsContext (process_data number process)
+process_within number process = (lit< tt, lit< tt)
+
+powers_within : (number : ℕ) (process : Process) (attached : Bool) → IsContext (thread_data number (record process { attached = attached }))
+powers_within number process true = (lit< tt, lit< tt)
+powers_within number process false = (lit< tt, lit< tt)
+
+pub thread_within : (number : ℕ) (process : Process) → IsContext (thread_data number process)
+thread_within number process = powers_within number process process.attached
+
+pub added_fit : (number : ℕ) (process : Option Process) → AreEvents (added_events number process)
+added_fit number None = tt
+added_fit number (Some process) = ((process_within number process, (thread_within number process, tt)), tt)
+
+pub changed_fit : (number : ℕ) (process : Option Process) → AreEvents (changed_events number process)
+changed_fit number None = tt
+changed_fit number (Some process) = ((thread_within number process, tt), tt)
+
+stop_fits : (number pc : ℕ) (state : ThreadState) → AreEvents (stop_events number pc state)
+stop_fits number pc (Running left) = tt
+stop_fits number pc (Suspended reason hits) = (tt, tt)
+
+pub suspended_fit : (number : ℕ) (process : Option Process) → AreEvents (suspended_events number process)
+suspended_fit number None = tt
+suspended_fit number (Some process) = stop_fits number process.cpu.pc process.state
+
+-- ---- the end of a process: its code is a number of 32 bits
+
+signed_by : (small : Bool) (n : ℕ) → ltb n (2 ^ 31) ≡ small → IsWhole (cond small (pos n) (negsuc (2 ^ 32 - suc n)))
+signed_by true n is = let low : n < 2 ^ 31 = ltb-true n (2 ^ 31) is in omega arith
+signed_by false n is = omega arith
+
+signed_fits : (n : ℕ) → IsWhole (signed n)
+signed_fits n = signed_by (ltb n (2 ^ 31)) n refl
+
+abbrev pub StepFits : Step → Type 0
+StepFits (goes_on cpu memory) = Unit {0}
+StepFits (ends code) = IsWhole code
+StepFits excepts = Unit {0}
+
+by_test : (test : Bool) (one other : Step) → StepFits one → StepFits other → StepFits (cond test one other)
+by_test true one other fits also = fits
+by_test false one other fits also = also
+
+jump_fits : (target : ℕ) (cpu : Cpu) (memory : List ℕ) → StepFits (jump_step target cpu memory)
+jump_fits target cpu memory = by_test (target % 4 == 0) (goes_on (record cpu { pc = target }) memory) excepts tt tt
+
+load_fits : (rd : ℕ) (value : Option ℕ) (cpu : Cpu) (memory : List ℕ) → StepFits (load_step rd value cpu memory)
+load_fits rd None cpu memory = tt
+load_fits rd (Some value) cpu memory = tt
+
+store_fits : (stored : Option (List ℕ)) (cpu : Cpu) → StepFits (store_step stored cpu)
+store_fits None cpu = tt
+store_fits (Some memory) cpu = tt
+
+effect_fits : (instruction : Instruction) (cpu : Cpu) (memory : List ℕ) → StepFits (effect instruction cpu memory)
+effect_fits (ImmOp kind rd rs1 imm) cpu memory = tt
+effect_fits (Lui rd imm) cpu memory = tt
+effect_fits (Auipc rd imm) cpu memory = tt
+effect_fits (Op kind rd rs1 rs2) cpu memory = tt
+effect_fits (Jal rd imm) cpu memory = jump_fits (sum cpu.pc (unsigned imm)) (with_register rd (following cpu) cpu) memory
+effect_fits (Jalr rd rs1 imm) cpu memory =
+    let target = sum (register_of rs1 cpu) (unsigned imm) in jump_fits (target - target % 2) (with_register rd (following cpu) cpu) memory
+effect_fits (Branch kind rs1 rs2 imm) cpu memory =
+    let target = sum cpu.pc (unsigned imm) in
+    by_test (is_taken kind (register_of rs1 cpu) (register_of rs2 cpu)) (jump_step target cpu memory) (next_step cpu memory) (jump_fits target cpu memory) tt
+effect_fits (Load kind rd rs1 imm) cpu memory = load_fits rd (loaded kind (sum (register_of rs1 cpu) (unsigned imm)) memory) cpu memory
+effect_fits (Store kind rs1 rs2 imm) cpu memory = store_fits (stored kind (sum (register_of rs1 cpu) (unsigned imm)) (register_of rs2 cpu) memory) cpu
+effect_fits Fence cpu memory = tt
+effect_fits Ecall cpu memory = by_test (register_of 17 cpu == 93) (ends (signed (register_of 10 cpu))) excepts (signed_fits (register_of 10 cpu)) tt
+effect_fits Ebreak cpu memory = tt
+
+decoded_fits : (instruction : Option Instruction) (cpu : Cpu) (memory : List ℕ) → StepFits (decoded_step instruction cpu memory)
+decoded_fits None cpu memory = tt
+decoded_fits (Some instruction) cpu memory = effect_fits instruction cpu memory
+
+machine_fits : (cpu : Cpu) (memory : List ℕ) → StepFits (machine cpu memory)
+unfolding machine
+machine_fits cpu memory =
+    let instruction = instruction_of (word_at memory cpu.pc) in
+    by_test (is_inside 4 cpu.pc) (decoded_step instruction cpu memory) excepts (decoded_fits instruction cpu memory) tt
+
+pub end_fits : (bps : List (ℕ × BpProps)) (number : ℕ) (code : ℤ) (targets : TargetsValue) → IsWhole code → AreEvents (end_events bps number code targets)
+end_fits bps number code targets whole = (tt, (whole, statuses_fit (attached_in targets.processes) bps))
+
+-- ---- what becomes of a process after an instruction
+
+with_fit : (bps : List (ℕ × BpProps)) (number : ℕ) (plain : ThreadState) (attached : Bool) (after : TargetsValue) (hits : List (List ℕ)) → AreEvents (settled_events bps number (fate_by plain attached (executed_with hits)) after)
+with_fit bps number plain attached after [] = suspended_fit number _
+with_fit bps number plain attached after (hit ∷ hits) = suspended_fit number _
+
+exception_fit : (bps : List (ℕ × BpProps)) (number : ℕ) (plain : ThreadState) (attached : Bool) (after : TargetsValue) (process : Process) → AreEvents (settled_events bps number (fate_by plain attached (executed_by bps number process excepts)) after)
+exception_fit bps number plain true after process = suspended_fit number _
+exception_fit bps number plain false after process = end_fits bps number exception_code after (lit< {m = 1} {n = 2 ^ 63} tt)
+
+executed_fit : (bps : List (ℕ × BpProps)) (number : ℕ) (plain : ThreadState) (attached : Bool) (after : TargetsValue) (process : Process) (step : Step) → StepFits step
+    → AreEvents (settled_events bps number (fate_by plain attached (executed_by bps number process step)) after)
+executed_fit bps number plain attached after process (goes_on cpu memory) fits = with_fit bps number plain attached after _
+executed_fit bps number plain attached after process (ends code) fits = end_fits bps number code after fits
+executed_fit bps number plain attached after process excepts fits = exception_fit bps number plain attached after process
+
+halt_fit : (bps : List (ℕ × BpProps)) (number : ℕ) (plain : ThreadState) (attached : Bool) (after : TargetsValue) (step : Step) → StepFits step
+    → AreEvents (settled_events bps number (fate_by plain attached (halt_by step)) after)
+halt_fit bps number plain attached after (goes_on cpu memory) fits = suspended_fit number _
+halt_fit bps number plain attached after (ends code) fits = end_fits bps number code after fits
+halt_fit bps number plain true after excepts fits = suspended_fit number _
+halt_fit bps number plain false after excepts fits = end_fits bps number exception_code after (lit< {m = 1} {n = 2 ^ 63} tt)
+
+stop_fit : (bps : List (ℕ × BpProps)) (number : ℕ) (plain : ThreadState) (attached : Bool) (after : TargetsValue) (hits : List (List ℕ)) (all : Bool) (last : Process)
+    → AreEvents (settled_events bps number (fate_by plain attached (stop_by hits all last)) after)
+stop_fit bps number plain attached after (hit ∷ hits) all last = suspended_fit number _
+stop_fit bps number plain attached after [] true last = suspended_fit number _
+stop_fit bps number plain attached after [] false last = halt_fit bps number plain attached after (machine last.cpu last.memory) (machine_fits last.cpu last.memory)
+
+-- ---- a tick, and a trace
+
+ticked_fit : (bps : List (ℕ × BpProps)) (number : ℕ) (process : Option Process) (after : TargetsValue) → AreEvents (ticked_events_at bps number process after)
+ticked_fit bps number None after = tt
+ticked_fit bps number (Some process) after =
+    executed_fit bps number (counted process.state) process.attached after process (machine process.cpu process.memory) (machine_fits process.cpu process.memory)
+
+tick_fit_of : (bps : List (ℕ × BpProps)) (targets : TargetsValue) (number : Option ℕ) → IfSome (option_map (λ n. ticked_events bps n targets) number) AreEvents
+tick_fit_of bps targets None = tt
+tick_fit_of bps targets (Some number) = ticked_fit bps number (process_of number targets.processes) _
+
+pub tick_fits : (thread : ContextId) (target : Target) → IfSome (tick_told thread target) AreEvents
+tick_fits thread target = tick_fit_of target.breakpoints target.contexts (running_number thread target.contexts.processes)
+
+traced_fit : (bps : List (ℕ × BpProps)) (number count : ℕ) (process : Option Process) (after : TargetsValue) → AreEvents (traced_events_at bps number count process after)
+traced_fit bps number count None after = tt
+traced_fit bps number count (Some process) after =
+    let states = states_of bps number count process in
+    stop_fit bps number (Suspended step_text []) process.attached after (last_hits bps number process states) (length states == count) (last_of process states)
+
+pub trace_fits : (bps : List (ℕ × BpProps)) (count number : ℕ) (targets after : TargetsValue) → AreEvents (trace_events bps count number targets after)
+trace_fits bps count number targets after = traced_fit bps number count _ after

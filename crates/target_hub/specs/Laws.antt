@@ -1,0 +1,30 @@
+-- The laws of the target, over every target.
+use Rattle.std.specs.Prelude.{ℕ, ◌≡◌, false, List, []}
+use Rattle.breakpoints.specs.Rows.{owned_by}
+use Rattle.tcf_values.specs.Changing.{changes}
+use Rattle.tcf_values.specs.declared.answer.Answer.TheVariants.{Failed}
+use Rattle.tcf_values.specs.declared.command.Command.{Command}
+use Rattle.tcf_values.specs.declared.errors.ErrorReport.{ErrorReport}
+use Rattle.target_hub.specs.Execution.{exec_after, exec_effect}
+use Rattle.target_hub.specs.Passing.{closed}
+use Rattle.target_hub.specs.declared.target.Target.{Target}
+
+-- a command that an error answers changes nothing, and no event tells of it
+abbrev pub FailureChangesNothing : Type 0
+FailureChangesNothing = (channel : ℕ) (command : Command) (target : Target) (report : ErrorReport) →
+    (exec_effect channel command target).answer ≡ Failed report →
+    (exec_after channel command target ≡ target) × ((exec_effect channel command target).events ≡ [])
+
+-- a command that only asks changes nothing, and no event tells of it
+abbrev pub AskingChangesNothing : Type 0
+AskingChangesNothing = (channel : ℕ) (command : Command) (target : Target) → changes command ≡ false →
+    (exec_after channel command target ≡ target) × ((exec_effect channel command target).events ≡ [])
+
+-- and all channels get the same answer to it
+abbrev pub AskingIsTheSame : Type 0
+AskingIsTheSame = (one other : ℕ) (command : Command) (target : Target) → changes command ≡ false →
+    exec_effect one command target ≡ exec_effect other command target
+
+-- a channel that has gone owns no breakpoint
+abbrev pub GoneOwnsNothing : Type 0
+GoneOwnsNothing = (channel : ℕ) (target : Target) → owned_by channel (closed channel target).breakpoints ≡ []

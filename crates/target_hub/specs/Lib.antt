@@ -1,0 +1,9 @@
+pub mod HubValue
+pub mod LocatorRows
+pub mod BreakpointsRows
+pub mod Execution
+pub mod Answering
+pub mod Passing
+pub mod Limits
+pub mod History
+pub mod Laws

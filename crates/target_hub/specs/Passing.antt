@@ -1,0 +1,36 @@
+-- What passes without a command: a thread that executes an instruction, and a channel that goes.
+use Rattle.std.specs.Prelude.{ℕ, List, map, filter, Option}
+use Rattle.tcf_values.specs.declared.event.EventData.{EventData}
+use Rattle.tcf_values.specs.declared.ids.ContextId.{ContextId}
+use Rattle.tcf_values.specs.declared.ids.ContextId.TheVariants as ids
+use Rattle.breakpoints.specs.Rows.{ids_of, others, owned_by}
+use Rattle.run_control.specs.Ticking.{tick_after, tick_events}
+use Rattle.target_contexts.specs.Live.{numbers_of, process_of}
+use Rattle.target_contexts.specs.Named.{is_running}
+use Rattle.target_contexts.specs.declared.process.Process.{Process}
+use Rattle.target_hub.specs.BreakpointsRows.{removed_events}
+use Rattle.target_hub.specs.declared.target.Target.{Target}
+
+-- ---- one instruction of a thread, where it lives and runs
+
+abbrev pub ticked : ContextId → Target → Target
+ticked thread target = record target { contexts = tick_after target.breakpoints thread target.contexts }
+
+abbrev pub tick_told : ContextId → Target → Option (List EventData)
+tick_told thread target = tick_events target.breakpoints thread target.contexts
+
+-- the one thread of each process
+abbrev pub threads_of : List ℕ → List ContextId
+threads_of numbers = map (λ number. ids.Thread number 1) numbers
+
+-- the threads that run, in the order of their processes
+abbrev pub running_in : List (ℕ × Process) → List ContextId
+running_in rows = threads_of (filter (λ number. is_running (process_of number rows)) (numbers_of rows))
+
+-- ---- a channel that goes takes its breakpoints with it, and contextRemoved tells them where there are some
+
+abbrev pub closed : ℕ → Target → Target
+closed channel target = record target { breakpoints = others channel target.breakpoints }
+
+abbrev pub closed_told : ℕ → Target → List EventData
+closed_told channel target = removed_events (ids_of (owned_by channel target.breakpoints))

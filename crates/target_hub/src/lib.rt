@@ -1,0 +1,24 @@
+//! The one target of all channels: its processes and its breakpoints, and what each command, each instruction and each
+//! closing of a channel gives and leaves.
+#![tactic(auto)]
+
+mod breakpoints_rows;
+mod done;
+mod execution;
+mod hub;
+mod input;
+mod laws;
+mod locator_rows;
+mod target;
+
+pub use command_tables::Reading;
+pub use done::{Answered, Done};
+pub use hub::Hub;
+pub use input::Input;
+pub use laws::{a_failure_changes_nothing, a_gone_channel_owns_nothing, asking_changes_nothing};
+pub use target::Target;
+pub use target_contexts::Image;
+pub use tcf_values::{Events, Numbers};
+
+#[cfg(test)]
+mod tests;

@@ -1,5 +1,5 @@
 -- Why the laws hold: a command by its fault, and one part after the other.
-use Rattle.std.proofs.Common.{◌≡◌, ◌≢◌, ℕ, ℤ, pos, negsuc, ◌+◌, ◌+ℤ◌, ◌≤◌, ◌<◌, nat_eq, nat_lt, unsigned_abs, Bool, true, false, not, ◌||◌, cond, is_none, List, [], ◌∷◌, ◌++◌, length, get_or, slice_set, take, drop, Option, Some, None, option_map, option_and_then, refl, sym, ◌∙◌, ap, arith, eqb-true}
+use Rattle.std.proofs.Common.{◌≡◌, ◌≢◌, ℕ, ℤ, pos, negsuc, ◌+◌, ◌≤◌, ◌<◌, nat_eq, nat_lt, unsigned_abs, Bool, true, false, not, ◌||◌, cond, is_none, List, [], ◌∷◌, ◌++◌, length, get_or, slice_set, take, drop, Option, Some, None, option_map, option_and_then, refl, sym, ◌∙◌, ap, arith, eqb-true}
 use Rattle.std.specs.List.{list_any}
 use Rattle.std.specs.Int.{w32, from_le_bytes}
 use Rattle.std.proofs.lemmas.Bool.{eq-eqb, ltb-false, ltb-true, ne_eqb}

@@ -1,10 +1,9 @@
 -- One part more that bytes are put over, and what that leaves in one process.
-use Rattle.std.proofs.Common.{◌≡◌, ◌≢◌, ℕ, zero, suc, ◌+◌, ◌%◌, ◌<◌, nat_eq, nat_lt, Bool, true, false, not, cond, if◌then◌else◌, List, [], ◌∷◌, ◌++◌, length, get_or, take, drop, slice_get, Option, Some, None, option_map, IsSome, refl, sym, ◌∙◌, ap, subst, arith, eqb-true, append_assoc, length-drop}
-use Rattle.std.specs.List.{position_or_len}
-use Rattle.std.proofs.lemmas.Bool.{eq-eqb, eqb-false}
+use Rattle.std.proofs.Common.{◌≡◌, ℕ, ◌+◌, ◌%◌, nat_eq, Bool, true, false, not, cond, List, [], ◌∷◌, ◌++◌, length, get_or, take, drop, slice_get, Option, Some, None, option_map, refl, sym, ◌∙◌, ap, arith, eqb-true, append_assoc, length-drop}
+use Rattle.std.proofs.lemmas.Bool.{eqb-false}
 use Rattle.std.proofs.lemmas.List.Quantifiers.{position-Some}
 use Rattle.std.proofs.lemmas.List.Sums.{sum_by-cons}
-use Rattle.std.proofs.lemmas.Option.{get_or_from_slice_get, slice_get_within}
+use Rattle.std.proofs.lemmas.Option.{get_or_from_slice_get}
 use Rattle.rv32i_core.specs.declared.registers.Cpu.{Cpu}
 use Rattle.target_contexts.specs.Laws.{ChangesOne}
 use Rattle.target_contexts.specs.Live.{IsLive, place_of, process_at, process_of, with_process}

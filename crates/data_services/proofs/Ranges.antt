@@ -1,9 +1,9 @@
 -- One byte more of a range that is read, and of one that is written.
-use Rattle.std.proofs.Common.{◌≡◌, ℕ, zero, suc, ◌+◌, ◌-◌, ◌<◌, ◌≤◌, Bool, true, false, IsTrue, List, [], ◌∷◌, ◌++◌, length, get_or, take, drop, slice_get, slice_set, Option, Some, refl, sym, ◌∙◌, ap, arith, append_assoc, length-append, length-take, length-drop}
+use Rattle.std.proofs.Common.{◌≡◌, ℕ, ◌+◌, ◌<◌, Bool, true, false, IsTrue, List, [], ◌∷◌, ◌++◌, length, get_or, take, drop, slice_get, slice_set, Some, sym, ◌∙◌, ap, arith, append_assoc, length-append, length-take, length-drop}
 use Rattle.std.specs.Bool.{OnTrue}
 use Rattle.std.proofs.lemmas.List.{drop_more, get_or-drop, length-take-le, set_at, take-append-drop, take_more}
 use Rattle.std.proofs.lemmas.Option.{get_or_from_slice_get, slice_get_within}
-use Rattle.data_services.specs.Bytes.{part_of, with_part}
+use Rattle.data_services.specs.Bytes.{with_part}
 
 -- the byte behind a range is the next one of the range
 pub part_more : (first offset byte : ℕ) (memory : List ℕ) → Some byte ≡ slice_get memory (first + offset) → take (offset + 1) (drop first memory) ≡ take offset (drop first memory) ++ byte ∷ []

@@ -1,5 +1,5 @@
 -- What the commands of Memory and Registers give and what they change, in the order of the services' pages.
-use Rattle.std.specs.Prelude.{Bool, true, false, List, [], ◌∷◌, Option, None}
+use Rattle.std.specs.Prelude.{Bool, true, false, [], ◌∷◌, Option, None}
 use Rattle.tcf_values.specs.Ids.{register_of}
 use Rattle.tcf_values.specs.declared.answer.Answer.TheVariants.{Blob, Nothing}
 use Rattle.tcf_values.specs.declared.command.Command.{Command}

@@ -1,5 +1,5 @@
 -- Laws of the commands of Memory and Registers, over every target.
-use Rattle.std.specs.Prelude.{ℕ, ℤ, ◌≡◌, ◌≢◌, ◌==◌, ◌<◌, Bool, true, false, List, [], length, slice_index, Option, Some, None}
+use Rattle.std.specs.Prelude.{ℕ, ℤ, ◌≡◌, ◌≢◌, ◌==◌, ◌<◌, Bool, false, List, [], length, slice_index, Option, Some, None}
 use Rattle.std.specs.List.{list_any}
 use Rattle.tcf_values.specs.Changing.{changes}
 use Rattle.tcf_values.specs.Ids.{register_of}

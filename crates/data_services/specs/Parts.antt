@@ -1,5 +1,5 @@
 -- Registers, and parts of them: some of a register's four bytes (TCF service Registers, getm and setm).
-use Rattle.std.specs.Prelude.{ℕ, ◌+◌, ◌≤◌, ◌%◌, ◌==◌, nat_lt, unsigned_abs, Bool, true, false, not, ◌&&◌, List, [], ◌∷◌, take, drop, Option, Some, None, option_map, if◌then◌else◌}
+use Rattle.std.specs.Prelude.{ℕ, ◌+◌, ◌≤◌, ◌%◌, ◌==◌, nat_lt, unsigned_abs, Bool, false, not, ◌&&◌, List, [], ◌∷◌, take, drop, Option, Some, None, option_map, if◌then◌else◌}
 use Rattle.std.specs.List.{filter_map, flat_map, list_any, sum_by}
 use Rattle.tcf_values.specs.Ids.{register_of}
 use Rattle.tcf_values.specs.declared.values.Location.{Location}

@@ -1,5 +1,5 @@
 -- The commands of the service Registers: their checks, what they give and what they change (TCF service Registers).
-use Rattle.std.specs.Prelude.{ℕ, pos, ◌+ℤ◌, int_lt, ◌==◌, ◌%◌, nat_lt, Bool, true, false, not, ◌&&◌, List, [], ◌∷◌, length, slice_get, bytes_eq, Option, Some, None, is_none, if◌then◌else◌}
+use Rattle.std.specs.Prelude.{ℕ, pos, ◌+ℤ◌, int_lt, ◌==◌, ◌%◌, nat_lt, Bool, false, not, ◌&&◌, List, [], ◌∷◌, length, slice_get, bytes_eq, Option, Some, None, is_none, if◌then◌else◌}
 use Rattle.std.specs.List.{list_all}
 use Rattle.std.specs.Option.{option_or}
 use Rattle.tcf_values.specs.Ids.{register_of}

@@ -1,12 +1,12 @@
 -- A target with one process changed, or ended.
-use Rattle.std.proofs.Common.{◌≡◌, ◌≢◌, ℕ, ◌<◌, ◌≤◌, nat_eq, Bool, true, false, cond, List, [], ◌∷◌, length, map, get_or, slice_get, Option, Some, None, option_map, refl, sym, ◌∙◌, ap, subst, eqb-true, inl, inr, ◌⊎◌}
+use Rattle.std.proofs.Common.{◌≡◌, ◌≢◌, ℕ, ◌≤◌, nat_eq, Bool, true, false, List, length, get_or, slice_get, Option, Some, None, option_map, refl, sym, ◌∙◌, ap, subst, eqb-true, inl, inr, ◌⊎◌}
 use Rattle.std.proofs.lemmas.Bool.{eqb-false}
 use Rattle.std.proofs.lemmas.List.{length-map}
 use Rattle.std.proofs.lemmas.List.Quantifiers.{position-Some}
 use Rattle.std.proofs.lemmas.Option.{get_or_from_slice_get}
 use Rattle.target_contexts.specs.Changes.{with_change, with_change_at}
-use Rattle.target_contexts.specs.Laws.{ChangesOne, EndsOne}
-use Rattle.target_contexts.specs.Live.{IsLive, IsOrderly, Rise, numbers_of, place_of, process_at, process_of, with_process, without}
+use Rattle.target_contexts.specs.Laws.{ChangesOne}
+use Rattle.target_contexts.specs.Live.{IsLive, IsOrderly, Rise, numbers_of, place_of, process_at, process_of, with_process}
 use Rattle.target_contexts.specs.TargetsValue.{TargetsValue}
 use Rattle.target_contexts.specs.declared.process.Process.{Process}
 

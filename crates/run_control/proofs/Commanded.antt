@@ -1,9 +1,8 @@
 -- What each command leaves is sound where the target was.
-use Rattle.std.proofs.Common.{◌≡◌, ◌≢◌, ℕ, zero, suc, ℤ, pos, Bool, true, false, cond, not, List, [], ◌∷◌, ◌++◌, Option, Some, None, is_none, option_map, refl, sym, ◌∙◌, ap, subst, inl, inr, ◌⊎◌}
+use Rattle.std.proofs.Common.{◌≡◌, ℕ, zero, suc, ℤ, pos, Bool, true, false, cond, not, List, [], ◌∷◌, ◌++◌, Option, Some, None, is_none, option_map, refl, sym, ◌∙◌, ap, subst, inl, inr}
 use Rattle.std.specs.Option.{option_map_or}
 use Rattle.std.specs.Prelude.{unsigned_abs}
 use Rattle.tcf_values.specs.Faults.{first_fault}
-use Rattle.tcf_values.specs.declared.command.Command.{Command}
 use Rattle.tcf_values.specs.declared.command.Command.TheVariants.{Resume, Suspend, Terminate, ProcStart, ProcAttach, ProcDetach, ProcTerminate, TraceRun}
 use Rattle.tcf_values.specs.declared.faults.Fault.{Fault}
 use Rattle.tcf_values.specs.declared.faults.Fault.TheVariants.{Other, AlreadyStopped, AlreadyRunning, BadContext, BadNumber, Unsupported}
@@ -21,14 +20,13 @@ use Rattle.target_contexts.specs.declared.process.Process.{Process}
 use Rattle.target_contexts.specs.declared.process.ThreadState.{ThreadState}
 use Rattle.target_contexts.specs.declared.process.ThreadState.TheVariants.{Running, Suspended}
 use Rattle.run_control.specs.Attaching.{attach_after, attached, detach_after, detached}
-use Rattle.run_control.specs.Commands.{left_of, run_after, run_fault, run_left}
+use Rattle.run_control.specs.Commands.{left_of, run_fault, run_left}
 use Rattle.run_control.specs.Ending.{end_after}
-use Rattle.run_control.specs.Executing.{hits_at, settled, step_text}
+use Rattle.run_control.specs.Executing.{hits_at, step_text}
 use Rattle.run_control.specs.Laws.{AreSound, CommandsKeepSound, IsSound, needs_debugger}
 use Rattle.run_control.specs.Naming.{is_empty, process_named}
 use Rattle.run_control.specs.Steering.{is_no_count, is_no_mode, left_by, most_steps, resume_after, resume_fault, suspend_after, suspend_fault, thread_there, with_state}
 use Rattle.run_control.specs.Tracing.{Trace, last_of, next_by, next_of, run_from, trace_after, trace_fate, trace_fault, trace_of, traced_at, up_to_hit}
-use Rattle.run_control.specs.declared.executing.Fate.{Fate}
 use Rattle.run_control.proofs.Changed.{changed_process, orderly_change, same_or_other}
 use Rattle.run_control.proofs.Soundness.{FateSound, fate_sound, sound_change, sound_end, sound_settled}
 

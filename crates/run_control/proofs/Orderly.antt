@@ -1,5 +1,5 @@
 -- The processes stay orderly through each command and each tick.
-use Rattle.std.proofs.Common.{◌≡◌, ℕ, ◌^◌, ◌<◌, Bool, true, false, cond, List, [], length, nat_le, nat_lt, leb-false, Option, Some, None, option_map, refl, ap, sym, ◌∙◌, arith}
+use Rattle.std.proofs.Common.{◌≡◌, ℕ, ◌^◌, ◌<◌, Bool, true, false, cond, List, [], length, nat_le, nat_lt, leb-false, Option, Some, None, option_map, refl, arith}
 use Rattle.std.specs.Option.{option_map_or}
 use Rattle.std.specs.Prelude.{unsigned_abs}
 use Rattle.std.proofs.lemmas.Bool.{ltb-false}
@@ -13,14 +13,13 @@ use Rattle.target_contexts.specs.Images.{image_of}
 use Rattle.target_contexts.specs.Laws.{ChangesOne, EndStaysOrderly, StartStaysOrderly}
 use Rattle.target_contexts.specs.Live.{IsOrderly, process_of}
 use Rattle.target_contexts.specs.Named.{number_named, thread_named}
-use Rattle.target_contexts.specs.Starting.{new_process, refusal_for, with_started}
+use Rattle.target_contexts.specs.Starting.{new_process, refusal_for, suspended_text, with_started}
 use Rattle.target_contexts.specs.TargetsValue.{TargetsValue}
 use Rattle.target_contexts.specs.declared.process.Image.{Image}
 use Rattle.target_contexts.specs.declared.process.Process.{Process}
 use Rattle.target_contexts.specs.declared.process.ThreadState.TheVariants.{Running, Suspended}
 use Rattle.target_contexts.specs.declared.targets.StartRefusal.{StartRefusal}
 use Rattle.target_contexts.specs.declared.targets.StartRefusal.TheVariants.{Full, Size, Numbers}
-use Rattle.target_contexts.specs.Starting.{suspended_text}
 use Rattle.run_control.specs.Attaching.{attach_after, attached, detach_after, detached, start_fault_for}
 use Rattle.run_control.specs.Commands.{left_of, run_after, run_fault, run_left}
 use Rattle.run_control.specs.Ending.{end_after}

@@ -1,5 +1,5 @@
 -- Whole runs: what each step keeps, all keep.
-use Rattle.std.proofs.Common.{◌≡◌, ℕ, List, [], ◌∷◌, Some, arith}
+use Rattle.std.proofs.Common.{List, [], ◌∷◌, arith}
 use Rattle.target_contexts.specs.Laws.{ChangesOne, EndStaysOrderly, StartStaysOrderly}
 use Rattle.target_contexts.specs.Starting.{new_targets}
 use Rattle.target_contexts.specs.TargetsValue.{TargetsValue}

@@ -1,17 +1,17 @@
 -- A suspended thread's process is attached, and so is that of a thread whose instructions are counted.
-use Rattle.std.proofs.Common.{◌≡◌, ◌≢◌, ℕ, ℤ, ◌-◌, nat_lt, Bool, true, false, cond, not, List, [], ◌∷◌, ◌++◌, Option, Some, None, option_map, refl, sym, ◌∙◌, ap, subst, inl, inr, ◌⊎◌}
+use Rattle.std.proofs.Common.{◌≡◌, ℕ, Bool, true, false, List, Option, Some, None, option_map, refl, sym, ◌∙◌, ap, subst, inl, inr}
 use Rattle.tcf_values.specs.declared.values.BpProps.{BpProps}
 use Rattle.rv32i_core.specs.Machine.{Step, goes_on, ends, excepts, machine}
 use Rattle.breakpoints.specs.Status.{hits_of}
 use Rattle.target_contexts.specs.Changes.{with_change}
-use Rattle.target_contexts.specs.Laws.{AgreeBut, ChangesOne, EndsOne}
-use Rattle.target_contexts.specs.Live.{IsLive, IsOrderly, process_of, without}
+use Rattle.target_contexts.specs.Laws.{ChangesOne, EndsOne}
+use Rattle.target_contexts.specs.Live.{IsOrderly, process_of, without}
 use Rattle.target_contexts.specs.TargetsValue.{TargetsValue}
 use Rattle.target_contexts.specs.declared.process.Process.{Process}
 use Rattle.target_contexts.specs.declared.process.ThreadState.{ThreadState}
 use Rattle.target_contexts.specs.declared.process.ThreadState.TheVariants.{Running, Suspended}
 use Rattle.run_control.specs.Ending.{end_after}
-use Rattle.run_control.specs.Executing.{executed_by, executed_of, executed_with, fate_by, hits_at, settled, step_text, stepped, stepped_by}
+use Rattle.run_control.specs.Executing.{executed_of, fate_by, settled, stepped, stepped_by}
 use Rattle.run_control.specs.Laws.{AreSound, IsSound, needs_debugger}
 use Rattle.run_control.specs.Naming.{is_empty}
 use Rattle.run_control.specs.Steering.{with_state}

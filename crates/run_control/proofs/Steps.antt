@@ -1,12 +1,11 @@
 -- What one instruction says of the states of a trace.
-use Rattle.std.proofs.Common.{◌≡◌, ℕ, ℤ, Bool, true, false, List, [], ◌∷◌, Option, Some, None, refl, sym, ap, ◌∙◌}
+use Rattle.std.proofs.Common.{◌≡◌, ℕ, ℤ, false, List, [], ◌∷◌, Some, None, refl, sym, ap}
 use Rattle.tcf_values.specs.declared.values.BpProps.{BpProps}
-use Rattle.rv32i_core.specs.Machine.{Step, goes_on, ends, excepts, machine}
+use Rattle.rv32i_core.specs.Machine.{Step, goes_on, ends, excepts}
 use Rattle.target_contexts.specs.declared.process.Process.{Process}
-use Rattle.run_control.specs.Executing.{executed_by, executed_of, executed_with, hits_at, stepped, stepped_by}
+use Rattle.run_control.specs.Executing.{executed_by, executed_with, hits_at, stepped_by}
 use Rattle.run_control.specs.Naming.{is_empty}
-use Rattle.run_control.specs.Tracing.{halt_by, next_by, next_of}
-use Rattle.run_control.specs.declared.executing.Executed.{Executed}
+use Rattle.run_control.specs.Tracing.{halt_by, next_by}
 use Rattle.run_control.specs.declared.executing.Executed.TheVariants.{Plain, Hit, Exit, Exception}
 
 no_hits : (hits : List (List ℕ)) → executed_with hits ≡ Plain → hits ≡ []

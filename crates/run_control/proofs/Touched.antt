@@ -1,8 +1,7 @@
 -- An end is told once, and a tick touches one process.
-use Rattle.std.proofs.Common.{◌≡◌, ◌≢◌, ℕ, ℤ, List, [], ◌∷◌, Option, Some, None, refl, sym, ◌∙◌, ap}
+use Rattle.std.proofs.Common.{◌≡◌, ℕ, ℤ, List, [], ◌∷◌, Option, Some, None, refl, ◌∙◌, ap}
 use Rattle.std.specs.Option.{option_map_or}
 use Rattle.tcf_values.specs.declared.values.BpProps.{BpProps}
-use Rattle.tcf_values.specs.declared.ids.ContextId.{ContextId}
 use Rattle.breakpoints.specs.Statuses.{statuses_of}
 use Rattle.target_contexts.specs.Changes.{with_change}
 use Rattle.target_contexts.specs.Laws.{AgreeBut, ChangesOne, EndsOne}

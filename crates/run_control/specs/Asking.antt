@@ -1,6 +1,6 @@
 -- The commands that ask: getContext, getChildren and getState of RunControl, getContext and getChildren of Processes
 -- (TCF services RunControl and Processes).
-use Rattle.std.specs.Prelude.{ℕ, Bool, true, false, not, ◌&&◌, if◌then◌else◌, List, [], ◌∷◌, map, Option, Some, None, is_none, option_and_then}
+use Rattle.std.specs.Prelude.{ℕ, Bool, true, not, ◌&&◌, if◌then◌else◌, List, [], ◌∷◌, map, Option, Some, None, is_none, option_and_then}
 use Rattle.tcf_values.specs.Faults.{first_fault}
 use Rattle.tcf_values.specs.Ids.{context_of}
 use Rattle.tcf_values.specs.declared.answer.Answer.{Answer}
@@ -10,7 +10,6 @@ use Rattle.tcf_values.specs.declared.faults.Fault.TheVariants.{BadContext}
 use Rattle.tcf_values.specs.declared.ids.ContextId.{ContextId}
 use Rattle.tcf_values.specs.declared.ids.ContextId.TheVariants as ids
 use Rattle.tcf_values.specs.declared.values.ContextData.{ContextData}
-use Rattle.tcf_values.specs.declared.values.ProcessData.{ProcessData}
 use Rattle.tcf_values.specs.declared.values.RunState.{RunState}
 use Rattle.tcf_values.specs.declared.values.RunState.TheVariants as told
 use Rattle.target_contexts.specs.Contexts.{context_of as data_of}

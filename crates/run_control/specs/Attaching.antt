@@ -1,6 +1,6 @@
 -- Start, attach and detach (TCF service Processes): their checks, what they leave and what they tell of the target after
 -- them.
-use Rattle.std.specs.Prelude.{ℕ, Bool, true, false, if◌then◌else◌, List, [], ◌∷◌, ◌++◌, Option, Some, None, is_none, option_map}
+use Rattle.std.specs.Prelude.{ℕ, Bool, true, false, if◌then◌else◌, List, [], ◌∷◌, ◌++◌, Option, None, is_none, option_map}
 use Rattle.tcf_values.specs.Faults.{first_fault}
 use Rattle.tcf_values.specs.declared.event.EventData.{EventData}
 use Rattle.tcf_values.specs.declared.faults.Fault.{Fault}
@@ -8,7 +8,7 @@ use Rattle.tcf_values.specs.declared.faults.Fault.TheVariants.{Other, AlreadyAtt
 use Rattle.tcf_values.specs.declared.values.BpProps.{BpProps}
 use Rattle.target_contexts.specs.Changes.{with_change}
 use Rattle.target_contexts.specs.Live.{process_of}
-use Rattle.target_contexts.specs.Named.{is_attached, is_suspended, is_unattached, process_at_number}
+use Rattle.target_contexts.specs.Named.{is_attached, is_unattached, process_at_number}
 use Rattle.target_contexts.specs.Starting.{refusal_of, suspended_text}
 use Rattle.target_contexts.specs.TargetsValue.{TargetsValue}
 use Rattle.target_contexts.specs.declared.process.Process.{Process}

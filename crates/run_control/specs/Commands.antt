@@ -10,7 +10,7 @@ use Rattle.tcf_values.specs.declared.event.EventData.{EventData}
 use Rattle.tcf_values.specs.declared.faults.Fault.{Fault}
 use Rattle.tcf_values.specs.declared.values.BpProps.{BpProps}
 use Rattle.target_contexts.specs.Changes.{targets_by}
-use Rattle.target_contexts.specs.Named.{is_suspended, number_named, process_at_number, thread_named}
+use Rattle.target_contexts.specs.Named.{is_suspended, number_named, thread_named}
 use Rattle.target_contexts.specs.Starting.{started}
 use Rattle.target_contexts.specs.TargetsValue.{TargetsValue}
 use Rattle.run_control.specs.Asking.{children_fault, children_named, context_answer, context_fault, data_named, process_answer, process_fault, processes_fault, processes_named, state_answer, state_fault}

@@ -10,7 +10,7 @@ use Rattle.target_contexts.specs.Live.{process_of}
 use Rattle.target_contexts.specs.TargetsValue.{TargetsValue}
 use Rattle.target_contexts.specs.declared.process.Process.{Process}
 use Rattle.target_contexts.specs.declared.process.ThreadState.{ThreadState}
-use Rattle.target_contexts.specs.declared.process.ThreadState.TheVariants.{Running, Suspended}
+use Rattle.target_contexts.specs.declared.process.ThreadState.TheVariants.{Suspended}
 use Rattle.run_control.specs.Ending.{end_after, end_events}
 use Rattle.run_control.specs.Steering.{with_state}
 use Rattle.run_control.specs.Telling.{suspended_events}

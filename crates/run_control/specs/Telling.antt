@@ -5,7 +5,6 @@ use Rattle.tcf_values.specs.declared.event.EventData.TheVariants as events
 use Rattle.tcf_values.specs.declared.values.BpProps.{BpProps}
 use Rattle.breakpoints.specs.Statuses.{statuses_of}
 use Rattle.target_contexts.specs.Contexts.{process_data, thread_data}
-use Rattle.target_contexts.specs.Live.{process_of}
 use Rattle.target_contexts.specs.Named.{attached_in}
 use Rattle.target_contexts.specs.TargetsValue.{TargetsValue}
 use Rattle.target_contexts.specs.declared.process.Process.{Process}

@@ -1,4 +1,4 @@
-use Rattle.std.proofs.Common.{◌≡◌, ℕ, ◌+◌, ◌-◌, List, length, ap, sym, ◌∙◌, arith, length-append}
+use Rattle.std.proofs.Common.{ℕ, ◌+◌, ◌-◌, List, length, ap, sym, ◌∙◌, arith, length-append}
 use Rattle.run_control.specs.Tracing.{trace_of}
 use Rattle.run_control.specs.declared.executing.Executed.{Executed}
 use Rattle.run_control.proofs.Traces.{behind, loop_exception, loop_plain, loop_stop}

@@ -1,14 +1,13 @@
 -- Breakpoints that are changed in place: each stays under its ID.
-use Rattle.std.proofs.Common.{◌≡◌, ℕ, zero, suc, ◌+◌, ◌≤◌, ◌<◌, Bool, true, false, cond, not, ◌||◌, List, [], ◌∷◌, ◌++◌, length, map, filter, take, drop, slice_get, Option, Some, None, is_some, refl, sym, ap, subst, ◌∙◌, arith, add-one}
+use Rattle.std.proofs.Common.{◌≡◌, ℕ, zero, suc, Bool, true, false, cond, ◌||◌, List, [], ◌∷◌, ◌++◌, length, map, take, drop, slice_get, Some, refl, sym, ap, subst, ◌∙◌, arith}
 use Rattle.std.specs.Prelude.{bytes_eq}
 use Rattle.std.specs.Global.{Vec}
-use Rattle.std.specs.List.{AllByRecursion, IsDistinct, list_any}
+use Rattle.std.specs.List.{AllByRecursion, IsDistinct}
 use Rattle.std.specs.Map.{lookup, set_value, values_of}
 use Rattle.indexmap.specs.IndexMap.{set_value_at}
-use Rattle.std.proofs.lemmas.Bool.{cases_Bool, cond-true, cond-false}
 use Rattle.std.proofs.lemmas.Slice.Eq.{bytes_eq-Decides}
 use Rattle.tcf_values.specs.declared.values.BpProps.{BpProps}
-use Rattle.breakpoints.specs.Changes.{row_with_props, row_with_flag, with_props, with_flag, with_flags}
+use Rattle.breakpoints.specs.Changes.{row_with_props, row_with_flag, with_flag}
 use Rattle.breakpoints.specs.Keyed.{AreKeyed, IsKept, with_values}
 use Rattle.breakpoints.specs.Rows.{IsOrderly, ids_of, is_among, is_there}
 

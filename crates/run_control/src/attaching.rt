@@ -12,7 +12,7 @@ ghost use Rattle.run_control.specs.Naming.{process_named};
 ghost use Rattle.run_control.specs.Refusing.{IfDue};
 
 use crate::asking::process_answer;
-use crate::named::{is_attached, is_running, live_process};
+use crate::named::live_process;
 use crate::steering::suspended;
 use crate::telling::{tell_added, tell_changed, tell_resumed, tell_statuses, tell_suspended};
 use breakpoints::Breakpoints;
@@ -89,7 +89,7 @@ fn to_attach(targets: &Targets, id: &Text) -> Result<u32, Fault>
     ensures due { IfErr result (λ fault. attach_fault id.now targets.now.processes ≡ Some fault) }
 {
     let number = live_process(targets, id)?;
-    if is_attached(targets, number) {
+    if targets.is_attached(number) {
         return Err(Fault::AlreadyAttached);
     }
     Ok(number)
@@ -120,7 +120,7 @@ pub(crate) fn detach(
     ensures kept { IfErr result (λ refusal. IfDue refusal (targets.new ≡ targets.old)) }
 {
     let number = to_detach(targets, id)?;
-    let was_suspended = !is_running(targets, number);
+    let was_suspended = !targets.is_running(number);
     set_attached(targets, number, false, ThreadState::Running { left: None });
     let mut events = Events::new(alloc);
     tell_changed(alloc, targets, number, &mut events)?;
@@ -139,7 +139,7 @@ fn to_detach(targets: &Targets, id: &Text) -> Result<u32, Fault>
     ensures due { IfErr result (λ fault. detach_fault id.now targets.now.processes ≡ Some fault) }
 {
     let number = live_process(targets, id)?;
-    if !is_attached(targets, number) {
+    if !targets.is_attached(number) {
         return Err(Fault::Other);
     }
     Ok(number)

@@ -1,7 +1,6 @@
-//! Which live process a text names, and what is asked of it.
+//! Which live process a text names.
 ghost use Rattle.std.specs.Prelude.{◌≡◌, ◌<◌, Some, None, IfErr, IfOk, IsSome, OnOk};
-ghost use Rattle.target_contexts.specs.Live.{process_of};
-ghost use Rattle.target_contexts.specs.Named.{is_attached, is_running, number_named, process_at_number, thread_named};
+ghost use Rattle.target_contexts.specs.Named.{number_named, process_at_number, thread_named};
 ghost use Rattle.run_control.specs.Naming.{process_named};
 
 use target_contexts::Targets;
@@ -51,25 +50,5 @@ pub(crate) fn live_process(targets: &Targets, id: &Text) -> Result<u32, Fault>
     match targets.process(number) {
         Some(_) => Ok(number),
         None => Err(Fault::BadContext),
-    }
-}
-
-/// Whether the thread of a live process runs.
-pub(crate) fn is_running(targets: &Targets, number: u32) -> bool
-    ensures { result ≡ is_running (process_of number targets.now.processes) }
-{
-    match targets.process(number) {
-        Some(process) => process.state.runs(),
-        None => false,
-    }
-}
-
-/// Whether a live process is attached.
-pub(crate) fn is_attached(targets: &Targets, number: u32) -> bool
-    ensures { result ≡ is_attached (process_of number targets.now.processes) }
-{
-    match targets.process(number) {
-        Some(process) => process.attached,
-        None => false,
     }
 }

@@ -9,7 +9,7 @@ ghost use Rattle.run_control.specs.Refusing.{IfDue};
 ghost use Rattle.run_control.specs.Steering.{is_no_count, left_by, most_steps, resume_after, resume_fault, suspend_after, suspend_events, suspend_fault, with_state};
 ghost use Rattle.run_control.specs.Telling.{resumed_events};
 
-use crate::named::{is_attached, is_running, live_thread};
+use crate::named::live_thread;
 use crate::telling::{tell_resumed, tell_suspended};
 use std::alloc::{AllocError, Global};
 use target_contexts::{Targets, ThreadState};
@@ -110,7 +110,7 @@ fn to_resume(targets: &Targets, id: &Text, mode: i128, count: i128) -> Result<u3
     if is_no_count(most_steps(mode), count) {
         return Err(Fault::BadNumber);
     }
-    if is_running(targets, number) {
+    if targets.is_running(number) {
         return Err(Fault::AlreadyRunning);
     }
     Ok(number)
@@ -147,10 +147,10 @@ fn to_suspend(targets: &Targets, id: &Text) -> Result<u32, Fault>
     ensures due { IfErr result (λ fault. suspend_fault id.now targets.now.processes ≡ Some fault) }
 {
     let number = live_thread(targets, id)?;
-    if !is_running(targets, number) {
+    if !targets.is_running(number) {
         return Err(Fault::AlreadyStopped);
     }
-    if !is_attached(targets, number) {
+    if !targets.is_attached(number) {
         return Err(Fault::Other);
     }
     Ok(number)

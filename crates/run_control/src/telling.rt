@@ -5,7 +5,6 @@ ghost use Rattle.target_contexts.specs.Named.{attached_in, is_attached};
 ghost use Rattle.run_control.specs.Naming.{process_id, thread_id};
 ghost use Rattle.run_control.specs.Telling.{added_events, changed_events, resumed_events, statuses_in, suspended_events};
 
-use crate::named::is_attached;
 use breakpoints::Breakpoints;
 use std::alloc::{AllocError, Global};
 use target_contexts::{THREAD, Targets, ThreadState};
@@ -27,7 +26,7 @@ fn attached_among(alloc: Global, targets: &Targets, numbers: &[u32]) -> Result<V
 {
     let mut attached = Vec::new(alloc);
     for number in numbers {
-        if is_attached(targets, *number) {
+        if targets.is_attached(*number) {
             attached.push(*number)?;
         }
     }

@@ -6,7 +6,6 @@ ghost use Rattle.run_control.specs.Executing.{stepped};
 ghost use Rattle.run_control.specs.Ticking.{counted, counted_by, running_number, tick_after, tick_events, tick_fate, ticked, ticked_events};
 
 use crate::executing::{Fate, execute_one, fate_of, settle, stopped_by_step};
-use crate::named::is_running;
 use breakpoints::Breakpoints;
 use std::alloc::{AllocError, Global};
 use target_contexts::{Targets, ThreadState, thread_for};

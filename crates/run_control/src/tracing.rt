@@ -9,7 +9,7 @@ ghost use Rattle.run_control.specs.Refusing.{IfDue};
 ghost use Rattle.run_control.specs.Tracing.{trace_after, trace_fault, trace_of, traced_of};
 
 use crate::executing::{Executed, Fate, execute_one, fate_of, settle, stopped_by_step};
-use crate::named::{is_running, live_thread};
+use crate::named::live_thread;
 use crate::steering::{MOST_STEPS, is_no_count};
 use breakpoints::Breakpoints;
 use std::alloc::{AllocError, Global};
@@ -55,7 +55,7 @@ fn to_trace(targets: &Targets, id: &Text, count: i128) -> Result<u32, Fault>
     if is_no_count(MOST_STEPS, count) {
         return Err(Fault::BadNumber);
     }
-    if is_running(targets, number) {
+    if targets.is_running(number) {
         return Err(Fault::AlreadyRunning);
     }
     Ok(number)

@@ -1,7 +1,7 @@
 //! What an ID names among the live processes.
 ghost use Rattle.std.specs.Prelude.{◌≡◌, ◌<◌, ◌↔◌, Some, IfSome, IsSome, OnSome};
 ghost use Rattle.target_contexts.specs.Live.{process_of};
-ghost use Rattle.target_contexts.specs.Named.{number_for as the_number_for, number_named, process_at_number, thread_for as the_thread_for, thread_named, runs};
+ghost use Rattle.target_contexts.specs.Named.{is_attached, is_running, number_for as the_number_for, number_named, process_at_number, thread_for as the_thread_for, thread_named, runs};
 
 use crate::context::THREAD;
 use crate::process::ThreadState;
@@ -59,6 +59,26 @@ impl Targets {
         ensures found { IsSome result ↔ IsSome (process_at_number (thread_named id.now) self.now.processes) }
     {
         self.lives(thread_for(context_id(id)?)?)
+    }
+
+    /// Whether the thread of a live process runs.
+    pub fn is_running(&self, number: u32) -> bool
+        ensures { result ≡ is_running (process_of number self.now.processes) }
+    {
+        match self.process(number) {
+            Some(process) => process.state.runs(),
+            None => false,
+        }
+    }
+
+    /// Whether a live process is attached.
+    pub fn is_attached(&self, number: u32) -> bool
+        ensures { result ≡ is_attached (process_of number self.now.processes) }
+    {
+        match self.process(number) {
+            Some(process) => process.attached,
+            None => false,
+        }
     }
 
     /// The number, where a live process has it.

@@ -1,6 +1,5 @@
 -- The properties of the breakpoints stay such that a command can give them.
-use Rattle.std.proofs.Common.{◌≡◌, ℕ, Bool, true, false, cond, not, List, [], ◌∷◌, ◌++◌, map, filter, refl, bytes_eq, ◌==◌}
-use Rattle.std.specs.List.{AllByRecursion}
+use Rattle.std.proofs.Common.{◌≡◌, ℕ, Bool, true, false, cond, not, List, [], ◌∷◌, refl, bytes_eq, ◌==◌}
 use Rattle.json_values.specs.Props.{is_bp}
 use Rattle.command_tables.specs.Canonical.{IsReadable}
 use Rattle.tcf_values.specs.declared.command.Command.{Command}

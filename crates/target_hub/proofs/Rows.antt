@@ -1,16 +1,12 @@
 -- The answer to each command is one of its row.
-use Rattle.std.proofs.Common.{◌≡◌, ℕ, ℤ, pos, ◌<◌, ◌^◌, Bool, true, false, cond, not, ◌&&◌, List, [], ◌∷◌, ◌++◌, Option, Some, None, option_map, option_and_then, refl, sym, ap, subst, ◌∙◌, bytes_eq, length, ◌==◌, lit<}
+use Rattle.std.proofs.Common.{◌≡◌, ℕ, ◌<◌, ◌^◌, Bool, true, false, cond, List, [], ◌∷◌, Option, Some, None, option_map, option_and_then, refl, bytes_eq, length, ◌==◌, lit<}
 use Rattle.std.specs.Prelude.{is_none, unsigned_abs}
-use Rattle.std.specs.List.{AllByRecursion}
-use Rattle.json_args.specs.Kinds.{IsWhole}
 use Rattle.json_values.specs.Contexts.{IsContext}
 use Rattle.json_values.specs.Props.{is_bp}
 use Rattle.reply_tables.specs.Limits.{IsAnswerTo, IsOfRow}
-use Rattle.reply_tables.specs.Rows.{row_of}
 use Rattle.reply_tables.specs.declared.rows.Kind.{Kind}
 use Rattle.reply_tables.specs.declared.rows.Row.{Row}
-use Rattle.reply_tables.specs.declared.rows.Row.TheVariants.{NoData, ErrorAlone, ErrorNull, ErrorThen, ErrorState, BlobErrorNull}
-use Rattle.command_tables.specs.Canonical.{IsReadable}
+use Rattle.reply_tables.specs.declared.rows.Row.TheVariants.{ErrorAlone, ErrorNull, ErrorThen, ErrorState, BlobErrorNull}
 use Rattle.tcf_values.specs.Effects.{effect_by, failed}
 use Rattle.tcf_values.specs.Faults.{code_of, first_fault}
 use Rattle.tcf_values.specs.Ids.{context_of}
@@ -26,7 +22,6 @@ use Rattle.tcf_values.specs.declared.values.ContextData.{ContextData}
 use Rattle.breakpoints.specs.Changes.{added_by, changed_by, done, is_refused, removed_by}
 use Rattle.breakpoints.specs.Rows.{props_of}
 use Rattle.breakpoints.specs.Status.{instances_of}
-use Rattle.breakpoints.specs.declared.breakpoints.BpDone.{BpDone}
 use Rattle.breakpoints.specs.declared.breakpoints.BpDone.TheVariants.{Failed, Changed}
 use Rattle.data_services.specs.Commands.{data_fault}
 use Rattle.target_contexts.specs.Contexts.{context_of as data_of, process_data, thread_data}
@@ -34,7 +29,7 @@ use Rattle.target_contexts.specs.Images.{image_of}
 use Rattle.target_contexts.specs.Laws.{StartsOne}
 use Rattle.target_contexts.specs.Live.{IsOrderly, process_of}
 use Rattle.target_contexts.specs.Named.{attached_in, process_at_number, thread_named}
-use Rattle.target_contexts.specs.Starting.{new_process, refusal_for, refusal_of, started, with_started}
+use Rattle.target_contexts.specs.Starting.{new_process, refusal_for, started, with_started}
 use Rattle.target_contexts.specs.TargetsValue.{TargetsValue}
 use Rattle.target_contexts.specs.declared.process.Image.{Image}
 use Rattle.target_contexts.specs.declared.process.Process.{Process}

@@ -1,5 +1,5 @@
 -- Each event that the target tells can be written.
-use Rattle.std.proofs.Common.{◌≡◌, ℕ, ℤ, pos, negsuc, neg_ℤ, ◌<◌, ◌^◌, ◌-◌, ◌%◌, ◌==◌, ltb, Bool, true, false, cond, ◌&&◌, List, [], ◌∷◌, ◌++◌, map, Option, Some, None, option_and_then, option_map, refl, sym, ap, subst, suc, drop, length, arith, lit<}
+use Rattle.std.proofs.Common.{◌≡◌, ℕ, ℤ, pos, negsuc, ◌<◌, ◌^◌, ◌-◌, ◌%◌, ◌==◌, ltb, Bool, true, false, cond, ◌&&◌, List, [], ◌∷◌, map, Option, Some, None, option_map, refl, suc, drop, length, arith, lit<}
 use Rattle.std.proofs.lemmas.Bool.{ltb-true}
 use Rattle.std.specs.List.{AllByRecursion}
 use Rattle.std.specs.Option.{IfSome}
@@ -8,14 +8,10 @@ use Rattle.json_args.specs.Kinds.{IsWhole}
 use Rattle.json_values.specs.Contexts.{IsContext}
 use Rattle.json_values.specs.Statuses.{IsInstance, IsPlace}
 use Rattle.reply_tables.specs.Events.{IsEvent}
-use Rattle.tcf_values.specs.declared.event.EventData.{EventData}
 use Rattle.tcf_values.specs.declared.ids.ContextId.{ContextId}
 use Rattle.tcf_values.specs.declared.values.BpProps.{BpProps}
-use Rattle.tcf_values.specs.declared.values.ContextData.{ContextData}
-use Rattle.tcf_values.specs.declared.values.Instance.{Instance}
-use Rattle.tcf_values.specs.declared.values.Place.{Place}
-use Rattle.breakpoints.specs.Address.{address_in, address_of, is_address, is_numeral, is_prefixed}
-use Rattle.breakpoints.specs.Status.{instance_of, instances_of, is_for, place_at, place_of}
+use Rattle.breakpoints.specs.Address.{address_in, is_address, is_numeral, is_prefixed}
+use Rattle.breakpoints.specs.Status.{instance_of, instances_of, place_at, place_of}
 use Rattle.breakpoints.specs.Statuses.{status_event, statuses_of}
 use Rattle.rv32i_core.specs.Integers.{signed, sum, unsigned}
 use Rattle.rv32i_core.specs.Bytes.{is_inside, word_at}
@@ -34,13 +30,13 @@ use Rattle.target_contexts.specs.declared.process.ThreadState.{ThreadState}
 use Rattle.target_contexts.specs.declared.process.ThreadState.TheVariants.{Running, Suspended}
 use Rattle.run_control.specs.Ending.{end_events}
 use Rattle.run_control.specs.Executing.{executed_by, executed_with, exception_code, fate_by, settled_events, step_text}
-use Rattle.run_control.specs.Telling.{added_events, changed_events, resumed_events, statuses_in, stop_events, suspended_events}
+use Rattle.run_control.specs.Telling.{added_events, changed_events, stop_events, suspended_events}
 use Rattle.run_control.specs.Ticking.{counted, running_number, ticked_events, ticked_events_at}
 use Rattle.run_control.specs.Tracing.{halt_by, last_hits, last_of, states_of, stop_by, trace_events, traced_events_at}
 use Rattle.target_hub.specs.Limits.{AreEvents}
 use Rattle.target_hub.specs.Passing.{tick_told}
 use Rattle.target_hub.specs.declared.target.Target.{Target}
-use Rattle.target_hub.proofs.Lists.{all_append, all_map}
+use Rattle.target_hub.proofs.Lists.{all_map}
 
 -- ---- statuses: an address lies below 65,536
 

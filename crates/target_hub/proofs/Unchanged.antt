@@ -1,7 +1,6 @@
 -- What changes nothing and tells nothing.
-use Rattle.std.proofs.Common.{◌≡◌, ℕ, Bool, true, false, cond, List, [], ◌∷◌, ◌++◌, Option, Some, None, refl, subst}
+use Rattle.std.proofs.Common.{◌≡◌, ℕ, Bool, true, false, cond, List, [], Option, Some, None, refl, subst}
 use Rattle.std.specs.Prelude.{unsigned_abs}
-use Rattle.tcf_values.specs.Changing.{changes}
 use Rattle.tcf_values.specs.Effects.{effect_by, failed, gives}
 use Rattle.tcf_values.specs.declared.answer.Answer.{Answer}
 use Rattle.tcf_values.specs.declared.answer.Answer.TheVariants as answers

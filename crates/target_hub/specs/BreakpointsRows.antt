@@ -1,5 +1,5 @@
 -- What the commands of the service Breakpoints give and what they leave (TCF service Breakpoints).
-use Rattle.std.specs.Prelude.{ℕ, Bool, true, false, not, ◌&&◌, if◌then◌else◌, List, [], ◌∷◌, ◌++◌, map, Option, Some, None, is_none}
+use Rattle.std.specs.Prelude.{ℕ, not, ◌&&◌, if◌then◌else◌, List, [], ◌∷◌, ◌++◌, map, Option, Some, None, is_none}
 use Rattle.tcf_values.specs.Effects.{effect_by, gives, tells}
 use Rattle.tcf_values.specs.Errors.{report_of}
 use Rattle.tcf_values.specs.Faults.{first_fault}
@@ -15,7 +15,6 @@ use Rattle.tcf_values.specs.declared.faults.Fault.TheVariants.{Other, BadContext
 use Rattle.tcf_values.specs.declared.values.BpProps.{BpProps}
 use Rattle.tcf_values.specs.declared.values.BpStatus.{BpStatus}
 use Rattle.target_contexts.specs.Named.{attached_in, number_named, process_at_number}
-use Rattle.target_contexts.specs.declared.process.Process.{Process}
 use Rattle.breakpoints.specs.Changes.{after, changes_list, done}
 use Rattle.breakpoints.specs.Rows.{ids_of, props_of}
 use Rattle.breakpoints.specs.Status.{status_of}

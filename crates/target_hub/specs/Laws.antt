@@ -1,5 +1,5 @@
 -- The laws of the target, over every target.
-use Rattle.std.specs.Prelude.{ℕ, ◌≡◌, false, List, []}
+use Rattle.std.specs.Prelude.{ℕ, ◌≡◌, false, []}
 use Rattle.breakpoints.specs.Rows.{owned_by}
 use Rattle.tcf_values.specs.Changing.{changes}
 use Rattle.tcf_values.specs.declared.answer.Answer.TheVariants.{Failed}

@@ -13,7 +13,10 @@ use crate::target::Target;
 use breakpoints::{BpDone, status_event};
 use run_control::attached;
 use std::alloc::{AllocError, Global};
-use tcf_values::{Answer, BpProps, Command, Duplicate, Effect, EventData, Events, Fault, Props, Refusal, Text, Texts, report};
+use tcf_values::{
+    Answer, BpProps, Command, Duplicate, Effect, EventData, Events, Fault, Props, Refusal, Text,
+    Texts, report,
+};
 
 /// Executes a command of Breakpoints that changes the list.
 #[tactic(auto, using(crate::proofs::Kept::after_readable, crate::proofs::Kept::codes_known))]

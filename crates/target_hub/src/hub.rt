@@ -195,19 +195,9 @@ fn running_among(
 {
     let mut threads = Vec::new(alloc);
     for number in numbers {
-        if runs(targets, *number) {
+        if targets.is_running(*number) {
             threads.push(ContextId::Thread(*number, THREAD))?;
         }
     }
     Ok(threads)
-}
-
-/// Whether the thread of a live process runs.
-fn runs(targets: &Targets, number: u32) -> bool
-    ensures { result ≡ is_running (process_of number targets.now.processes) }
-{
-    match targets.process(number) {
-        Some(process) => process.state.runs(),
-        None => false,
-    }
 }

@@ -97,10 +97,18 @@ fn a_process_without_a_debugger_ends_by_an_exception(rt: HostRuntime) -> Result<
     let mut hub = hub(rt.alloc())?;
     let start = b"\"\"\0\"a\"\0[]\0[]\0false\0";
     let done = run(rt.alloc(), &mut hub, 0, ("Processes", "start"), start)?;
-    assert_told(&rt, done.events.as_slice(), b"contextAdded[{\"CanCount\":0,\"CanResume\":0,\"CanSuspend\":false,\"CanTerminate\":true,\"HasState\":false,\"ID\":\"P1\",\"IsContainer\":true,\"Name\":\"a\",\"ProcessID\":\"P1\"},{\"CanCount\":0,\"CanResume\":0,\"CanSuspend\":false,\"CanTerminate\":true,\"HasState\":true,\"ID\":\"P1.1\",\"IsContainer\":false,\"ParentID\":\"P1\",\"ProcessID\":\"P1\"}]\0")?;
+    assert_told(
+        &rt,
+        done.events.as_slice(),
+        b"contextAdded[{\"CanCount\":0,\"CanResume\":0,\"CanSuspend\":false,\"CanTerminate\":true,\"HasState\":false,\"ID\":\"P1\",\"IsContainer\":true,\"Name\":\"a\",\"ProcessID\":\"P1\"},{\"CanCount\":0,\"CanResume\":0,\"CanSuspend\":false,\"CanTerminate\":true,\"HasState\":true,\"ID\":\"P1.1\",\"IsContainer\":false,\"ParentID\":\"P1\",\"ProcessID\":\"P1\"}]\0",
+    )?;
     tick(&rt, &mut hub, b"")?;
     tick(&rt, &mut hub, b"")?;
-    tick(&rt, &mut hub, b"contextRemoved[\"P1.1\",\"P1\"]\0exited\"P1\"\0-2\0")?;
+    tick(
+        &rt,
+        &mut hub,
+        b"contextRemoved[\"P1.1\",\"P1\"]\0exited\"P1\"\0-2\0",
+    )?;
     assert!(rt; hub.tick(ContextId::Thread(1, 1))?.is_none());
     Ok(())
 }
@@ -110,7 +118,13 @@ fn what_is_not_known_is_told_from_what_does_not_read(rt: HostRuntime) -> Result<
     let mut hub = hub(rt.alloc())?;
     let done = run(rt.alloc(), &mut hub, 0, ("Symbols", "find"), b"\"P1\"\0")?;
     assert!(rt; matches!(&done.answer, Answered::Unknown));
-    let done = run(rt.alloc(), &mut hub, 0, ("RunControl", "getContext"), b"5\0")?;
+    let done = run(
+        rt.alloc(),
+        &mut hub,
+        0,
+        ("RunControl", "getContext"),
+        b"5\0",
+    )?;
     assert_result(&rt, &done, b"{\"Code\":3,\"Format\":\"protocol\"}\0null\0");
     Ok(())
 }
@@ -118,7 +132,13 @@ fn what_is_not_known_is_told_from_what_does_not_read(rt: HostRuntime) -> Result<
 #[test]
 fn an_agent_knows_no_peers(rt: HostRuntime) -> Result<(), Fail> {
     let mut hub = hub(rt.alloc())?;
-    let done = run(rt.alloc(), &mut hub, 0, ("Locator", "redirect"), b"\"V2\"\0")?;
+    let done = run(
+        rt.alloc(),
+        &mut hub,
+        0,
+        ("Locator", "redirect"),
+        b"\"V2\"\0",
+    )?;
     assert_result(&rt, &done, b"{\"Code\":7,\"Format\":\"unknown-peer\"}\0");
     let done = run(rt.alloc(), &mut hub, 0, ("Locator", "getPeers"), b"")?;
     assert_result(&rt, &done, b"\0[]\0");
@@ -130,7 +150,11 @@ fn a_channel_that_goes_takes_its_breakpoints_with_it(rt: HostRuntime) -> Result<
     let mut hub = hub(rt.alloc())?;
     let props = b"{\"ID\":\"b1\",\"Location\":\"8\"}\0";
     let done = run(rt.alloc(), &mut hub, 1, ("Breakpoints", "add"), props)?;
-    assert_told(&rt, done.events.as_slice(), b"contextAdded[{\"Enabled\":false,\"ID\":\"b1\",\"Location\":\"8\"}]\0status\"b1\"\0{\"Instances\":[]}\0")?;
+    assert_told(
+        &rt,
+        done.events.as_slice(),
+        b"contextAdded[{\"Enabled\":false,\"ID\":\"b1\",\"Location\":\"8\"}]\0status\"b1\"\0{\"Instances\":[]}\0",
+    )?;
     let done = run(rt.alloc(), &mut hub, 0, ("Breakpoints", "add"), props)?;
     assert_result(&rt, &done, b"{\"Code\":1,\"Format\":\"other\"}\0");
     let told = hub.close(1)?;

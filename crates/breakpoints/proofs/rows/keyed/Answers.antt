@@ -1,7 +1,7 @@
-use Rattle.std.proofs.Common.{◌≡◌, true, false, not, is_some, sym, ap, ◌∙◌, length, ◌≤◌}
+use Rattle.std.proofs.Common.{◌≡◌, true, false, not, is_some, sym, ap, ◌∙◌}
 use Rattle.std.specs.Prelude.{bytes_eq}
 use Rattle.std.specs.Map.{lookup}
-use Rattle.breakpoints.proofs.Fresh.{Pushes, given_once, given_twice, pushes}
+use Rattle.breakpoints.proofs.Fresh.{given_once, given_twice, pushes}
 use Rattle.breakpoints.proofs.rows.keyed.Goals as goal
 
 pub returns-then-is_some-clause-twice : goal.returns-then-is_some-clause-twice

@@ -1,5 +1,5 @@
-use Rattle.std.proofs.Common.{◌≡◌, ℕ, List, [], ◌∷◌, ◌++◌, sym, ap, subst, ◌∙◌, if◌then◌else◌}
-use Rattle.std.specs.Prelude.{Result, IfOk, OnOk}
+use Rattle.std.proofs.Common.{◌≡◌, ℕ, List, [], ◌∷◌, ◌++◌, ap, subst, ◌∙◌, if◌then◌else◌}
+use Rattle.std.specs.Prelude.{IfOk, OnOk}
 use Rattle.tcf_values.specs.declared.values.BpProps.{BpProps}
 use Rattle.breakpoints.specs.declared.breakpoints.BpDone.TheVariants.{Failed, Changed}
 use Rattle.breakpoints.specs.Changes.{has_no_place}

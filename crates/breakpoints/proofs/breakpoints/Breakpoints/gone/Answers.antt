@@ -1,4 +1,4 @@
-use Rattle.std.proofs.Common.{◌≡◌, sym, ap, subst, ◌∙◌}
+use Rattle.std.proofs.Common.{sym, ap, subst, ◌∙◌}
 use Rattle.std.specs.Map.{values_of}
 use Rattle.breakpoints.specs.Keyed.{IsKept}
 use Rattle.breakpoints.specs.Rows.{others}

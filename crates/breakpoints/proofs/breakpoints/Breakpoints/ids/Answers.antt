@@ -1,7 +1,3 @@
-use Rattle.std.proofs.Common.{◌≡◌, ap, subst, ◌∙◌}
-use Rattle.std.specs.Prelude.{Result, Ok, Err, IfOk}
-use Rattle.tcf_values.specs.declared.values.BpProps.{BpProps}
-use Rattle.breakpoints.specs.Rows.{ids_of}
 use Rattle.breakpoints.proofs.Filtered.{filter_all}
 use Rattle.breakpoints.proofs.breakpoints.Breakpoints.ids.Goals as goal
 

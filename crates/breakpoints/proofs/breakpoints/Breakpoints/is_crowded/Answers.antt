@@ -1,12 +1,11 @@
-use Rattle.std.proofs.Common.{◌≡◌, ℕ, ◌+◌, ◌≤◌, Bool, not, ◌||◌, List, length, refl, sym, ap, subst, ◌∙◌, arith}
+use Rattle.std.proofs.Common.{◌≡◌, ℕ, ◌+◌, ◌≤◌, not, ◌||◌, List, length, refl, sym, ap, ◌∙◌, arith}
 use Rattle.std.specs.Global.{Vec}
 use Rattle.std.specs.Map.{values_of}
 use Rattle.std.proofs.lemmas.List.{length-map}
 use Rattle.std.proofs.lemmas.List.Filters.{length-filter_both}
 use Rattle.tcf_values.specs.declared.values.BpProps.{BpProps}
-use Rattle.breakpoints.specs.Changes.{clashes, is_overfull}
+use Rattle.breakpoints.specs.Changes.{is_overfull}
 use Rattle.breakpoints.specs.Keyed.{IsKept}
-use Rattle.breakpoints.specs.Rows.{IsOrderly}
 use Rattle.breakpoints.specs.Selecting.{selected, selects, unselected}
 use Rattle.breakpoints.specs.declared.selection.Selection.{Selection}
 use Rattle.breakpoints.proofs.Fresh.{not_over_by, over_by}

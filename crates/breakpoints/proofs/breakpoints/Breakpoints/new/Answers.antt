@@ -1,4 +1,4 @@
-use Rattle.std.proofs.Common.{◌≡◌, List, [], ◌≤◌, length, sym, subst, arith}
+use Rattle.std.proofs.Common.{[], sym, subst, arith}
 use Rattle.std.specs.List.{IsDistinct}
 use Rattle.breakpoints.specs.Keyed.{IsKept}
 use Rattle.breakpoints.proofs.breakpoints.Breakpoints.new.Goals as goal

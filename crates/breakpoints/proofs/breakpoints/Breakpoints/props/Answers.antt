@@ -1,4 +1,4 @@
-use Rattle.std.proofs.Common.{◌≡◌, true, false, sym, ap, ◌∙◌}
+use Rattle.std.proofs.Common.{◌≡◌, false, sym, ap, ◌∙◌}
 use Rattle.breakpoints.specs.Rows.{is_there}
 use Rattle.breakpoints.proofs.Lookup.{none_found, one_found}
 use Rattle.breakpoints.proofs.breakpoints.Breakpoints.props.Goals as goal

@@ -1,15 +1,13 @@
-use Rattle.std.proofs.Common.{◌≡◌, ◌≢◌, ℕ, List, ◌++◌, Bool, true, false, not, ◌||◌, filter, sym, ap, subst, ◌∙◌, rules}
-use Rattle.std.specs.Prelude.{is_some, map}
-use Rattle.std.specs.Global.{Vec}
+use Rattle.std.proofs.Common.{◌≡◌, ℕ, List, false, not, ◌||◌, filter, sym, ap, ◌∙◌}
+use Rattle.std.specs.Prelude.{map}
 use Rattle.std.specs.Map.{values_of}
-use Rattle.std.proofs.lemmas.Bool.{cond-true, cond-false}
+use Rattle.std.proofs.lemmas.Bool.{cond-false}
 use Rattle.tcf_values.specs.declared.values.BpProps.{BpProps}
-use Rattle.breakpoints.specs.Changes.{clashes, has_no_place, has_twice, is_overfull}
-use Rattle.breakpoints.specs.Keyed.{AreKeyed, IsKept}
-use Rattle.breakpoints.specs.Rows.{is_there, rows_for}
+use Rattle.breakpoints.specs.Changes.{clashes, has_twice, is_overfull}
+use Rattle.breakpoints.specs.Rows.{rows_for}
 use Rattle.breakpoints.specs.Selecting.{selects, unselected}
 use Rattle.breakpoints.proofs.Filtered.{keyed_filter, values-filter}
-use Rattle.breakpoints.proofs.Fresh.{a_place, apart_from, kept_append, no_place_crowded, no_place_twice, not_twice, or_parts, values_append}
+use Rattle.breakpoints.proofs.Fresh.{a_place, apart_from, kept_append, not_twice, or_parts, values_append}
 use Rattle.breakpoints.proofs.breakpoints.Breakpoints.put.Goals as goal
 
 -- no ID of the new ones is among those that stay

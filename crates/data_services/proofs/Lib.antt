@@ -1,3 +1,4 @@
 pub mod Ranges
 pub mod PartSteps
 pub mod Lawful
+pub mod Threads

@@ -1,5 +1,5 @@
 -- Laws of the commands of Memory and Registers, over every target.
-use Rattle.std.specs.Prelude.{ℕ, ℤ, ◌≡◌, ◌≢◌, ◌==◌, ◌<◌, Bool, false, List, [], length, slice_index, Option, Some, None}
+use Rattle.std.specs.Prelude.{ℕ, ℤ, ◌≡◌, ◌≢◌, ◌==◌, ◌<◌, Bool, false, List, [], length, slice_index, Option, Some, None, option_map}
 use Rattle.std.specs.List.{list_any}
 use Rattle.tcf_values.specs.Changing.{changes}
 use Rattle.tcf_values.specs.Ids.{register_of}
@@ -8,9 +8,10 @@ use Rattle.tcf_values.specs.declared.command.Command.{Command}
 use Rattle.tcf_values.specs.declared.command.Command.TheVariants.{MemGet, MemSet, RegGet, RegSet, RegSetm}
 use Rattle.tcf_values.specs.declared.errors.ErrorReport.{ErrorReport}
 use Rattle.tcf_values.specs.declared.ids.RegisterId.{RegisterId}
-use Rattle.target_contexts.specs.Live.{process_of}
+use Rattle.target_contexts.specs.Live.{IsOrderly, process_of}
 use Rattle.target_contexts.specs.TargetsValue.{TargetsValue}
 use Rattle.target_contexts.specs.declared.process.Process.{Process}
+use Rattle.target_contexts.specs.declared.process.ThreadState.{ThreadState}
 use Rattle.data_services.specs.Commands.{data_after, data_effect}
 use Rattle.tcf_values.specs.Effects.{gives}
 use Rattle.target_contexts.specs.Named.{number_named}
@@ -48,6 +49,21 @@ writes number _ = false
 abbrev pub OthersStay : Type 0
 OthersStay = (command : Command) (targets : TargetsValue) (number : ℕ) → writes number command ≡ false →
     process_of number (data_after command targets).processes ≡ process_of number targets.processes
+
+-- ---- threads go on as they are
+
+abbrev pub thread_part : Process → ThreadState × Bool
+thread_part process = (process.state, process.attached)
+
+-- whether a thread runs, and whether its process is attached, stays
+abbrev pub ThreadsStay : Type 0
+ThreadsStay = (command : Command) (targets : TargetsValue) (number : ℕ) →
+    option_map thread_part (process_of number (data_after command targets).processes) ≡ option_map thread_part (process_of number targets.processes)
+
+-- the processes stay orderly
+abbrev pub OrderStays : Type 0
+OrderStays = (command : Command) (targets : TargetsValue) → IsOrderly targets.processes targets.next →
+    IsOrderly (data_after command targets).processes (data_after command targets).next
 
 -- ---- what is set is got
 

@@ -11,7 +11,8 @@ mod registers;
 
 pub use commands::apply;
 pub use laws::{
-    a_failure_changes_nothing, asking_changes_nothing, other_processes_stay, what_is_set_is_got,
+    a_failure_changes_nothing, asking_changes_nothing, other_processes_stay, threads_stay,
+    what_is_set_is_got,
 };
 
 #[cfg(test)]

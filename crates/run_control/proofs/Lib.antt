@@ -8,4 +8,3 @@ pub mod Soundness
 pub mod Commanded
 pub mod Touched
 pub mod Orderly
-pub mod Runs

@@ -8,9 +8,7 @@ use Rattle.tcf_values.specs.declared.ids.ContextId.{ContextId}
 use Rattle.tcf_values.specs.declared.values.BpProps.{BpProps}
 use Rattle.target_contexts.specs.Laws.{AgreeBut}
 use Rattle.target_contexts.specs.Live.{IsLive, IsOrderly, process_of}
-use Rattle.target_contexts.specs.Starting.{new_targets}
 use Rattle.target_contexts.specs.TargetsValue.{TargetsValue}
-use Rattle.target_contexts.specs.declared.process.Image.{Image}
 use Rattle.target_contexts.specs.declared.process.Process.{Process}
 use Rattle.target_contexts.specs.declared.process.ThreadState.{ThreadState}
 use Rattle.target_contexts.specs.declared.process.ThreadState.TheVariants.{Running, Suspended}
@@ -63,26 +61,12 @@ abbrev pub TicksKeepSound : Type 0
 TicksKeepSound = (thread : ContextId) (bps : List (ℕ × BpProps)) (targets : TargetsValue) → IsOrderly targets.processes targets.next →
     AreSound targets.processes → AreSound (tick_after bps thread targets).processes
 
--- ---- whole runs: commands and ticks, one after another, each beside the breakpoints that there are then
+-- ---- the processes stay orderly
 
-pub data Step : Type 0 where
-  command : Command → List (ℕ × BpProps) → Step
-  tick : ContextId → List (ℕ × BpProps) → Step
+abbrev pub CommandsKeepOrder : Type 0
+CommandsKeepOrder = (command : Command) (bps : List (ℕ × BpProps)) (targets : TargetsValue) → IsOrderly targets.processes targets.next →
+    IsOrderly (run_after command bps targets).processes (run_after command bps targets).next
 
-abbrev pub step_after : Step → TargetsValue → TargetsValue
-step_after (command c bps) targets = run_after c bps targets
-step_after (tick thread bps) targets = tick_after bps thread targets
-
-abbrev pub steps_after : List Step → TargetsValue → TargetsValue
-steps_after [] targets = targets
-steps_after (step ∷ steps) targets = steps_after steps (step_after step targets)
-
--- from the images alone on, whatever the steps are
-
-abbrev pub RunsStayOrderly : Type 0
-RunsStayOrderly = (images : List Image) (steps : List Step) →
-    let targets = steps_after steps (new_targets images) in
-    IsOrderly targets.processes targets.next
-
-abbrev pub RunsStaySound : Type 0
-RunsStaySound = (images : List Image) (steps : List Step) → AreSound (steps_after steps (new_targets images)).processes
+abbrev pub TicksKeepOrder : Type 0
+TicksKeepOrder = (thread : ContextId) (bps : List (ℕ × BpProps)) (targets : TargetsValue) → IsOrderly targets.processes targets.next →
+    IsOrderly (tick_after bps thread targets).processes (tick_after bps thread targets).next

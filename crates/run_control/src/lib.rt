@@ -17,7 +17,7 @@ mod tracing;
 pub use commands::apply;
 pub use laws::{
     a_command_keeps_threads_attached, a_tick_keeps_threads_attached, a_tick_touches_one,
-    an_end_is_told_once, every_run_keeps_threads_attached,
+    an_end_is_told_once, the_processes_stay_orderly,
 };
 pub use tcf_values::{Effect, Events, Numbers};
 pub use telling::attached;

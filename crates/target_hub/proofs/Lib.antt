@@ -5,3 +5,5 @@ pub mod Rows
 pub mod Kept
 pub mod Unchanged
 pub mod Threads
+pub mod Owned
+pub mod Histories

@@ -6,4 +6,5 @@ pub mod Answering
 pub mod Passing
 pub mod Limits
 pub mod History
+pub mod HistoryLaws
 pub mod Laws

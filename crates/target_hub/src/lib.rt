@@ -15,7 +15,10 @@ pub use command_tables::Reading;
 pub use done::{Answered, Done};
 pub use hub::Hub;
 pub use input::Input;
-pub use laws::{a_failure_changes_nothing, a_gone_channel_owns_nothing, asking_changes_nothing};
+pub use laws::{
+    a_failure_changes_nothing, a_gone_channel_owns_nothing, asking_changes_nothing,
+    every_history_is_consistent,
+};
 pub use target::Target;
 pub use target_contexts::Image;
 pub use tcf_values::{Events, Numbers};

@@ -1,0 +1,13 @@
+pub mod EndValue
+pub mod Wire
+pub mod Beginning
+pub mod Level
+pub mod Holding
+pub mod Closing
+pub mod Farewell
+pub mod Heard
+pub mod Receiving
+pub mod Said
+pub mod Taking
+pub mod Sending
+pub mod Laws

@@ -6,11 +6,10 @@ use Rattle.std.proofs.lemmas.Bool.{cases_lt, eqb-true, eq-eqb, false_from_ne_tru
 use Rattle.std.proofs.lemmas.List.{get_or-take}
 use Rattle.std.proofs.lemmas.List.Edits.{length-remove, get_or-remove_below, get_or-remove_above}
 use Rattle.std.proofs.lemmas.List.Elements.{All-append, All-cons, All-drop, All-filter, All-from_get_or, All-take, All-weaker, filter_passes}
-use Rattle.std.proofs.lemmas.List.Folds.{list_any_none}
 use Rattle.std.proofs.lemmas.List.Kept.{AllPairs-cons, AllPairs-filter}
 use Rattle.std.proofs.lemmas.List.Quantifiers.{all_pairs_remove, position-Some}
 use Rattle.block_store.specs.Blocks.{has_range, is_same, overlaps}
-use Rattle.block_store.specs.Laws.{DroppedIsGone, StaysSmall, Step, adding, touching, dropping_process, dropping_range, clearing, blocks_after, blocks_after_all}
+use Rattle.block_store.specs.Laws.{StaysSmall, Step, adding, touching, dropping_process, dropping_range, clearing, blocks_after, blocks_after_all}
 use Rattle.block_store.specs.Store.{IsKept, IsSmall, added, moved_first}
 use Rattle.block_store.specs.declared.block.Block.{Block}
 
@@ -147,12 +146,3 @@ small_after_all (step ∷ steps) blocks small = small_after_all steps (blocks_af
 
 pub stays_small : StaysSmall
 stays_small steps = small_after_all steps [] nothing_small
-
--- ---- a range that is dropped
-
-pub dropped_is_gone : DroppedIsGone
-dropped_is_gone process addr size blocks =
-    let stays : Block → Bool = λ block. not (overlaps process addr size block) in
-    list_any_none (overlaps process addr size) (filter stays blocks)
-    (All-weaker (λ block. stays block ≡ true) (λ block. overlaps process addr size block ≡ false) (λ block. not-true (overlaps process addr size block))
-    (filter stays blocks) (filter_passes stays blocks))

@@ -1,5 +1,5 @@
 -- The laws of the store.
-use Rattle.std.specs.Prelude.{ℕ, ◌≡◌, false, List, [], ◌∷◌, length, Some}
+use Rattle.std.specs.Prelude.{ℕ, ◌≡◌, ◌+◌, ◌<◌, ◌≤◌, false, List, [], ◌∷◌, length, Some, None}
 use Rattle.std.specs.List.{list_any}
 use Rattle.block_store.specs.Blocks.{overlaps}
 use Rattle.block_store.specs.Store.{IsSmall, added, covered, touched, without_process, without_range}
@@ -38,3 +38,9 @@ AddedIsCovered = (block : Block) (blocks : List Block) →
 abbrev pub DroppedIsGone : Type 0
 DroppedIsGone = (process addr size : ℕ) (blocks : List Block) →
     list_any (overlaps process addr size) (without_range process addr size blocks) ≡ false
+
+-- then no range with a byte of it is read
+abbrev pub DroppedIsUnread : Type 0
+DroppedIsUnread = (process addr size : ℕ) (blocks : List Block) (first count byte : ℕ) →
+    addr ≤ byte → byte < addr + size → first ≤ byte → byte < first + count →
+    covered process first count (without_range process addr size blocks) ≡ None

@@ -6,7 +6,9 @@ pub mod laws;
 pub mod store;
 
 pub use block::Block;
-pub use laws::{a_dropped_range_is_gone, the_added_is_covered, the_store_stays_small};
+pub use laws::{
+    a_dropped_range_is_gone, no_dropped_byte_is_read, the_added_is_covered, the_store_stays_small,
+};
 pub use store::BlockStore;
 
 #[cfg(test)]

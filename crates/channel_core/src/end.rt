@@ -1,5 +1,5 @@
 //! One end of a channel.
-ghost use Rattle.std.specs.Prelude.{◌≡◌, ◌++◌, ◌∷◌, [], false, IfOk, OnOk, length, option_map};
+ghost use Rattle.std.specs.Prelude.{◌≡◌, ◌++◌, ◌∷◌, [], true, false, IfOk, OnOk, length, option_map};
 ghost use Rattle.channel_core.specs.Closing.{is_closed};
 ghost use Rattle.tcf_message.specs.Message.{IsWellFormed, value_of};
 ghost use Rattle.channel_core.specs.Level.{is_due, leveled};
@@ -116,9 +116,10 @@ impl<T> End<T> {
         self.pending.len()
     }
 
-    /// How many entries stand in the inbox, the last one among them.
+    /// How many entries stand in the inbox, the last one among them; none in that of a closed end.
     pub fn waiting(&self) -> usize
-        ensures { result ≡ waiting_in self.now }
+        ensures value { result ≡ waiting_in self.now }
+        ensures closed { is_closed self.now.state ≡ true → result ≡ 0 }
     {
         match self.stop {
             Some(_) => self.inbox.len().saturating_add(1),

@@ -93,7 +93,8 @@ fn held_command(
 
 impl<T: Drop> End<T> {
     /// Sends a command, and answers its token. Before the Hello, after a redirect and under a level above 0 it is held.
-    /// A refused command changes nothing, but for want of memory, after which the end is spent.
+    /// A refused command changes nothing, but for want of memory, after which the end is spent. A refusal that is due is
+    /// answered whatever the memory, unless the end is spent.
     pub fn send_command(
         &mut self,
         service: &[u8],
@@ -108,6 +109,7 @@ impl<T: Drop> End<T> {
         ensures token { IfOk result (λ token. token ≡ self.old.last + 1) }
         ensures free { OnOk result (refusal_of (length service.now + length name.now + length body.now) self.old ≡ None) }
         ensures tag { IfErr result (λ refused. refused.tag ≡ tag) }
+        ensures refused { self.old.is_spent ≡ false → IfSome (refusal_of (length service.now + length name.now + length body.now) self.old) (λ why. IfErr result (λ refused. refused.why ≡ why)) }
         ensures due { IfErr result (λ refused. refused.why ≢ SendRefusal.NoMemory → refusal_of (length service.now + length name.now + length body.now) self.old ≡ Some refused.why) }
         ensures kept { IfErr result (λ refused. refused.why ≢ SendRefusal.NoMemory → self.new ≡ self.old) }
         ensures fresh { OnOk result (self.old.is_spent ≡ false) }
@@ -146,6 +148,7 @@ impl<T: Drop> End<T> {
         ensures token { IfOk result (λ token. token ≡ self.old.last + 1) }
         ensures free { OnOk result (refusal_of (length service.now + length name.now + length body.now) self.old ≡ None) }
         ensures tag { IfErr result (λ refused. refused.tag ≡ tag) }
+        ensures refused { IfSome (refusal_of (length service.now + length name.now + length body.now) self.old) (λ why. IfErr result (λ refused. refused.why ≡ why)) }
         ensures due { IfErr result (λ refused. refused.why ≢ SendRefusal.NoMemory → refusal_of (length service.now + length name.now + length body.now) self.old ≡ Some refused.why) }
         ensures kept { IfErr result (λ refused. refused.why ≢ SendRefusal.NoMemory → self.new ≡ self.old) }
     {

@@ -17,7 +17,7 @@ pub use held::{Arrived, Held, Incoming, Outgoing};
 pub use laws::every_pending_tag_is_drained;
 pub use sending::{Refused, SendRefusal};
 pub use states::{Cause, EndState, Reason};
-pub use taking::Taken;
+pub use taking::{Judged, Taken};
 
 #[cfg(test)]
 mod tests;

@@ -1,5 +1,5 @@
 -- The history of the target: its inputs, in order, and what they make of it.
-use Rattle.std.specs.Prelude.{ℕ, ◌≡◌, ◌==◌, Bool, true, false, not, ◌&&◌, List, [], ◌∷◌, ◌++◌, take, IsSome}
+use Rattle.std.specs.Prelude.{ℕ, ◌≡◌, ◌==◌, Bool, true, false, not, ◌&&◌, List, [], ◌∷◌, ◌++◌, IsSome}
 use Rattle.std.specs.List.{list_any}
 use Rattle.command_tables.specs.Reading.{IsReading}
 use Rattle.target_contexts.specs.declared.process.Image.{Image}
@@ -22,10 +22,6 @@ input_after (Closed channel) target = closed channel target
 abbrev pub inputs_after : List Input → Target → Target
 inputs_after [] target = target
 inputs_after (input ∷ inputs) target = inputs_after inputs (input_after input target)
-
--- the target at a position, which is the number of inputs so far
-abbrev pub target_at : List Image → List Input → ℕ → Target
-target_at images inputs position = inputs_after (take position inputs) (new_target images)
 
 -- ---- which inputs there can be
 

@@ -14,7 +14,7 @@ mod taking;
 pub use congestion::level;
 pub use end::End;
 pub use held::{Arrived, Held, Incoming, Outgoing};
-pub use laws::every_pending_tag_is_drained;
+pub use laws::{every_pending_tag_is_drained, the_held_go_out_up_to_a_redirect};
 pub use sending::{Refused, SendRefusal};
 pub use states::{Cause, EndState, Reason};
 pub use taking::{Judged, Taken};

@@ -47,7 +47,7 @@ abbrev pub is_live : ℕ → List Input → Bool
 is_live channel inputs = was_opened channel inputs && not (was_closed channel inputs)
 
 -- after these inputs, which made this target: a channel opens once, one that executes or closes is live, what it executes
--- is what some data of these names is read as, and a thread that executes an instruction lives and runs
+-- is a reading of these names, and a thread that executes an instruction lives and runs
 abbrev pub IsAllowed : List Input → Target → Input → Type 0
 IsAllowed before target (Opened channel) = was_opened channel before ≡ false
 IsAllowed before target (Executed channel reading service name) = (is_live channel before ≡ true) × IsReading service name reading

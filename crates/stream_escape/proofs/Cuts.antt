@@ -11,7 +11,7 @@ use Rattle.stream_escape.specs.Feeding.{Stops, Tells, Takes, Repeats, Feeds, Fed
 use Rattle.stream_escape.specs.Laws.{IsReadingOf, IsFaultOf, fresh, AnyPieces, AnyCuts}
 use Rattle.stream_escape.proofs.Readings.{one, one_refusal, not_both}
 
-capped_twice : (m n : ℕ) → capped (capped m + n) ≡ capped (m + n)
+pub capped_twice : (m n : ℕ) → capped (capped m + n) ≡ capped (m + n)
 capped_twice m n = omega arith
 
 -- the fault that a piece has is that of the whole
@@ -130,7 +130,7 @@ same_reading bytes items its ending other (Some fault) (Some reason) m n a b =
 state_of : Ending → Option StreamFault → ℕ → UnescapeValue
 state_of ending fault offset = record { ending = ending; fault = fault; offset = offset }
 
-same_state : (new later : UnescapeValue) → new.ending ≡ later.ending → new.fault ≡ later.fault → new.offset ≡ later.offset → new ≡ later
+pub same_state : (new later : UnescapeValue) → new.ending ≡ later.ending → new.fault ≡ later.fault → new.offset ≡ later.offset → new ≡ later
 unfolding state_of
 same_state new later e f o =
     ap (λ x. state_of x new.fault new.offset) e ∙ ap (λ x. state_of later.ending x new.offset) f ∙ ap (λ x. state_of later.ending later.fault x) o

@@ -7,4 +7,7 @@ pub mod Pieces
 pub mod Wholes
 pub mod Cuts
 pub mod Fronts
+pub mod Courses
 pub mod Onward
+pub mod Feds
+pub mod Parts

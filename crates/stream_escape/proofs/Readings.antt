@@ -2,9 +2,8 @@
 -- one refusal.
 use Rattle.std.proofs.Common.{◌≡◌, ℕ, zero, suc, ◌+◌, ◌<◌, ◌≤◌, List, [], ◌∷◌, ◌++◌, length, Bool, true, false, ◌==◌, refl, sym, ap, ◌∙◌, subst, arith, append-nil, length-append, ⊎_elim, ◌≢◌, ne_eqb}
 use Rattle.std.proofs.lemmas.Bool.{cases_eq, cases_lt}
-use Rattle.stream_escape.specs.declared.stream.TheConstants.{MESSAGE_LIMIT}
 use Rattle.stream_escape.specs.declared.stream.Item.{Item}
-use Rattle.stream_escape.specs.Stream.{Ending, partly, ended, ReadsWithin, Reads, IsReadable, Cause, bad_escape, too_long, after_end, IsCause, Refuses}
+use Rattle.stream_escape.specs.Stream.{most_message, Ending, partly, ended, ReadsWithin, Reads, IsReadable, Cause, bad_escape, too_long, after_end, IsCause, Refuses}
 use Rattle.stream_escape.specs.Laws.{OneReading, OneFault, NotBoth}
 use Rattle.stream_escape.proofs.Machine.{Run, going, stuck, put, step_escape, step, run, run-append, run_stuck, run_reads, put_room, put_full, escaped_plain}
 use Rattle.stream_escape.proofs.Rules.{longer_limit, reads_run, reads_escape, reads_three, reads_message, reads_end}
@@ -79,27 +78,27 @@ unreadable limit bytes items ending byte stopped reads r =
 
 pub one : OneReading
 one bytes items others ending other first second =
-    let a : run MESSAGE_LIMIT start bytes ≡ going items ending bytes = run_reads MESSAGE_LIMIT bytes items ending [] [] first in
-    let b : run MESSAGE_LIMIT start bytes ≡ going others other bytes = run_reads MESSAGE_LIMIT bytes others other [] [] second in
+    let a : run most_message start bytes ≡ going items ending bytes = run_reads most_message bytes items ending [] [] first in
+    let b : run most_message start bytes ≡ going others other bytes = run_reads most_message bytes others other [] [] second in
     record { items_same = cc; ending_same = cc }
 
 -- where a refusal stops the reader
 refused_run : (bytes : List ℕ) (items : List Item) (ending : Ending) (place : ℕ) (cause : Cause) → (r : Refuses bytes items ending place cause)
-    → run MESSAGE_LIMIT start bytes ≡ stuck items ending r.front r.byte
+    → run most_message start bytes ≡ stuck items ending r.front r.byte
 refused_run bytes items ending place cause r =
-    let first : run MESSAGE_LIMIT start r.front ≡ going items ending r.front = run_reads MESSAGE_LIMIT r.front items ending [] [] r.reads in
-    let stopped : step MESSAGE_LIMIT (going items ending r.front) r.byte ≡ stuck items ending r.front r.byte =
-    stops MESSAGE_LIMIT r.front items ending r.front r.byte (step MESSAGE_LIMIT (going items ending r.front) r.byte) (step_finds MESSAGE_LIMIT r.front items ending r.front r.byte r.reads) r.refused in
-    ap (λ bs. run MESSAGE_LIMIT start bs) r.split
-    ∙ run-append MESSAGE_LIMIT start r.front (r.byte ∷ r.more)
-    ∙ ap (λ s. run MESSAGE_LIMIT (step MESSAGE_LIMIT s r.byte) r.more) first
-    ∙ ap (λ s. run MESSAGE_LIMIT s r.more) stopped
-    ∙ run_stuck MESSAGE_LIMIT items ending r.front r.byte r.more
+    let first : run most_message start r.front ≡ going items ending r.front = run_reads most_message r.front items ending [] [] r.reads in
+    let stopped : step most_message (going items ending r.front) r.byte ≡ stuck items ending r.front r.byte =
+    stops most_message r.front items ending r.front r.byte (step most_message (going items ending r.front) r.byte) (step_finds most_message r.front items ending r.front r.byte r.reads) r.refused in
+    ap (λ bs. run most_message start bs) r.split
+    ∙ run-append most_message start r.front (r.byte ∷ r.more)
+    ∙ ap (λ s. run most_message (step most_message s r.byte) r.more) first
+    ∙ ap (λ s. run most_message s r.more) stopped
+    ∙ run_stuck most_message items ending r.front r.byte r.more
 
 pub not_both : NotBoth
 not_both bytes items others ending other place cause reads r =
-    let a : run MESSAGE_LIMIT start bytes ≡ going items ending bytes = run_reads MESSAGE_LIMIT bytes items ending [] [] reads in
-    let b : run MESSAGE_LIMIT start bytes ≡ stuck others other r.front r.byte = refused_run bytes others other place cause r in
+    let a : run most_message start bytes ≡ going items ending bytes = run_reads most_message bytes items ending [] [] reads in
+    let b : run most_message start bytes ≡ stuck others other r.front r.byte = refused_run bytes others other place cause r in
     cc
 
 -- behind the end of a stream nothing is read, whatever the limit
@@ -119,14 +118,14 @@ same_cause bytes items ending byte (bad_escape x) after_end reads a b = absurd (
 same_cause bytes items ending byte too_long (bad_escape y) reads a b = absurd (b.2 a.0 a.1)
 same_cause bytes items ending byte (bad_escape x) too_long reads a b = absurd (a.2 b.0 b.1)
 same_cause bytes items ending byte after_end too_long reads a b =
-    let P : Ending → Type 0 = λ e. Reads bytes items e in absurd (nothing_more MESSAGE_LIMIT b.0 bytes items byte (subst P a reads) b.1)
+    let P : Ending → Type 0 = λ e. Reads bytes items e in absurd (nothing_more most_message b.0 bytes items byte (subst P a reads) b.1)
 same_cause bytes items ending byte too_long after_end reads a b =
-    let P : Ending → Type 0 = λ e. Reads bytes items e in absurd (nothing_more MESSAGE_LIMIT a.0 bytes items byte (subst P b reads) a.1)
+    let P : Ending → Type 0 = λ e. Reads bytes items e in absurd (nothing_more most_message a.0 bytes items byte (subst P b reads) a.1)
 
 pub one_refusal : OneFault
 one_refusal bytes items others ending other place elsewhere cause reason r q =
-    let a : run MESSAGE_LIMIT start bytes ≡ stuck items ending r.front r.byte = refused_run bytes items ending place cause r in
-    let b : run MESSAGE_LIMIT start bytes ≡ stuck others other q.front q.byte = refused_run bytes others other elsewhere reason q in
+    let a : run most_message start bytes ≡ stuck items ending r.front r.byte = refused_run bytes items ending place cause r in
+    let b : run most_message start bytes ≡ stuck others other q.front q.byte = refused_run bytes others other elsewhere reason q in
     let fronts : r.front ≡ q.front = cc in
     let bytes_same : r.byte ≡ q.byte = cc in
     let endings : ending ≡ other = cc in

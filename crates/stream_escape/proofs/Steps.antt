@@ -1,11 +1,10 @@
 -- What each step of the code does to every list that has been read so far.
 use Rattle.std.proofs.Common.{◌≡◌, ℕ, zero, suc, ◌+◌, ◌<◌, ◌≤◌, List, [], ◌∷◌, ◌++◌, length, take, true, false, ◌==◌, refl, sym, ap, arith, append-nil, length-append, ◌≢◌, ne_eqb, get_or, Result, Ok, Err, IfOk, IfErr, OnOk}
-use Rattle.stream_escape.specs.declared.stream.TheConstants.{MESSAGE_LIMIT}
 use Rattle.stream_escape.specs.declared.stream.Item.{Item}
 use Rattle.stream_escape.specs.declared.stream.Item.TheVariants.{Message, End}
 use Rattle.stream_escape.specs.declared.stream.StreamFault.{StreamFault}
 use Rattle.stream_escape.specs.declared.stream.StreamFault.TheVariants.{BadEscape, TooLong, AfterEnd, NoMemory}
-use Rattle.stream_escape.specs.Stream.{Ending, partly, ended, Reads, Cause, bad_escape, too_long, after_end, IsCause, fault_at}
+use Rattle.stream_escape.specs.Stream.{most_message, Ending, partly, ended, Reads, Cause, bad_escape, too_long, after_end, IsCause, fault_at}
 use Rattle.stream_escape.specs.Progress.{Advances, IsRun, IsRefused, IsBlocked}
 use Rattle.stream_escape.proofs.Machine.{going, stuck, step, put_full, escaped_plain}
 use Rattle.stream_escape.proofs.Rules.{longer_limit, reads_run, reads_escape, reads_three, reads_message, reads_end}
@@ -13,7 +12,7 @@ use Rattle.stream_escape.proofs.Readings.{unreadable}
 
 -- Where the reader doesn't move, the byte is refused.
 refused_here : (offset : ℕ) (old : Ending) (byte : ℕ) (more : List ℕ) (cause : Cause)
-    → ((limit : ℕ) → limit ≡ MESSAGE_LIMIT → (front : List ℕ) (items : List Item) → step limit (going items old front) byte ≡ stuck items old front byte)
+    → ((limit : ℕ) → limit ≡ most_message → (front : List ℕ) (items : List Item) → step limit (going items old front) byte ≡ stuck items old front byte)
     → ((before : List ℕ) (its : List Item) → Reads before its old → IsCause (before ++ byte ∷ []) byte old cause)
     → IsRefused offset old (byte ∷ more) (fault_at offset cause)
 refused_here offset old byte more cause stopped why =
@@ -27,7 +26,7 @@ refused_here offset old byte more cause stopped why =
         split = refl;
         at_place = refl;
         reads = reads;
-        refused = unreadable MESSAGE_LIMIT before its old byte (stopped MESSAGE_LIMIT refl before its) reads;
+        refused = unreadable most_message before its old byte (stopped most_message refl before its) reads;
         for_cause = why before its reads;
       };
     }
@@ -54,58 +53,58 @@ refused_escape offset byte part more a b c =
       refl,
       (λ e. cc),
       (λ limit r.
-          unreadable (MESSAGE_LIMIT + limit) before its (partly part true) byte (stopped_escape (MESSAGE_LIMIT + limit) its part before byte a b c)
-          (longer_limit MESSAGE_LIMIT (MESSAGE_LIMIT + limit) (omega arith) reads)
-          (record { items = r.items; ending = r.ending; reads = longer_limit limit (MESSAGE_LIMIT + limit) (omega arith) r.reads })),
+          unreadable (most_message + limit) before its (partly part true) byte (stopped_escape (most_message + limit) its part before byte a b c)
+          (longer_limit most_message (most_message + limit) (omega arith) reads)
+          (record { items = r.items; ending = r.ending; reads = longer_limit limit (most_message + limit) (omega arith) r.reads })),
     ))
 
 -- a byte 3 behind an escape for which there is no room
-pub refused_three : (offset : ℕ) (part more : List ℕ) → MESSAGE_LIMIT ≤ length part
+pub refused_three : (offset : ℕ) (part more : List ℕ) → most_message ≤ length part
     → IsRefused offset (partly part true) (0 ∷ more) (TooLong offset)
 refused_three offset part more full =
     refused_here offset (partly part true) 0 more too_long
     (λ limit is front items. put_full limit items part true front 3 0 (omega (arith, is)))
-    (λ before its reads. let wider = MESSAGE_LIMIT + suc (length part) in (
+    (λ before its reads. let wider = most_message + suc (length part) in (
       wider,
       record {
         items = its ++ [];
         ending = partly (part ++ 3 ∷ []) false;
-        reads = reads_three wider part before its (omega arith) (longer_limit MESSAGE_LIMIT wider (omega arith) reads);
+        reads = reads_three wider part before its (omega arith) (longer_limit most_message wider (omega arith) reads);
       },
     ))
 
 -- a plain byte for which there is no room
-pub refused_plain : (offset byte : ℕ) (part more : List ℕ) → byte ≢ 3 → MESSAGE_LIMIT ≤ length part
+pub refused_plain : (offset byte : ℕ) (part more : List ℕ) → byte ≢ 3 → most_message ≤ length part
     → IsRefused offset (partly part false) (byte ∷ more) (TooLong offset)
 refused_plain offset byte part more isnt full =
     refused_here offset (partly part false) byte more too_long
     (λ limit is front items. let e : (byte == 3) ≡ false = ne_eqb byte 3 isnt in rw e (put_full limit items part false front byte byte (omega (arith, is))))
-    (λ before its reads. let wider = MESSAGE_LIMIT + suc (length part) in (
+    (λ before its reads. let wider = most_message + suc (length part) in (
       wider,
       record {
         items = its ++ [];
         ending = partly (part ++ byte ∷ []) false;
-        reads = reads_run wider part (byte ∷ []) before its (escaped_plain byte [] isnt) (omega (arith, length-append part (byte ∷ []))) (longer_limit MESSAGE_LIMIT wider (omega arith) reads);
+        reads = reads_run wider part (byte ∷ []) before its (escaped_plain byte [] isnt) (omega (arith, length-append part (byte ∷ []))) (longer_limit most_message wider (omega arith) reads);
       },
     ))
 
 -- a byte 3 behind an escape
-pub advance_three : (byte : ℕ) (part new : List ℕ) (items : List Item) → byte ≡ 0 → length part < MESSAGE_LIMIT → new ≡ part ++ 3 ∷ []
+pub advance_three : (byte : ℕ) (part new : List ℕ) (items : List Item) → byte ≡ 0 → length part < most_message → new ≡ part ++ 3 ∷ []
     → Advances (partly part true) (byte ∷ []) items items (partly new false)
 advance_three byte part new items is room put_last =
-    rw (is, put_last) (record { items = []; appended = sym (append-nil items); continues = record { reads = λ before its. reads_three MESSAGE_LIMIT part before its room } })
+    rw (is, put_last) (record { items = []; appended = sym (append-nil items); continues = record { reads = λ before its. reads_three most_message part before its room } })
 
 -- the end of a message
 pub advance_message : (byte : ℕ) (part taken new : List ℕ) (items same after : List Item) → byte ≡ 1 → same ≡ items → taken ≡ part → new ≡ []
     → after ≡ same ++ Message taken ∷ [] → Advances (partly part true) (byte ∷ []) items after (partly new false)
 advance_message byte part taken new items same after is kept whole empty put_last =
-    rw (is, empty, put_last, kept, whole) (record { items = Message part ∷ []; appended = refl; continues = record { reads = λ before its. reads_message MESSAGE_LIMIT part before its } })
+    rw (is, empty, put_last, kept, whole) (record { items = Message part ∷ []; appended = refl; continues = record { reads = λ before its. reads_message most_message part before its } })
 
 -- the end of the stream
 pub advance_end : (byte : ℕ) (part : List ℕ) (items after : List Item) → byte ≡ 2 → after ≡ items ++ End ∷ []
     → Advances (partly part true) (byte ∷ []) items after ended
 advance_end byte part items after is put_last =
-    rw is (record { items = End ∷ []; appended = put_last; continues = record { reads = λ before its. reads_end MESSAGE_LIMIT part before its } })
+    rw is (record { items = End ∷ []; appended = put_last; continues = record { reads = λ before its. reads_end most_message part before its } })
 
 -- bytes behind the end of the stream
 pub blocked_end : (offset : ℕ) (old : Ending) (bytes : List ℕ) → 0 < length bytes → old ≡ ended → IsRefused offset old bytes (AfterEnd offset)
@@ -123,25 +122,25 @@ pub advance_escape : (old : Ending) (part bytes : List ℕ) (items : List Item) 
     → Advances old (take 1 bytes) items items (partly part true)
 advance_escape old part [] items some three is = absurd (omega arith)
 advance_escape old part (byte ∷ more) items some three is =
-    rw (is, three) (record { items = []; appended = sym (append-nil items); continues = record { reads = λ before its. reads_escape MESSAGE_LIMIT part before its } })
+    rw (is, three) (record { items = []; appended = sym (append-nil items); continues = record { reads = λ before its. reads_escape most_message part before its } })
 
 -- a run of plain bytes
 pub advance_run : (answer : Result ℕ StreamFault) (old later : Ending) (part new bytes : List ℕ) (items : List Item) → old ≡ partly part false → later ≡ partly new false
-    → IfOk answer (λ count. IsRun count bytes) → IfOk answer (λ count. new ≡ part ++ take count bytes) → OnOk answer (length new ≤ MESSAGE_LIMIT)
+    → IfOk answer (λ count. IsRun count bytes) → IfOk answer (λ count. new ≡ part ++ take count bytes) → OnOk answer (length new ≤ most_message)
     → IfOk answer (λ count. Advances old (take count bytes) items items later)
 advance_run (Ok count) old later part new bytes items was is run longer room =
     rw (was, is, longer) (record {
       items = [];
       appended = sym (append-nil items);
       continues = record {
-        reads = λ before its. reads_run MESSAGE_LIMIT part (take count bytes) before its run.plain (rw (sym longer) room);
+        reads = λ before its. reads_run most_message part (take count bytes) before its run.plain (rw (sym longer) room);
       };
     })
 advance_run (Err fault) old later part new bytes items was is run longer room = tt
 
 -- a plain byte for which there is no room
 pub blocked_run : (answer : Result ℕ StreamFault) (offset : ℕ) (old : Ending) (part bytes : List ℕ) → 0 < length bytes → get_or bytes 0 0 ≢ 3 → old ≡ partly part false
-    → IfErr answer (λ fault. fault ≢ NoMemory → fault ≡ TooLong offset) → (answer ≡ Err (TooLong offset) → MESSAGE_LIMIT ≤ length part)
+    → IfErr answer (λ fault. fault ≢ NoMemory → fault ≡ TooLong offset) → (answer ≡ Err (TooLong offset) → most_message ≤ length part)
     → IfErr answer (IsBlocked offset old bytes)
 blocked_run (Ok count) offset old part bytes some isnt is only full = tt
 blocked_run (Err NoMemory) offset old part bytes some isnt is only full = tt

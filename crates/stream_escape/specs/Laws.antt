@@ -1,13 +1,14 @@
 -- What holds of every stream.
-use Rattle.std.specs.Prelude.{◌≡◌, ◌≢◌, ℕ, ◌+◌, ◌≤◌, List, [], ◌++◌, length, Bool, Option, None, Some, false, ◌⊎◌}
+use Rattle.std.specs.Prelude.{◌≡◌, ◌≢◌, ℕ, ◌+◌, ◌≤◌, ◌↔◌, List, [], ◌∷◌, ◌++◌, length, Bool, Option, None, Some, false, ◌⊎◌, Ok, Err}
 use Rattle.std.specs.List.{concat}
 use Rattle.stream_escape.specs.declared.stream.Item.{Item}
+use Rattle.stream_escape.specs.declared.stream.Item.TheVariants.{Message, End}
 use Rattle.stream_escape.specs.declared.stream.StreamFault.{StreamFault}
 use Rattle.stream_escape.specs.declared.stream.StreamFault.TheVariants.{NoMemory}
-use Rattle.stream_escape.specs.declared.stream.TheConstants.{MESSAGE_LIMIT}
-use Rattle.stream_escape.specs.Stream.{framed, Ending, partly, Reads, Cause, Refuses, fault_at}
-use Rattle.stream_escape.specs.Value.{UnescapeValue, capped}
-use Rattle.stream_escape.specs.Feeding.{Continues, Fed}
+use Rattle.stream_escape.specs.Stream.{most_message, framed, Ending, partly, ended, Reads, Cause, Refuses, fault_at}
+use Rattle.stream_escape.specs.Value.{UnescapeValue, IsBetween, capped}
+use Rattle.stream_escape.specs.Feeding.{Continues, Feeds, Fed}
+use Rattle.stream_escape.specs.Fed.{Given, fed}
 
 pub record AreSame (items others : List Item) (ending other : Ending) : Type 0 where
   pub items_same : items ≡ others
@@ -100,4 +101,87 @@ pub record IsBegun (bytes : List ℕ) : Type 0 where
 
 -- a front of a whole message's bytes, short of the whole, has no message that ends
 abbrev pub FrontOfFrame : Type 0
-FrontOfFrame = (message front more : List ℕ) → length message ≤ MESSAGE_LIMIT → framed message ≡ front ++ more → more ≢ [] → IsBegun front
+FrontOfFrame = (message front more : List ℕ) → length message ≤ most_message → framed message ≡ front ++ more → more ≢ [] → IsBegun front
+
+-- ---- What a piece is fed as, as a function
+
+-- `fed` is a call of `feed`
+abbrev pub IsFeeding : Type 0
+IsFeeding = (reader : UnescapeValue) (piece : List ℕ) (before : List Item)
+    → Feeds reader piece before (before ++ (fed piece reader).items) (fed piece reader).answer (fed piece reader).reader
+
+-- in which memory isn't wanting
+abbrev pub NeverWants : Type 0
+NeverWants = (reader : UnescapeValue) (piece : List ℕ) → reader.fault ≢ Some NoMemory → (fed piece reader).answer ≢ Err NoMemory
+
+-- these items were given, and the bytes are read with this ending
+pub record IsReadAs (items : List Item) (ending : Ending) (given : Given) : Type 0 where
+  pub items_are : given.items ≡ items
+  pub answer_is : given.answer ≡ Ok tt
+  pub ending_is : given.reader.ending ≡ ending
+  pub fault_is : given.reader.fault ≡ None
+
+-- what is read behind the bytes that were read is what is given
+abbrev pub ReadsAreFed : Type 0
+ReadsAreFed = (reader : UnescapeValue) (before piece : List ℕ) (its items : List Item) (ending : Ending)
+    → reader.fault ≡ None → Reads before its reader.ending → Reads (before ++ piece) (its ++ items) ending
+    → IsReadAs items ending (fed piece reader)
+
+-- a second piece behind what a first one gave
+abbrev pub and_fed : List ℕ → Given → Given
+and_fed piece first = record {
+  items = first.items ++ (fed piece first.reader).items;
+  answer = (fed piece first.reader).answer;
+  reader = (fed piece first.reader).reader;
+}
+
+-- two pieces, fed one after the other, give what they give as one
+abbrev pub ArePiecesOne : Type 0
+ArePiecesOne = (reader : UnescapeValue) (first second : List ℕ) → fed (first ++ second) reader ≡ and_fed second (fed first reader)
+
+-- ---- A frame that comes in parts
+
+-- the reader stood between messages, and has read these bytes since, in which nothing ends
+pub record HasRead (front : List ℕ) (reader : UnescapeValue) : Type 0 where
+  pub fault : reader.fault ≡ None
+  pub reads : Reads front [] reader.ending
+
+-- one that stands between messages has read nothing
+abbrev pub BeginsBetween : Type 0
+BeginsBetween = (reader : UnescapeValue) → IsBetween reader ↔ HasRead [] reader
+
+-- the part is read behind the front, and nothing ends in it
+pub record IsPartRead (front part : List ℕ) (given : Given) : Type 0 where
+  pub items_are : given.items ≡ []
+  pub answer_is : given.answer ≡ Ok tt
+  pub reader_at : HasRead (front ++ part) given.reader
+
+-- this one message ends in the part, with its last byte
+pub record IsFrameRead (message : List ℕ) (given : Given) : Type 0 where
+  pub items_are : given.items ≡ Message message ∷ []
+  pub answer_is : given.answer ≡ Ok tt
+  pub reader_at : IsBetween given.reader
+
+-- a part of a frame that ends short of the frame's end brings nothing
+abbrev pub PartsBringNothing : Type 0
+PartsBringNothing = (reader : UnescapeValue) (message front part more : List ℕ)
+    → length message ≤ most_message → HasRead front reader → framed message ≡ front ++ part ++ more → more ≢ []
+    → IsPartRead front part (fed part reader)
+
+-- the part that ends it brings its message alone
+abbrev pub LastPartsBringMessages : Type 0
+LastPartsBringMessages = (reader : UnescapeValue) (message front part : List ℕ)
+    → length message ≤ most_message → HasRead front reader → framed message ≡ front ++ part
+    → IsFrameRead message (fed part reader)
+
+-- the same of the end of the stream: its first byte brings nothing
+abbrev pub EscapesBringNothing : Type 0
+EscapesBringNothing = (reader : UnescapeValue) (front part more : List ℕ)
+    → HasRead front reader → 3 ∷ 2 ∷ [] ≡ front ++ part ++ more → more ≢ []
+    → IsPartRead front part (fed part reader)
+
+-- and its last one brings the end
+abbrev pub LastBytesBringTheEnd : Type 0
+LastBytesBringTheEnd = (reader : UnescapeValue) (front part : List ℕ)
+    → HasRead front reader → 3 ∷ 2 ∷ [] ≡ front ++ part
+    → IsReadAs (End ∷ []) ended (fed part reader)

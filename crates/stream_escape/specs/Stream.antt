@@ -1,11 +1,14 @@
 -- What a stream of bytes means, as the TCF specification says it, protocol page, sections on framing and on escape
 -- sequences: the byte 3 is the escape, 3 0 is one byte 3 of a message, 3 1 ends a message and 3 2 ends the stream.
 use Rattle.std.specs.Prelude.{◌≡◌, ◌≢◌, ℕ, ◌≤◌, List, [], ◌∷◌, ◌++◌, length, Bool, true, false, ◌==◌, if◌then◌else◌}
-use Rattle.stream_escape.specs.declared.stream.TheConstants.{MESSAGE_LIMIT}
 use Rattle.stream_escape.specs.declared.stream.Item.{Item}
 use Rattle.stream_escape.specs.declared.stream.Item.TheVariants.{Message, End}
 use Rattle.stream_escape.specs.declared.stream.StreamFault.{StreamFault}
 use Rattle.stream_escape.specs.declared.stream.StreamFault.TheVariants.{BadEscape, TooLong, AfterEnd}
+
+-- the most bytes that a message has, before they are escaped
+abbrev pub most_message : ℕ
+most_message = 1049600
 
 -- a message's bytes on the stream: behind each 3 stands a 0
 abbrev pub escaped : List ℕ → List ℕ
@@ -44,7 +47,7 @@ pub data ReadsWithin (limit : ℕ) : List ℕ → List Item → Ending → Type 
 
 -- the bytes are these items and this ending
 abbrev pub Reads : List ℕ → List Item → Ending → Type 0
-Reads bytes items ending = ReadsWithin MESSAGE_LIMIT bytes items ending
+Reads bytes items ending = ReadsWithin most_message bytes items ending
 
 -- the bytes are some items and some ending
 pub record IsReadable (limit : ℕ) (bytes : List ℕ) : Type 0 where
@@ -74,7 +77,7 @@ pub record Refuses (bytes : List ℕ) (items : List Item) (ending : Ending) (pla
   pub split : bytes ≡ front ++ byte ∷ more
   pub at_place : length front ≡ place
   pub reads : Reads front items ending
-  pub refused : ¬ IsReadable MESSAGE_LIMIT (front ++ byte ∷ [])
+  pub refused : ¬ IsReadable most_message (front ++ byte ∷ [])
   pub for_cause : IsCause (front ++ byte ∷ []) byte ending cause
 
 -- the fault that tells of the cause

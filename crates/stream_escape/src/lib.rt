@@ -8,7 +8,10 @@ pub mod stream;
 pub mod unescape;
 
 pub use escape::{escape_into, mark_eom, mark_eos};
-pub use laws::{any_pieces, each_goes_on, front_of_frame, one_fault, one_reading};
+pub use laws::{
+    a_piece_is_fed, any_pieces, each_goes_on, frames_are_read, front_of_frame, one_fault,
+    one_reading, pieces_are_one,
+};
 pub use stream::{Item, MESSAGE_LIMIT, StreamFault};
 pub use unescape::Unescape;
 

@@ -1,6 +1,6 @@
 //! The progress within one message of a stream: its bytes so far, and where the next one stands.
 ghost use Rattle.std.specs.Prelude.{◌≡◌, ◌≢◌, ℕ, ◌<◌, ◌≤◌, ◌++◌, ◌∷◌, [], List, length, take, slice_index, IfOk, IfErr, OnOk, OnErr, true, false};
-ghost use Rattle.stream_escape.specs.Stream.{partly};
+ghost use Rattle.stream_escape.specs.Stream.{most_message, partly};
 ghost use Rattle.stream_escape.specs.Value.{is_inside};
 ghost use Rattle.stream_escape.specs.Feeding.{Takes};
 ghost use Rattle.stream_escape.specs.Progress.{ending_of, Advances, IsRun, IsBlocked};
@@ -114,9 +114,9 @@ fn take_run(part: &mut Octets, offset: u64, bytes: &[u8]) -> Result<usize, Strea
     requires plain { slice_index bytes.now 0 ≢ 3 }
     ensures run { IfOk result (λ count. IsRun count bytes.now) }
     ensures ok { IfOk result (λ count. part.new ≡ part.old ++ take count bytes.now) }
-    ensures room { OnOk result (length part.new ≤ MESSAGE_LIMIT) }
+    ensures room { OnOk result (length part.new ≤ most_message) }
     ensures full { IfErr result (λ fault. fault ≢ StreamFault.NoMemory → fault ≡ StreamFault.TooLong offset) }
-    ensures limit { result ≡ Err (StreamFault.TooLong offset) → MESSAGE_LIMIT ≤ length part.old }
+    ensures limit { result ≡ Err (StreamFault.TooLong offset) → most_message ≤ length part.old }
     ensures same { OnErr result (part.new ≡ part.old) }
 {
     let room = MESSAGE_LIMIT.saturating_sub(part.len()).min(bytes.len());

@@ -3,10 +3,9 @@ use Rattle.std.proofs.Common.{◌≡◌, ℕ, suc, ◌<◌, ◌⊎◌, inl, inr,
 use Rattle.std.specs.List.{list_any, position_or_len}
 use Rattle.std.proofs.lemmas.Bool.{cases_Bool, eqb-true, or_parts, ltb-true, ltb-false, lt-ltb, le-ltb, leb-true, leb-false, le-leb, lt-leb, and_from, and_parts, and_cases, and_left, and_right}
 use Rattle.std.proofs.lemmas.List.{take_at}
-use Rattle.tcf_message.specs.declared.message.TheConstants.{TOKEN_LIMIT}
 use Rattle.tcf_message.specs.declared.message.MessageFault.{MessageFault}
 use Rattle.tcf_message.specs.declared.message.MessageFault.TheVariants.{Unended, Token}
-use Rattle.tcf_message.specs.Message.{◌•◌, ◌>>=◌, is_zero, HasNoZero, IsToken, field_at, token_at}
+use Rattle.tcf_message.specs.Message.{most_token, ◌•◌, ◌>>=◌, is_zero, HasNoZero, IsToken, field_at, token_at}
 
 -- ---- Results
 
@@ -116,20 +115,20 @@ field_faults place bytes d e =
 
 -- the length is none of a token's
 abbrev pub IsWrongLength : List ℕ → Type 0
-IsWrongLength text = (length text ≡ 0) ⊎ (TOKEN_LIMIT < length text)
+IsWrongLength text = (length text ≡ 0) ⊎ (most_token < length text)
 
-token_right : (text : List ℕ) → IsToken text → (ltb 0 (length text) && leb (length text) TOKEN_LIMIT) ≡ true
+token_right : (text : List ℕ) → IsToken text → (ltb 0 (length text) && leb (length text) most_token) ≡ true
 token_right text h = and_from _ _ (lt-ltb _ _ h.1) (le-leb _ _ h.2)
 
-token_wrong : (text : List ℕ) → IsWrongLength text → (ltb 0 (length text) && leb (length text) TOKEN_LIMIT) ≡ false
+token_wrong : (text : List ℕ) → IsWrongLength text → (ltb 0 (length text) && leb (length text) most_token) ≡ false
 token_wrong text (inl none) = and_left _ _ (le-ltb 0 (length text) (omega arith))
 token_wrong text (inr many) = and_right _ _ (lt-leb _ _ many)
 
-wrong_token : (text : List ℕ) → (ltb 0 (length text) && leb (length text) TOKEN_LIMIT) ≡ false → IsWrongLength text
+wrong_token : (text : List ℕ) → (ltb 0 (length text) && leb (length text) most_token) ≡ false → IsWrongLength text
 wrong_token text e =
-    elim (and_cases (ltb 0 (length text)) (leb (length text) TOKEN_LIMIT) e) [
+    elim (and_cases (ltb 0 (length text)) (leb (length text) most_token) e) [
       | inl none ↦ inl (let h = ltb-false 0 (length text) none in omega arith)
-      | inr many ↦ inr (leb-false (length text) TOKEN_LIMIT many)
+      | inr many ↦ inr (leb-false (length text) most_token many)
     ]
 
 pub token_none : (place : ℕ) (bytes : List ℕ) → HasNoZero bytes → token_at place bytes ≡ Err (Unended place)
@@ -147,10 +146,10 @@ token_bad place text rest h wrong = rw (field_again place text rest h, token_wro
 pub token_takes : (place : ℕ) (bytes : List ℕ) (x : List ℕ × List ℕ) → token_at place bytes ≡ Ok x → IsToken x.0 × Parts bytes x.0 x.1
 unfolding token_at
 token_takes place bytes x e =
-    let b = bind_ok (field_at place bytes) (λ f. cond (ltb 0 (length f.0) && leb (length f.0) TOKEN_LIMIT) (Ok f) (Err (Token (length f.0)))) x e in
+    let b = bind_ok (field_at place bytes) (λ f. cond (ltb 0 (length f.0) && leb (length f.0) most_token) (Ok f) (Err (Token (length f.0)))) x e in
     let p = field_takes place bytes b.0 b.1 in
-    let g = guard_ok (ltb 0 (length b.0.0) && leb (length b.0.0) TOKEN_LIMIT) (Token (length b.0.0)) b.0 x b.2 in
-    let t = and_parts (ltb 0 (length b.0.0)) (leb (length b.0.0) TOKEN_LIMIT) g.0 in
+    let g = guard_ok (ltb 0 (length b.0.0) && leb (length b.0.0) most_token) (Token (length b.0.0)) b.0 x b.2 in
+    let t = and_parts (ltb 0 (length b.0.0)) (leb (length b.0.0) most_token) g.0 in
     subst (λ (y : List ℕ × List ℕ). IsToken y.0 × Parts bytes y.0 y.1) g.1 ((p.no_zero, ltb-true _ _ t.0, leb-true _ _ t.1), p)
 
 -- why no token was read
@@ -162,9 +161,9 @@ IsTokenFault place bytes d =
 pub token_faults : (place : ℕ) (bytes : List ℕ) (d : MessageFault) → token_at place bytes ≡ Err d → IsTokenFault place bytes d
 unfolding token_at
 token_faults place bytes d e =
-    elim (bind_err (field_at place bytes) (λ f. cond (ltb 0 (length f.0) && leb (length f.0) TOKEN_LIMIT) (Ok f) (Err (Token (length f.0)))) d e) [
+    elim (bind_err (field_at place bytes) (λ f. cond (ltb 0 (length f.0) && leb (length f.0) most_token) (Ok f) (Err (Token (length f.0)))) d e) [
       | inl none ↦ inl (field_faults place bytes d none)
       | inr b ↦
-          let g = guard_err (ltb 0 (length b.0.0) && leb (length b.0.0) TOKEN_LIMIT) (Token (length b.0.0)) d b.0 b.2 in
+          let g = guard_err (ltb 0 (length b.0.0) && leb (length b.0.0) most_token) (Token (length b.0.0)) d b.0 b.2 in
           inr (b.0.0, b.0.1, field_takes place bytes b.0 b.1, sym g.1, wrong_token b.0.0 g.0)
     ]

@@ -3,35 +3,34 @@ use Rattle.std.proofs.Common.{◌≡◌, ℕ, ◌+◌, ◌<◌, ◌≤◌, inl, 
 use Rattle.std.specs.Prelude.{ℤ, codes}
 use Rattle.std.specs.Fmt.{signed_decimal}
 use Rattle.std.proofs.lemmas.Bool.{ltb-true, ltb-false, lt-ltb, le-ltb}
-use Rattle.tcf_message.specs.declared.message.TheConstants.{BODY_LIMIT}
 use Rattle.tcf_message.specs.declared.message.MessageFault.{MessageFault}
 use Rattle.tcf_message.specs.declared.message.MessageFault.TheVariants.{Unended, Level, Trailing, Body}
-use Rattle.tcf_message.specs.Message.{MessageValue, command, final, progress, not_known, event, flow, ◌•◌, ◌>>=◌, spelling, HasNoZero, IsToken, IsLevel, HasFields, IsWellFormed, body_length, field_at, token_at, level_of, with_level, ended, limited, command_of, final_of, progress_of, not_known_of, event_of, flow_of}
+use Rattle.tcf_message.specs.Message.{most_body, MessageValue, command, final, progress, not_known, event, flow, ◌•◌, ◌>>=◌, spelling, HasNoZero, IsToken, IsLevel, HasFields, IsWellFormed, body_length, field_at, token_at, level_of, with_level, ended, limited, command_of, final_of, progress_of, not_known_of, event_of, flow_of}
 use Rattle.tcf_message.specs.Fault.{IsAmong, kind, command_token, command_service, event_service, followed, IsFault}
 use Rattle.tcf_message.proofs.FieldLaws.{bind_ok, bind_err, ok_is, err_is, field_takes, field_again, field_faults, token_takes, token_again, token_faults, IsTokenFault}
 use Rattle.tcf_message.proofs.LevelLaws.{level_takes, level_again, level_none, level_no_zero}
 
 -- ---- The limit of the body, and the end
 
-limited_takes : (m n : MessageValue) → limited m ≡ Ok n → (m ≡ n) × (body_length m ≤ BODY_LIMIT)
-limited_takes m n e = go (ltb BODY_LIMIT (body_length m)) refl e
+limited_takes : (m n : MessageValue) → limited m ≡ Ok n → (m ≡ n) × (body_length m ≤ most_body)
+limited_takes m n e = go (ltb most_body (body_length m)) refl e
   where
-    go : (b : Bool) → ltb BODY_LIMIT (body_length m) ≡ b → cond b (Err (Body (body_length m))) (Ok m) ≡ Ok n → (m ≡ n) × (body_length m ≤ BODY_LIMIT)
+    go : (b : Bool) → ltb most_body (body_length m) ≡ b → cond b (Err (Body (body_length m))) (Ok m) ≡ Ok n → (m ≡ n) × (body_length m ≤ most_body)
     go true t h = absurd cc
-    go false t h = (ok_is m n h, ltb-false BODY_LIMIT (body_length m) t)
+    go false t h = (ok_is m n h, ltb-false most_body (body_length m) t)
 
-pub limited_again : (m : MessageValue) → body_length m ≤ BODY_LIMIT → limited m ≡ Ok m
-limited_again m h = let t : ltb BODY_LIMIT (body_length m) ≡ false = le-ltb _ _ h in rw t refl
+pub limited_again : (m : MessageValue) → body_length m ≤ most_body → limited m ≡ Ok m
+limited_again m h = let t : ltb most_body (body_length m) ≡ false = le-ltb _ _ h in rw t refl
 
-limited_faults : (m : MessageValue) (d : MessageFault) → limited m ≡ Err d → (Body (body_length m) ≡ d) × (BODY_LIMIT < body_length m)
-limited_faults m d e = go (ltb BODY_LIMIT (body_length m)) refl e
+limited_faults : (m : MessageValue) (d : MessageFault) → limited m ≡ Err d → (Body (body_length m) ≡ d) × (most_body < body_length m)
+limited_faults m d e = go (ltb most_body (body_length m)) refl e
   where
-    go : (b : Bool) → ltb BODY_LIMIT (body_length m) ≡ b → cond b (Err (Body (body_length m))) (Ok m) ≡ Err d → (Body (body_length m) ≡ d) × (BODY_LIMIT < body_length m)
-    go true t h = (err_is {A = MessageValue} (Body (body_length m)) d h, ltb-true BODY_LIMIT (body_length m) t)
+    go : (b : Bool) → ltb most_body (body_length m) ≡ b → cond b (Err (Body (body_length m))) (Ok m) ≡ Err d → (Body (body_length m) ≡ d) × (most_body < body_length m)
+    go true t h = (err_is {A = MessageValue} (Body (body_length m)) d h, ltb-true most_body (body_length m) t)
     go false t h = absurd cc
 
-pub limited_bad : (m : MessageValue) → BODY_LIMIT < body_length m → limited m ≡ Err (Body (body_length m))
-limited_bad m h = let t : ltb BODY_LIMIT (body_length m) ≡ true = lt-ltb _ _ h in rw t refl
+pub limited_bad : (m : MessageValue) → most_body < body_length m → limited m ≡ Err (Body (body_length m))
+limited_bad m h = let t : ltb most_body (body_length m) ≡ true = lt-ltb _ _ h in rw t refl
 
 ended_takes : (place : ℕ) (rest : List ℕ) (m n : MessageValue) → ended place rest m ≡ Ok n → (m ≡ n) × (rest ≡ [])
 ended_takes place [] m n e = (ok_is m n e, refl)

@@ -4,11 +4,10 @@ use Rattle.std.specs.Prelude.{codes, slice_get, IfOk, IfErr}
 use Rattle.std.specs.List.{list_any}
 use Rattle.std.specs.Fmt.{signed_decimal}
 use Rattle.std.proofs.lemmas.Bool.{cases_Bool, eqb-true, or_parts}
-use Rattle.tcf_message.specs.declared.message.TheConstants.{BODY_LIMIT, TOKEN_LIMIT}
 use Rattle.tcf_message.specs.declared.message.Message.{Message}
 use Rattle.tcf_message.specs.declared.message.MessageFault.{MessageFault}
 use Rattle.tcf_message.specs.declared.message.MessageFault.TheVariants.{Empty, Unended, Kind, Token, Level, Trailing, Body}
-use Rattle.tcf_message.specs.Message.{MessageValue, command, final, progress, not_known, event, flow, value_of, ◌•◌, spelling, HasNoZero, IsWellFormed, HasFields, Says, Gives, body_length, field_at, limited, command_of, final_of, progress_of, not_known_of, event_of, flow_of, by_letter, by_kind, level_of, reading}
+use Rattle.tcf_message.specs.Message.{most_body, most_token, MessageValue, command, final, progress, not_known, event, flow, value_of, ◌•◌, spelling, HasNoZero, IsWellFormed, HasFields, Says, Gives, body_length, field_at, limited, command_of, final_of, progress_of, not_known_of, event_of, flow_of, by_letter, by_kind, level_of, reading}
 use Rattle.tcf_message.specs.Fault.{IsAmong, Front, start, kind, command_token, command_service, event_service, IsFront, followed, EndsInField, IsFault, IsReadBack, IsOneSpelling, AreFaults, IsOneAnswer, IsAnswered}
 use Rattle.tcf_message.proofs.FieldLaws.{bind_ok, bind_err, ok_is, err_is, or_from_false, field_takes, field_again, field_faults, field_none, token_none, token_again, token_bad, IsWrongLength}
 use Rattle.tcf_message.proofs.LevelLaws.{no_level}
@@ -254,12 +253,12 @@ fault_again (Unended place) bytes h =
     ap reading h.4 ∙ unended_again h.0 h.1 h.2 h.3 some ∙ ap (λ (n : ℕ). Err (Unended n)) (sym h.5)
 fault_again (Kind byte) bytes h = ap reading h.3 ∙ first_again byte h.0 h.1 h.2 h.4 (ap (λ (x : List ℕ). slice_get x 0) (sym h.3) ∙ h.5)
 fault_again (Token size) bytes h =
-    let wrong : IsWrongLength h.1 = subst (λ (n : ℕ). (n ≡ 0) ⊎ (TOKEN_LIMIT < n)) h.6 h.7 in
+    let wrong : IsWrongLength h.1 = subst (λ (n : ℕ). (n ≡ 0) ⊎ (most_token < n)) h.6 h.7 in
     ap reading h.5 ∙ bad_token_again h.0 h.1 h.2 h.3 h.4 wrong ∙ ap (λ (n : ℕ). Err (Token n)) (sym h.6)
 fault_again Level bytes h = ap reading h.3 ∙ bad_level_again h.0 h.1 h.2 (no_level h.0 h.4)
 fault_again (Trailing place) bytes h = ap reading h.4 ∙ trailing_again h.0 h.1 h.2 h.3 h.6 ∙ ap (λ (n : ℕ). Err (Trailing n)) (sym h.5)
 fault_again (Body size) bytes h =
-    let long : BODY_LIMIT < body_length h.0 = subst (λ (n : ℕ). BODY_LIMIT < n) h.3 h.4 in
+    let long : most_body < body_length h.0 = subst (λ (n : ℕ). most_body < n) h.3 h.4 in
     ap reading h.2 ∙ reading_again h.0 h.1 ∙ limited_bad h.0 long ∙ ap (λ (n : ℕ). Err (Body n)) (sym h.3)
 
 -- ---- The laws

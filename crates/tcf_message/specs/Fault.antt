@@ -3,10 +3,9 @@
 use Rattle.std.specs.Prelude.{◌≡◌, ℕ, ◌^◌, ◌<◌, ℤ, true, false, ◌==◌, ◌↔◌, ◌⊎◌, List, [], ◌∷◌, ◌++◌, length, codes, slice_get, Some, Ok, Err}
 use Rattle.std.specs.List.{list_any}
 use Rattle.std.specs.Fmt.{decimal, signed_decimal}
-use Rattle.tcf_message.specs.declared.message.TheConstants.{BODY_LIMIT, TOKEN_LIMIT}
 use Rattle.tcf_message.specs.declared.message.MessageFault.{MessageFault}
 use Rattle.tcf_message.specs.declared.message.MessageFault.TheVariants.{Empty, Unended, Kind, Token, Level, Trailing, Body}
-use Rattle.tcf_message.specs.Message.{MessageValue, command, final, progress, not_known, event, flow, ◌•◌, spelling, HasNoZero, IsToken, IsLevel, HasFields, IsWellFormed, Says, body_length, reading}
+use Rattle.tcf_message.specs.Message.{most_body, most_token, MessageValue, command, final, progress, not_known, event, flow, ◌•◌, spelling, HasNoZero, IsToken, IsLevel, HasFields, IsWellFormed, Says, body_length, reading}
 
 -- the letter is one of these
 abbrev pub IsAmong : ℕ → List ℕ → Type 0
@@ -57,7 +56,7 @@ IsFault (Kind byte) bytes =
 -- a letter that wants a token, and a field of no byte or too many
 IsFault (Token size) bytes =
     (letter : ℕ) × (text rest : List ℕ) × IsAmong letter (codes "CRPN") × HasNoZero text × (bytes ≡ (letter ∷ []) • text • rest)
-    × (size ≡ length text) × ((size ≡ 0) ⊎ (TOKEN_LIMIT < size))
+    × (size ≡ length text) × ((size ≡ 0) ⊎ (most_token < size))
 -- the letter F, and a field that spells no level
 IsFault Level bytes =
     (text rest : List ℕ) × HasNoZero text × (bytes ≡ codes "F" • text • rest)
@@ -68,7 +67,7 @@ IsFault (Trailing place) bytes =
     × (place ≡ length (spelling m)) × (0 < length rest)
 -- a message that is right but for the length of its body
 IsFault (Body size) bytes =
-    (m : MessageValue) × HasFields m × (bytes ≡ spelling m) × (size ≡ body_length m) × (BODY_LIMIT < size)
+    (m : MessageValue) × HasFields m × (bytes ≡ spelling m) × (size ≡ body_length m) × (most_body < size)
 
 -- ---- The laws
 

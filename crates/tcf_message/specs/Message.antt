@@ -3,11 +3,20 @@
 use Rattle.std.specs.Prelude.{◌≡◌, ℕ, zero, suc, ◌+◌, ◌-◌, ◌*◌, ◌<◌, ◌≤◌, ℤ, pos, negsuc, ◌≤ℤ◌, Bool, false, ◌&&◌, ◌==◌, nat_lt, nat_le, if◌then◌else◌, List, [], ◌∷◌, ◌++◌, length, take, drop, codes, Option, Some, None, Result, Ok, Err}
 use Rattle.std.specs.List.{list_any, position}
 use Rattle.std.specs.Fmt.{signed_decimal}
-use Rattle.tcf_message.specs.declared.message.TheConstants.{BODY_LIMIT, TOKEN_LIMIT}
 use Rattle.tcf_message.specs.declared.message.Message.{Message}
 use Rattle.tcf_message.specs.declared.message.Message.TheVariants as kinds
 use Rattle.tcf_message.specs.declared.message.MessageFault.{MessageFault}
 use Rattle.tcf_message.specs.declared.message.MessageFault.TheVariants.{Empty, Unended, Kind, Token, Level, Trailing, Body}
+
+-- ---- The limits
+
+-- the most bytes that service, name and data have together, without the zeros that end fields
+abbrev pub most_body : ℕ
+most_body = 1048576
+
+-- the most bytes of a token
+abbrev pub most_token : ℕ
+most_token = 255
 
 -- ---- What a message is
 
@@ -50,7 +59,7 @@ abbrev pub HasNoZero : List ℕ → Type 0
 HasNoZero text = list_any is_zero text ≡ false
 
 abbrev pub IsToken : List ℕ → Type 0
-IsToken token = HasNoZero token × (0 < length token) × (length token ≤ TOKEN_LIMIT)
+IsToken token = HasNoZero token × (0 < length token) × (length token ≤ most_token)
 
 abbrev pub IsLevel : ℤ → Type 0
 IsLevel level = (negsuc 99 ≤ℤ level) × (level ≤ℤ pos 100)
@@ -74,7 +83,7 @@ body_length (event service name body) = length service + length name + length bo
 body_length (flow level) = 0
 
 abbrev pub IsWellFormed : MessageValue → Type 0
-IsWellFormed m = HasFields m × (body_length m ≤ BODY_LIMIT)
+IsWellFormed m = HasFields m × (body_length m ≤ most_body)
 
 -- the grammar: the bytes say this message
 abbrev pub Says : MessageValue → List ℕ → Type 0
@@ -108,7 +117,7 @@ field_at place bytes = cut place bytes (position is_zero bytes)
 unfoldable pub token_at : ℕ → List ℕ → Result (List ℕ × List ℕ) MessageFault
 token_at place bytes = do
   field ← field_at place bytes
-  if nat_lt 0 (length field.0) && nat_le (length field.0) TOKEN_LIMIT then Ok field else Err (Token (length field.0))
+  if nat_lt 0 (length field.0) && nat_le (length field.0) most_token then Ok field else Err (Token (length field.0))
 
 -- a digit from 1 to 9, and one from 0 to 9
 abbrev pub is_first : ℕ → Bool
@@ -150,7 +159,7 @@ ended place (byte ∷ bytes) m = Err (Trailing place)
 
 -- the message where its body is within the limit
 abbrev pub limited : MessageValue → Result MessageValue MessageFault
-limited m = if nat_lt BODY_LIMIT (body_length m) then Err (Body (body_length m)) else Ok m
+limited m = if nat_lt most_body (body_length m) then Err (Body (body_length m)) else Ok m
 
 unfoldable pub command_of : List ℕ → Result MessageValue MessageFault
 command_of bytes = do

@@ -1,7 +1,7 @@
 //! The fields of a message: each is read from the front of the bytes, and what follows it is handed on.
 ghost use Rattle.std.specs.Prelude.{◌≡◌, ◌+◌, ◌<◌, ◌≤◌, length, IfOk, IfErr, OnOk};
 ghost use Rattle.std.specs.List.{position};
-ghost use Rattle.tcf_message.specs.Message.{Gives, is_zero, field_at, token_at};
+ghost use Rattle.tcf_message.specs.Message.{Gives, is_zero, field_at, most_body, token_at};
 
 use crate::message::{BODY_LIMIT, MessageFault, TOKEN_LIMIT};
 
@@ -51,8 +51,8 @@ pub fn check_end(rest: &[u8], place: usize) -> Result<(), MessageFault>
 
 /// Refuses a body of this many bytes past the limit.
 pub fn check_body(size: usize) -> Result<(), MessageFault>
-    ensures ok { OnOk result (size ≤ BODY_LIMIT) }
-    ensures fault { IfErr result (λ fault. (BODY_LIMIT < size) × (fault ≡ MessageFault.Body size)) }
+    ensures ok { OnOk result (size ≤ most_body) }
+    ensures fault { IfErr result (λ fault. (most_body < size) × (fault ≡ MessageFault.Body size)) }
 {
     if size > BODY_LIMIT {
         return Err(MessageFault::Body { length: size });

@@ -1,16 +1,23 @@
-use Rattle.std.proofs.Common.{refl, sym, ap, ◌∙◌, subst}
-use Rattle.stream_escape.specs.Stream.{Ending, Reads}
-use Rattle.stream_escape.proofs.Wholes.{only_memory, whole_message}
+use Rattle.stream_escape.proofs.Wholes.{feeds_only_memory, feeds_whole}
+use Rattle.stream_escape.proofs.Feds.{is_given}
 use Rattle.stream_escape.proofs.unescape.Unescape.feed.Goals as goal
 
+pub returns-clause-appended : goal.returns-clause-appended
+returns-clause-appended c isnt =
+    (is_given c.args.self.now c.args.piece.now c.args.items.now.items c.take_piece.new.items.items c.take_piece.result c.take_piece.new.self c.take_piece.ensures.within isnt c.take_piece.ensures.feeds).appended
+
+pub returns-clause-answer : goal.returns-clause-answer
+returns-clause-answer c isnt =
+    (is_given c.args.self.now c.args.piece.now c.args.items.now.items c.take_piece.new.items.items c.take_piece.result c.take_piece.new.self c.take_piece.ensures.within isnt c.take_piece.ensures.feeds).answer_is
+
+pub returns-clause-after : goal.returns-clause-after
+returns-clause-after c isnt =
+    (is_given c.args.self.now c.args.piece.now c.args.items.now.items c.take_piece.new.items.items c.take_piece.result c.take_piece.new.self c.take_piece.ensures.within isnt c.take_piece.ensures.feeds).reader_is
+
 pub returns-clause-reads : goal.returns-clause-reads
-returns-clause-reads c before its all ending sound h reads =
-    let P : Ending → Type 0 = λ e. Reads before its e in
-    only_memory c.self.inside.offset c.self.inside.progress c.read-answer.new.self ending c.args.piece.now before c.read-answer.ensures.items its all c.read-answer.result
-    c.read-answer.ensures.tells (subst P (sym (ap (λ u. u.ending) c.self.view_is)) h) reads
+returns-clause-reads c before its all ending sound was reads =
+    feeds_only_memory c.args.self.now c.take_piece.new.self c.args.piece.now before c.args.items.now.items c.take_piece.new.items.items its all c.take_piece.result ending c.take_piece.ensures.feeds sound was reads
 
 pub returns-clause-whole : goal.returns-clause-whole
-returns-clause-whole c m between h is =
-    whole_message c.self.inside.offset c.self.inside.progress c.read-answer.new.self c.args.piece.now m c.args.items.now.items c.read-answer.new.items.items c.read-answer.result
-    (record { ending = c.read-answer.new.self; fault = c.err-self-inside.result; offset = c.saturating_add-self-inside.result })
-    c.read-answer.ensures (ap (λ u. u.ending) c.self.view_is ∙ between.ending) h is refl c.err-self-inside.ensures.value
+returns-clause-whole c m between within is =
+    feeds_whole c.args.self.now c.take_piece.new.self c.args.piece.now m c.args.items.now.items c.take_piece.new.items.items c.take_piece.result c.take_piece.ensures.feeds between within is

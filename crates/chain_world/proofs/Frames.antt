@@ -5,8 +5,7 @@ use lib.Signed.{mag}
 use native.Mathlib.Numerals.{unary_clauses}
 use Rattle.std.proofs.lemmas.Fmt.{length_signed_le}
 use Rattle.std.proofs.lemmas.Bool.{eqb-true}
-use Rattle.stream_escape.specs.Stream.{escaped, framed}
-use Rattle.stream_escape.specs.declared.stream.TheConstants.{MESSAGE_LIMIT}
+use Rattle.stream_escape.specs.Stream.{escaped, framed, most_message}
 use Rattle.stream_escape.specs.declared.stream.Item.{Item}
 use Rattle.stream_escape.specs.declared.stream.Item.TheVariants.{Message}
 use Rattle.tcf_message.specs.Message.{MessageValue, command, final, progress, not_known, event, flow, IsWellFormed, spelling, reading}
@@ -53,7 +52,7 @@ level_within (pos n) formed = omega (arith, ints, formed)
 level_within (negsuc n) formed = omega (arith, ints, formed)
 
 -- a message is within the limit of the stream
-pub spelling_within : (m : MessageValue) → IsWellFormed m → length (spelling m) ≤ MESSAGE_LIMIT
+pub spelling_within : (m : MessageValue) → IsWellFormed m → length (spelling m) ≤ most_message
 spelling_within (command token service name body) formed = simp length-append (omega (arith, formed))
 spelling_within (final token body) formed = simp length-append (omega (arith, formed))
 spelling_within (progress token body) formed = simp length-append (omega (arith, formed))

@@ -4,10 +4,9 @@ use Rattle.std.specs.Prelude.{◌↔◌, nat_le, nat_lt, sum_by}
 use Rattle.std.proofs.lemmas.Bool.{cases_Bool, cond-true, cond-false, leb-true, leb-false, le-leb, lt-leb, ltb-true, lt-ltb, and_parts, and_from, false≢true}
 use Rattle.std.proofs.lemmas.List.{length-append}
 use Rattle.std.proofs.lemmas.List.Sums.{sum_by-cons}
-use Rattle.chain_world.specs.declared.lane.TheConstants.{INBOX_LIMIT, PIECE_LIMIT}
 use Rattle.chain_world.specs.Marked.{Marked}
 use Rattle.chain_world.specs.LaneValue.{LaneValue}
-use Rattle.chain_world.specs.Lane.{size_of, received, delivered, pieces, bytes_in_flight, all_delivered, is_carrying, IsWithin, OnePieceOrTwo, PiecesKeep, AllArrive, ArrivesWithItsLastByte}
+use Rattle.chain_world.specs.Lane.{full_inbox, most_piece, size_of, received, delivered, pieces, bytes_in_flight, all_delivered, is_carrying, IsWithin, OnePieceOrTwo, PiecesKeep, AllArrive, ArrivesWithItsLastByte}
 
 -- ---- What so many bytes bring
 
@@ -75,18 +74,18 @@ received_left inbox (m ∷ ms) bytes =
 
 -- ---- One piece
 
-pub delivered_full : (count : ℕ) (l : LaneValue) → INBOX_LIMIT ≤ length l.inbox → delivered count l ≡ l
-delivered_full count l full = cond-true (nat_le INBOX_LIMIT (length l.inbox)) _ _ (le-leb INBOX_LIMIT (length l.inbox) full)
+pub delivered_full : (count : ℕ) (l : LaneValue) → full_inbox ≤ length l.inbox → delivered count l ≡ l
+delivered_full count l full = cond-true (nat_le full_inbox (length l.inbox)) _ _ (le-leb full_inbox (length l.inbox) full)
 
-pub delivered_free : (count : ℕ) (l : LaneValue) → length l.inbox < INBOX_LIMIT → delivered count l ≡ received l.inbox l.flight (l.came + count)
-delivered_free count l free = cond-false (nat_le INBOX_LIMIT (length l.inbox)) _ _ (lt-leb INBOX_LIMIT (length l.inbox) free)
+pub delivered_free : (count : ℕ) (l : LaneValue) → length l.inbox < full_inbox → delivered count l ≡ received l.inbox l.flight (l.came + count)
+delivered_free count l free = cond-false (nat_le full_inbox (length l.inbox)) _ _ (lt-leb full_inbox (length l.inbox) free)
 
 -- the inbox is full, or it isn't
-room : (l : LaneValue) → (INBOX_LIMIT ≤ length l.inbox) ⊎ (length l.inbox < INBOX_LIMIT)
+room : (l : LaneValue) → (full_inbox ≤ length l.inbox) ⊎ (length l.inbox < full_inbox)
 room l =
-    elim (cases_Bool (nat_le INBOX_LIMIT (length l.inbox))) [
-      | inl w ↦ inl (leb-true INBOX_LIMIT (length l.inbox) w)
-      | inr w ↦ inr (leb-false INBOX_LIMIT (length l.inbox) w)
+    elim (cases_Bool (nat_le full_inbox (length l.inbox))) [
+      | inl w ↦ inl (leb-true full_inbox (length l.inbox) w)
+      | inr w ↦ inr (leb-false full_inbox (length l.inbox) w)
     ]
 
 pub one_piece_or_two : OnePieceOrTwo
@@ -119,7 +118,7 @@ pieces_keep count l =
 
 -- the inbox is full, or nothing is in flight
 abbrev IsStill : LaneValue → Type 0
-IsStill l = (INBOX_LIMIT ≤ length l.inbox) ⊎ ((l.flight ≡ []) × (l.came ≡ 0))
+IsStill l = (full_inbox ≤ length l.inbox) ⊎ ((l.flight ≡ []) × (l.came ≡ 0))
 
 still_stays : (count : ℕ) (l : LaneValue) → IsStill l → delivered count l ≡ l
 still_stays count l (inl full) = delivered_full count l full
@@ -135,11 +134,11 @@ still_stays count l (inr empty) =
 
 still_pieces : (n : ℕ) (l : LaneValue) → IsStill l → pieces n l ≡ l
 still_pieces zero l still = refl
-still_pieces (suc n) l still = ap (pieces n) (still_stays PIECE_LIMIT l still) ∙ still_pieces n l still
+still_pieces (suc n) l still = ap (pieces n) (still_stays most_piece l still) ∙ still_pieces n l still
 
 -- a piece that arrives leaves fewer bytes
 abbrev Moves : LaneValue → Type 0
-Moves l = (length l.inbox < INBOX_LIMIT) × (bytes_in_flight (delivered PIECE_LIMIT l) < bytes_in_flight l)
+Moves l = (length l.inbox < full_inbox) × (bytes_in_flight (delivered most_piece l) < bytes_in_flight l)
 
 moves_or_still : (l : LaneValue) → IsWithin l.flight l.came → IsStill l ⊎ Moves l
 moves_or_still l within =
@@ -148,16 +147,16 @@ moves_or_still l within =
       | inr free ↦ by_flight l.flight refl within free
     ]
   where
-    by_flight : (flight : List Marked) → l.flight ≡ flight → IsWithin flight l.came → length l.inbox < INBOX_LIMIT → IsStill l ⊎ Moves l
+    by_flight : (flight : List Marked) → l.flight ≡ flight → IsWithin flight l.came → length l.inbox < full_inbox → IsStill l ⊎ Moves l
     by_flight [] is at free = inl (inr (is, at))
     by_flight (m ∷ ms) is at free =
-        let left : bytes_in_flight (delivered PIECE_LIMIT l) ≡ sum_by size_of l.flight - (l.came + PIECE_LIMIT) =
-        ap bytes_in_flight (delivered_free PIECE_LIMIT l free) ∙ received_left l.inbox l.flight (l.came + PIECE_LIMIT) in
+        let left : bytes_in_flight (delivered most_piece l) ≡ sum_by size_of l.flight - (l.came + most_piece) =
+        ap bytes_in_flight (delivered_free most_piece l free) ∙ received_left l.inbox l.flight (l.came + most_piece) in
         let sum : sum_by size_of l.flight ≡ sum_by size_of (m ∷ ms) = ap (sum_by size_of) is in
         inr (free, omega (arith, sum_by-cons size_of m ms))
 
-piece_within : (l : LaneValue) → IsWithin l.flight l.came → IsWithin (delivered PIECE_LIMIT l).flight (delivered PIECE_LIMIT l).came
-piece_within l within = let k = pieces_keep PIECE_LIMIT l in k.within within
+piece_within : (l : LaneValue) → IsWithin l.flight l.came → IsWithin (delivered most_piece l).flight (delivered most_piece l).came
+piece_within l within = let k = pieces_keep most_piece l in k.within within
 
 none_left : (l : LaneValue) → IsWithin l.flight l.came → bytes_in_flight l ≤ 0 → IsStill l
 none_left l within none =
@@ -170,19 +169,19 @@ enough (suc n) zero l within le other = still_pieces (suc n) l (none_left l with
 enough (suc n) (suc k) l within le other =
     elim (moves_or_still l within) [
       | inl still ↦ still_pieces (suc n) l still ∙ sym (still_pieces (suc k) l still)
-      | inr moves ↦ let less = moves.1 in enough n k (delivered PIECE_LIMIT l) (piece_within l within) (omega arith) (omega arith)
+      | inr moves ↦ let less = moves.1 in enough n k (delivered most_piece l) (piece_within l within) (omega arith) (omega arith)
     ]
 
 -- one piece of all
-pub one_of_all : (l : LaneValue) → IsWithin l.flight l.came → all_delivered l ≡ all_delivered (delivered PIECE_LIMIT l)
+pub one_of_all : (l : LaneValue) → IsWithin l.flight l.came → all_delivered l ≡ all_delivered (delivered most_piece l)
 one_of_all l within =
     elim (moves_or_still l within) [
-      | inl still ↦ ap all_delivered (sym (still_stays PIECE_LIMIT l still))
+      | inl still ↦ ap all_delivered (sym (still_stays most_piece l still))
       | inr moves ↦
           let less = moves.1 in
           let one_more : bytes_in_flight l ≡ suc (bytes_in_flight l - 1) = omega arith in
           ap (λ n. pieces n l) one_more
-          ∙ enough (bytes_in_flight l - 1) (bytes_in_flight (delivered PIECE_LIMIT l)) (delivered PIECE_LIMIT l) (piece_within l within) (omega arith) (omega arith)
+          ∙ enough (bytes_in_flight l - 1) (bytes_in_flight (delivered most_piece l)) (delivered most_piece l) (piece_within l within) (omega arith) (omega arith)
     ]
 
 all_still : (n : ℕ) (l : LaneValue) → IsWithin l.flight l.came → bytes_in_flight l ≤ n → IsStill (pieces n l)
@@ -190,7 +189,7 @@ all_still zero l within le = none_left l within le
 all_still (suc n) l within le =
     elim (moves_or_still l within) [
       | inl still ↦ subst IsStill (sym (still_pieces (suc n) l still)) still
-      | inr moves ↦ let less = moves.1 in all_still n (delivered PIECE_LIMIT l) (piece_within l within) (omega arith)
+      | inr moves ↦ let less = moves.1 in all_still n (delivered most_piece l) (piece_within l within) (omega arith)
     ]
 
 pub all_arrive : AllArrive
@@ -201,21 +200,21 @@ all_arrive l within =
 
 carrying : (l : LaneValue) → is_carrying l ≡ true → IsStill l → ⊥
 carrying l e (inl full) =
-    let both = and_parts (nat_lt 0 (length l.flight)) (nat_lt (length l.inbox) INBOX_LIMIT) e in let free : length l.inbox < INBOX_LIMIT = ltb-true (length l.inbox) INBOX_LIMIT both.1 in omega arith
+    let both = and_parts (nat_lt 0 (length l.flight)) (nat_lt (length l.inbox) full_inbox) e in let free : length l.inbox < full_inbox = ltb-true (length l.inbox) full_inbox both.1 in omega arith
 carrying l e (inr empty) =
-    let both = and_parts (nat_lt 0 (length l.flight)) (nat_lt (length l.inbox) INBOX_LIMIT) e in let some : 0 < length l.flight = ltb-true 0 (length l.flight) both.0 in omega (arith, ap length empty.0)
+    let both = and_parts (nat_lt 0 (length l.flight)) (nat_lt (length l.inbox) full_inbox) e in let some : 0 < length l.flight = ltb-true 0 (length l.flight) both.0 in omega (arith, ap length empty.0)
 
-pub fewer_left : (l : LaneValue) → IsWithin l.flight l.came → is_carrying l ≡ true → bytes_in_flight (delivered PIECE_LIMIT l) < bytes_in_flight l
+pub fewer_left : (l : LaneValue) → IsWithin l.flight l.came → is_carrying l ≡ true → bytes_in_flight (delivered most_piece l) < bytes_in_flight l
 fewer_left l within e = elim (moves_or_still l within) [ inl still ↦ absurd (carrying l e still) | inr moves ↦ moves.1 ]
 
 not_carrying : (l : LaneValue) → IsWithin l.flight l.came → is_carrying l ≡ false → IsStill l
 not_carrying l within e =
     elim (room l) [
       | inl full ↦ inl full
-      | inr free ↦ by_flight l.flight refl within (lt-ltb (length l.inbox) INBOX_LIMIT free)
+      | inr free ↦ by_flight l.flight refl within (lt-ltb (length l.inbox) full_inbox free)
     ]
   where
-    by_flight : (flight : List Marked) → l.flight ≡ flight → IsWithin flight l.came → nat_lt (length l.inbox) INBOX_LIMIT ≡ true → IsStill l
+    by_flight : (flight : List Marked) → l.flight ≡ flight → IsWithin flight l.came → nat_lt (length l.inbox) full_inbox ≡ true → IsStill l
     by_flight [] is at free = inr (is, at)
     by_flight (m ∷ ms) is at free =
         let some : nat_lt 0 (length l.flight) ≡ true = lt-ltb 0 (length l.flight) (omega (arith, ap length is)) in

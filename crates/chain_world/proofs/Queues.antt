@@ -8,8 +8,7 @@ use Rattle.chain_world.specs.Client.{client_opened, client_took}
 use Rattle.chain_world.specs.AgentValue.{AgentValue}
 use Rattle.chain_world.specs.Agent.{agent_opened, agent_took}
 use Rattle.chain_world.specs.LaneValue.{LaneValue}
-use Rattle.chain_world.specs.Lane.{delivered, pieces, bytes_in_flight, all_delivered}
-use Rattle.chain_world.specs.declared.lane.TheConstants.{PIECE_LIMIT}
+use Rattle.chain_world.specs.Lane.{most_piece, delivered, pieces, bytes_in_flight, all_delivered}
 use Rattle.chain_world.specs.WorldValue.{WorldValue}
 use Rattle.chain_world.specs.World as world
 use Rattle.chain_world.proofs.Pieces.{pieces_keep}
@@ -70,7 +69,7 @@ delivered_queue count l = let k = pieces_keep count l in k.order
 
 pieces_queue : (n : ℕ) (l : LaneValue) → queue_of (pieces n l) ≡ queue_of l
 pieces_queue zero l = refl
-pieces_queue (suc n) l = pieces_queue n (delivered PIECE_LIMIT l) ∙ delivered_queue PIECE_LIMIT l
+pieces_queue (suc n) l = pieces_queue n (delivered most_piece l) ∙ delivered_queue most_piece l
 
 pub arrived_queue : (l : LaneValue) → queue_of (all_delivered l) ≡ queue_of l
 arrived_queue l = pieces_queue (bytes_in_flight l) l

@@ -1,20 +1,26 @@
-use Rattle.std.specs.Prelude.{ℕ, ◌+◌, ◌==◌, List, [], ◌∷◌, ◌++◌, length, Option, None, Some, if◌then◌else◌, nat_lt, nat_le, slice_get}
+use Rattle.std.specs.Prelude.{ℕ, ◌+◌, ◌-◌, ◌^◌, ◌==◌, List, [], ◌∷◌, ◌++◌, length, Option, None, Some, if◌then◌else◌, nat_lt, nat_le, slice_get}
 use Rattle.std.specs.List.{position, remove}
 use Rattle.std.specs.Str.{bytes_eq}
 use Rattle.std.specs.Fmt.{decimal}
-use Rattle.tcf_message.specs.declared.message.TheConstants.{BODY_LIMIT}
-use Rattle.tcf_message.specs.Message.{MessageValue, command, final, progress, not_known, event, flow}
+use Rattle.tcf_message.specs.Message.{most_body, MessageValue, command, final, progress, not_known, event, flow}
 use Rattle.tcf_text.specs.declared.log.LogLine.{LogLine}
 use Rattle.tcf_text.specs.declared.log.LogLine.TheVariants.{Sent, Refused, Hello, Event, Progress, Final, Unknown}
 use Rattle.tcf_text.specs.declared.log.RefusedWhy.{RefusedWhy}
 use Rattle.tcf_text.specs.declared.log.RefusedWhy.TheVariants.{Full, NotOpen, TooLong, Spent}
-use Rattle.chain_world.specs.declared.client.TheConstants.{PENDING_LIMIT, LAST_TOKEN}
 use Rattle.chain_world.specs.declared.end.EndState.{EndState}
 use Rattle.chain_world.specs.declared.end.EndState.TheVariants.{Unopened, Opening, Live}
 use Rattle.chain_world.specs.declared.client.Pending.{Pending}
 use Rattle.chain_world.specs.Marked.{Marked, unmarked, Stepped}
 use Rattle.chain_world.specs.Hello.{greeting, is_greeting, client_services}
 use Rattle.chain_world.specs.ClientValue.{ClientValue}
+
+-- the most commands that are pending
+abbrev pub most_pending : ℕ
+most_pending = 1024
+
+-- the last number that a command has
+abbrev pub last_token : ℕ
+last_token = 2 ^ 64 - 1
 
 -- a client that isn't connected, and has done nothing
 abbrev pub new_client : ClientValue
@@ -31,9 +37,9 @@ client_opened c = record { node = record c { state = Opening }; queued = unmarke
 -- Why a connected client refuses a command: the first of these causes that holds.
 abbrev pub limit_of : ClientValue → List ℕ → List ℕ → List ℕ → Option RefusedWhy
 limit_of c service name body =
-    if nat_lt BODY_LIMIT (length service + length name + length body) then Some TooLong
-    else if nat_le PENDING_LIMIT (length c.pending) then Some Full
-    else if c.accepted == LAST_TOKEN then Some Spent
+    if nat_lt most_body (length service + length name + length body) then Some TooLong
+    else if nat_le most_pending (length c.pending) then Some Full
+    else if c.accepted == last_token then Some Spent
     else None
 
 -- Why a client that stands so refuses a command.

@@ -1,11 +1,17 @@
 use Rattle.std.specs.Prelude.{ℕ, zero, suc, ◌≡◌, ◌≤◌, ◌<◌, ◌+◌, ◌-◌, ◌⊎◌, ◌↔◌, ◌&&◌, Bool, List, [], ◌∷◌, ◌++◌, length, take, sum_by, if◌then◌else◌, nat_le, nat_lt, Option, None, Some}
-use Rattle.stream_escape.specs.declared.stream.TheConstants.{MESSAGE_LIMIT}
-use Rattle.stream_escape.specs.Stream.{framed, Reads}
+use Rattle.stream_escape.specs.Stream.{framed, most_message, Reads}
 use Rattle.stream_escape.specs.Value.{UnescapeValue}
 use Rattle.tcf_message.specs.Message.{spelling}
-use Rattle.chain_world.specs.declared.lane.TheConstants.{INBOX_LIMIT, PIECE_LIMIT}
 use Rattle.chain_world.specs.Marked.{Marked}
 use Rattle.chain_world.specs.LaneValue.{LaneValue}
+
+-- while so many messages wait, no more bytes arrive
+abbrev pub full_inbox : ℕ
+full_inbox = 200
+
+-- the most bytes of one piece
+abbrev pub most_piece : ℕ
+most_piece = 65536
 
 -- a message's bytes on the stream
 unfoldable pub frame_of : Marked → List ℕ
@@ -33,12 +39,12 @@ received inbox (m ∷ ms) bytes =
 
 -- A piece of so many bytes arrives, or as many as there are; nothing where the inbox holds 200 messages or more.
 abbrev pub delivered : ℕ → LaneValue → LaneValue
-delivered count l = if nat_le INBOX_LIMIT (length l.inbox) then l else received l.inbox l.flight (l.came + count)
+delivered count l = if nat_le full_inbox (length l.inbox) then l else received l.inbox l.flight (l.came + count)
 
 -- so many pieces of 65,536 bytes
 abbrev pub pieces : ℕ → LaneValue → LaneValue
 pieces zero l = l
-pieces (suc n) l = pieces n (delivered PIECE_LIMIT l)
+pieces (suc n) l = pieces n (delivered most_piece l)
 
 -- how many bytes are in flight
 abbrev pub bytes_in_flight : LaneValue → ℕ
@@ -58,7 +64,7 @@ IsWithin (m ∷ ms) came = came < size_of m
 
 -- Two pieces do what one does, unless the first fills the inbox.
 abbrev pub OnePieceOrTwo : Type 0
-OnePieceOrTwo = (a b : ℕ) (l : LaneValue) → length (delivered a l).inbox < INBOX_LIMIT → delivered b (delivered a l) ≡ delivered (a + b) l
+OnePieceOrTwo = (a b : ℕ) (l : LaneValue) → length (delivered a l).inbox < full_inbox → delivered b (delivered a l) ≡ delivered (a + b) l
 
 -- A piece neither loses a message nor changes their order, and what has come of the next one is less than the whole.
 pub record Keeps (count : ℕ) (l : LaneValue) : Type 0 where
@@ -71,19 +77,19 @@ PiecesKeep = (count : ℕ) (l : LaneValue) → Keeps count l
 -- A message is in the inbox from the piece that has the last byte of its frame: one that is in flight comes exactly
 -- where all bytes up to its end have come.
 abbrev pub ArrivesWithItsLastByte : Type 0
-ArrivesWithItsLastByte = (count : ℕ) (l : LaneValue) (front rest : List Marked) (m : Marked) → length l.inbox < INBOX_LIMIT → l.flight ≡ front ++ m ∷ rest
+ArrivesWithItsLastByte = (count : ℕ) (l : LaneValue) (front rest : List Marked) (m : Marked) → length l.inbox < full_inbox → l.flight ≡ front ++ m ∷ rest
     → (sum_by size_of (front ++ m ∷ []) ≤ l.came + count) ↔ (length l.inbox + length front < length (delivered count l).inbox)
 
 -- Pieces that all arrive leave nothing in flight, unless the inbox is full.
 abbrev pub AllArrive : Type 0
 AllArrive = (l : LaneValue) → IsWithin l.flight l.came
-    → ((all_delivered l).flight ≡ []) ⊎ (INBOX_LIMIT ≤ length (all_delivered l).inbox)
+    → ((all_delivered l).flight ≡ []) ⊎ (full_inbox ≤ length (all_delivered l).inbox)
 
 -- ---- The parts of a piece
 
 -- whether a piece may arrive of which bytes are in flight
 abbrev pub is_carrying : LaneValue → Bool
-is_carrying l = nat_lt 0 (length l.flight) && nat_lt (length l.inbox) INBOX_LIMIT
+is_carrying l = nat_lt 0 (length l.flight) && nat_lt (length l.inbox) full_inbox
 
 -- how many bytes of the first message in flight haven't come
 abbrev pub missing_of : List Marked → ℕ → Option ℕ
@@ -112,7 +118,7 @@ oldest_taken (m ∷ ms) l = (Some m, record l { inbox = ms })
 -- the bytes are one whole message's
 pub record IsFramed (bytes : List ℕ) : Type 0 where
   pub message : List ℕ
-  pub within : length message ≤ MESSAGE_LIMIT
+  pub within : length message ≤ most_message
   pub frame : bytes ≡ framed message
 
 -- a reader that has read so many of these bytes, and nothing behind them

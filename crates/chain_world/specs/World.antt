@@ -5,10 +5,9 @@ use Rattle.tcf_text.specs.Schedule.{AreSteps}
 use Rattle.tcf_message.specs.Message.{HasNoZero}
 use Rattle.chain_world.specs.declared.end.EndState.{EndState}
 use Rattle.chain_world.specs.declared.end.EndState.TheVariants.{Unopened, Opening, Live}
-use Rattle.chain_world.specs.declared.lane.TheConstants.{INBOX_LIMIT}
 use Rattle.chain_world.specs.Marked.{Marked, Stepped}
 use Rattle.chain_world.specs.LaneValue.{LaneValue}
-use Rattle.chain_world.specs.Lane.{new_lane, queued_on, delivered, all_delivered}
+use Rattle.chain_world.specs.Lane.{full_inbox, new_lane, queued_on, delivered, all_delivered}
 use Rattle.chain_world.specs.ClientValue.{ClientValue}
 use Rattle.chain_world.specs.Client.{new_client, client_opened, client_sent, client_took}
 use Rattle.chain_world.specs.AgentValue.{AgentValue}
@@ -124,5 +123,5 @@ lane false w = w.down
 -- between them. So what a schedule brings about depends on the messages that came whole, and not on the pieces.
 abbrev pub PiecesDontMatter : Type 0
 PiecesDontMatter = (chain hop a b : ℕ) (up : Bool) (plans : List Plan) (w : WorldValue)
-    → length (lane up (played (deliver chain hop up a) w)).inbox < INBOX_LIMIT
+    → length (lane up (played (deliver chain hop up a) w)).inbox < full_inbox
     → run (deliver chain hop up a ∷ deliver chain hop up b ∷ plans) w ≡ run (deliver chain hop up (a + b) ∷ plans) w

@@ -1,7 +1,6 @@
 //! The reading of one whole message's bytes, which come in pieces.
 ghost use Rattle.std.specs.Prelude.{◌≡◌, ◌<◌, ◌≤◌, ◌+◌, ℕ, List, length, IfOk, OnOk};
-ghost use Rattle.stream_escape.specs.Stream.{framed};
-ghost use Rattle.stream_escape.specs.declared.stream.TheConstants.{MESSAGE_LIMIT};
+ghost use Rattle.stream_escape.specs.Stream.{framed, most_message};
 ghost use Rattle.chain_world.specs.Lane.{IsFramed, HasReadOf};
 
 use std::alloc::{AllocError, Global};
@@ -42,7 +41,7 @@ pub(crate) fn read_rest(
     requires within { came ≤ length frame.now }
     requires frame { IsFramed frame.now }
     requires before { HasReadOf came frame.now unescape.old }
-    ensures message { IfOk result (λ raw. (message : List ℕ) → length message ≤ MESSAGE_LIMIT → frame.now ≡ framed message → raw ≡ message) }
+    ensures message { IfOk result (λ raw. (message : List ℕ) → length message ≤ most_message → frame.now ≡ framed message → raw ≡ message) }
     ensures after { OnOk result ((bytes : List ℕ) → HasReadOf 0 bytes unescape.new) }
 {
     // A law, which does nothing: the frame is read in one way.

@@ -11,28 +11,27 @@ use Rattle.tcf_text.specs.Schedule.{ScheduleValue, schedule_of}
 use Rattle.tcf_app.specs.declared.exit.BadPlace.{BadPlace}
 use Rattle.tcf_app.specs.declared.exit.Exit.{Exit}
 use Rattle.tcf_app.specs.declared.exit.Exit.TheVariants.{Usage, NoMemory, FileFault, TooLong}
-use Rattle.tcf_app.specs.declared.top.TheConstants.{FILE_LIMIT}
 use Rattle.tcf_app.specs.Words.{OrderValue, chain, show, file_of}
 use Rattle.tcf_app.specs.Texts.{usage_text, file_fault_text, too_long_text}
 use Rattle.tcf_app.specs.Show.{EachIsShown}
-use Rattle.tcf_app.specs.Ending.{Ending, Ends, EndsIn, Agrees, IsFileEnding, played_ending, lines_ending}
+use Rattle.tcf_app.specs.Ending.{most_file, Ending, Ends, EndsIn, Agrees, IsFileEnding, played_ending, lines_ending}
 use Rattle.tcf_app.specs.Run.{Runs, ReadsInOrder}
 use Rattle.tcf_app.proofs.Endings.{ends_early}
 
 -- an answer that the files agree with
 pub heard_runs : (order : OrderValue) (name : List ℕ) (files : Option (List HeldFile)) (n m : ℕ) (exit : Exit) (before after : Option (List ℕ)) (answer : FileRead)
-    → name ≡ file_of order → IfSome files (λ held. answer ≡ read_of (content_of name held) FILE_LIMIT) → EndsIn (IsFileEnding order (Some answer)) exit before after
+    → name ≡ file_of order → IfSome files (λ held. answer ≡ read_of (content_of name held) most_file) → EndsIn (IsFileEnding order (Some answer)) exit before after
     → Runs (Some order) files n m exit before after
 heard_runs order name files n m exit before after answer named content e =
     record { heard = Some answer; agrees = by_files files content; rose = λ e. cc; ending = e.0; its = e.1; ends = e.2 }
   where
-    by_files : (fs : Option (List HeldFile)) → IfSome fs (λ held. answer ≡ read_of (content_of name held) FILE_LIMIT) → Agrees (Some order) fs (Some answer)
+    by_files : (fs : Option (List HeldFile)) → IfSome fs (λ held. answer ≡ read_of (content_of name held) most_file) → Agrees (Some order) fs (Some answer)
     by_files None h = tt
-    by_files (Some held) h = h ∙ ap (λ x. read_of (content_of x held) FILE_LIMIT) named
+    by_files (Some held) h = h ∙ ap (λ x. read_of (content_of x held) most_file) named
 
 -- a file that is too long
 pub long_runs : (order : OrderValue) (name : List ℕ) (files : Option (List HeldFile)) (n m : ℕ) (exit : Exit) (before after : Option (List ℕ))
-    → name ≡ file_of order → IfSome files (λ held. Longer ≡ read_of (content_of name held) FILE_LIMIT) → Ends (record { exit = TooLong 2; text = too_long_text }) exit before after
+    → name ≡ file_of order → IfSome files (λ held. Longer ≡ read_of (content_of name held) most_file) → Ends (record { exit = TooLong 2; text = too_long_text }) exit before after
     → Runs (Some order) files n m exit before after
 long_runs order name files n m exit before after named content ends =
     heard_runs order name files n m exit before after Longer named content (record { exit = TooLong 2; text = too_long_text }, refl, ends)
@@ -76,7 +75,7 @@ early_runs law order None n m told =
     let s = heard_ends law order Longer in
     record { heard = Some Longer; agrees = tt; rose = λ e. cc; ending = s.ending; its = s.its; ends = ends_early s.ending told s.other }
 early_runs law order (Some held) n m told =
-    let answer : FileRead = read_of (content_of (file_of order) held) FILE_LIMIT in
+    let answer : FileRead = read_of (content_of (file_of order) held) most_file in
     let s = heard_ends law order answer in
     record { heard = Some answer; agrees = refl; rose = λ e. cc; ending = s.ending; its = s.its; ends = ends_early s.ending told s.other }
 

@@ -10,12 +10,11 @@ use Rattle.tcf_text.specs.Refusal.{BadLine}
 use Rattle.tcf_text.specs.Schedule.{ScheduleValue, schedule_of}
 use Rattle.tcf_app.specs.declared.exit.BadPlace.{BadPlace}
 use Rattle.tcf_app.specs.declared.exit.Exit.TheVariants.{Done, Usage, BadText, FileFault, BadStream, TooLong}
-use Rattle.tcf_app.specs.declared.top.TheConstants.{FILE_LIMIT}
 use Rattle.tcf_app.specs.Words.{OrderValue, chain, show, file_of}
 use Rattle.tcf_app.specs.Texts.{usage_text, file_fault_text, too_long_text, bad_line_text, bad_stream_text}
 use Rattle.tcf_app.specs.Played.{printed}
 use Rattle.tcf_app.specs.Show.{IsShown}
-use Rattle.tcf_app.specs.Ending.{Ending, Agrees, IsEnding, played_ending, lines_ending}
+use Rattle.tcf_app.specs.Ending.{most_file, Ending, Agrees, IsEnding, played_ending, lines_ending}
 use Rattle.tcf_app.proofs.Items.{shown_as}
 
 -- the file of this name has these bytes, where the files tell
@@ -25,7 +24,7 @@ IsHeld name file files = IfSome files (λ fs. file ≡ content_of name fs)
 pub data Kind (order : Option OrderValue) (files : Option (List HeldFile)) (heard : Option FileRead) (ending : Ending) : Type 0 where
   usage : order ≡ None → ending ≡ record { exit = Usage; text = usage_text } → Kind order files heard ending
   failed : heard ≡ None → ending ≡ record { exit = FileFault; text = file_fault_text } → Kind order files heard ending
-  long : (what : OrderValue) → order ≡ Some what → IfSome files (λ fs. FILE_LIMIT < length (content_of (file_of what) fs))
+  long : (what : OrderValue) → order ≡ Some what → IfSome files (λ fs. most_file < length (content_of (file_of what) fs))
       → ending ≡ record { exit = TooLong 2; text = too_long_text } → Kind order files heard ending
   played : (name file : List ℕ) (schedule : ScheduleValue) → order ≡ Some (chain name) → IsHeld name file files → schedule_of file ≡ Ok schedule
       → ending ≡ record { exit = Done; text = printed schedule } → Kind order files heard ending
@@ -52,11 +51,11 @@ longer_is bytes limit e = by_test (nat_lt limit (length bytes)) refl e
 
 held_whole : (order : OrderValue) (file : List ℕ) (files : Option (List HeldFile)) → Agrees (Some order) files (Some (Whole file)) → IsHeld (file_of order) file files
 held_whole order file None a = tt
-held_whole order file (Some fs) a = whole_is (content_of (file_of order) fs) file FILE_LIMIT a
+held_whole order file (Some fs) a = whole_is (content_of (file_of order) fs) file most_file a
 
-held_longer : (order : OrderValue) (files : Option (List HeldFile)) → Agrees (Some order) files (Some Longer) → IfSome files (λ fs. FILE_LIMIT < length (content_of (file_of order) fs))
+held_longer : (order : OrderValue) (files : Option (List HeldFile)) → Agrees (Some order) files (Some Longer) → IfSome files (λ fs. most_file < length (content_of (file_of order) fs))
 held_longer order None a = tt
-held_longer order (Some fs) a = longer_is (content_of (file_of order) fs) FILE_LIMIT a
+held_longer order (Some fs) a = longer_is (content_of (file_of order) fs) most_file a
 
 pub kind_of : (order : Option OrderValue) (files : Option (List HeldFile)) (heard : Option FileRead) (ending : Ending) → Agrees order files heard → IsEnding order heard ending
     → Kind order files heard ending

@@ -10,12 +10,15 @@ use Rattle.tcf_text.specs.Schedule.{ScheduleValue, schedule_of}
 use Rattle.tcf_app.specs.declared.exit.BadPlace.{BadPlace}
 use Rattle.tcf_app.specs.declared.exit.Exit.{Exit}
 use Rattle.tcf_app.specs.declared.exit.Exit.TheVariants.{Done, Usage, BadText, FileFault, BadStream, TooLong}
-use Rattle.tcf_app.specs.declared.top.TheConstants.{FILE_LIMIT}
 use Rattle.tcf_app.specs.Exit.{IsGivenUp}
 use Rattle.tcf_app.specs.Words.{OrderValue, chain, show, file_of}
 use Rattle.tcf_app.specs.Texts.{usage_text, file_fault_text, too_long_text, bad_line_text, bad_stream_text}
 use Rattle.tcf_app.specs.Played.{printed}
 use Rattle.tcf_app.specs.Show.{Shown, IsShown}
+
+-- the most bytes of a file
+abbrev pub most_file : ℕ
+most_file = 16777216
 
 -- how a run is to end, and the whole text that it is to put
 pub record Ending : Type 0 where
@@ -41,9 +44,13 @@ abbrev pub IsWholeEnding : OrderValue → List ℕ → Ending → Type 0
 IsWholeEnding (chain name) file ending = ending ≡ played_ending (schedule_of file)
 IsWholeEnding (show name) file ending = IsShownEnding file ending
 
+-- for a file that can't be read
+abbrev pub fault_ending : Ending
+fault_ending = record { exit = FileFault; text = file_fault_text }
+
 -- for what a read of the file gave; none where it failed
 abbrev pub IsFileEnding : OrderValue → Option FileRead → Ending → Type 0
-IsFileEnding order None ending = ending ≡ record { exit = FileFault; text = file_fault_text }
+IsFileEnding order None ending = ending ≡ fault_ending
 IsFileEnding order (Some Longer) ending = ending ≡ record { exit = TooLong 2; text = too_long_text }
 IsFileEnding order (Some (Whole file)) ending = IsWholeEnding order file ending
 
@@ -54,7 +61,7 @@ IsEnding (Some order) heard ending = IsFileEnding order heard ending
 
 -- what was heard is what the files hold, where they tell what they hold
 abbrev pub Agrees : Option OrderValue → Option (List HeldFile) → Option FileRead → Type 0
-Agrees (Some order) (Some files) (Some answer) = answer ≡ read_of (content_of (file_of order) files) FILE_LIMIT
+Agrees (Some order) (Some files) (Some answer) = answer ≡ read_of (content_of (file_of order) files) most_file
 Agrees order files heard = Unit {0}
 
 -- A run with this ending ends so, or is given up; what was told then is a front of the text, and else all of it.

@@ -12,12 +12,11 @@ use Rattle.chain_world.specs.Headline.{IsFaithful}
 use Rattle.tcf_app.specs.declared.exit.BadPlace.{BadPlace}
 use Rattle.tcf_app.specs.declared.exit.Exit.{Exit}
 use Rattle.tcf_app.specs.declared.exit.Exit.TheVariants.{NoMemory}
-use Rattle.tcf_app.specs.declared.top.TheConstants.{FILE_LIMIT}
 use Rattle.tcf_app.specs.Words.{OrderValue, chain, show, file_of, names_of}
 use Rattle.tcf_app.specs.Texts.{bad_line_text, bad_stream_text, too_long_text}
 use Rattle.tcf_app.specs.Played.{printed, world_of}
 use Rattle.tcf_app.specs.Show.{IsShown}
-use Rattle.tcf_app.specs.Ending.{Ending, Ends, Agrees, IsEnding}
+use Rattle.tcf_app.specs.Ending.{most_file, Ending, Ends, Agrees, IsEnding}
 
 -- Something was heard of the file that the order names, nothing only where a read failed, and the run ends as it is
 -- to end then.
@@ -83,14 +82,14 @@ pub record IsBadStream (order : Option OrderValue) (files : Option (List HeldFil
 pub record IsTooLong (order : Option OrderValue) (files : Option (List HeldFile)) (word : ℕ) (before after : Option (List ℕ)) : Type 0 where
   pub what : OrderValue
   pub ordered : order ≡ Some what
-  pub held : IfSome files (λ fs. FILE_LIMIT < length (content_of (file_of what) fs))
+  pub held : IfSome files (λ fs. most_file < length (content_of (file_of what) fs))
   pub place : word ≡ 2
   pub put : after ≡ added too_long_text before
 
 -- what was heard of the file that the order names, where these files are held and no read fails
 abbrev pub heard_in : Option OrderValue → List HeldFile → Option FileRead
 heard_in None files = None
-heard_in (Some order) files = Some (read_of (content_of (file_of order) files) FILE_LIMIT)
+heard_in (Some order) files = Some (read_of (content_of (file_of order) files) most_file)
 
 -- an exit that the order has over these files, or want of memory
 abbrev pub ExitsOver : Option OrderValue → List HeldFile → Exit → Type 0

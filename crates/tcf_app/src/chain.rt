@@ -60,6 +60,7 @@ fn text_of(alloc: Global, schedule: &Schedule) -> Result<Octets, AllocError>
 pub(crate) fn play_file<S: Sink>(alloc: Global, file: &[u8], out: &mut S) -> Exit
     ensures ends { Ends (played_ending (schedule_of file.now)) result (S.told out.old) (S.told out.new) }
     ensures fault { result ≡ Exit.SinkFault → Rose (S.faults out.old) (S.faults out.new) }
+    ensures unharmed { (result ≡ Exit.SinkFault → ⊥) → S.faults out.new ≡ S.faults out.old }
 {
     match read_schedule(alloc, file) {
         Ok(schedule) => finish_made(out, text_of(alloc, &schedule), Exit::Done),

@@ -13,6 +13,7 @@ pub(crate) fn finish<S: Sink>(out: &mut S, text: &[u8], exit: Exit) -> Exit
     requires { IsGivenUp exit → ⊥ }
     ensures ends { Ends (record { exit = exit; text = text.now }) result (S.told out.old) (S.told out.new) }
     ensures fault { result ≡ Exit.SinkFault → Rose (S.faults out.old) (S.faults out.new) }
+    ensures unharmed { (result ≡ Exit.SinkFault → ⊥) → S.faults out.new ≡ S.faults out.old }
 {
     match put_all(out, text) {
         Ok(()) => exit,
@@ -31,6 +32,7 @@ pub(crate) fn finish_made<S: Sink>(
     ensures ends { IfOk made (λ text. Ends (record { exit = exit; text = text }) result (S.told out.old) (S.told out.new)) }
     ensures wanting { OnErr made ((result ≡ Exit.NoMemory) × (S.told out.new ≡ S.told out.old)) }
     ensures fault { result ≡ Exit.SinkFault → Rose (S.faults out.old) (S.faults out.new) }
+    ensures unharmed { (result ≡ Exit.SinkFault → ⊥) → S.faults out.new ≡ S.faults out.old }
 {
     match made {
         Ok(text) => finish(out, text.as_slice(), exit),

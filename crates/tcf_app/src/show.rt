@@ -187,7 +187,7 @@ fn put_lines<S: Sink>(
     ensures lines { IfOk result (λ bad. (text : List ℕ) × IsShown file.now (record { text = text; bad = bad }) × (S.told out.new ≡ added text (S.told out.old))) }
     ensures part { OnErr result ((shown : Shown) × IsShown file.now shown × (count : ℕ) × (S.told out.new ≡ added (take count shown.text) (S.told out.old))) }
     ensures failed { result ≡ Err SinkRefusal.Failed → Rose (S.faults out.old) (S.faults out.new) }
-    ensures unharmed { OnOk result (S.faults out.new ≡ S.faults out.old) }
+    ensures unharmed { (result ≡ Err SinkRefusal.Failed → ⊥) → S.faults out.new ≡ S.faults out.old }
 {
     each_goes_on();
     let mut shower = Shower::new(alloc);
@@ -208,6 +208,7 @@ fn put_lines<S: Sink>(
 pub(crate) fn show_file<S: Sink>(alloc: Global, file: &[u8], out: &mut S) -> Exit
     ensures ends { EndsIn (IsShownEnding file.now) result (S.told out.old) (S.told out.new) }
     ensures fault { result ≡ Exit.SinkFault → Rose (S.faults out.old) (S.faults out.new) }
+    ensures unharmed { (result ≡ Exit.SinkFault → ⊥) → S.faults out.new ≡ S.faults out.old }
 {
     match put_lines(alloc, file, out) {
         Ok(None) => Exit::Done,

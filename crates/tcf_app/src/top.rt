@@ -1,13 +1,14 @@
 //! The top call.
-ghost use Rattle.std.specs.Prelude.{◌≡◌, ◌⊎◌, ℕ, None, Some, IfSome, map, string_bytes};
+ghost use Rattle.std.specs.Prelude.{◌≡◌, ◌⊎◌, ℕ, None, Some, IfOk, IfSome, map, string_bytes};
 ghost use Rattle.tcf_outside.specs.Faults.{Rose};
+ghost use Rattle.tcf_outside.specs.Files.{content_of, read_of, names_after, faults_after};
 ghost use Rattle.tcf_outside.specs.Sink.{added};
 ghost use Rattle.tcf_text.specs.declared.schedule.TextFault.{TextFault};
 ghost use Rattle.tcf_app.specs.declared.exit.StreamWhat.{StreamWhat};
 ghost use Rattle.tcf_app.specs.Exit.{IsGivenUp};
 ghost use Rattle.tcf_app.specs.Words.{order_value, order_of};
 ghost use Rattle.tcf_app.specs.Texts.{usage_text, file_fault_text, too_long_text};
-ghost use Rattle.tcf_app.specs.Ending.{Ends, EndsIn, IsWholeEnding};
+ghost use Rattle.tcf_app.specs.Ending.{most_file, Ends, EndsIn, IsWholeEnding, fault_ending};
 ghost use Rattle.tcf_app.specs.Run.{Runs, ReadsInOrder, IsDone, IsBadText, IsBadStream, IsTooLong, ExitsOver, PutsFront};
 
 use crate::chain::play_file;
@@ -32,6 +33,7 @@ const USAGE: &[u8] =
 fn refuse_words<S: Sink>(out: &mut S) -> Exit
     ensures ends { Ends (record { exit = Exit.Usage; text = usage_text }) result (S.told out.old) (S.told out.new) }
     ensures fault { result ≡ Exit.SinkFault → Rose (S.faults out.old) (S.faults out.new) }
+    ensures unharmed { (result ≡ Exit.SinkFault → ⊥) → S.faults out.new ≡ S.faults out.old }
 {
     finish(out, USAGE, Exit::Usage)
 }
@@ -41,6 +43,7 @@ fn refuse_words<S: Sink>(out: &mut S) -> Exit
 fn refuse_length<S: Sink>(out: &mut S) -> Exit
     ensures ends { Ends (record { exit = Exit.TooLong 2; text = too_long_text }) result (S.told out.old) (S.told out.new) }
     ensures fault { result ≡ Exit.SinkFault → Rose (S.faults out.old) (S.faults out.new) }
+    ensures unharmed { (result ≡ Exit.SinkFault → ⊥) → S.faults out.new ≡ S.faults out.old }
 {
     finish(out, b"file too long: word 2\n", Exit::TooLong { word: 2 })
 }
@@ -48,16 +51,27 @@ fn refuse_length<S: Sink>(out: &mut S) -> Exit
 /// Ends a run whose file could not be read.
 #[tactic(auto, unfolding(crate::specs::Texts::file_fault_text))]
 fn report_fault<S: Sink>(out: &mut S) -> Exit
-    ensures ends { Ends (record { exit = Exit.FileFault; text = file_fault_text }) result (S.told out.old) (S.told out.new) }
+    ensures ends { Ends fault_ending result (S.told out.old) (S.told out.new) }
     ensures fault { result ≡ Exit.SinkFault → Rose (S.faults out.old) (S.faults out.new) }
+    ensures unharmed { (result ≡ Exit.SinkFault → ⊥) → S.faults out.new ≡ S.faults out.old }
 {
     finish(out, b"file fault\n", Exit::FileFault)
+}
+
+/// Reads the file of this name whole, if it has no more bytes than the limit.
+fn read_file<F: Files>(files: &mut F, name: &str) -> Result<FileRead, ReadRefusal>
+    ensures content { IfOk result (λ answer. IfSome (F.held files.old) (λ held. answer ≡ read_of (content_of name.now held) most_file)) }
+    ensures noted { F.names files.new ≡ names_after result name.now (F.names files.old) }
+    ensures cause { F.faults files.new ≡ faults_after result (F.faults files.old) }
+{
+    files.read(name, FILE_LIMIT)
 }
 
 /// Does with the file what is ordered.
 fn run_file<S: Sink>(alloc: Global, order: Order<'_>, file: &[u8], out: &mut S) -> Exit
     ensures ends { EndsIn (IsWholeEnding (order_value order.entry) file.now) result (S.told out.old) (S.told out.new) }
     ensures fault { result ≡ Exit.SinkFault → Rose (S.faults out.old) (S.faults out.new) }
+    ensures unharmed { (result ≡ Exit.SinkFault → ⊥) → S.faults out.new ≡ S.faults out.old }
 {
     match order {
         Order::Chain { .. } => play_file(alloc, file, out),
@@ -69,10 +83,12 @@ fn run_file<S: Sink>(alloc: Global, order: Order<'_>, file: &[u8], out: &mut S) 
 fn run_order<F: Files, S: Sink>(alloc: Global, order: Order<'_>, files: &mut F, out: &mut S) -> Exit
     ensures runs { Runs (Some (order_value order.entry)) (F.held files.old) (F.faults files.old) (F.faults files.new) result (S.told out.old) (S.told out.new) }
     ensures reads { ReadsInOrder (Some (order_value order.entry)) (F.names files.old) (F.names files.new) }
+    ensures files_unharmed { (F.faults files.new ≡ F.faults files.old) ⊎ Ends fault_ending result (S.told out.old) (S.told out.new) }
     ensures fault { result ≡ Exit.SinkFault → Rose (S.faults out.old) (S.faults out.new) }
+    ensures unharmed { (result ≡ Exit.SinkFault → ⊥) → S.faults out.new ≡ S.faults out.old }
 {
     one_outcome();
-    match files.read(order.file(), FILE_LIMIT) {
+    match read_file(files, order.file()) {
         Ok(FileRead::Whole(file)) => run_file(alloc, order, file.as_slice(), out),
         Ok(FileRead::Longer) => refuse_length(out),
         Err(ReadRefusal::Failed) => report_fault(out),
@@ -84,7 +100,9 @@ fn run_order<F: Files, S: Sink>(alloc: Global, order: Order<'_>, files: &mut F, 
 fn run_words<F: Files, S: Sink>(alloc: Global, words: &[String], files: &mut F, out: &mut S) -> Exit
     ensures runs { Runs (order_of (map string_bytes words.now)) (F.held files.old) (F.faults files.old) (F.faults files.new) result (S.told out.old) (S.told out.new) }
     ensures reads { ReadsInOrder (order_of (map string_bytes words.now)) (F.names files.old) (F.names files.new) }
+    ensures files_unharmed { (F.faults files.new ≡ F.faults files.old) ⊎ Ends fault_ending result (S.told out.old) (S.told out.new) }
     ensures fault { result ≡ Exit.SinkFault → Rose (S.faults out.old) (S.faults out.new) }
+    ensures unharmed { (result ≡ Exit.SinkFault → ⊥) → S.faults out.new ≡ S.faults out.old }
 {
     match read_words(words) {
         Some(order) => run_order(alloc, order, files, out),
@@ -117,6 +135,13 @@ pub fn tcf<F: Files, S: Sink>(alloc: Global, words: &[String], files: &mut F, ou
     ensures file_fault { result ≡ Exit.FileFault → Rose (F.faults files.old) (F.faults files.new) }
     ensures file_fault_text { result ≡ Exit.FileFault → S.told out.new ≡ added file_fault_text (S.told out.old) }
     ensures sink_fault { result ≡ Exit.SinkFault → Rose (S.faults out.old) (S.faults out.new) }
+
+    // A put that failed is always answered as such, so never as want of memory. A read that failed ends the run with
+    // the line that says so, or while that is put.
+    ensures sink_unharmed { (result ≡ Exit.SinkFault → ⊥) → S.faults out.new ≡ S.faults out.old }
+    ensures files_unharmed { (F.faults files.new ≡ F.faults files.old) ⊎ Ends fault_ending result (S.told out.old) (S.told out.new) }
+
+    // What was put of a run that was given up.
     ensures given_up { IsGivenUp result → PutsFront (order_of (map string_bytes words.now)) (F.held files.old) (F.faults files.old) (F.faults files.new) (S.told out.old) (S.told out.new) }
 
     // The files are read in the order of the words.

@@ -1,5 +1,5 @@
 //! The store of blocks, the most recently used first.
-ghost use Rattle.std.specs.Prelude.{◌≡◌, ◌<◌, ◌≤◌, ◌==◌, ◌∷◌, [], not, length, filter, position, option_map, is_some, IfOk, OnOk, OnErr, vec_len};
+ghost use Rattle.std.specs.Prelude.{◌≡◌, ◌<◌, ◌≤◌, ◌==◌, ◌∷◌, [], not, length, filter, position, option_map, is_some, IfOk, IsOk, vec_len};
 ghost use Rattle.std.specs.Vec.{vec_capacity};
 ghost use Rattle.block_store.specs.Blocks.{has_range, is_same, overlaps};
 ghost use Rattle.block_store.specs.Store.{IsKept, added, covered, moved_first, touched, without_process, without_range};
@@ -19,7 +19,8 @@ pub struct BlockStore {
 }
 
 impl Model for BlockStore {
-    ghost use Rattle.std.specs.Prelude.{List};
+    ghost use Rattle.std.specs.Prelude.{List, ◌≤◌};
+    ghost use Rattle.std.specs.Vec.{vec_capacity};
     ghost use Rattle.block_store.specs.declared.block.Block.{Block};
     ghost use Rattle.block_store.specs.Store.{IsKept};
 
@@ -27,7 +28,7 @@ impl Model for BlockStore {
 
     ghost view = { λ s. s.blocks.items };
 
-    ghost invariant = { λ s. IsKept s.blocks.items };
+    ghost invariant = { λ s. IsKept s.blocks.items × (65 ≤ vec_capacity s.blocks) };
 }
 
 impl BlockStore {
@@ -40,19 +41,18 @@ impl BlockStore {
         })
     }
 
-    /// Puts a block first, in place of one of the same process, address and length, and drops the last past 64. Where
-    /// memory is wanting, nothing changes.
+    /// Puts a block first, in place of one of the same process, address and length, and drops the last past 64. It
+    /// takes no memory, so it never answers want of it.
     pub fn add(&mut self, process: u32, addr: u32, bytes: Bytes) -> Result<(), AllocError>
         requires { 0 < length bytes }
-        ensures added { OnOk result (self.new ≡ added (record { process = process; addr = addr; bytes = bytes }) self.old) }
-        ensures kept { OnErr result (self.new ≡ self.old) }
+        ensures done { IsOk result }
+        ensures added { self.new ≡ added (record { process = process; addr = addr; bytes = bytes }) self.old }
     {
         let block = Block {
             process,
             addr,
             bytes,
         };
-        self.blocks.reserve(1)?;
         drop_same(&mut self.blocks, &block);
         put_first(&mut self.blocks, block);
         self.blocks.truncate(MOST);
@@ -144,6 +144,7 @@ fn drop_same(blocks: &mut Vec<Block>, block: &Block)
 fn put_first(blocks: &mut Vec<Block>, block: Block)
     requires { vec_len blocks.old < vec_capacity blocks.old }
     ensures items { blocks.new.items ≡ block ∷ blocks.old.items }
+    ensures room { vec_capacity blocks.old ≤ vec_capacity blocks.new }
 {
     blocks.insert(0, block).unwrap();
 }
@@ -151,7 +152,8 @@ fn put_first(blocks: &mut Vec<Block>, block: Block)
 /// Moves the block at a place to the front.
 fn move_first(blocks: &mut Vec<Block>, at: usize)
     requires { at < vec_len blocks.old }
-    ensures { blocks.new.items ≡ moved_first (Some at) blocks.old.items }
+    ensures items { blocks.new.items ≡ moved_first (Some at) blocks.old.items }
+    ensures room { vec_capacity blocks.old ≤ vec_capacity blocks.new }
 {
     let block = blocks.remove(at);
     put_first(blocks, block);

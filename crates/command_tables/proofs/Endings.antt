@@ -31,7 +31,8 @@ unended_is (b ∷ bs) some =
     let e : length (b ∷ bs) - 1 ≡ length bs = omega arith in
     unended_by b bs (subst (λ k. IsSomeAnd (slice_get (b ∷ bs) k) (λ last. last ≢ 0)) e some)
 
-ended_is : (body : List ℕ) → (IsUnended body → ⊥) → is_unended body ≡ false
+-- data that is ended isn't unended
+pub ended_is : (body : List ℕ) → (IsUnended body → ⊥) → is_unended body ≡ false
 ended_is [] none = refl
 ended_is (b ∷ bs) none =
     let e : length (b ∷ bs) - 1 ≡ length bs = omega arith in

@@ -1,8 +1,9 @@
 //! The arguments of a command, taken from the left one after another, so that no part is gone over twice.
 //!
 //! Each method takes the next part, whatever it answers: `Missing` where no part is left, `Syntax` where the part is
-//! no JSON text in UTF-8, and `Shape` where it is JSON of another kind, with the index of the argument.
-ghost use Rattle.std.specs.Prelude.{◌≡◌, ◌≢◌, ◌<◌, ◌^◌, ◌-◌, Ok, Err, IfOk, IfErr};
+//! no JSON text in UTF-8, and `Shape` where it is JSON of another kind, with the index of the argument. A part that is
+//! missing is told whatever the memory.
+ghost use Rattle.std.specs.Prelude.{◌≡◌, ◌≢◌, ◌<◌, ◌^◌, ◌-◌, slice_get, None, Ok, Err, IfOk, IfErr};
 ghost use Rattle.serde_json.specs.View.{view};
 ghost use Rattle.json_args.specs.Kinds.{IsWhole, value_of};
 ghost use Rattle.command_tables.specs.Arguments.{behind, first_as, part_as, text_part, whole_part, flag_part, texts_part, blob_part};
@@ -49,6 +50,7 @@ impl<'a> Arguments<'a> {
         requires { self.now.index < 2 ^ 64 - 1 }
         ensures ok { IfOk result (λ value. first_as value_of self.old ≡ Ok (view value)) }
         ensures fault { IfErr result (λ fault. fault ≢ ArgFault.NoMemory → first_as value_of self.old ≡ Err fault) }
+        ensures missing { slice_get self.old.parts 0 ≡ None → result ≡ Err (ArgFault.Missing self.old.index) }
         ensures rest { self.new ≡ behind self.old }
     {
         let index = self.index;
@@ -64,6 +66,7 @@ impl<'a> Arguments<'a> {
         requires { self.now.index < 2 ^ 64 - 1 }
         ensures ok { IfOk result (λ text. first_as text_part self.old ≡ Ok text) }
         ensures fault { IfErr result (λ fault. fault ≢ ArgFault.NoMemory → first_as text_part self.old ≡ Err fault) }
+        ensures missing { slice_get self.old.parts 0 ≡ None → result ≡ Err (ArgFault.Missing self.old.index) }
         ensures rest { self.new ≡ behind self.old }
     {
         let index = self.index;
@@ -80,6 +83,7 @@ impl<'a> Arguments<'a> {
         ensures ok { IfOk result (λ number. first_as whole_part self.old ≡ Ok number) }
         ensures range { IfOk result IsWhole }
         ensures fault { IfErr result (λ fault. fault ≢ ArgFault.NoMemory → first_as whole_part self.old ≡ Err fault) }
+        ensures missing { slice_get self.old.parts 0 ≡ None → result ≡ Err (ArgFault.Missing self.old.index) }
         ensures rest { self.new ≡ behind self.old }
     {
         let index = self.index;
@@ -92,6 +96,7 @@ impl<'a> Arguments<'a> {
         requires { self.now.index < 2 ^ 64 - 1 }
         ensures ok { IfOk result (λ flag. first_as flag_part self.old ≡ Ok flag) }
         ensures fault { IfErr result (λ fault. fault ≢ ArgFault.NoMemory → first_as flag_part self.old ≡ Err fault) }
+        ensures missing { slice_get self.old.parts 0 ≡ None → result ≡ Err (ArgFault.Missing self.old.index) }
         ensures rest { self.new ≡ behind self.old }
     {
         let index = self.index;
@@ -104,6 +109,7 @@ impl<'a> Arguments<'a> {
         requires { self.now.index < 2 ^ 64 - 1 }
         ensures ok { IfOk result (λ texts. first_as texts_part self.old ≡ Ok texts) }
         ensures fault { IfErr result (λ fault. fault ≢ ArgFault.NoMemory → first_as texts_part self.old ≡ Err fault) }
+        ensures missing { slice_get self.old.parts 0 ≡ None → result ≡ Err (ArgFault.Missing self.old.index) }
         ensures rest { self.new ≡ behind self.old }
     {
         let index = self.index;
@@ -120,6 +126,7 @@ impl<'a> Arguments<'a> {
         requires { self.now.index < 2 ^ 64 - 1 }
         ensures ok { IfOk result (λ bytes. first_as blob_part self.old ≡ Ok bytes) }
         ensures fault { IfErr result (λ fault. fault ≢ ArgFault.NoMemory → first_as blob_part self.old ≡ Err fault) }
+        ensures missing { slice_get self.old.parts 0 ≡ None → result ≡ Err (ArgFault.Missing self.old.index) }
         ensures rest { self.new ≡ behind self.old }
     {
         let index = self.index;
@@ -136,6 +143,7 @@ impl<'a> Arguments<'a> {
         ensures ok { IfOk result (λ found. first_as (part_as T.json_in) self.old ≡ Ok found) }
         ensures within { IfOk result T.IsWithin }
         ensures fault { IfErr result (λ fault. fault ≢ ArgFault.NoMemory → first_as (part_as T.json_in) self.old ≡ Err fault) }
+        ensures missing { slice_get self.old.parts 0 ≡ None → result ≡ Err (ArgFault.Missing self.old.index) }
         ensures rest { self.new ≡ behind self.old }
     {
         let index = self.index;

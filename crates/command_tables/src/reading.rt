@@ -1,6 +1,7 @@
 //! What the data of a command is read as.
-ghost use Rattle.std.specs.Prelude.{◌≡◌, ◌≢◌, IfOk, OnOk, OnErr};
-ghost use Rattle.command_tables.specs.Reading.{IsReading, bad_of, reading_of};
+ghost use Rattle.std.specs.Prelude.{◌≡◌, ◌≢◌, [], true, None, Ok, IfOk, OnOk, OnErr, IsOk};
+ghost use Rattle.service_names.specs.Commands.{name_in};
+ghost use Rattle.command_tables.specs.Reading.{IsReading, bad_of, is_unended, reading_of};
 
 use crate::rows::read_arguments;
 use json_args::{ArgFault, split};
@@ -37,7 +38,8 @@ fn bad(fault: ArgFault) -> Result<Reading, AllocError>
 }
 
 /// Reads the data of a command. `Unknown` comes exactly where the tables have no command of this service and name;
-/// else `Bad` where an argument can't be read, or where the data isn't ended.
+/// else `Bad` where an argument can't be read, or where the data isn't ended. `Unknown`, and what data that isn't ended
+/// and no data at all are read as, come whatever the memory.
 pub fn read_command(
     alloc: Global,
     service: &[u8],
@@ -46,6 +48,9 @@ pub fn read_command(
 ) -> Result<Reading, AllocError>
     ensures reading { IfOk result (λ reading. reading ≡ reading_of service.now name.now body.now) }
     ensures legal { IfOk result (IsReading service.now name.now) }
+    ensures unknown { name_in service.now name.now ≡ None → result ≡ Ok Reading.Unknown }
+    ensures unended { is_unended body.now ≡ true → IsOk result }
+    ensures no_data { body.now ≡ [] → IsOk result }
 {
     let Some(command) = command_named(service, name) else {
         return Ok(Reading::Unknown);

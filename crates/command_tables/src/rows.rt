@@ -1,5 +1,5 @@
 //! Reading the arguments of each command.
-ghost use Rattle.std.specs.Prelude.{◌≡◌, ◌≢◌, Ok, Err, IfOk, IfErr};
+ghost use Rattle.std.specs.Prelude.{◌≡◌, ◌≢◌, [], Ok, Err, IfOk, IfErr};
 ghost use Rattle.command_tables.specs.Canonical.{IsReadable};
 ghost use Rattle.command_tables.specs.Places.{IsAtItsIndex};
 ghost use Rattle.service_names.specs.Commands.{named_as};
@@ -21,6 +21,7 @@ fn read_locator(command: LocatorCommand, arguments: &mut Arguments<'_>) -> Resul
     ensures named { IfOk result (λ made. named_as made ≡ CommandName.Locator command) }
     ensures within { IfOk result IsReadable }
     ensures fault { IfErr result (λ fault. fault ≢ ArgFault.NoMemory → locator_row command 0 arguments.old.parts ≡ Err fault) }
+    ensures nothing_left { arguments.old.parts ≡ [] → IfErr result (λ fault. fault ≢ ArgFault.NoMemory) }
 {
     match command {
         LocatorCommand::Sync => Ok(Command::Sync),
@@ -41,6 +42,7 @@ fn read_run_control(
     ensures named { IfOk result (λ made. named_as made ≡ CommandName.RunControl command) }
     ensures within { IfOk result IsReadable }
     ensures fault { IfErr result (λ fault. fault ≢ ArgFault.NoMemory → run_control_row command 0 arguments.old.parts ≡ Err fault) }
+    ensures nothing_left { arguments.old.parts ≡ [] → IfErr result (λ fault. fault ≢ ArgFault.NoMemory) }
 {
     match command {
         RunControlCommand::GetContext => Ok(Command::GetContext {
@@ -76,6 +78,7 @@ fn read_breakpoints(
     ensures named { IfOk result (λ made. named_as made ≡ CommandName.Breakpoints command) }
     ensures within { IfOk result IsReadable }
     ensures fault { IfErr result (λ fault. fault ≢ ArgFault.NoMemory → breakpoints_row command 0 arguments.old.parts ≡ Err fault) }
+    ensures nothing_left { arguments.old.parts ≡ [] → IfErr result (λ fault. fault ≢ ArgFault.NoMemory) }
 {
     match command {
         BreakpointsCommand::Set => Ok(Command::BpSet {
@@ -116,6 +119,7 @@ fn read_memory(command: MemoryCommand, arguments: &mut Arguments<'_>) -> Result<
     ensures named { IfOk result (λ made. named_as made ≡ CommandName.Memory command) }
     ensures within { IfOk result IsReadable }
     ensures fault { IfErr result (λ fault. fault ≢ ArgFault.NoMemory → memory_row command 0 arguments.old.parts ≡ Err fault) }
+    ensures nothing_left { arguments.old.parts ≡ [] → IfErr result (λ fault. fault ≢ ArgFault.NoMemory) }
 {
     match command {
         MemoryCommand::Get => Ok(Command::MemGet {
@@ -146,6 +150,7 @@ fn read_registers(
     ensures named { IfOk result (λ made. named_as made ≡ CommandName.Registers command) }
     ensures within { IfOk result IsReadable }
     ensures fault { IfErr result (λ fault. fault ≢ ArgFault.NoMemory → registers_row command 0 arguments.old.parts ≡ Err fault) }
+    ensures nothing_left { arguments.old.parts ≡ [] → IfErr result (λ fault. fault ≢ ArgFault.NoMemory) }
 {
     match command {
         RegistersCommand::Get => Ok(Command::RegGet {
@@ -175,6 +180,7 @@ fn read_processes(
     ensures named { IfOk result (λ made. named_as made ≡ CommandName.Processes command) }
     ensures within { IfOk result IsReadable }
     ensures fault { IfErr result (λ fault. fault ≢ ArgFault.NoMemory → processes_row command 0 arguments.old.parts ≡ Err fault) }
+    ensures nothing_left { arguments.old.parts ≡ [] → IfErr result (λ fault. fault ≢ ArgFault.NoMemory) }
 {
     match command {
         ProcessesCommand::GetContext => Ok(Command::ProcContext {
@@ -210,6 +216,7 @@ fn read_trace(command: TraceCommand, arguments: &mut Arguments<'_>) -> Result<Co
     ensures named { IfOk result (λ made. named_as made ≡ CommandName.Trace command) }
     ensures within { IfOk result IsReadable }
     ensures fault { IfErr result (λ fault. fault ≢ ArgFault.NoMemory → trace_row command 0 arguments.old.parts ≡ Err fault) }
+    ensures nothing_left { arguments.old.parts ≡ [] → IfErr result (λ fault. fault ≢ ArgFault.NoMemory) }
 {
     match command {
         TraceCommand::Run => Ok(Command::TraceRun {
@@ -230,6 +237,7 @@ pub fn read_arguments(
     ensures named { IfOk result (λ made. named_as made ≡ command) }
     ensures within { IfOk result IsReadable }
     ensures fault { IfErr result (λ fault. fault ≢ ArgFault.NoMemory → row_of command 0 parts.entry ≡ Err fault) }
+    ensures nothing_left { parts.entry ≡ [] → IfErr result (λ fault. fault ≢ ArgFault.NoMemory) }
 {
     let mut arguments = Arguments::new(alloc, parts);
     match command {

@@ -3,7 +3,7 @@ use Rattle.json_args.specs.Parts.{IsUnended}
 use Rattle.service_names.specs.Commands.{name_in}
 use Rattle.command_tables.specs.Reading.{bad_of, reading_by, reading_of}
 use Rattle.command_tables.specs.Rows.{row_of}
-use Rattle.command_tables.proofs.Endings.{ended_reading, unended_reading, fault_reading}
+use Rattle.command_tables.proofs.Endings.{ended_is, ended_reading, unended_reading, fault_reading}
 use Rattle.command_tables.proofs.Legal.{fault_legal}
 use Rattle.command_tables.proofs.reading.read_command.Goals as goal
 
@@ -21,6 +21,11 @@ returns-in-Err-read_arguments-clause-reading c =
     fault_reading c.bad.result c.in-Err-read_arguments.fault (reading_of c.args.service.now c.args.name.now c.args.body.now) c.bad.ensures.ok c.bad.ensures.known
     (λ known. ended_reading c.args.service.now c.args.name.now c.args.body.now c.in-Some.command named ended
     ∙ ap reading_by (ap (row_of c.in-Some.command 0) (sym c.in-Ok.ensures.value) ∙ c.in-Err-read_arguments.ensures.fault known))
+
+pub returns-in-Err-read_arguments-clause-unended : goal.returns-in-Err-read_arguments-clause-unended
+returns-in-Err-read_arguments-clause-unended c = λ unended.
+    let ended : IsUnended c.args.body.now → ⊥ = λ some. let err = c.split.ensures.unended.1 some in let ok = c.in-Ok.is in cc in
+    let here = ended_is c.args.body.now ended in cc
 
 pub returns-in-Err-clause-reading : goal.returns-in-Err-clause-reading
 returns-in-Err-clause-reading c =

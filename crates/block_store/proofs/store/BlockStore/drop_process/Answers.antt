@@ -1,4 +1,4 @@
-use Rattle.std.proofs.Common.{rules, ◌≡◌, nat_eq, not, Bool, filter, ap, sym, subst, ◌∙◌}
+use Rattle.std.proofs.Common.{rules, arith, ◌≡◌, nat_eq, not, Bool, filter, ap, sym, subst, ◌∙◌}
 use Rattle.std.proofs.lemmas.Fn.{filter_same}
 use Rattle.block_store.specs.Store.{IsKept, without_process}
 use Rattle.block_store.specs.declared.block.Block.{Block}
@@ -10,7 +10,7 @@ pub invariant_of-self : goal.invariant_of-self
 invariant_of-self c =
     let stays : Block → Bool = λ block. not (nat_eq block.process c.args.process) in
     let left : c.retain.new.self.items ≡ filter stays c.self.inside.blocks.items = filter_same _ _ _ (λ x b f' k. search rules) _ _ c.retain.ensures.filtered in
-    subst IsKept (sym left) (kept_filter stays c.self.inside.blocks.items c.self.invariant)
+    (subst IsKept (sym left) (kept_filter stays c.self.inside.blocks.items c.self.invariant.0), omega arith)
 
 pub returns : goal.returns
 returns c =

@@ -1,4 +1,4 @@
-use Rattle.std.proofs.Common.{rules, ◌≡◌, not, Bool, filter, ap, sym, subst, ◌∙◌}
+use Rattle.std.proofs.Common.{rules, arith, ◌≡◌, not, Bool, filter, ap, sym, subst, ◌∙◌}
 use Rattle.std.proofs.lemmas.Fn.{filter_same}
 use Rattle.block_store.specs.Blocks.{overlaps}
 use Rattle.block_store.specs.Store.{IsKept, without_range}
@@ -11,7 +11,7 @@ pub invariant_of-self : goal.invariant_of-self
 invariant_of-self c =
     let stays : Block → Bool = λ block. not (overlaps c.args.process c.args.addr c.args.size block) in
     let left : c.retain.new.self.items ≡ filter stays c.self.inside.blocks.items = filter_same _ _ _ (λ x b f' k. search rules) _ _ c.retain.ensures.filtered in
-    subst IsKept (sym left) (kept_filter stays c.self.inside.blocks.items c.self.invariant)
+    (subst IsKept (sym left) (kept_filter stays c.self.inside.blocks.items c.self.invariant.0), omega arith)
 
 pub returns : goal.returns
 returns c =

@@ -1,8 +1,8 @@
 -- What is held goes out up to the first redirect.
-use Rattle.std.proofs.Common.{◌≡◌, Bool, true, false, cond, List, [], ◌∷◌, ◌++◌, map, refl, sym, ◌∙◌, ap}
+use Rattle.std.proofs.Common.{◌≡◌, Bool, true, false, List, [], ◌∷◌, ◌++◌, map, refl, sym, ◌∙◌}
 use Rattle.std.proofs.lemmas.List.{append-nil, append_assoc}
 use Rattle.channel_core.specs.EndValue.{EndValue}
-use Rattle.channel_core.specs.Holding.{let_out, sent_out}
+use Rattle.channel_core.specs.Holding.{let_out}
 use Rattle.channel_core.specs.Laws.{GoesOut, behind_redirect, up_to_redirect}
 use Rattle.channel_core.specs.declared.held.Held.{Held}
 use Rattle.channel_core.specs.declared.held.Outgoing.{Outgoing}

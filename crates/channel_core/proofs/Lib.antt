@@ -1,2 +1,16 @@
 pub mod Drained
 pub mod GoingOut
+pub mod Usable
+pub mod ClosingTaken
+pub mod Keeping
+pub mod Tidy
+pub mod Fresh
+pub mod InOrder
+pub mod Free
+pub mod Commands
+pub mod Ends
+pub mod Levels
+pub mod Rows
+pub mod Finals
+pub mod Own
+pub mod Running

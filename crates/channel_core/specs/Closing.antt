@@ -1,5 +1,5 @@
 -- How an end closes, and what can be done with it then.
-use Rattle.std.specs.Prelude.{ℕ, Bool, true, false, if◌then◌else◌, List, [], ◌∷◌, ◌++◌, Option, Some, None}
+use Rattle.std.specs.Prelude.{ℕ, Bool, true, false, if◌then◌else◌, nat_lt, List, [], ◌∷◌, ◌++◌, length, Option, Some, None}
 use Rattle.channel_core.specs.EndValue.{EndValue}
 use Rattle.channel_core.specs.Wire.{end_of_stream}
 use Rattle.channel_core.specs.declared.held.Outgoing.{Outgoing}
@@ -48,3 +48,7 @@ drained e = if is_closed e.state then first_pending e.pending else None
 
 abbrev pub after_drain : {T : Type 0} → EndValue T → EndValue T
 after_drain e = if is_closed e.state then record e { pending = without_first e.pending } else e
+
+-- ---- something is still to be sent
+abbrev pub has_queued : {T : Type 0} → EndValue T → Bool
+has_queued e = nat_lt 0 (length e.queued)

@@ -11,3 +11,5 @@ pub mod Said
 pub mod Taking
 pub mod Sending
 pub mod Laws
+pub mod Runs
+pub mod RunLaws

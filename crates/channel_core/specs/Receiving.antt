@@ -1,8 +1,7 @@
 -- What comes: messages enter the inbox, flow control is heard at once, and the end of the stream and what is no message
 -- are the last entry.
-use Rattle.std.specs.Prelude.{ℕ, ◌≡◌, ◌+◌, ◌^◌, ◌-◌, min, Bool, ◌||◌, if◌then◌else◌, List, [], ◌∷◌, ◌++◌, length, Option, Some, is_some, Result, Ok, Err}
-use Rattle.stream_escape.specs.Feeding.{Feeds}
-use Rattle.stream_escape.specs.Value.{UnescapeValue}
+use Rattle.std.specs.Prelude.{ℕ, ◌+◌, ◌^◌, ◌-◌, min, Bool, ◌||◌, if◌then◌else◌, List, [], ◌∷◌, ◌++◌, length, Option, Some, is_some, Result, Ok, Err}
+use Rattle.stream_escape.specs.Fed.{fed}
 use Rattle.stream_escape.specs.declared.stream.Item.{Item}
 use Rattle.stream_escape.specs.declared.stream.Item.TheVariants as items
 use Rattle.stream_escape.specs.declared.stream.StreamFault.{StreamFault}
@@ -53,13 +52,10 @@ abbrev pub stopped_by : {T : Type 0} → Result Unit StreamFault → EndValue T 
 stopped_by (Ok done) e = e
 stopped_by (Err fault) e = if is_over e then e else with_last (Stream fault) e
 
--- A piece came: the items that end in it have come, each with the piece's mark, and then perhaps a fault.
-pub record IsDelivered {T : Type 0} (piece : List ℕ) (mark : Option ℕ) (old new : EndValue T) : Type 0 where
-  pub items : List Item
-  pub answer : Result Unit StreamFault
-  pub stream : UnescapeValue
-  pub fed : Feeds old.stream piece [] items answer stream
-  pub after : new ≡ stopped_by answer (came_by mark items (record old { stream = stream }))
+-- a piece came: the items that end in it have come, each with the piece's mark, and then perhaps the stream's fault
+abbrev pub delivered : {T : Type 0} → List ℕ → Option ℕ → EndValue T → EndValue T
+delivered piece mark e =
+    let given = fed piece e.stream in stopped_by given.answer (came_by mark given.items (record e { stream = given.reader }))
 
 -- the bytes have ended; what has partly come is dropped
 abbrev pub ended : {T : Type 0} → EndValue T → EndValue T

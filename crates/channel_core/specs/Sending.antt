@@ -1,7 +1,6 @@
 -- Commands, answers and events are sent.
 use Rattle.std.specs.Prelude.{ℕ, ◌+◌, ◌==◌, ◌^◌, ◌-◌, nat_lt, nat_le, if◌then◌else◌, List, [], ◌∷◌, ◌++◌, length, decimal, Option, Some, None}
-use Rattle.tcf_message.specs.Message.{MessageValue, command}
-use Rattle.tcf_message.specs.declared.message.TheConstants.{BODY_LIMIT}
+use Rattle.tcf_message.specs.Message.{MessageValue, command, most_body}
 use Rattle.channel_core.specs.Closing.{is_closed}
 use Rattle.channel_core.specs.EndValue.{EndValue}
 use Rattle.channel_core.specs.Holding.{is_free, sent_out}
@@ -23,7 +22,7 @@ last_token = 2 ^ 64 - 1
 abbrev pub refusal_of : {T : Type 0} → ℕ → EndValue T → Option SendRefusal
 refusal_of size e =
     if is_closed e.state then Some NotOpen
-    else if nat_lt BODY_LIMIT size then Some TooLong
+    else if nat_lt most_body size then Some TooLong
     else if nat_le most_pending (length e.pending) then Some Full
     else if e.last == last_token then Some Spent
     else None

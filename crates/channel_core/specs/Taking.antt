@@ -135,3 +135,13 @@ taken_from (arrived ∷ inbox) e = message_taken arrived.number arrived.incoming
 
 abbrev pub next_taken : {T : Type 0} → EndValue T → Option (Taken T) × EndValue T
 next_taken e = taken_from e.inbox e
+
+-- the end closes with what is taken
+abbrev pub closes : {T : Type 0} → Option (Taken T) → Bool
+closes None = false
+closes (Some (Hello incoming)) = false
+closes (Some (Command incoming)) = false
+closes (Some (Event incoming)) = false
+closes (Some (Progress token incoming)) = false
+closes (Some (Final tag incoming)) = false
+closes (Some (Closed cause)) = true

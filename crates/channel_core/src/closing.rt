@@ -1,7 +1,7 @@
 //! How an end closes, and what can be done with it then.
 ghost use Rattle.std.specs.Prelude.{◌≡◌, drop, false, None, slice_get};
 ghost use Rattle.channel_core.specs.EndValue.{unless_spent};
-ghost use Rattle.channel_core.specs.Closing.{after_drain, closed_for, closed_own, drained, is_closed, is_told};
+ghost use Rattle.channel_core.specs.Closing.{after_drain, closed_for, closed_own, drained, has_queued, is_closed, is_told};
 
 use crate::end::End;
 use crate::held::Outgoing;
@@ -10,7 +10,8 @@ use std::mem::replace;
 use tcf_outside::Octets;
 
 impl EndState {
-    pub(crate) fn is_closed(self) -> bool
+    /// Whether that is Closed.
+    pub fn is_closed(self) -> bool
         ensures { result ≡ is_closed self }
     {
         match self {
@@ -65,6 +66,13 @@ impl<T: Drop> End<T> {
         }
         let (_token, tag) = self.pending.pop_front()?;
         Some(tag)
+    }
+
+    /// Whether something is still to be sent.
+    pub fn has_queued(&self) -> bool
+        ensures { result ≡ has_queued self.now }
+    {
+        self.is_leaving || !self.queued.is_empty()
     }
 
     /// Takes the next message that is to be sent, or the end of the stream, escaped; `None` exactly where nothing is

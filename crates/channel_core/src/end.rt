@@ -1,7 +1,7 @@
 //! One end of a channel.
 ghost use Rattle.std.specs.Prelude.{◌≡◌, ◌++◌, ◌∷◌, [], true, false, IfOk, OnOk, length, option_map};
 ghost use Rattle.channel_core.specs.Closing.{is_closed};
-ghost use Rattle.tcf_message.specs.Message.{IsWellFormed, value_of};
+ghost use Rattle.tcf_message.specs.Message.{IsWellFormed, most_body, value_of};
 ghost use Rattle.channel_core.specs.Level.{is_due, leveled};
 ghost use Rattle.channel_core.specs.Receiving.{waiting_in};
 ghost use Rattle.channel_core.specs.Wire.{said};
@@ -53,16 +53,15 @@ impl<T> Model for End<T> {
 }
 
 impl<T> End<T> {
-    ghost use Rattle.channel_core.specs.Beginning.{IsNew, tag_of};
+    ghost use Rattle.channel_core.specs.Beginning.{new_end, tag_of};
     ghost use Rattle.std.specs.Prelude.{◌+◌, ◌≤◌};
-    ghost use Rattle.tcf_message.specs.declared.message.TheConstants.{BODY_LIMIT};
 
-    /// Begins in Opening, with its Hello to be sent, whose data is `hello`: so many bytes at most that the event is within
-    /// the limit of a message.
+    /// Begins in Opening, with its Hello to be sent, whose data is `hello` and whose mark is this one: so many bytes at
+    /// most that the event is within the limit of a message.
     #[tactic(auto, unfolding(crate::specs::Wire::locator, crate::specs::Wire::hello))]
-    pub fn new(alloc: Global, hello: &[u8]) -> Result<End<T>, AllocError>
-        requires { 12 + length hello.now ≤ BODY_LIMIT }
-        ensures { IfOk result (IsNew hello.now) }
+    pub fn new(alloc: Global, hello: &[u8], mark: Option<u64>) -> Result<End<T>, AllocError>
+        requires { 12 + length hello.now ≤ most_body }
+        ensures { IfOk result (λ e. e ≡ new_end hello.now mark) }
     {
         let message = Message::Event {
             service: b"Locator",
@@ -70,7 +69,7 @@ impl<T> End<T> {
             body: hello,
         };
         let mut queued = VecDeque::new(alloc);
-        queued.push_back(frame(alloc, &message, None)?)?;
+        queued.push_back(frame(alloc, &message, mark)?)?;
         let mut ready = Octets::new(alloc);
         mark_eos(&mut ready)?;
         Ok(End {
@@ -99,6 +98,13 @@ impl<T> End<T> {
     {
         let row = self.pending.iter().find(|row| row.0 == token)?;
         Some(&row.1)
+    }
+
+    /// The token of the command that was accepted last; 0 before the first.
+    pub fn last(&self) -> u64
+        ensures { result ≡ self.now.last }
+    {
+        self.last
     }
 
     /// Where the end stands.

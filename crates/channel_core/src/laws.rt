@@ -1,5 +1,6 @@
 //! Laws of an end.
 ghost use Rattle.channel_core.specs.Laws.{GivesEach, GoesOut};
+ghost use Rattle.channel_core.specs.RunLaws.{AfterAllCalls, CountsAnswers, EndsOnce, HoldsNoneWhereFree, IsLoudAsTold, IsUnspent, QueuesInOrder, SendsInOrder, StaysClosed, TakesOwnAnswers};
 
 /// The law that `drain` gives each pending tag of a closed end once, in order of issue.
 pub fn every_pending_tag_is_drained<T>()
@@ -9,4 +10,48 @@ pub fn every_pending_tag_is_drained<T>()
 /// The law that the held commands go out in order, up to and with the first redirect, and the others stay held.
 pub fn the_held_go_out_up_to_a_redirect<T>()
     ensures { GoesOut T }
+{}
+
+/// The law that a new end isn't spent after any list of calls of which none wants memory.
+pub fn calls_with_memory_spend_nothing<T>()
+    ensures { AfterAllCalls {T = T} IsUnspent }
+{}
+
+/// The law that after every list of calls of a new end what was taken out to be sent, and then what is queued, is all
+/// that was queued, in order.
+pub fn what_is_queued_goes_out_in_order<T>()
+    ensures { AfterAllCalls {T = T} QueuesInOrder }
+{}
+
+/// The law that after every list of calls the commands that were queued are, in order, a front of those that were
+/// accepted, and the rest are held.
+pub fn commands_are_sent_in_order<T>()
+    ensures { AfterAllCalls {T = T} SendsInOrder }
+{}
+
+/// The law that tokens count from 1; that pending are, in order of issue, the accepted commands that have no final
+/// answer and weren't drained; and that each final answer that is taken is the first one to a command that was sent,
+/// under its token and with its tag.
+pub fn each_answer_is_that_of_a_sent_command<T>()
+    ensures counted { AfterAllCalls {T = T} CountsAnswers }
+    ensures own { AfterAllCalls {T = T} TakesOwnAnswers }
+{}
+
+/// The law that the end of the stream is queued at most once, by the closing, and last; and that a closed end stays
+/// closed for its cause, with an empty inbox, and queues nothing more.
+pub fn a_closed_end_stays_closed<T>()
+    ensures once { AfterAllCalls {T = T} EndsOnce }
+    ensures stays { AfterAllCalls {T = T} StaysClosed }
+{}
+
+/// The law that a live end that wasn't last told a level above 0 holds nothing.
+pub fn nothing_is_held_where_commands_go_out<T>()
+    ensures { AfterAllCalls {T = T} HoldsNoneWhereFree }
+{}
+
+/// The law that the level that was told last is above 0 exactly where the end is loud, and none was told or one of 0 or
+/// less where it isn't; and that the inbox of an open end has more than 50 messages where it is loud, and at most 100
+/// where it isn't.
+pub fn the_level_told_fits_the_inbox<T>()
+    ensures { AfterAllCalls {T = T} IsLoudAsTold }
 {}

@@ -1,11 +1,11 @@
 //! What comes: messages enter the inbox, and flow control is heard at once.
-ghost use Rattle.std.specs.Prelude.{◌≡◌, true, false, Err, OnErr, OnOk};
+ghost use Rattle.std.specs.Prelude.{◌≡◌, ◌≢◌, true, false, Err, Some, OnErr, OnOk};
 ghost use Rattle.channel_core.specs.EndValue.{unless_spent};
 ghost use Rattle.tcf_message.specs.Message.{reading};
 ghost use Rattle.channel_core.specs.Closing.{is_closed};
 ghost use Rattle.channel_core.specs.Holding.{let_out, released};
 ghost use Rattle.channel_core.specs.Heard.{kind_of};
-ghost use Rattle.channel_core.specs.Receiving.{IsDelivered, came_by, ended, entered, heard, item_came, is_over, stopped_by, with_last};
+ghost use Rattle.channel_core.specs.Receiving.{came_by, delivered, ended, entered, heard, item_came, is_over, stopped_by, with_last};
 
 use crate::end::End;
 use crate::held::{Arrived, Incoming};
@@ -55,8 +55,11 @@ impl<T: Drop> End<T> {
     /// Feeds the stream the next piece, and puts the messages that end in it into the inbox, each with this mark. Flow
     /// control is heard at once. A message outside the grammar, the end of the stream and a fault of the stream are the
     /// last entry, and what comes behind it is ignored, as it is on a closed end.
+    #[tactic(auto, using(crate::proofs::Usable::delivered_kept))]
     pub fn deliver(&mut self, piece: &[u8], mark: Option<u64>) -> Result<(), AllocError>
-        ensures delivered { OnOk result (IsDelivered piece.now mark self.old self.new) }
+        ensures delivered { OnOk result (self.new ≡ delivered piece.now mark self.old) }
+        ensures memory { OnOk result (self.old.stream.fault ≢ Some StreamFault.NoMemory) }
+        ensures usable { OnOk result (self.new.is_spent ≡ false) }
         ensures fresh { OnOk result (self.old.is_spent ≡ false) }
         ensures spent { OnErr result (self.new.is_spent ≡ true) }
     {
@@ -71,7 +74,8 @@ impl<T: Drop> End<T> {
     }
 
     fn take_in(&mut self, piece: &[u8], mark: Option<u64>) -> Result<(), AllocError>
-        ensures { OnOk result (IsDelivered piece.now mark self.old self.new) }
+        ensures delivered { OnOk result (self.new ≡ delivered piece.now mark self.old) }
+        ensures memory { OnOk result (self.old.stream.fault ≢ Some StreamFault.NoMemory) }
     {
         let mut items = Vec::new(self.alloc);
         let answer = self.stream.feed(piece, &mut items);
@@ -80,6 +84,14 @@ impl<T: Drop> End<T> {
                 self.come(item, mark)?;
             }
         }
+        self.heed(answer)
+    }
+
+    /// The stream's fault is the last entry; want of memory is none of its faults.
+    fn heed(&mut self, answer: Result<(), StreamFault>) -> Result<(), AllocError>
+        ensures stopped { OnOk result (self.new ≡ stopped_by answer self.old) }
+        ensures memory { OnOk result (answer ≢ Err StreamFault.NoMemory) }
+    {
         match answer {
             Ok(()) => Ok(()),
             Err(StreamFault::NoMemory) => Err(AllocError),

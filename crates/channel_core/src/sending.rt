@@ -1,7 +1,6 @@
 //! Commands, answers and events are sent.
 ghost use Rattle.std.specs.Prelude.{◌≡◌, ◌≢◌, ◌+◌, ◌++◌, ◌∷◌, [], ◌≤◌, ◌<◌, Some, None, true, false, decimal, length, nat_lt, IfErr, IfOk, IfSome, OnErr, OnOk};
-ghost use Rattle.tcf_message.specs.Message.{HasNoZero, IsToken, IsWellFormed, event, final, not_known, progress, value_of};
-ghost use Rattle.tcf_message.specs.declared.message.TheConstants.{BODY_LIMIT};
+ghost use Rattle.tcf_message.specs.Message.{HasNoZero, IsToken, IsWellFormed, event, final, most_body, not_known, progress, value_of};
 ghost use Rattle.channel_core.specs.Closing.{is_closed};
 ghost use Rattle.channel_core.specs.Holding.{is_free, is_live, sent_out};
 ghost use Rattle.channel_core.specs.Sending.{accepted, commanded, made, queued, refusal_of, sent_or_held};
@@ -47,7 +46,7 @@ fn is_redirect(service: &[u8], name: &[u8]) -> bool
 
 /// Whether service, name and data of so many bytes have more than the limit together.
 fn is_too_long(service: usize, name: usize, body: usize) -> bool
-    ensures { result ≡ nat_lt BODY_LIMIT (service + name + body) }
+    ensures { result ≡ nat_lt most_body (service + name + body) }
 {
     service > BODY_LIMIT || name > BODY_LIMIT - service || body > BODY_LIMIT - service - name
 }
@@ -74,7 +73,7 @@ fn held_command(
 ) -> Result<Held, AllocError>
     requires service { HasNoZero service.now }
     requires name { HasNoZero name.now }
-    requires size { length service.now + length name.now + length body.now ≤ BODY_LIMIT }
+    requires size { length service.now + length name.now + length body.now ≤ most_body }
     ensures { IfOk result (λ held. held ≡ made token service.now name.now body.now mark) }
 {
     let text = token_of(alloc, token)?;
@@ -95,6 +94,7 @@ impl<T: Drop> End<T> {
     /// Sends a command, and answers its token. Before the Hello, after a redirect and under a level above 0 it is held.
     /// A refused command changes nothing, but for want of memory, after which the end is spent. A refusal that is due is
     /// answered whatever the memory, unless the end is spent.
+    #[tactic(auto, using(crate::proofs::Usable::commanded_kept))]
     pub fn send_command(
         &mut self,
         service: &[u8],
@@ -112,6 +112,7 @@ impl<T: Drop> End<T> {
         ensures refused { self.old.is_spent ≡ false → IfSome (refusal_of (length service.now + length name.now + length body.now) self.old) (λ why. IfErr result (λ refused. refused.why ≡ why)) }
         ensures due { IfErr result (λ refused. refused.why ≢ SendRefusal.NoMemory → refusal_of (length service.now + length name.now + length body.now) self.old ≡ Some refused.why) }
         ensures kept { IfErr result (λ refused. refused.why ≢ SendRefusal.NoMemory → self.new ≡ self.old) }
+        ensures usable { OnOk result (self.new.is_spent ≡ false) }
         ensures fresh { OnOk result (self.old.is_spent ≡ false) }
         ensures spent { IfErr result (λ refused. refused.why ≡ SendRefusal.NoMemory → self.new.is_spent ≡ true) }
     {
@@ -262,6 +263,7 @@ impl<T: Drop> End<T> {
     ) -> Result<(), AllocError>
         requires { IsWellFormed (final token.now body.now) }
         ensures sent { OnOk result (self.new ≡ queued (final token.now body.now) mark self.old) }
+        ensures usable { OnOk result (self.new.is_spent ≡ false) }
         ensures fresh { OnOk result (self.old.is_spent ≡ false) }
         ensures spent { OnErr result (self.new.is_spent ≡ true) }
     {
@@ -277,6 +279,7 @@ impl<T: Drop> End<T> {
     ) -> Result<(), AllocError>
         requires { IsWellFormed (progress token.now body.now) }
         ensures sent { OnOk result (self.new ≡ queued (progress token.now body.now) mark self.old) }
+        ensures usable { OnOk result (self.new.is_spent ≡ false) }
         ensures fresh { OnOk result (self.old.is_spent ≡ false) }
         ensures spent { OnErr result (self.new.is_spent ≡ true) }
     {
@@ -287,6 +290,7 @@ impl<T: Drop> End<T> {
     pub fn send_unknown(&mut self, token: &[u8], mark: Option<u64>) -> Result<(), AllocError>
         requires { IsWellFormed (not_known token.now) }
         ensures sent { OnOk result (self.new ≡ queued (not_known token.now) mark self.old) }
+        ensures usable { OnOk result (self.new.is_spent ≡ false) }
         ensures fresh { OnOk result (self.old.is_spent ≡ false) }
         ensures spent { OnErr result (self.new.is_spent ≡ true) }
     {
@@ -303,6 +307,7 @@ impl<T: Drop> End<T> {
     ) -> Result<(), AllocError>
         requires { IsWellFormed (event service.now name.now body.now) }
         ensures sent { OnOk result (self.new ≡ queued (event service.now name.now body.now) mark self.old) }
+        ensures usable { OnOk result (self.new.is_spent ≡ false) }
         ensures fresh { OnOk result (self.old.is_spent ≡ false) }
         ensures spent { OnErr result (self.new.is_spent ≡ true) }
     {
@@ -316,9 +321,11 @@ impl<T: Drop> End<T> {
         )
     }
 
+    #[tactic(auto, using(crate::proofs::Usable::queued_kept))]
     fn send(&mut self, message: &Message<'_>, mark: Option<u64>) -> Result<(), AllocError>
         requires { IsWellFormed (value_of message.now) }
         ensures sent { OnOk result (self.new ≡ queued (value_of message.now) mark self.old) }
+        ensures usable { OnOk result (self.new.is_spent ≡ false) }
         ensures fresh { OnOk result (self.old.is_spent ≡ false) }
         ensures spent { OnErr result (self.new.is_spent ≡ true) }
     {

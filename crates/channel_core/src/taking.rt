@@ -5,7 +5,7 @@ ghost use Rattle.channel_core.specs.Closing.{is_closed};
 ghost use Rattle.channel_core.specs.Said.{view_of};
 ghost use Rattle.channel_core.specs.Wire.{hello, is_done, locator, said_by, said_in};
 ghost use Rattle.tcf_message.specs.Message.{value_of};
-ghost use Rattle.channel_core.specs.Taking.{answered, broken, finished, greeted, is_held, judged, message_taken, next_taken, number_at, place_of, progressed, sent_place, stop_taken};
+ghost use Rattle.channel_core.specs.Taking.{answered, broken, closes, finished, greeted, is_held, judged, message_taken, next_taken, number_at, place_of, progressed, sent_place, stop_taken};
 ghost use Rattle.channel_core.specs.Level.{leveled};
 
 use crate::end::End;
@@ -108,8 +108,11 @@ fn is_named(number: u64, token: &[u8]) -> bool
 impl<T: Drop> End<T> {
     /// Takes the oldest entry of the inbox; `None` exactly where there is none. A last entry closes the end, and so does
     /// a message other than a Hello before the Hello, and an answer to a command that isn't pending or wasn't sent yet.
+    #[tactic(auto, using(crate::proofs::Usable::next_kept, crate::proofs::ClosingTaken::next_closes))]
     pub fn next_message(&mut self) -> Result<Option<Taken<T>>, AllocError>
         ensures taken { IfOk result (λ taken. (taken, self.new) ≡ next_taken self.old) }
+        ensures closed { IfOk result (λ taken. closes taken ≡ true → is_closed self.new.state ≡ true) }
+        ensures usable { OnOk result (self.new.is_spent ≡ false) }
         ensures fresh { OnOk result (self.old.is_spent ≡ false) }
         ensures spent { OnErr result (self.new.is_spent ≡ true) }
     {

@@ -4,12 +4,13 @@ ghost use Rattle.tcf_message.specs.Message.{HasNoZero};
 use crate::{Cause, End, EndState, Incoming, Reason, Taken, level};
 use std::process::Abort;
 use std::test::Fail;
+use stream_escape::StreamFault;
 
 /// E Locator Hello []
 const HELLO: &[u8] = b"E\0Locator\0Hello\0[]\0\x03\x01";
 
 fn new_end(rt: &(impl Abort + AllocGlobal)) -> Result<End<u64>, Fail> {
-    Ok(End::new(rt.alloc(), b"[]\0")?)
+    Ok(End::new(rt.alloc(), b"[]\0", None)?)
 }
 
 /// What is to be sent next is this.
@@ -113,6 +114,43 @@ fn a_command_is_held_under_a_level_above_0(rt: HostRuntime) -> Result<(), Fail> 
     end.close();
     assert_eq!(rt; end.drain(), Some(5));
     assert_eq!(rt; end.drain(), None);
+    Ok(())
+}
+
+/// What comes is the last of a live end, which then is closed for this cause.
+fn assert_closed_by(
+    rt: &(impl Abort + AllocGlobal),
+    piece: &[u8],
+    cause: Cause,
+) -> Result<(), Fail> {
+    let mut end = live_end(rt)?;
+    end.deliver(piece, None)?;
+    assert!(rt; end.next_message()?.is_some());
+    assert_eq!(rt; end.state(), EndState::Closed(cause));
+    Ok(())
+}
+
+/// The Hello that came before has 21 bytes.
+#[test]
+fn a_fault_of_the_stream_closes_the_end(rt: HostRuntime) -> Result<(), Fail> {
+    let bad = StreamFault::BadEscape {
+        offset: 22,
+        byte: 5,
+    };
+    assert_closed_by(&rt, &[3, 5], Cause::Stream(bad))?;
+    let long = vec![in rt.alloc(); 65u8; 1_049_601]?;
+    let too_long = StreamFault::TooLong { offset: 1_049_621 };
+    assert_closed_by(&rt, long.as_slice(), Cause::Stream(too_long))?;
+    assert_closed_by(&rt, &[3, 2, 65], Cause::Eos)
+}
+
+#[test]
+fn nothing_is_heard_behind_the_last_byte(rt: HostRuntime) -> Result<(), Fail> {
+    let mut end = live_end(&rt)?;
+    end.ended();
+    end.deliver(&[3, 2, 65], None)?;
+    assert!(rt; end.next_message()?.is_some());
+    assert_eq!(rt; end.state(), EndState::Closed(Cause::Ended));
     Ok(())
 }
 

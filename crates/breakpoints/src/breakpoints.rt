@@ -5,6 +5,7 @@ ghost use Rattle.breakpoints.specs.Rows.{IsOrderly, ids_of, is_there, others, ow
 ghost use Rattle.breakpoints.specs.Selecting.{selected, selects, unselected};
 ghost use Rattle.breakpoints.specs.Status.{hits_of, status_of};
 
+mod order;
 mod statuses;
 
 use crate::instance::instances_of;

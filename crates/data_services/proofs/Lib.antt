@@ -2,3 +2,4 @@ pub mod Ranges
 pub mod PartSteps
 pub mod Lawful
 pub mod Threads
+pub mod Short

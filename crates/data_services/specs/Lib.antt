@@ -5,3 +5,4 @@ pub mod Parts
 pub mod RegisterRows
 pub mod Commands
 pub mod Laws
+pub mod Short

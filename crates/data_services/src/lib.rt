@@ -3,6 +3,7 @@
 
 mod commands;
 mod laws;
+mod lengths;
 mod locations;
 mod memory;
 mod named;
@@ -14,6 +15,7 @@ pub use laws::{
     a_failure_changes_nothing, asking_changes_nothing, other_processes_stay, threads_stay,
     what_is_set_is_got,
 };
+pub use lengths::what_is_short_stays;
 
 #[cfg(test)]
 mod tests;

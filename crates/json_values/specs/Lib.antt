@@ -16,6 +16,8 @@ pub mod PropsLaws
 pub mod Ranges
 pub mod ReplyLaws
 pub mod Reports
+pub mod SizeLaws
+pub mod Sizes
 pub mod StateLaws
 pub mod States
 pub mod Statuses

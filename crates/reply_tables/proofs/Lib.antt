@@ -1,3 +1,4 @@
 pub mod Bodies
 pub mod ReadBack
 pub mod EventBack
+pub mod Sizes

@@ -3,4 +3,5 @@ pub mod Events
 pub mod Limits
 pub mod Parts
 pub mod Rows
+pub mod Sizes
 pub mod Written

@@ -1,10 +1,10 @@
 //! The answers, read.
-ghost use Rattle.std.specs.Prelude.{◌≡◌, ◌∷◌, ℕ, List, drop, option_map, option_and_then, IfOk, IfSome};
+ghost use Rattle.std.specs.Prelude.{◌≡◌, ◌∷◌, ℕ, List, drop, option_map, option_and_then, None, Ok, IfOk, IfSome};
 ghost use Rattle.json_args.specs.Kinds.{json_of};
 ghost use Rattle.json_values.specs.Reports.{IsReport};
 ghost use Rattle.reply_tables.specs.Answers.{error_in, result_in, state_in, suspended_in, answer_in, in_parts, answer_of, answer_read, known_or_bad, IfKnown};
 ghost use Rattle.reply_tables.specs.Limits.{IsOfRow, IsAnswerTo};
-ghost use Rattle.reply_tables.specs.Parts.{part_in};
+ghost use Rattle.reply_tables.specs.Parts.{ended_parts, part_in};
 
 use crate::parts::{next_flag, next_hits, next_of, next_text, next_value, parts_of};
 use crate::replies::ReadAnswer;
@@ -156,6 +156,7 @@ fn row_answer(alloc: Global, row: Row, parts: &mut Args<'_>) -> Result<Option<An
 fn answer_in_parts(alloc: Global, row: Row, body: &[u8]) -> Result<Option<Answer>, AllocError>
     ensures value { IfOk result (λ found. found ≡ in_parts row body.now) }
     ensures within { IfOk result (λ found. IfSome found (IsOfRow row)) }
+    ensures unended { ended_parts body.now ≡ None → result ≡ Ok None }
 {
     match parts_of(body) {
         Some(mut parts) => row_answer(alloc, row, &mut parts),
@@ -167,6 +168,7 @@ fn answer_in_parts(alloc: Global, row: Row, body: &[u8]) -> Result<Option<Answer
 fn answer_of_row(alloc: Global, row: Row, body: &[u8]) -> Result<Option<Answer>, AllocError>
     ensures value { IfOk result (λ found. found ≡ answer_of row body.now) }
     ensures within { IfOk result (λ found. IfSome found (IsOfRow row)) }
+    ensures unended { ended_parts body.now ≡ None → result ≡ Ok None }
 {
     match row {
         Row::NoData if body.is_empty() => Ok(Some(Answer::Nothing)),
@@ -174,10 +176,12 @@ fn answer_of_row(alloc: Global, row: Row, body: &[u8]) -> Result<Option<Answer>,
     }
 }
 
-/// Reads the data of an answer to the command. `Bad` comes exactly where the row of the command doesn't read it.
+/// Reads the data of an answer to the command. `Bad` comes exactly where the row of the command doesn't read it; that
+/// of data that isn't ended comes whatever the memory.
 pub fn read_answer(alloc: Global, command: &Command, body: &[u8]) -> Result<ReadAnswer, AllocError>
     ensures value { IfOk result (λ found. found ≡ known_or_bad (answer_read command.now body.now)) }
     ensures within { IfOk result (λ found. IfKnown found (IsAnswerTo command.now)) }
+    ensures unended { ended_parts body.now ≡ None → result ≡ Ok ReadAnswer.Bad }
 {
     match answer_of_row(alloc, row_of(command), body)? {
         Some(answer) => Ok(ReadAnswer::Known(answer)),

@@ -1,6 +1,8 @@
 //! The events, read.
-ghost use Rattle.std.specs.Prelude.{◌≡◌, IfOk, IfSome};
+ghost use Rattle.std.specs.Prelude.{◌≡◌, None, Ok, IfOk, IfSome, IsOk};
+ghost use Rattle.service_names.specs.Events.{event_named};
 ghost use Rattle.reply_tables.specs.Events.{event_in, suspended_event, status_event, memory_event, exited_event, event_read, IsEvent, IfKnown};
+ghost use Rattle.reply_tables.specs.Parts.{ended_parts};
 
 use crate::parts::{next_hits, next_of, next_text, parts_of};
 use crate::replies::ReadEvent;
@@ -111,7 +113,7 @@ fn event_of(
 }
 
 /// Reads an event. `Foreign` comes exactly where the services have no event of these names, and `Bad` exactly where
-/// they have one that doesn't read the data.
+/// they have one that doesn't read the data. `Foreign`, and `Bad` for data that isn't ended, come whatever the memory.
 pub fn read_event(
     alloc: Global,
     service: &[u8],
@@ -120,6 +122,8 @@ pub fn read_event(
 ) -> Result<ReadEvent, AllocError>
     ensures value { IfOk result (λ found. found ≡ event_read service.now name.now body.now) }
     ensures within { IfOk result (λ found. IfKnown found IsEvent) }
+    ensures foreign { event_named service.now name.now ≡ None → result ≡ Ok ReadEvent.Foreign }
+    ensures unended { ended_parts body.now ≡ None → IsOk result }
 {
     let Some(event) = event_named(service, name) else {
         return Ok(ReadEvent::Foreign);

@@ -4,6 +4,7 @@
 pub mod answers;
 pub mod event_reading;
 pub mod event_writing;
+pub mod fitting;
 pub mod parts;
 pub mod refusals;
 pub mod replies;
@@ -14,6 +15,7 @@ pub mod writing;
 pub use answers::read_answer;
 pub use event_reading::read_event;
 pub use event_writing::write_event;
+pub use fitting::what_is_small_fits;
 pub use refusals::write_refusal;
 pub use replies::{ReadAnswer, ReadEvent, WrittenEvent};
 pub use rows::{Kind, Row};

@@ -4,6 +4,7 @@ pub mod Positive
 pub mod Steps
 pub mod Traces
 pub mod Changed
+pub mod Short
 pub mod Soundness
 pub mod Commanded
 pub mod Touched

@@ -10,3 +10,4 @@ pub mod Ticking
 pub mod Tracing
 pub mod Commands
 pub mod Laws
+pub mod Short

@@ -8,6 +8,7 @@ mod commands;
 mod ending;
 mod executing;
 mod laws;
+mod lengths;
 mod named;
 mod steering;
 mod telling;
@@ -19,6 +20,7 @@ pub use laws::{
     a_command_keeps_threads_attached, a_tick_keeps_threads_attached, a_tick_touches_one,
     an_end_is_told_once, the_processes_stay_orderly,
 };
+pub use lengths::the_processes_stay_short;
 pub use tcf_values::{Effect, Events, Numbers};
 pub use telling::attached;
 pub use ticking::step;

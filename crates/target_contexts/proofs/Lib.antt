@@ -2,3 +2,4 @@ pub mod Rising
 pub mod Found
 pub mod Lookup
 pub mod Orderly
+pub mod Short

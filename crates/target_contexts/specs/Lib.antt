@@ -7,3 +7,5 @@ pub mod Lending
 pub mod Laws
 pub mod Named
 pub mod Changes
+pub mod Refusals
+pub mod Short

@@ -1,5 +1,5 @@
 //! The target's processes: started from images, found by number, and taken away.
-ghost use Rattle.std.specs.Prelude.{◌≡◌, ◌≢◌, ◌<◌, ◌≤◌, ◌^◌, ◌↔◌, length, option_copied, option_map, Some, None, IfErr, IfOk, IfSome, IsTrue, IsSome, OnErr, OnOk, OnSome};
+ghost use Rattle.std.specs.Prelude.{◌≡◌, ◌≢◌, ◌<◌, ◌≤◌, ◌^◌, ◌↔◌, length, option_copied, option_map, Some, None, IfErr, IfNone, IfOk, IfSome, IsTrue, IsSome, OnErr, OnOk, OnSome};
 ghost use Rattle.std.specs.Borrow.{sem};
 ghost use Rattle.target_contexts.specs.Images.{image_of, is_named};
 ghost use Rattle.target_contexts.specs.Live.{IsLive, IsOrderly, numbers_of, place_of, process_of, without};
@@ -96,6 +96,7 @@ impl Targets {
     pub fn add(&mut self, file: &[u8], attach: bool) -> Result<u32, StartRefusal>
         ensures refused { IfSome (refusal_of file.now self.old) (λ refusal. result ≡ Err refusal) }
         ensures due { IfErr result (λ refusal. refusal ≢ StartRefusal.NoMemory → refusal_of file.now self.old ≡ Some refusal) }
+        ensures free { IfErr result (λ refusal. refusal ≡ StartRefusal.NoMemory → refusal_of file.now self.old ≡ None) }
         ensures number { IfOk result (λ number. number ≡ self.old.next) }
         ensures unused { IfOk result (λ number. IsLive number self.old.processes → ⊥) }
         ensures started { OnOk result (self.new ≡ started file.now attach self.old) }
@@ -167,10 +168,11 @@ impl Targets {
     }
 
     /// What RunControl tells of a live process, or of its thread, which has the number 1; `None` exactly where there
-    /// is no such process or thread.
+    /// is no such process or thread, and then whatever the memory.
     pub fn context(&self, id: ContextId) -> Result<Option<ContextData>, AllocError>
         ensures told { IfOk result (λ told. told ≡ context_of id self.now.processes) }
         ensures found { IfOk result (λ told. IsSome told ↔ IsThere id self.now.processes) }
+        ensures missing { IfNone (context_of id self.now.processes) (result ≡ Ok None) }
     {
         match id {
             ContextId::Process(number) => match self.process(number) {

@@ -195,12 +195,12 @@ switched_fit enabled ids rows readable =
     all_mapped (λ row. is_bp row.1 ≡ true) (λ props. is_bp props ≡ true) (λ row. with_flag enabled row.1) _ (λ row is. is)
     (all_filter (λ row. is_bp row.1 ≡ true) (is_switched enabled ids) rows readable)
 
-added_readable : (command : Command) → IsReadable command → AreProps (added_by command)
+pub added_readable : (command : Command) → IsReadable command → AreProps (added_by command)
 added_readable (BpSet list) readable = readable
 added_readable (BpAdd props) readable = (readable, tt)
 added_readable _ readable = tt
 
-changed_readable : (command : Command) (rows : List (ℕ × BpProps)) → IsReadable command → AreReadable rows → AreProps (changed_by command rows)
+pub changed_readable : (command : Command) (rows : List (ℕ × BpProps)) → IsReadable command → AreReadable rows → AreProps (changed_by command rows)
 changed_readable (BpChange props) rows readable all = (readable, tt)
 changed_readable (BpEnable ids) rows readable all = switched_fit true ids rows all
 changed_readable (BpDisable ids) rows readable all = switched_fit false ids rows all

@@ -6,4 +6,9 @@ pub mod Kept
 pub mod Unchanged
 pub mod Threads
 pub mod Owned
+pub mod Small
+pub mod SmallGiven
+pub mod SmallAnswers
+pub mod Sends
 pub mod Histories
+pub mod Bounded

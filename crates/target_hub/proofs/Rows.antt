@@ -151,7 +151,7 @@ found_by : (same : Bool) (row : ℕ × BpProps) (found : Option (ℕ × BpProps)
 found_by true row found readable other = readable
 found_by false row found readable other = other
 
-found_readable : (id : List ℕ) (rows : List (ℕ × BpProps)) → AreReadable rows → IfReadable (props_of id rows)
+pub found_readable : (id : List ℕ) (rows : List (ℕ × BpProps)) → AreReadable rows → IfReadable (props_of id rows)
 found_readable id [] all = tt
 found_readable id (row ∷ rows) all = found_by (bytes_eq id row.1.id) row _ all.0 (found_readable id rows all.1)
 

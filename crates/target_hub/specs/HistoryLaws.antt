@@ -7,6 +7,7 @@ use Rattle.target_contexts.specs.declared.process.Image.{Image}
 use Rattle.target_hub.specs.History.{IsLegal, inputs_after, was_closed}
 use Rattle.target_hub.specs.HubValue.{new_target}
 use Rattle.target_hub.specs.Limits.{AreReadable}
+use Rattle.target_hub.specs.Sendable.{IsBounded}
 use Rattle.target_hub.specs.declared.input.Input.{Input}
 use Rattle.target_hub.specs.declared.target.Target.{Target}
 
@@ -23,3 +24,7 @@ StaysConsistent = (images : List Image) (inputs : List Input) → IsLegal images
 abbrev pub ClosedOwnsNothing : Type 0
 ClosedOwnsNothing = (images : List Image) (inputs : List Input) (channel : ℕ) → IsLegal images inputs → was_closed channel inputs ≡ true →
     owned_by channel (inputs_after inputs (new_target images)).breakpoints ≡ []
+
+-- what is told and answered after any legal list of inputs can be sent
+abbrev pub StaysBounded : Type 0
+StaysBounded = (images : List Image) (inputs : List Input) → IsLegal images inputs → IsBounded (inputs_after inputs (new_target images))

@@ -5,6 +5,11 @@ pub mod Execution
 pub mod Answering
 pub mod Passing
 pub mod Limits
+pub mod Sendable
 pub mod History
 pub mod HistoryLaws
 pub mod Laws
+pub mod Sent
+pub mod Received
+pub mod Ordered
+pub mod Fresh

@@ -10,11 +10,13 @@ ghost use Rattle.target_hub.specs.Answering.{after_reading, executed, only, refu
 ghost use Rattle.target_hub.specs.Execution.{exec_after, exec_effect};
 ghost use Rattle.target_hub.specs.HubValue.{new_target, usable};
 ghost use Rattle.target_hub.specs.Limits.{AreEvents};
+ghost use Rattle.target_hub.specs.Sendable.{AreSendable, IsBounded, IsSendable};
 ghost use Rattle.target_hub.specs.Passing.{closed, closed_told, running_in, threads_of, tick_told, ticked};
 
 use crate::breakpoints_rows::removed_events;
 use crate::done::{Answered, Done};
 use crate::execution::execute;
+use crate::sendable::what_is_told_can_be_sent;
 use crate::target::Target;
 use breakpoints::Breakpoints;
 use command_tables::Reading;
@@ -39,11 +41,11 @@ impl Model for Hub {
 
     ghost Value = { HubValue };
 
-    ghost use Rattle.target_hub.specs.Limits.{AreReadable};
+    ghost use Rattle.target_hub.specs.Sendable.{IsHeld};
 
     ghost view = { λ h. record { target = h.target; is_spent = h.spent } };
 
-    ghost invariant = { λ h. AreReadable h.target.breakpoints };
+    ghost invariant = { λ h. IsHeld h.spent h.target };
 }
 
 impl Hub {
@@ -77,15 +79,14 @@ impl Hub {
         ensures done { IfOk result (λ done. done ≡ executed channel service.now name.now reading.now self.old.target) }
         ensures after { OnOk result (self.new ≡ usable (after_reading channel reading.now self.old.target)) }
         ensures events { IfOk result (λ done. AreEvents done.events) }
+        ensures sendable { IfOk result (λ done. AreSendable done.events) }
+        ensures fits { IfOk result (λ done. IsSendable done.answer) }
         ensures fresh { OnOk result (self.old.is_spent ≡ false) }
         ensures spent { OnErr result (self.new.is_spent ≡ true) }
     {
         self.begin()?;
-        let done = match reading {
-            Reading::Known(command) => self.execute_known(channel, command)?,
-            Reading::Unknown => Done::only(self.alloc, Answered::Unknown),
-            Reading::Bad { code, .. } => self.refuse(service, name, *code)?,
-        };
+        what_is_told_can_be_sent();
+        let done = self.execute_read(channel, service, name, reading)?;
         self.spent = false;
         Ok(done)
     }
@@ -97,10 +98,12 @@ impl Hub {
         ensures told { IfOk result (λ told. told ≡ tick_told thread self.old.target) }
         ensures after { OnOk result (self.new ≡ usable (ticked thread self.old.target)) }
         ensures events { IfOk result (λ told. IfSome told AreEvents) }
+        ensures sendable { IfOk result (λ told. IfSome told AreSendable) }
         ensures fresh { OnOk result (self.old.is_spent ≡ false) }
         ensures spent { OnErr result (self.new.is_spent ≡ true) }
     {
         self.begin()?;
+        what_is_told_can_be_sent();
         let told = run_control::step(
             self.alloc,
             &mut self.target.contexts,
@@ -117,10 +120,12 @@ impl Hub {
         ensures told { IfOk result (λ told. told ≡ closed_told channel self.old.target) }
         ensures after { OnOk result (self.new ≡ usable (closed channel self.old.target)) }
         ensures events { IfOk result AreEvents }
+        ensures sendable { IfOk result AreSendable }
         ensures fresh { OnOk result (self.old.is_spent ≡ false) }
         ensures spent { OnErr result (self.new.is_spent ≡ true) }
     {
         self.begin()?;
+        what_is_told_can_be_sent();
         let ids = self.target.breakpoints.gone(channel)?;
         let told = removed_events(self.alloc, ids)?;
         self.spent = false;
@@ -142,24 +147,50 @@ impl Hub {
     /// Begins a call that may meet want of memory: the hub is spent until the call is done.
     fn begin(&mut self) -> Result<(), AllocError>
         ensures target { self.new.target ≡ self.old.target }
+        ensures bounded { OnOk result (IsBounded self.old.target) }
         ensures fresh { OnOk result (self.old.is_spent ≡ false) }
         ensures spent { self.new.is_spent ≡ true }
     {
         if self.spent {
             return Err(AllocError);
         }
+        self.target.contexts.are_orderly();
+        self.target.breakpoints.are_orderly();
         self.spent = true;
         Ok(())
+    }
+
+    /// Executes what a command is read as.
+    fn execute_read(
+        &mut self,
+        channel: u64,
+        service: &[u8],
+        name: &[u8],
+        reading: &Reading,
+    ) -> Result<Done, AllocError>
+        requires reading { IsReading service.now name.now reading.now }
+        requires begun { self.old.is_spent ≡ true }
+        ensures done { IfOk result (λ done. done ≡ executed channel service.now name.now reading.now self.old.target) }
+        ensures after { OnOk result (self.new.target ≡ after_reading channel reading.now self.old.target) }
+        ensures events { IfOk result (λ done. AreEvents done.events) }
+        ensures spent { self.new.is_spent ≡ true }
+    {
+        match reading {
+            Reading::Known(command) => self.execute_known(channel, command),
+            Reading::Unknown => Ok(Done::only(self.alloc, Answered::Unknown)),
+            Reading::Bad { code, .. } => self.refuse(service, name, *code),
+        }
     }
 
     /// Executes a known command, and writes its answer.
     #[tactic(auto, using(crate::proofs::Given::exec_told, crate::proofs::Rows::exec_answers))]
     fn execute_known(&mut self, channel: u64, command: &Command) -> Result<Done, AllocError>
-        requires { IsReadable command.now }
+        requires command { IsReadable command.now }
+        requires begun { self.old.is_spent ≡ true }
         ensures done { IfOk result (λ done. done ≡ written command.now (exec_effect channel command.now self.old.target)) }
         ensures after { OnOk result (self.new.target ≡ exec_after channel command.now self.old.target) }
         ensures events { IfOk result (λ done. AreEvents done.events) }
-        ensures spent { self.new.is_spent ≡ self.old.is_spent }
+        ensures spent { self.new.is_spent ≡ true }
     {
         a_start_adds_one();
         self.target.contexts.are_orderly();

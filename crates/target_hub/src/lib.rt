@@ -9,6 +9,7 @@ mod hub;
 mod input;
 mod laws;
 mod locator_rows;
+mod sendable;
 mod target;
 
 pub use command_tables::Reading;
@@ -19,6 +20,7 @@ pub use laws::{
     a_failure_changes_nothing, a_gone_channel_owns_nothing, asking_changes_nothing,
     every_history_is_consistent,
 };
+pub use sendable::{every_history_is_bounded, what_is_told_can_be_sent};
 pub use target::Target;
 pub use target_contexts::Image;
 pub use tcf_values::{Events, Numbers};

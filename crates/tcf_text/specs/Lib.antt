@@ -5,3 +5,6 @@ pub mod Refusal
 pub mod Said
 pub mod Schedule
 pub mod Shown
+pub mod Each
+pub mod Lines
+pub mod Once

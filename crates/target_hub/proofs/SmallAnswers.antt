@@ -1,0 +1,289 @@
+-- The answer to each command is small.
+use Rattle.std.proofs.Common.{◌≡◌, ◌≤◌, ◌+◌, ◌*◌, ℕ, ℤ, pos, negsuc, Bool, true, false, cond, nat_lt, List, [], ◌∷◌, drop, length, map, Option, Some, None, IfSome, option_map, option_and_then, refl, arith, lit≤, length-append, length-drop, length-take, ◌==◌}
+use Rattle.std.specs.List.{cons_option}
+use Rattle.std.specs.Prelude.{int_lt, unsigned_abs}
+use Rattle.std.proofs.lemmas.Bool.{ltb-false, or_parts}
+use Rattle.std.proofs.lemmas.List.{length-map}
+use Rattle.json_values.specs.Sizes.{AreWords, IsSmallContext, IsWord}
+use Rattle.reply_tables.specs.Sizes.{IsSmallAnswer, ReportsAreSmall}
+use Rattle.service_names.specs.Commands.{named_as}
+use Rattle.service_names.specs.declared.commands.CommandName.{CommandName}
+use Rattle.service_names.specs.declared.commands.CommandName.TheVariants as service
+use Rattle.tcf_values.specs.Effects.{effect_by, failed, gives}
+use Rattle.tcf_values.specs.Faults.{code_of, first_fault}
+use Rattle.tcf_values.specs.Ids.{context_of, register_of}
+use Rattle.tcf_values.specs.declared.answer.Answer.{Answer}
+use Rattle.tcf_values.specs.declared.command.Command.{Command}
+use Rattle.tcf_values.specs.declared.command.Command.TheVariants.{GetPeers, Redirect, GetContext, GetChildren, GetState, BpIds, BpProperties, BpGetStatus, BpCapabilities, MemGet, RegGet, RegGetm, ProcContext, ProcChildren, ProcStart, TraceRun}
+use Rattle.tcf_values.specs.declared.effect.Effect.{Effect}
+use Rattle.tcf_values.specs.declared.faults.Fault.{Fault}
+use Rattle.tcf_values.specs.declared.ids.ContextId.{ContextId}
+use Rattle.tcf_values.specs.declared.ids.ContextId.TheVariants as ids
+use Rattle.tcf_values.specs.declared.ids.RegisterId.{RegisterId}
+use Rattle.tcf_values.specs.declared.values.BpProps.{BpProps}
+use Rattle.tcf_values.specs.declared.values.ContextData.{ContextData}
+use Rattle.tcf_values.specs.declared.values.Location.{Location}
+use Rattle.breakpoints.specs.Changes.{added_by, changed_by, changes_list, done, is_refused, removed_by}
+use Rattle.breakpoints.specs.Rows.{props_of}
+use Rattle.breakpoints.specs.Status.{instances_of}
+use Rattle.breakpoints.specs.declared.breakpoints.BpDone.TheVariants.{Failed, Changed}
+use Rattle.data_services.specs.Bytes.{part_of, word_bytes}
+use Rattle.data_services.specs.Commands.{data_effect, data_fault, data_given}
+use Rattle.data_services.specs.MemoryRows.{is_no_size, memory_bytes}
+use Rattle.data_services.specs.Named.{holder_of}
+use Rattle.data_services.specs.Parts.{bytes_in, bytes_of, number_in, parts_named}
+use Rattle.data_services.specs.RegisterRows.{locations_fault, register_bytes}
+use Rattle.run_control.specs.Asking.{children_named, children_of, context_answer, data_named, process_answer, process_answer_of, processes_named, run_state, state_answer}
+use Rattle.run_control.specs.Commands.{run_effect, run_fault, run_given, run_left, trace_given}
+use Rattle.run_control.specs.Naming.{is_empty, process_id, process_named}
+use Rattle.run_control.specs.Steering.{thread_there}
+use Rattle.target_contexts.specs.Contexts.{context_of as data_of, process_data, thread_data}
+use Rattle.target_contexts.specs.Live.{numbers_of, process_of}
+use Rattle.target_contexts.specs.Named.{attached_in, process_at_number, thread_named}
+use Rattle.target_contexts.specs.Short.{AllShort, FoundIsShort, IsShort, IsShortState}
+use Rattle.target_contexts.specs.TargetsValue.{TargetsValue}
+use Rattle.target_contexts.specs.declared.process.Process.{Process}
+use Rattle.target_contexts.specs.declared.process.ThreadState.{ThreadState}
+use Rattle.target_contexts.specs.declared.process.ThreadState.TheVariants.{Running, Suspended}
+use Rattle.target_hub.specs.BreakpointsRows.{ask_answer, ask_fault, breakpoints_effect, effect_of, props_answer, status_answer}
+use Rattle.target_hub.specs.Execution.{effect_in, exec_effect}
+use Rattle.target_hub.specs.LocatorRows.{locator_answer}
+use Rattle.target_hub.specs.declared.target.Target.{Target}
+use Rattle.target_hub.proofs.Lists.{all_map}
+use Rattle.target_hub.proofs.Rows.{IfReadable, found_readable}
+use Rattle.target_hub.proofs.Small.{AreBounded, attached_few, found_short, ids_words, instances_small, process_small, process_word, thread_small, thread_word}
+
+-- ---- a command that fails is answered by a report
+
+failed_small : ReportsAreSmall → (fault : Fault) → IsSmallAnswer (failed fault).answer
+unfolding failed
+failed_small law fault = law (code_of fault)
+
+pub answer_by : ReportsAreSmall → (fault : Option Fault) (given : Effect) → (fault ≡ None → IsSmallAnswer given.answer) → IsSmallAnswer (effect_by fault given).answer
+answer_by law None given small = small refl
+answer_by law (Some fault) given small = failed_small law fault
+
+-- ---- contexts and states
+
+process_context : (number : ℕ) (found : Option Process) → IfSome found IsShort → IfSome (option_map (λ process. process_data number process) found) IsSmallContext
+process_context number None is = tt
+process_context number (Some process) is = process_small number process is
+
+thread_context : (number : ℕ) (found : Option Process) → IfSome (option_map (λ process. thread_data number process) found) IsSmallContext
+thread_context number None = tt
+thread_context number (Some process) = thread_small number process
+
+if_first : (test : Bool) (found : Option ContextData) → IfSome found IsSmallContext → IfSome (cond test found None) IsSmallContext
+if_first true found small = small
+if_first false found small = tt
+
+of_context : FoundIsShort → (context : ContextId) (rows : List (ℕ × Process)) → AllShort rows → IfSome (data_of context rows) IsSmallContext
+of_context law (ids.Process number) rows all = process_context number (process_of number rows) (found_short law rows number all)
+of_context law (ids.Thread number thread) rows all = if_first (thread == 1) _ (thread_context number (process_of number rows))
+
+named_small : FoundIsShort → (context : Option ContextId) (rows : List (ℕ × Process)) → AllShort rows → IfSome (option_and_then (λ c. data_of c rows) context) IsSmallContext
+named_small law None rows all = tt
+named_small law (Some context) rows all = of_context law context rows all
+
+context_small : (found : Option ContextData) → IfSome found IsSmallContext → IsSmallAnswer (context_answer found)
+context_small None small = tt
+context_small (Some context) small = small
+
+state_small : (pc : ℕ) (state : ThreadState) → IsShortState state → IsSmallAnswer (Answer.State (run_state pc state))
+state_small pc (Running left) short = tt
+state_small pc (Suspended reason hits) short = short
+
+state_of_small : (found : Option Process) → IfSome found IsShort → IsSmallAnswer (state_answer found)
+state_of_small None is = tt
+state_of_small (Some process) is = state_small process.cpu.pc process.state is.state
+
+at_number : FoundIsShort → (rows : List (ℕ × Process)) (number : Option ℕ) → AllShort rows → IfSome (process_at_number number rows) IsShort
+at_number law rows None all = tt
+at_number law rows (Some number) all = found_short law rows number all
+
+process_of_small : (number : ℕ) (found : Option Process) → IfSome found IsShort → IsSmallAnswer (process_answer_of number found)
+process_of_small number None is = tt
+process_of_small number (Some process) is = record { id = process_word number; name = is.name }
+
+process_answer_small : FoundIsShort → (rows : List (ℕ × Process)) (number : Option ℕ) → AllShort rows → IsSmallAnswer (process_answer number rows)
+process_answer_small law rows None all = tt
+process_answer_small law rows (Some number) all = process_of_small number (process_of number rows) (found_short law rows number all)
+
+-- ---- lists of IDs
+
+numbers_words : (numbers : List ℕ) → length numbers ≤ 64 → AreWords (map process_id numbers)
+numbers_words numbers few = (omega (arith, few, length-map numbers process_id), all_map IsWord process_id numbers process_word)
+
+numbers_few : (rows : List (ℕ × Process)) → length rows ≤ 64 → length (numbers_of rows) ≤ 64
+numbers_few rows few = omega (arith, few, length-map rows (λ (row : ℕ × Process). row.0))
+
+either_words : (test : Bool) (one other : List (List ℕ)) → AreWords one → AreWords other → AreWords (cond test one other)
+either_words true one other words also = words
+either_words false one other words also = also
+
+children_words : (context : Option ContextId) → AreWords (children_of context)
+children_words None = (lit≤ tt, tt)
+children_words (Some (ids.Process number)) = (lit≤ tt, (thread_word number, tt))
+children_words (Some (ids.Thread number thread)) = (lit≤ tt, tt)
+
+named_words : (id : List ℕ) (rows : List (ℕ × Process)) → length rows ≤ 64 → AreWords (children_named id rows)
+named_words id rows few = either_words (is_empty id) (map process_id (numbers_of rows)) _ (numbers_words (numbers_of rows) (numbers_few rows few)) (children_words (context_of id))
+
+either_numbers : (test : Bool) (one other : List ℕ) → length one ≤ 64 → length other ≤ 64 → length (cond test one other) ≤ 64
+either_numbers true one other few also = few
+either_numbers false one other few also = also
+
+processes_words : (id : List ℕ) (attached : Bool) (rows : List (ℕ × Process)) → length rows ≤ 64 → AreWords (processes_named id attached rows)
+processes_words id attached rows few =
+    let numbers = cond attached (attached_in rows) (numbers_of rows) in
+    either_words (is_empty id) (map process_id numbers) [] (numbers_words numbers (either_numbers attached (attached_in rows) (numbers_of rows) (attached_few rows few) (numbers_few rows few)))
+    (lit≤ tt, tt)
+
+-- ---- RunControl, Processes and Trace
+
+trace_answer : (bps : List (ℕ × BpProps)) (count : ℕ) (number : Option ℕ) (targets after : TargetsValue) → IsSmallAnswer (trace_given bps count number targets after).answer
+trace_answer bps count None targets after = tt
+trace_answer bps count (Some number) targets after = tt
+
+run_answer : FoundIsShort → (command : Command) (bps : List (ℕ × BpProps)) (targets after : TargetsValue) → AreBounded bps targets → AllShort after.processes → IsSmallAnswer (run_given command bps targets after).answer
+run_answer law (GetContext id) bps targets after bounded short = context_small (data_named id targets.processes) (named_small law (context_of id) targets.processes bounded.short)
+run_answer law (GetChildren id) bps targets after bounded short = named_words id targets.processes bounded.few
+run_answer law (GetState id) bps targets after bounded short = state_of_small (thread_there id targets.processes) (at_number law targets.processes (thread_named id) bounded.short)
+run_answer law (ProcContext id) bps targets after bounded short = process_answer_small law targets.processes (process_named id) bounded.short
+run_answer law (ProcChildren id attached) bps targets after bounded short = processes_words id attached targets.processes bounded.few
+run_answer law (ProcStart directory file args environment attach) bps targets after bounded short = process_answer_small law after.processes (Some targets.next) short
+run_answer law (TraceRun id count) bps targets after bounded short = trace_answer bps (unsigned_abs count) (thread_named id) targets after
+run_answer law _ bps targets after bounded short = tt
+
+-- ---- Memory and Registers
+
+part_few : (first count : ℕ) (bytes : List ℕ) → length (part_of first count bytes) ≤ count
+part_few first count bytes = omega (arith, length-take count (drop first bytes))
+
+-- the second check of three passes
+second_of_three : (a b c : Bool) (e f g : Fault) → first_fault ((a, e) ∷ (b, f) ∷ (c, g) ∷ []) ≡ None → b ≡ false
+second_of_three true b c e f g none = absurd cc
+second_of_three false true c e f g none = absurd cc
+second_of_three false false c e f g none = refl
+
+size_few : (size : ℤ) → is_no_size size ≡ false → unsigned_abs size ≤ 65536
+size_few (pos n) sized = ltb-false 65536 n (or_parts (int_lt (pos n) (pos 0)) (int_lt (pos 65536) (pos n)) sized).1
+size_few (negsuc n) sized = absurd cc
+
+memory_few : (addr size : ℤ) (found : Option Process) → unsigned_abs size ≤ 65536 → length (memory_bytes addr size found) ≤ 65536
+memory_few addr size None few = lit≤ tt
+memory_few addr size (Some process) few = omega (arith, few, part_few (unsigned_abs addr) (unsigned_abs size) process.memory)
+
+word_four : (number : ℕ) → length (word_bytes number) ≡ 4
+unfolding word_bytes
+word_four number = refl
+
+register_few : (register : Option RegisterId) (found : Option Process) → length (register_bytes register found) ≤ 65536
+register_few None found = lit≤ tt
+register_few (Some register) None = lit≤ tt
+register_few (Some register) (Some process) = omega (arith, word_four (number_in register.index process.cpu))
+
+word_part : (offset size index : ℕ) (process : Process) → length (part_of offset size (word_bytes (number_in index process.cpu))) ≤ 4
+word_part offset size index process =
+    let word = word_bytes (number_in index process.cpu) in
+    omega (arith, length-take size (drop offset word), length-drop offset word, word_four (number_in index process.cpu))
+
+in_few : (register : RegisterId) (offset size : ℕ) (found : Option Process) → length (bytes_in (record { register = register; offset = offset; size = size }) found) ≤ 4
+in_few register offset size None = lit≤ tt
+in_few register offset size (Some process) = word_part offset size register.index process
+
+one_few : (register : Option RegisterId) (location : Location) (list : List Location) (rows : List (ℕ × Process)) → length (bytes_of rows (parts_named list)) ≤ 4 * length list
+    → length (bytes_of rows (cons_option (option_map (λ (r : RegisterId). record { register = r; offset = unsigned_abs location.offset; size = unsigned_abs location.size }) register) (parts_named list))) ≤ 4 * length list + 4
+one_few None location list rows few = omega arith
+one_few (Some r) location list rows few =
+    let offset = unsigned_abs location.offset in
+    let size = unsigned_abs location.size in
+    let found = process_of r.process rows in
+    omega (arith, few, length-append (bytes_in (record { register = r; offset = offset; size = size }) found) (bytes_of rows (parts_named list)), in_few r offset size found)
+
+-- four bytes of each location
+all_few : (list : List Location) (rows : List (ℕ × Process)) → length (bytes_of rows (parts_named list)) ≤ 4 * length list
+all_few [] rows = omega arith
+all_few (location ∷ list) rows = omega (arith, one_few (register_of location.register) location list rows (all_few list rows))
+
+unless_many : (many : Bool) (fault : Fault) (other : Option Fault) → cond many (Some fault) other ≡ None → many ≡ false
+unless_many true fault other none = absurd cc
+unless_many false fault other none = refl
+
+getm_few : (list : List Location) (rows : List (ℕ × Process)) → nat_lt 256 (length list) ≡ false → length (bytes_of rows (parts_named list)) ≤ 65536
+getm_few list rows few = omega (arith, ltb-false 256 (length list) few, all_few list rows)
+
+data_answer : (command : Command) (targets : TargetsValue) → data_fault command targets ≡ None → IsSmallAnswer (data_given command targets).answer
+data_answer (MemGet id addr word size mode) targets none = memory_few addr size _ (size_few size (second_of_three _ _ _ _ _ _ none))
+data_answer (RegGet id) targets none = register_few (register_of id) (holder_of id targets.processes)
+data_answer (RegGetm list) targets none = getm_few list targets.processes (unless_many _ _ (locations_fault targets.processes list) none)
+data_answer _ targets none = tt
+
+-- ---- Breakpoints
+
+changed_answer : ReportsAreSmall → (attached : List ℕ) (refused : Bool) (removed : List (List ℕ)) (added changed : List BpProps) → IsSmallAnswer (effect_of attached (cond refused (Failed 1) (Changed removed added changed))).answer
+changed_answer law attached true removed added changed = law 1
+changed_answer law attached false removed added changed = tt
+
+change_answer : ReportsAreSmall → (channel : ℕ) (command : Command) (target : Target) → IsSmallAnswer (effect_of (attached_in target.contexts.processes) (done channel command target.breakpoints)).answer
+change_answer law channel command target =
+    let rows = target.breakpoints in
+    changed_answer law (attached_in target.contexts.processes) (is_refused channel command rows) (removed_by channel command rows) (added_by command) (changed_by command rows)
+
+props_small : (found : Option BpProps) → IfReadable found → IsSmallAnswer (props_answer found)
+props_small None readable = tt
+props_small (Some props) readable = readable
+
+status_answer_small : (attached : List ℕ) (found : Option BpProps) → length attached ≤ 64 → IsSmallAnswer (status_answer (option_map (λ props. record { instances = instances_of props attached }) found))
+status_answer_small attached None few = tt
+status_answer_small attached (Some props) few = instances_small props attached few
+
+ask_small : (command : Command) (target : Target) → AreBounded target.breakpoints target.contexts → IsSmallAnswer (ask_answer command (attached_in target.contexts.processes) target.breakpoints)
+ask_small BpIds target bounded = ids_words target.breakpoints bounded.listed bounded.properties
+ask_small (BpProperties id) target bounded = props_small (props_of id target.breakpoints) (found_readable id target.breakpoints bounded.properties)
+ask_small (BpGetStatus id) target bounded =
+    status_answer_small (attached_in target.contexts.processes) (props_of id target.breakpoints) (attached_few target.contexts.processes bounded.few)
+ask_small (BpCapabilities id) target bounded = tt
+ask_small _ target bounded = tt
+
+either_answer : (test : Bool) (one other : Effect) → IsSmallAnswer one.answer → IsSmallAnswer other.answer → IsSmallAnswer (cond test one other).answer
+either_answer true one other small also = small
+either_answer false one other small also = also
+
+breakpoints_answer : ReportsAreSmall → (channel : ℕ) (command : Command) (target : Target) → AreBounded target.breakpoints target.contexts → IsSmallAnswer (breakpoints_effect channel command target).answer
+breakpoints_answer law channel command target bounded =
+    let attached = attached_in target.contexts.processes in
+    let answer = gives (ask_answer command attached target.breakpoints) in
+    either_answer (changes_list command) (effect_of attached (done channel command target.breakpoints)) (effect_by (ask_fault command target) answer)
+    (change_answer law channel command target) (answer_by law (ask_fault command target) answer (λ _. ask_small command target bounded))
+
+-- ---- every service
+
+locator_small : ReportsAreSmall → (command : Command) → IsSmallAnswer (locator_answer command)
+locator_small law GetPeers = (lit≤ tt, tt)
+locator_small law (Redirect peer) = law 7
+locator_small law _ = tt
+
+run_small : ReportsAreSmall → FoundIsShort → (command : Command) (bps : List (ℕ × BpProps)) (targets : TargetsValue) → AreBounded bps targets → (run_fault command targets ≡ None → AllShort (run_left command bps targets).processes)
+    → IsSmallAnswer (run_effect command bps targets).answer
+run_small reports law command bps targets bounded after =
+    let left = run_left command bps targets in
+    answer_by reports (run_fault command targets) (run_given command bps targets left) (λ none. run_answer law command bps targets left bounded (after none))
+
+data_small : ReportsAreSmall → (command : Command) (targets : TargetsValue) → IsSmallAnswer (data_effect command targets).answer
+data_small reports command targets = answer_by reports (data_fault command targets) (data_given command targets) (data_answer command targets)
+
+answer_in : ReportsAreSmall → FoundIsShort → (name : CommandName) (channel : ℕ) (command : Command) (target : Target) → AreBounded target.breakpoints target.contexts
+    → (run_fault command target.contexts ≡ None → AllShort (run_left command target.breakpoints target.contexts).processes) → IsSmallAnswer (effect_in name channel command target).answer
+answer_in reports law (service.Locator name) channel command target bounded after = locator_small reports command
+answer_in reports law (service.RunControl name) channel command target bounded after = run_small reports law command target.breakpoints target.contexts bounded after
+answer_in reports law (service.Breakpoints name) channel command target bounded after = breakpoints_answer reports channel command target bounded
+answer_in reports law (service.Memory name) channel command target bounded after = data_small reports command target.contexts
+answer_in reports law (service.Registers name) channel command target bounded after = data_small reports command target.contexts
+answer_in reports law (service.Processes name) channel command target bounded after = run_small reports law command target.breakpoints target.contexts bounded after
+answer_in reports law (service.Trace name) channel command target bounded after = run_small reports law command target.breakpoints target.contexts bounded after
+
+pub exec_answer_small : ReportsAreSmall → FoundIsShort → (channel : ℕ) (command : Command) (target : Target) → AreBounded target.breakpoints target.contexts
+    → (run_fault command target.contexts ≡ None → AllShort (run_left command target.breakpoints target.contexts).processes) → IsSmallAnswer (exec_effect channel command target).answer
+unfolding exec_effect
+exec_answer_small reports law channel command target bounded after = answer_in reports law (named_as command) channel command target bounded after

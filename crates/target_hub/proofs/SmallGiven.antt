@@ -1,0 +1,286 @@
+-- The events of each command, each instruction and each closing are small.
+use Rattle.std.proofs.Common.{◌≡◌, ◌≤◌, ◌+◌, ℕ, ℤ, Bool, true, false, cond, ◌||◌, ◌==◌, nat_lt, List, [], ◌∷◌, ◌++◌, filter, length, map, slice_get, Option, Some, None, IfSome, option_map, option_and_then, refl, arith, lit≤, length-append}
+use Rattle.std.specs.Option.{option_map_or, option_or}
+use Rattle.std.specs.Prelude.{codes, decimal, is_none, unsigned_abs}
+use Rattle.std.proofs.lemmas.Bool.{ltb-false, or_parts}
+use Rattle.std.proofs.lemmas.List.{length-map}
+use Rattle.json_values.specs.Props.{is_bp}
+use Rattle.json_values.specs.Sizes.{IsWord}
+use Rattle.json_values.specs.SizeLaws.{decimal_size}
+use Rattle.command_tables.specs.Canonical.{IsReadable}
+use Rattle.reply_tables.specs.Sizes.{IsSmallEvent}
+use Rattle.tcf_values.specs.Effects.{effect_by, failed, gives}
+use Rattle.tcf_values.specs.Ids.{RegisterRoundTrip, register_of}
+use Rattle.tcf_values.specs.Spelling.{register_name, register_spelling}
+use Rattle.tcf_values.specs.declared.command.Command.{Command}
+use Rattle.tcf_values.specs.declared.command.Command.TheVariants.{GetContext, GetChildren, GetState, Resume, Suspend, Terminate, BpSet, BpAdd, BpChange, BpEnable, BpDisable, BpRemove, MemGet, MemSet, RegGet, RegSet, RegGetm, RegSetm, ProcContext, ProcChildren, ProcStart, ProcAttach, ProcDetach, ProcTerminate, TraceRun}
+use Rattle.tcf_values.specs.declared.effect.Effect.{Effect}
+use Rattle.tcf_values.specs.declared.event.EventData.{EventData}
+use Rattle.tcf_values.specs.declared.event.EventData.TheVariants.{MemChanged, RegChanged, RegsChanged}
+use Rattle.tcf_values.specs.declared.faults.Fault.{Fault}
+use Rattle.tcf_values.specs.declared.faults.Fault.TheVariants.{BadContext, BadSize}
+use Rattle.tcf_values.specs.declared.ids.RegisterId.{RegisterId}
+use Rattle.tcf_values.specs.declared.values.BpProps.{BpProps}
+use Rattle.tcf_values.specs.declared.values.Location.{Location}
+use Rattle.breakpoints.specs.Changes.{added_by, changed_by, changes_list, done, has_no_place, has_twice, clashes, is_overfull, is_refused, is_switched, removed_by, switched, with_flag}
+use Rattle.breakpoints.specs.Rows.{ids_of, others, owned_by}
+use Rattle.breakpoints.specs.Statuses.{status_event}
+use Rattle.breakpoints.specs.declared.breakpoints.BpDone.{BpDone}
+use Rattle.breakpoints.specs.declared.breakpoints.BpDone.TheVariants.{Failed, Changed}
+use Rattle.data_services.specs.Commands.{data_effect, data_fault, data_given}
+use Rattle.data_services.specs.MemoryRows.{memory_events}
+use Rattle.data_services.specs.Named.{holder_of, process_with}
+use Rattle.data_services.specs.RegisterRows.{events_from, location_fault, locations_fault, name_one, registers_get_fault}
+use Rattle.run_control.specs.Attaching.{attach_events, detach_events, process_there, start_events}
+use Rattle.run_control.specs.Commands.{events_of, run_effect, run_fault, run_given, run_left, terminate_code, trace_given}
+use Rattle.run_control.specs.Ending.{end_events}
+use Rattle.run_control.specs.Naming.{process_named}
+use Rattle.run_control.specs.Steering.{suspend_events}
+use Rattle.run_control.specs.Telling.{added_events, changed_events, resumed_events, statuses_in, suspended_events}
+use Rattle.run_control.specs.Executing.{step_text}
+use Rattle.run_control.specs.Ticking.{counted, ticked, ticked_events, ticked_events_at}
+use Rattle.run_control.specs.Tracing.{last_hits, last_of, states_of, traced_events_at}
+use Rattle.rv32i_core.specs.Machine.{machine}
+use Rattle.target_contexts.specs.Live.{process_of}
+use Rattle.target_contexts.specs.Named.{attached_in, is_suspended, number_named, thread_named}
+use Rattle.target_contexts.specs.Short.{FoundIsShort}
+use Rattle.target_contexts.specs.TargetsValue.{TargetsValue}
+use Rattle.target_contexts.specs.declared.process.Process.{Process}
+use Rattle.target_contexts.specs.declared.process.ThreadState.TheVariants.{Suspended}
+use Rattle.target_hub.specs.BreakpointsRows.{ask_answer, ask_fault, breakpoints_effect, effect_of, removed_events, status_events}
+use Rattle.target_hub.specs.BreakpointsRows as bp_rows
+use Rattle.target_hub.specs.Limits.{AreReadable}
+use Rattle.target_hub.specs.declared.target.Target.{Target}
+use Rattle.target_hub.proofs.Given.{AreProps, added_readable, changed_readable}
+use Rattle.target_hub.proofs.Lists.{all_append, all_filter, all_mapped}
+use Rattle.target_hub.proofs.Small.{AreBounded, AreSmall, added_small, attached_few, changed_small, end_small, filter_fewer, found_short, ids_words, process_word, executed_small, resumed_small, status_small, statuses_small, stop_all_small, suspended_small, test_small, three_small}
+
+-- ---- a command that fails tells nothing
+
+none_told : (fault : Fault) → AreSmall (failed fault).events
+unfolding failed
+none_told fault = tt
+
+pub by_fault : (fault : Option Fault) (given : Effect) → (fault ≡ None → AreSmall given.events) → AreSmall (effect_by fault given).events
+by_fault None given small = small refl
+by_fault (Some fault) given small = none_told fault
+
+-- ---- RunControl, Processes and Trace, of the target after the command
+
+of_small : (events : ℕ → List EventData) (number : Option ℕ) → ((n : ℕ) → AreSmall (events n)) → AreSmall (events_of events number)
+of_small events None each = tt
+of_small events (Some n) each = each n
+
+traced_small : FoundIsShort → (bps : List (ℕ × BpProps)) (number count : ℕ) (process : Option Process) (after : TargetsValue) → AreBounded bps after → AreSmall (traced_events_at bps number count process after)
+traced_small law bps number count None after bounded = tt
+traced_small law bps number count (Some process) after bounded =
+    let states = states_of bps number count process in
+    stop_all_small law bps number (Suspended step_text []) process.attached after (last_hits bps number process states) (length states == count) (last_of process states) bounded
+
+trace_small : FoundIsShort → (bps : List (ℕ × BpProps)) (count : ℕ) (number : Option ℕ) (targets after : TargetsValue) → AreBounded bps after → AreSmall (trace_given bps count number targets after).events
+trace_small law bps count None targets after bounded = tt
+trace_small law bps count (Some number) targets after bounded = traced_small law bps number count (process_of number targets.processes) after bounded
+
+started_small : FoundIsShort → (bps : List (ℕ × BpProps)) (number : ℕ) (after : TargetsValue) → AreBounded bps after → AreSmall (start_events bps number after)
+started_small law bps number after bounded =
+    let process = process_of number after.processes in
+    let is = found_short law after.processes number bounded.short in
+    three_small (added_events number process) (suspended_events number process) (statuses_in bps after)
+    (added_small number process is) (suspended_small number process is) (statuses_small bps after bounded)
+
+attached_small : FoundIsShort → (bps : List (ℕ × BpProps)) (number : ℕ) (after : TargetsValue) → AreBounded bps after → AreSmall (attach_events bps number after)
+attached_small law bps number after bounded =
+    let process = process_of number after.processes in
+    three_small (changed_events number process) (suspended_events number process) (statuses_in bps after)
+    (changed_small number process) (suspended_small number process (found_short law after.processes number bounded.short)) (statuses_small bps after bounded)
+
+detached_small : (bps : List (ℕ × BpProps)) (was_suspended : Bool) (number : ℕ) (after : TargetsValue) → AreBounded bps after → AreSmall (detach_events bps was_suspended number after)
+detached_small bps was_suspended number after bounded =
+    let process = process_of number after.processes in
+    three_small (changed_events number process) (cond was_suspended (resumed_events number) []) (statuses_in bps after)
+    (changed_small number process) (test_small was_suspended (resumed_events number) [] (resumed_small number) tt) (statuses_small bps after bounded)
+
+run_small : FoundIsShort → (command : Command) (bps : List (ℕ × BpProps)) (targets after : TargetsValue) → AreBounded bps after → AreSmall (run_given command bps targets after).events
+run_small law (GetContext id) bps targets after bounded = tt
+run_small law (GetChildren id) bps targets after bounded = tt
+run_small law (GetState id) bps targets after bounded = tt
+run_small law (Resume id mode count) bps targets after bounded = of_small resumed_events (thread_named id) resumed_small
+run_small law (Suspend id) bps targets after bounded =
+    of_small (λ n. suspend_events n after) (thread_named id) (λ n. suspended_small n (process_of n after.processes) (found_short law after.processes n bounded.short))
+run_small law (Terminate id) bps targets after bounded =
+    of_small (λ n. end_events bps n terminate_code after) (number_named id) (λ n. end_small bps n terminate_code after bounded)
+run_small law (ProcContext id) bps targets after bounded = tt
+run_small law (ProcChildren id attached) bps targets after bounded = tt
+run_small law (ProcStart directory file args environment attach) bps targets after bounded = started_small law bps targets.next after bounded
+run_small law (ProcAttach id) bps targets after bounded = of_small (λ n. attach_events bps n after) (process_named id) (λ n. attached_small law bps n after bounded)
+run_small law (ProcDetach id) bps targets after bounded =
+    let was_suspended = is_suspended (process_there id targets.processes) in
+    of_small (λ n. detach_events bps was_suspended n after) (process_named id) (λ n. detached_small bps was_suspended n after bounded)
+run_small law (ProcTerminate id) bps targets after bounded =
+    of_small (λ n. end_events bps n terminate_code after) (process_named id) (λ n. end_small bps n terminate_code after bounded)
+run_small law (TraceRun id count) bps targets after bounded = trace_small law bps (unsigned_abs count) (thread_named id) targets after bounded
+run_small law _ bps targets after bounded = tt
+
+pub run_told : FoundIsShort → (command : Command) (bps : List (ℕ × BpProps)) (targets : TargetsValue) → (run_fault command targets ≡ None → AreBounded bps (run_left command bps targets))
+    → AreSmall (run_effect command bps targets).events
+run_told law command bps targets after = by_fault (run_fault command targets) _ (λ none. run_small law command bps targets (run_left command bps targets) (after none))
+
+-- ---- Memory and Registers: a register that is there has a short ID
+
+passes : (failing : Bool) (fault : Fault) (rest : Option Fault) → cond failing (Some fault) rest ≡ None → failing ≡ false
+passes true fault rest none = absurd cc
+passes false fault rest none = refl
+
+name_size : (test : Bool) (index : ℕ) → length (cond test (codes "pc") (codes "x" ++ decimal index)) ≤ 65
+name_size true index = lit≤ tt
+name_size false index = omega (arith, decimal_size index)
+
+spelling_size : (id : RegisterId) → IsWord (register_spelling id)
+spelling_size id =
+    let name = register_name id.index in
+    let behind = codes "." ++ (decimal id.thread ++ (codes "." ++ name)) in
+    omega (
+      arith,
+      length-append (decimal id.process) behind,
+      length-append (decimal id.thread) (codes "." ++ name),
+      decimal_size id.process,
+      decimal_size id.thread,
+      name_size (id.index == 32) id.index,
+    )
+
+held_word : RegisterRoundTrip → (text : List ℕ) (register : Option RegisterId) (rows : List (ℕ × Process)) → register_of text ≡ register → is_none (option_and_then (process_with rows) register) ≡ false → IsWord text
+held_word law text None rows there held = absurd cc
+held_word law text (Some register) rows there held =
+    let spelled : text ≡ register_spelling register = ((law text register).0 there).1 in
+    let few = spelling_size register in
+    rw spelled few
+
+pub register_word : RegisterRoundTrip → (text : List ℕ) (rows : List (ℕ × Process)) → is_none (holder_of text rows) ≡ false → IsWord text
+register_word law text rows held = held_word law text (register_of text) rows refl held
+
+or_none : (one other : Option Fault) → option_or one other ≡ None → one ≡ None
+or_none None other none = refl
+or_none (Some fault) other none = absurd cc
+
+unless_many : (many : Bool) (other : Option Fault) → cond many (Some BadSize) other ≡ None → (many ≡ false) × (other ≡ None)
+unless_many true other none = absurd cc
+unless_many false other none = (refl, none)
+
+if_small : (test : Bool) (event : EventData) → IsSmallEvent event → AreSmall (cond test (event ∷ []) [])
+if_small true event small = (small, tt)
+if_small false event small = tt
+
+memory_small : (number : Option ℕ) (addr size : ℤ) → AreSmall (memory_events number addr size)
+memory_small None addr size = tt
+memory_small (Some number) addr size = if_small _ (MemChanged _ _) (process_word number, lit≤ tt)
+
+several_small : RegisterRoundTrip → (list : List Location) (rows : List (ℕ × Process)) → locations_fault rows list ≡ None → AreSmall (events_from (slice_get list 0) list)
+several_small law [] rows none = tt
+several_small law (first ∷ list) rows none =
+    let held = passes (is_none (holder_of first.register rows)) BadContext _ (or_none (location_fault rows first) (locations_fault rows list) none) in
+    test_small (name_one first.register (first ∷ list)) (RegChanged first.register ∷ []) (RegsChanged ∷ []) (register_word law first.register rows held, tt) (tt, tt)
+
+data_small : RegisterRoundTrip → (command : Command) (targets : TargetsValue) → data_fault command targets ≡ None → AreSmall (data_given command targets).events
+data_small law (MemGet id addr word size mode) targets none = tt
+data_small law (MemSet id addr word size mode bytes) targets none = memory_small (number_named id) addr size
+data_small law (RegGet id) targets none = tt
+data_small law (RegSet id bytes) targets none = (register_word law id targets.processes (passes (is_none (holder_of id targets.processes)) BadContext _ none), tt)
+data_small law (RegGetm list) targets none = tt
+data_small law (RegSetm list bytes) targets none =
+    let get_none = or_none (registers_get_fault list targets.processes) _ none in
+    several_small law list targets.processes (unless_many (nat_lt 256 (length list)) (locations_fault targets.processes list) get_none).1
+data_small law _ targets none = tt
+
+pub data_told : RegisterRoundTrip → (command : Command) (targets : TargetsValue) → AreSmall (data_effect command targets).events
+data_told law command targets = by_fault (data_fault command targets) _ (data_small law command targets)
+
+-- ---- Breakpoints
+
+few_owned : (p : ℕ × BpProps → Bool) (rows : List (ℕ × BpProps)) → length rows ≤ 256 → AreReadable rows → AreSmall (removed_events (ids_of (filter p rows)))
+few_owned p rows few readable = by (filter p rows) (omega (arith, few, filter_fewer p rows)) (all_filter (λ row. is_bp row.1 ≡ true) p rows readable)
+  where
+    by : (part : List (ℕ × BpProps)) → length part ≤ 256 → AreReadable part → AreSmall (removed_events (ids_of part))
+    by [] short all = tt
+    by (row ∷ part) short all = (ids_words (row ∷ part) short all, tt)
+
+pub removed_small : (channel : ℕ) (rows : List (ℕ × BpProps)) → length rows ≤ 256 → AreReadable rows → AreSmall (removed_events (ids_of (owned_by channel rows)))
+removed_small channel rows few readable = few_owned _ rows few readable
+
+taken_small : (channel : ℕ) (command : Command) (rows : List (ℕ × BpProps)) → length rows ≤ 256 → AreReadable rows → AreSmall (removed_events (removed_by channel command rows))
+taken_small channel (BpSet list) rows few readable = removed_small channel rows few readable
+taken_small channel (BpRemove ids) rows few readable = few_owned _ rows few readable
+taken_small channel _ rows few readable = tt
+
+new_small : (list : List BpProps) → length list ≤ 256 → AreProps list → AreSmall (bp_rows.added_events list)
+new_small [] few all = tt
+new_small (props ∷ list) few all = ((few, all), tt)
+
+other_small : (list : List BpProps) → length list ≤ 256 → AreProps list → AreSmall (bp_rows.changed_events list)
+other_small [] few all = tt
+other_small (props ∷ list) few all = ((few, all), tt)
+
+status_all : (attached : List ℕ) (list : List BpProps) → length attached ≤ 64 → AreProps list → AreSmall (status_events attached list)
+status_all attached list few all =
+    all_mapped (λ (props : BpProps). is_bp props ≡ true) IsSmallEvent (status_event attached) list (λ props is. status_small attached props few is) all
+
+-- new ones that have a place are at most 256
+set_few : (list : List BpProps) (rows : List (ℕ × BpProps)) → has_no_place list rows ≡ false → length list ≤ 256
+set_few list rows placed =
+    let twice = has_twice (map (λ (props : BpProps). props.id) list) in
+    let over = (or_parts (clashes list rows || twice) (is_overfull list rows) placed).1 in
+    omega (arith, ltb-false 256 (length rows + length list) over)
+
+added_few : (channel : ℕ) (command : Command) (rows : List (ℕ × BpProps)) → is_refused channel command rows ≡ false → length (added_by command) ≤ 256
+added_few channel (BpSet list) rows placed = set_few list (others channel rows) placed
+added_few channel (BpAdd props) rows placed = lit≤ tt
+added_few channel _ rows placed = lit≤ tt
+
+switched_few : (enabled : Bool) (ids : List (List ℕ)) (rows : List (ℕ × BpProps)) → length rows ≤ 256 → length (switched enabled ids rows) ≤ 256
+switched_few enabled ids rows few =
+    omega (arith, few, filter_fewer (is_switched enabled ids) rows, length-map (filter (is_switched enabled ids) rows) (λ (row : ℕ × BpProps). with_flag enabled row.1))
+
+changed_few : (command : Command) (rows : List (ℕ × BpProps)) → length rows ≤ 256 → length (changed_by command rows) ≤ 256
+changed_few (BpChange props) rows few = lit≤ tt
+changed_few (BpEnable ids) rows few = switched_few true ids rows few
+changed_few (BpDisable ids) rows few = switched_few false ids rows few
+changed_few _ rows few = lit≤ tt
+
+unless_refused : (attached : List ℕ) (refused : Bool) (other : BpDone) → (refused ≡ false → AreSmall (effect_of attached other).events) → AreSmall (effect_of attached (cond refused (Failed 1) other)).events
+unless_refused attached true other small = tt
+unless_refused attached false other small = small refl
+
+change_told : (channel : ℕ) (command : Command) (attached : List ℕ) (rows : List (ℕ × BpProps)) → IsReadable command → length attached ≤ 64 → length rows ≤ 256 → AreReadable rows
+    → AreSmall (effect_of attached (done channel command rows)).events
+change_told channel command attached rows readable beside few all =
+    let added = added_by command in
+    let changed = changed_by command rows in
+    let new = added_readable command readable in
+    let other = changed_readable command rows readable all in
+    unless_refused attached (is_refused channel command rows) (Changed (removed_by channel command rows) added changed)
+    (λ taken. all_append IsSmallEvent (removed_events (removed_by channel command rows)) _ (taken_small channel command rows few all)
+    (three_small (bp_rows.added_events added) (bp_rows.changed_events changed) _ (new_small added (added_few channel command rows taken) new) (other_small changed (changed_few command rows few) other)
+    (all_append IsSmallEvent (status_events attached added) (status_events attached changed) (status_all attached added beside new) (status_all attached changed beside other))))
+
+either_told : (test : Bool) (one other : Effect) → AreSmall one.events → AreSmall other.events → AreSmall (cond test one other).events
+either_told true one other small also = small
+either_told false one other small also = also
+
+pub breakpoints_told : (channel : ℕ) (command : Command) (target : Target) → IsReadable command → AreBounded target.breakpoints target.contexts → AreSmall (breakpoints_effect channel command target).events
+breakpoints_told channel command target readable bounded =
+    let attached = attached_in target.contexts.processes in
+    let answer = gives (ask_answer command attached target.breakpoints) in
+    either_told (changes_list command) (effect_of attached (done channel command target.breakpoints)) (effect_by (ask_fault command target) answer)
+    (change_told channel command attached target.breakpoints readable (attached_few target.contexts.processes bounded.few) bounded.listed bounded.properties)
+    (by_fault (ask_fault command target) answer (λ _. tt))
+
+-- ---- a tick
+
+ticked_small : FoundIsShort → (bps : List (ℕ × BpProps)) (number : ℕ) (process : Option Process) (after : TargetsValue) → AreBounded bps after → AreSmall (ticked_events_at bps number process after)
+ticked_small law bps number None after bounded = tt
+ticked_small law bps number (Some process) after bounded =
+    executed_small law bps number (counted process.state) process.attached after process (machine process.cpu process.memory) bounded
+
+pub tick_told_small : FoundIsShort → (bps : List (ℕ × BpProps)) (targets : TargetsValue) (number : Option ℕ) → AreBounded bps (option_map_or (λ n. ticked bps n targets) number targets)
+    → IfSome (option_map (λ n. ticked_events bps n targets) number) AreSmall
+tick_told_small law bps targets None bounded = tt
+tick_told_small law bps targets (Some number) bounded = ticked_small law bps number (process_of number targets.processes) (ticked bps number targets) bounded

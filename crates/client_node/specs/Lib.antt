@@ -1,0 +1,5 @@
+pub mod ClientValue
+pub mod Usable
+pub mod Lines
+pub mod Client
+pub mod Runs

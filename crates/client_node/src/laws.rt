@@ -1,0 +1,15 @@
+//! The laws of a client, over any calls and whatever bytes come.
+ghost use Rattle.client_node.specs.Runs.{LogTellsPast, OnceAfterAnyCalls};
+
+/// The law that each command that was accepted has at most one final answer, its own, and exactly one once the channel has
+/// ended.
+pub fn each_command_is_answered_once()
+    ensures { OnceAfterAnyCalls }
+{}
+
+/// The law that a log has a line for each message that was taken, in order and with its mark, but for commands of the
+/// other side, and a line for each command that was accepted, under 1, 2, 3 and so on; progress and answers stand under
+/// the number that is the token of their command.
+pub fn the_log_tells_what_was_taken()
+    ensures { LogTellsPast }
+{}

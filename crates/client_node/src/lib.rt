@@ -1,0 +1,12 @@
+//! A scripted client: its end of a channel, and the log of what it sent and took.
+#![tactic(auto)]
+
+mod client;
+pub mod laws;
+mod lines;
+
+pub use client::ClientNode;
+pub use laws::{each_command_is_answered_once, the_log_tells_what_was_taken};
+
+#[cfg(test)]
+mod tests;

@@ -1,0 +1,11 @@
+pub mod Cuts
+pub mod FirstBad
+pub mod Grammar
+pub mod Images
+pub mod Lines
+pub mod Names
+pub mod Parts
+pub mod Places
+pub mod Schedules
+pub mod Steps
+pub mod Values

@@ -1,0 +1,9 @@
+use Rattle.std.proofs.Common.{◌+◌, arith}
+use Rattle.tcf_schedules.proofs.Places.{place_found, place_past}
+use Rattle.tcf_schedules.proofs.place.one_to_above.Goals as goal
+
+pub returns-then-number-most : goal.returns-then-number-most
+returns-then-number-most c = place_found 1 4294967295 (c.args.most + 1) c.args.digits.now c.in_ok-number.field-0 c.in_ok-number.ensures.value (omega arith)
+
+pub returns-else-number-most : goal.returns-else-number-most
+returns-else-number-most c = place_past 1 4294967295 (c.args.most + 1) c.args.digits.now c.in_ok-number.field-0 c.in_ok-number.ensures.value (omega arith)

@@ -1,0 +1,9 @@
+pub mod Images
+pub mod Line
+pub mod Placed
+pub mod Plan
+pub mod Reading
+pub mod Refusal
+pub mod Said
+pub mod Schedule
+pub mod Words

@@ -1,0 +1,18 @@
+//! Schedules: the images, the chains and the steps that a world is to play, read from a file of lines.
+#![tactic(auto)]
+
+mod image;
+pub mod laws;
+mod line;
+mod place;
+mod reading;
+pub mod schedule;
+#[cfg(test)]
+mod tests;
+mod words;
+
+pub use reading::read_schedule;
+pub use schedule::{
+    ChainHead, ChainHeads, NamedImage, NamedImages, Schedule, ScheduleStep, ScheduleSteps,
+    TextFault, TextRefusal,
+};

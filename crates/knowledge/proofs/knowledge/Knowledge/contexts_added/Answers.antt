@@ -1,0 +1,5 @@
+use Rattle.knowledge.proofs.Steps.{then_after}
+use Rattle.knowledge.proofs.knowledge.Knowledge.contexts_added.Goals as goal
+
+pub returns : goal.returns
+returns c = then_after c.in_ok-add_contexts.ensures c.drop_statuses.ensures

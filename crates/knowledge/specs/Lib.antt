@@ -1,0 +1,7 @@
+pub mod Changes
+pub mod Facts
+pub mod Keyed
+pub mod KnowledgeValue
+pub mod Laws
+pub mod Learning
+pub mod Rows

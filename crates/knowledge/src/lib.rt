@@ -1,0 +1,14 @@
+//! What a peer knows of a target from the messages that it has taken, and what each message makes of that.
+#![tactic(auto)]
+
+pub mod knowledge;
+pub mod laws;
+mod registers;
+mod span;
+pub mod state;
+mod text_map;
+mod thread_map;
+
+pub use knowledge::Knowledge;
+pub use laws::{learning_is_monotone, what_is_read_is_known};
+pub use state::StateFact;

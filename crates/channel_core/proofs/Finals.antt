@@ -358,7 +358,7 @@ range_more : (a n : ℕ) → range_with_len a (suc n) ≡ range_with_len a n ++ 
 range_more a zero = ap (λ m. m ∷ []) (sym (add-zero a))
 range_more a (suc n) = let same : (a + 1) + n ≡ a + suc n = omega arith in ap (λ ns. a ∷ ns) (range_more (a + 1) n ∙ ap (λ m. range_with_len (a + 1) n ++ m ∷ []) same)
 
-unspent : {T : Type 0} → (size : ℕ) (e : EndValue T) → refusal_of size e ≡ None → (e.last == last_token) ≡ false
+pub unspent : {T : Type 0} → (size : ℕ) (e : EndValue T) → refusal_of size e ≡ None → (e.last == last_token) ≡ false
 unspent size e none = by_flags (is_closed e.state) (nat_lt most_body size) (nat_le most_pending (length e.pending)) (e.last == last_token) none
   where
     by_flags : (a b c d : Bool) → cond a (Some NotOpen) (cond b (Some TooLong) (cond c (Some Full) (cond d (Some Spent) None))) ≡ None → d ≡ false

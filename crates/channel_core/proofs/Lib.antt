@@ -13,4 +13,11 @@ pub mod Levels
 pub mod Rows
 pub mod Finals
 pub mod Own
+pub mod Sayable
+pub mod Saying
 pub mod Running
+pub mod Sizes
+pub mod Feeding
+pub mod Faces
+pub mod Arriving
+pub mod Received

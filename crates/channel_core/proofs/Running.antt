@@ -1,8 +1,10 @@
 -- What holds after every list of calls: each call keeps it.
 use Rattle.std.proofs.Common.{ℕ, List, [], ◌∷◌, Option, refl, arith}
+use Rattle.tcf_message.specs.Fault.{IsDecimalToken}
 use Rattle.channel_core.specs.Beginning.{new_end}
 use Rattle.channel_core.specs.EndValue.{EndValue}
 use Rattle.channel_core.specs.Runs.{Call, Run, begun, after_call, after_calls}
+use Rattle.channel_core.specs.ReceivingLaws.{CanBeRead, QueuesReadable, SendsReadable}
 use Rattle.channel_core.specs.RunLaws.{AfterAllCalls, IsUnspent, QueuesInOrder, SendsInOrder, CountsAnswers, TakesOwnAnswers, EndsOnce, StaysClosed, HoldsNoneWhereFree, IsLoudAsTold}
 use Rattle.channel_core.proofs.Keeping.{IsTidy}
 use Rattle.channel_core.proofs.Tidy.{tidy_open, tidy_called}
@@ -13,6 +15,7 @@ use Rattle.channel_core.proofs.Commands.{AreSplit, split_called, sends_in_order}
 use Rattle.channel_core.proofs.Ends.{IsEndingRun, ending_open, ending_called, ends_once, stays_closed}
 use Rattle.channel_core.proofs.Finals.{IsCountedRun, counted_called, counts_answers}
 use Rattle.channel_core.proofs.Own.{takes_own_answers}
+use Rattle.channel_core.proofs.Saying.{IsSayingRun, can_be_read, saying_called, saying_first}
 use Rattle.channel_core.proofs.Levels.{IsLeveledRun, level_called, is_loud_as_told}
 
 record Stands {T : Type 0} (r : Run T) : Type 0 where
@@ -95,3 +98,12 @@ all_free hello mark calls = (always hello mark calls).free
 
 pub all_loud_as_told : {T : Type 0} → AfterAllCalls {T = T} IsLoudAsTold
 all_loud_as_told hello mark calls = let s = always hello mark calls in is_loud_as_told (after_calls calls (begun (new_end hello mark))) s.order s.leveled
+
+-- ---- What is queued
+
+says : {T : Type 0} → IsDecimalToken → (calls : List (Call T)) (r : Run T) → SendsReadable calls → Stands r → IsSayingRun r → CanBeRead (after_calls calls r)
+says decimals [] r readable s i = can_be_read r s.order i
+says decimals (call ∷ calls) r readable s i = says decimals calls (after_call call r) readable.1 (stands_after call r s) (saying_called decimals call r readable.0 s.tidy s.counted.most i)
+
+pub all_can_be_read : {T : Type 0} → IsDecimalToken → QueuesReadable T
+all_can_be_read decimals body mark calls formed readable = says decimals calls (begun (new_end body mark)) readable (stands_at_first body mark) (saying_first body mark formed)

@@ -13,3 +13,5 @@ pub mod Sending
 pub mod Laws
 pub mod Runs
 pub mod RunLaws
+pub mod Arrivals
+pub mod ReceivingLaws

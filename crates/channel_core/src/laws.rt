@@ -1,6 +1,10 @@
 //! Laws of an end.
 ghost use Rattle.channel_core.specs.Laws.{GivesEach, GoesOut};
+ghost use Rattle.channel_core.specs.ReceivingLaws.{EndsFairly, QueuesReadable, ReceivesInOrder, WhereAQueueComes};
 ghost use Rattle.channel_core.specs.RunLaws.{AfterAllCalls, CountsAnswers, EndsOnce, HoldsNoneWhereFree, IsLoudAsTold, IsUnspent, QueuesInOrder, SendsInOrder, StaysClosed, TakesOwnAnswers};
+
+use stream_escape::{frames_are_read, pieces_are_one};
+use tcf_message::{decimal_token, read_back};
 
 /// The law that `drain` gives each pending tag of a closed end once, in order of issue.
 pub fn every_pending_tag_is_drained<T>()
@@ -55,3 +59,26 @@ pub fn nothing_is_held_where_commands_go_out<T>()
 pub fn the_level_told_fits_the_inbox<T>()
     ensures { AfterAllCalls {T = T} IsLoudAsTold }
 {}
+
+/// The law of what an end receives of a queue that can be read, whatever is called of the end, and in whatever pieces
+/// the queue's bytes come, each with the mark of its message, as far as they come. The messages that it received are, in
+/// order and with their marks, a front of those of the queue, flow control aside. Until it is closed or a last entry has
+/// come, they are all that have come wholly, and it was told the last level among these. The bytes never close it, but for
+/// the end of the stream, where that was queued and all messages were received.
+pub fn what_was_queued_is_received<T>()
+    ensures order { WhereAQueueComes {T = T} ReceivesInOrder }
+    ensures causes { WhereAQueueComes {T = T} EndsFairly }
+{
+    frames_are_read();
+    pieces_are_one();
+    read_back();
+    decimal_token();
+}
+
+/// The law that after every list of calls all that was queued is a queue that can be read, where the Hello and each
+/// message that was given to be sent can be; and that the end is closed where the queue has the end of the stream.
+pub fn what_is_queued_can_be_read<T>()
+    ensures { QueuesReadable T }
+{
+    decimal_token();
+}

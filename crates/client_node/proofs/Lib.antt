@@ -5,3 +5,4 @@ pub mod Ends
 pub mod Taken
 pub mod Calls
 pub mod Told
+pub mod Following

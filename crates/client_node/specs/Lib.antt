@@ -3,3 +3,4 @@ pub mod Usable
 pub mod Lines
 pub mod Client
 pub mod Runs
+pub mod Ends

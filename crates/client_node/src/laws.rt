@@ -1,5 +1,9 @@
 //! The laws of a client, over any calls and whatever bytes come.
+ghost use Rattle.client_node.specs.Ends.{EndIsRunAfterAnyCalls};
 ghost use Rattle.client_node.specs.Runs.{LogTellsPast, OnceAfterAnyCalls};
+
+use channel_core::calls_with_memory_spend_nothing;
+use tcf_message::read_back;
 
 /// The law that each command that was accepted has at most one final answer, its own, and exactly one once the channel has
 /// ended.
@@ -13,3 +17,13 @@ pub fn each_command_is_answered_once()
 pub fn the_log_tells_what_was_taken()
     ensures { LogTellsPast }
 {}
+
+/// The law that the calls of a client are a run of its end: its channel is what the calls that it made of its end make of
+/// a new one, and both have taken, accepted and given out the same. But for commands it sends only answers to commands of
+/// the other side, which can be written.
+pub fn a_clients_end_is_a_run()
+    ensures { EndIsRunAfterAnyCalls }
+{
+    calls_with_memory_spend_nothing::<u64>();
+    read_back();
+}

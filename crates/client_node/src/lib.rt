@@ -6,7 +6,9 @@ pub mod laws;
 mod lines;
 
 pub use client::ClientNode;
-pub use laws::{each_command_is_answered_once, the_log_tells_what_was_taken};
+pub use laws::{
+    a_clients_end_is_a_run, each_command_is_answered_once, the_log_tells_what_was_taken,
+};
 
 #[cfg(test)]
 mod tests;

@@ -21,3 +21,5 @@ pub mod Feeding
 pub mod Faces
 pub mod Arriving
 pub mod Received
+pub mod Sent
+pub mod ClosingSo

@@ -18,17 +18,17 @@ use Rattle.channel_core.proofs.Own.{takes_own_answers}
 use Rattle.channel_core.proofs.Saying.{IsSayingRun, can_be_read, saying_called, saying_first}
 use Rattle.channel_core.proofs.Levels.{IsLeveledRun, level_called, is_loud_as_told}
 
-record Stands {T : Type 0} (r : Run T) : Type 0 where
-  tidy : IsTidy r.end
-  fresh : IsFresh r.end
-  order : QueuesInOrder r
-  free : HoldsNone r.end
-  split : AreSplit r
-  ending : IsEndingRun r
-  counted : IsCountedRun r
-  leveled : IsLeveledRun r
+pub record Stands {T : Type 0} (r : Run T) : Type 0 where
+  pub tidy : IsTidy r.end
+  pub fresh : IsFresh r.end
+  pub order : QueuesInOrder r
+  pub free : HoldsNone r.end
+  pub split : AreSplit r
+  pub ending : IsEndingRun r
+  pub counted : IsCountedRun r
+  pub leveled : IsLeveledRun r
 
-stands_at_first : {T : Type 0} → (hello : List ℕ) (mark : Option ℕ) → Stands (begun (new_end {T = T} hello mark))
+pub stands_at_first : {T : Type 0} → (hello : List ℕ) (mark : Option ℕ) → Stands (begun (new_end {T = T} hello mark))
 stands_at_first {T = T} hello mark =
     let e : EndValue T = new_end hello mark in
     record {
@@ -51,7 +51,7 @@ stands_at_first {T = T} hello mark =
       leveled = record { told = refl; inbox = λ _. omega arith; commands = tt };
     }
 
-stands_after : {T : Type 0} → (call : Call T) (r : Run T) → Stands r → Stands (after_call call r)
+pub stands_after : {T : Type 0} → (call : Call T) (r : Run T) → Stands r → Stands (after_call call r)
 stands_after call r s = record {
   tidy = tidy_called call r.end s.tidy;
   fresh = fresh_called call r.end s.tidy s.fresh;
@@ -67,7 +67,7 @@ stands : {T : Type 0} → (calls : List (Call T)) (r : Run T) → Stands r → S
 stands [] r s = s
 stands (call ∷ calls) r s = stands calls (after_call call r) (stands_after call r s)
 
-always : {T : Type 0} → (hello : List ℕ) (mark : Option ℕ) (calls : List (Call T)) → Stands (after_calls calls (begun (new_end hello mark)))
+pub always : {T : Type 0} → (hello : List ℕ) (mark : Option ℕ) (calls : List (Call T)) → Stands (after_calls calls (begun (new_end hello mark)))
 always hello mark calls = stands calls (begun (new_end hello mark)) (stands_at_first hello mark)
 
 -- ---- The laws

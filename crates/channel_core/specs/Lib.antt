@@ -15,3 +15,4 @@ pub mod Runs
 pub mod RunLaws
 pub mod Arrivals
 pub mod ReceivingLaws
+pub mod QueueLaws

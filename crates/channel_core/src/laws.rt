@@ -1,6 +1,7 @@
 //! Laws of an end.
 ghost use Rattle.channel_core.specs.Laws.{GivesEach, GoesOut};
 ghost use Rattle.channel_core.specs.ReceivingLaws.{EndsFairly, QueuesReadable, ReceivesInOrder, WhereAQueueComes};
+ghost use Rattle.channel_core.specs.QueueLaws.{ClosesOnlySo, QueuesItsMessages, QueuesNoCommand, QueuesWhatIsSent, TakesNothingClosed};
 ghost use Rattle.channel_core.specs.RunLaws.{AfterAllCalls, CountsAnswers, EndsOnce, HoldsNoneWhereFree, IsLoudAsTold, IsUnspent, QueuesInOrder, SendsInOrder, StaysClosed, TakesOwnAnswers};
 
 use stream_escape::{frames_are_read, pieces_are_one};
@@ -82,3 +83,22 @@ pub fn what_is_queued_can_be_read<T>()
 {
     decimal_token();
 }
+
+/// The law that an end's Hello and then what its node sends are queued, in order, and that nothing else is: flow control,
+/// the end of the stream and commands aside. Where no command is sent, none is queued.
+pub fn only_what_is_sent_is_queued<T>()
+    ensures plain { QueuesWhatIsSent T }
+    ensures none { QueuesNoCommand T }
+    ensures messages { QueuesItsMessages T }
+{}
+
+/// The law that a closed end takes nothing, and stays as it is.
+pub fn a_closed_end_takes_nothing<T>()
+    ensures { AfterAllCalls {T = T} TakesNothingClosed }
+{}
+
+/// The law that an open end closes exactly with a last entry that is taken, or by its own side, and by no other call; and
+/// that no call opens a closed one.
+pub fn an_end_closes_only_so<T>()
+    ensures { AfterAllCalls {T = T} ClosesOnlySo }
+{}

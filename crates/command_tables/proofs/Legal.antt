@@ -9,7 +9,7 @@ use Rattle.command_tables.specs.Reading.{IsReading, bad_of}
 use Rattle.command_tables.specs.declared.reading.Reading.{Reading}
 use Rattle.std.specs.declared.alloc.AllocError.{AllocError}
 
-bad_is_reading : (service name : List ℕ) (fault : ArgFault) → IsSome (name_in service name) → IsReading service name (bad_of fault)
+pub bad_is_reading : (service name : List ℕ) (fault : ArgFault) → IsSome (name_in service name) → IsReading service name (bad_of fault)
 bad_is_reading service name NotEnded some = (some, (NotEnded, refl))
 bad_is_reading service name (Missing index) some = (some, (Missing index, refl))
 bad_is_reading service name (Syntax index) some = (some, (Syntax index, refl))

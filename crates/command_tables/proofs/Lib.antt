@@ -3,3 +3,5 @@ pub mod Endings
 pub mod Legal
 pub mod Places
 pub mod ReadBack
+pub mod Within
+pub mod Readings

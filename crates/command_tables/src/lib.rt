@@ -2,10 +2,12 @@
 #![tactic(auto)]
 
 pub mod arguments;
+mod laws;
 pub mod reading;
 pub mod rows;
 pub mod writing;
 
+pub use laws::readings_are_legal;
 pub use reading::{Reading, read_command};
 pub use rows::arguments_are_in_place;
 pub use writing::{WrittenCommand, write_command};

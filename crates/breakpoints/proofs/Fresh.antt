@@ -1,7 +1,7 @@
 -- New breakpoints: their IDs are new, and they go last.
-use Rattle.std.proofs.Common.{◌≡◌, ℕ, suc, ◌+◌, ◌-◌, ◌≤◌, ◌<◌, nat_lt, Bool, true, false, cond, not, ◌||◌, List, [], ◌∷◌, ◌++◌, length, map, take, drop, get_or, is_some, refl, sym, ap, subst, ◌∙◌, arith, append_assoc, length-append}
+use Rattle.std.proofs.Common.{◌≡◌, ℕ, suc, ◌+◌, ◌-◌, ◌≤◌, ◌<◌, nat_lt, Bool, true, false, cond, ◌||◌, List, [], ◌∷◌, ◌++◌, length, map, take, drop, get_or, is_some, refl, sym, ap, subst, ◌∙◌, arith, append_assoc, length-append}
 use Rattle.std.proofs.Math.Seq.{drop-cons}
-use Rattle.std.proofs.lemmas.List.{append-nil, length-map, map-append, take-append-drop, take_all, take_more}
+use Rattle.std.proofs.lemmas.List.{append-nil, length-map, map-append, take-append-drop, take_more}
 use Rattle.std.specs.Prelude.{bytes_eq, Result, Ok, Err, IsOk, OnOk}
 use Rattle.std.specs.Global.{Vec}
 use Rattle.std.specs.List.{AllByRecursion, IsDistinct, list_any}
@@ -29,11 +29,6 @@ pub none_there : (id : List ℕ) (ids : List (List ℕ)) → AllByRecursion (λ 
 none_there id [] apart = refl
 none_there id (other ∷ ids) apart = ap (λ b. b || is_among ids id) apart.0 ∙ none_there id ids apart.1
 
-pub differ_once : (ids : List (List ℕ)) → IsDistinct bytes_eq ids → has_twice ids ≡ false
-unfolding IsDistinct
-differ_once [] differ = refl
-differ_once (id ∷ ids) differ = ap (λ b. b || has_twice ids) (none_there id ids differ.0) ∙ differ_once ids differ.1
-
 or_true : (b : Bool) → (b || true) ≡ true
 or_true true = refl
 or_true false = refl
@@ -54,6 +49,18 @@ twice_by id other ids rest false e among later =
 pub twice_more : (id : List ℕ) (ids rest : List (List ℕ)) → is_among ids id ≡ true → has_twice (ids ++ id ∷ rest) ≡ true
 twice_more id [] rest among = cc
 twice_more id (other ∷ ids) rest among = twice_by id other ids rest (bytes_eq id other) refl among (twice_more id ids rest)
+
+among_given : (id : List ℕ) (list : List BpProps) → is_among (map (λ props. props.id) list) id ≡ list_any (λ props. bytes_eq id props.id) list
+among_given id [] = refl
+among_given id (props ∷ list) = ap (λ b. bytes_eq id props.id || b) (among_given id list)
+
+-- the first one's ID is given again, or the answer is that for the others
+pub one_given : (list rest later : List BpProps) (first : BpProps) (id : List ℕ) (given again : Bool) → rest ≡ first ∷ later → id ≡ first.id → given ≡ list_any (λ props. bytes_eq id props.id) later → given ≡ again
+    → has_twice (map (λ props. props.id) rest) ≡ has_twice (map (λ props. props.id) list) → (again || has_twice (map (λ props. props.id) later)) ≡ has_twice (map (λ props. props.id) list)
+one_given list rest later first id given again split same is test before =
+    let ids : List BpProps → List (List ℕ) = map (λ props. props.id) in
+    ap (λ b. b || has_twice (ids later)) (sym test ∙ is ∙ sym (among_given id later) ∙ ap (is_among (ids later)) same)
+    ∙ ap (λ all. has_twice (ids all)) (sym split) ∙ before
 
 -- ---- the map's keys differ exactly as the IDs do
 
@@ -184,14 +191,6 @@ given_twice channel list i props k es so_far keyed within item key there =
     ap (λ all. has_twice (map id all)) cut ∙ ap has_twice (map-append id (take i list) (props ∷ drop (suc i) list))
     ∙ twice_more props.id (map id (take i list)) (map id (drop (suc i) list)) before
 
--- where all are put, no ID is given twice
-pub given_once : (channel : ℕ) (list : List BpProps) (i : ℕ) (es : List (Vec ℕ × (ℕ × BpProps)))
-    → values_of es ≡ rows_for channel (take i list) → AreKeyed es → length list ≤ i → IsDistinct same_key (keys_of es) → has_twice (map (λ p. p.id) list) ≡ false
-given_once channel list i es so_far keyed all unique =
-    let ids : ids_of (values_of es) ≡ map (λ p. p.id) list =
-    ap ids_of (so_far ∙ ap (rows_for channel) (take_all i list all)) ∙ ids-rows_for channel list in
-    ap has_twice (sym ids) ∙ differ_once (ids_of (values_of es)) (ids_differ es keyed unique)
-
 -- ---- what is said of an answer that is there
 
 pub on_ok : {T E : Type 0} {P : Type 0} (r : Result T E) → IsOk r → OnOk r P → P
@@ -200,31 +199,31 @@ on_ok (Err e) is fact = cc
 
 -- ---- whether new breakpoints have a place
 
-no_place_by : (a t b : Bool) → (b || a) ≡ true → ((a || t) || b) ≡ true
-no_place_by true t b e = refl
-no_place_by false true b e = refl
-no_place_by false false true e = refl
-no_place_by false false false e = cc
+or_false : (b : Bool) → (b || false) ≡ b
+or_false true = refl
+or_false false = refl
 
-pub no_place_crowded : (list : List BpProps) (rows : List (ℕ × BpProps)) → (is_overfull list rows || clashes list rows) ≡ true → has_no_place list rows ≡ true
-no_place_crowded list rows e = no_place_by (clashes list rows) (has_twice (map (λ props. props.id) list)) (is_overfull list rows) e
+turned_by : (a t b : Bool) → ((b || a) || t) ≡ ((a || t) || b)
+turned_by true t true = refl
+turned_by true t false = refl
+turned_by false t true = sym (or_true t)
+turned_by false t false = sym (or_false t)
 
-twice_by_parts : (a t b : Bool) → t ≡ true → ((a || t) || b) ≡ true
-twice_by_parts true t b e = refl
-twice_by_parts false true b e = refl
-twice_by_parts false false b e = cc
+-- the causes are looked for in another order
+pub place_turned : (list : List BpProps) (rows : List (ℕ × BpProps)) → ((is_overfull list rows || clashes list rows) || has_twice (map (λ props. props.id) list)) ≡ has_no_place list rows
+place_turned list rows = turned_by (clashes list rows) (has_twice (map (λ props. props.id) list)) (is_overfull list rows)
 
-pub no_place_twice : (list : List BpProps) (rows : List (ℕ × BpProps)) → has_twice (map (λ props. props.id) list) ≡ true → has_no_place list rows ≡ true
-no_place_twice list rows e = twice_by_parts (clashes list rows) (has_twice (map (λ props. props.id) list)) (is_overfull list rows) e
+-- where there is a place, there is none of the causes
+pub record HasPlace (list : List BpProps) (rows : List (ℕ × BpProps)) : Type 0 where
+  pub apart : clashes list rows ≡ false
+  pub once : has_twice (map (λ props. props.id) list) ≡ false
+  pub room : is_overfull list rows ≡ false
 
-place_by : (a t b : Bool) → (b || a) ≡ false → t ≡ false → ((a || t) || b) ≡ false
-place_by a t true e f = cc
-place_by true t false e f = cc
-place_by false true false e f = cc
-place_by false false false e f = refl
-
-pub a_place : (list : List BpProps) (rows : List (ℕ × BpProps)) → (is_overfull list rows || clashes list rows) ≡ false → has_twice (map (λ props. props.id) list) ≡ false → has_no_place list rows ≡ false
-a_place list rows e f = place_by (clashes list rows) (has_twice (map (λ props. props.id) list)) (is_overfull list rows) e f
+pub a_place : (list : List BpProps) (rows : List (ℕ × BpProps)) → has_no_place list rows ≡ false → HasPlace list rows
+a_place list rows e =
+    let outer = or_parts (clashes list rows || has_twice (map (λ props. props.id) list)) (is_overfull list rows) e in
+    let inner = or_parts (clashes list rows) (has_twice (map (λ props. props.id) list)) outer.0 in
+    record { apart = inner.0; once = inner.1; room = outer.1 }
 
 -- the list with the new breakpoints last is kept well
 pub kept_append : (channel : ℕ) (es fresh new : List (Vec ℕ × (ℕ × BpProps))) (list : List BpProps) (rows : List (ℕ × BpProps)) → new ≡ es ++ fresh → values_of es ≡ rows → values_of fresh ≡ rows_for channel list
@@ -250,7 +249,3 @@ over_by len count stay k clash parts few more =
 
 pub not_over_by : (len count stay k : ℕ) (clash : Bool) → stay + count ≡ len → len ≤ 256 → k ≤ 256 - (len - count) → clash ≡ (nat_lt 256 (stay + k) || clash)
 not_over_by len count stay k clash parts few less = sym (ap (λ b. b || clash) (le-ltb 256 (stay + k) (omega arith)))
-
-pub not_twice : (b : Bool) → true ≡ not b → b ≡ false
-not_twice true e = cc
-not_twice false e = refl

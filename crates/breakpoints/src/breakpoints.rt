@@ -1,6 +1,6 @@
 //! The list of breakpoints, each under its ID.
-ghost use Rattle.std.specs.Prelude.{◌≡◌, ◌++◌, ◌∷◌, [], ◌||◌, length, IfOk, OnOk, OnErr, IsTrue, option_copied, is_some, if◌then◌else◌};
-ghost use Rattle.breakpoints.specs.Changes.{after, changes_list, clashes, done, has_no_place, is_overfull, is_switched, lacks, switched, with_flag, with_flags};
+ghost use Rattle.std.specs.Prelude.{◌≡◌, ◌++◌, ◌∷◌, [], ◌||◌, length, not, None, IfNone, IfOk, OnOk, OnErr, IsTrue, option_copied, is_some, if◌then◌else◌};
+ghost use Rattle.breakpoints.specs.Changes.{after, changes_list, clashes, done, has_no_place, is_overfull, is_refused, is_switched, lacks, switched, with_flag, with_flags};
 ghost use Rattle.breakpoints.specs.Rows.{IsOrderly, ids_of, is_there, others, owned_by, props_of, rows_for};
 ghost use Rattle.breakpoints.specs.Selecting.{selected, selects, unselected};
 ghost use Rattle.breakpoints.specs.Status.{hits_of, status_of};
@@ -9,12 +9,13 @@ mod order;
 mod statuses;
 
 use crate::instance::instances_of;
-use crate::rows::{Rows, keyed, replace, set_flags, set_props, take_out};
+use crate::rows::{Rows, copies, has_twice, keyed, replace, set_flags, set_props, take_out};
 use crate::selection::{Selection, is_among, selects};
 use indexmap::IndexMap;
 pub use statuses::status_event;
 use std::alloc::{AllocError, Global};
 use std::marker::Model;
+use std::slice;
 use tcf_values::{BpProps, BpStatus, Command, Duplicate, Props, Text, Texts};
 
 /// How many breakpoints there can be.
@@ -69,17 +70,18 @@ impl Breakpoints {
     }
 
     /// Executes a command that changes the list. It is refused with the code 1 where it gives an ID that is there or
-    /// that it gives twice, where there were more than 256 breakpoints, and where it names one that isn't there. A
-    /// refused command, and one for which memory is wanting, changes nothing.
+    /// that it gives twice, where there were more than 256 breakpoints, and where it names one that isn't there, and this
+    /// whatever the memory. A refused command, and one for which memory is wanting, changes nothing.
     pub fn apply(&mut self, channel: u64, command: &Command) -> Result<BpDone, AllocError>
         requires { IsTrue (changes_list command.now) }
+        ensures refused { IsTrue (is_refused channel command.now self.old) → result ≡ Ok (BpDone.Failed 1) }
         ensures done { IfOk result (λ told. told ≡ done channel command.now self.old) }
         ensures after { OnOk result (self.new ≡ after channel command.now self.old) }
         ensures kept { OnErr result (self.new ≡ self.old) }
     {
         match command {
             Command::BpSet { list } => {
-                self.put(channel, Selection::OwnedBy(channel), list.copy()?)
+                self.put(channel, Selection::OwnedBy(channel), list.as_slice())
             }
             Command::BpAdd { props } => self.add(channel, props),
             Command::BpChange { props } => self.change(props),
@@ -122,10 +124,11 @@ impl Breakpoints {
     }
 
     /// The status of the breakpoint of this ID, where these processes are attached, by their numbers in order; `None`
-    /// exactly where it isn't there.
+    /// exactly where it isn't there, and then whatever the memory.
     pub fn status(&self, id: &[u8], attached: &[u32]) -> Result<Option<BpStatus>, AllocError>
         ensures value { IfOk result (λ status. status ≡ status_of id.now attached.now self.now) }
         ensures found { IfOk result (λ status. is_some status ≡ is_there id.now self.now) }
+        ensures missing { IfNone (status_of id.now attached.now self.now) (result ≡ Ok None) }
     {
         match self.props(id) {
             Some(props) => Ok(Some(BpStatus {
@@ -178,6 +181,16 @@ impl Breakpoints {
             .any(|props| self.stays(props.id.as_bytes(), leaving))
     }
 
+    /// How many are chosen.
+    fn count(&self, selection: Selection<'_>) -> usize
+        ensures { result ≡ length (selected selection.entry self.now) }
+    {
+        self.map
+            .values()
+            .filter(|row| selects(selection, row))
+            .count()
+    }
+
     /// Whether, when so many chosen leave, there are too many then, or one of the IDs is taken.
     fn is_crowded(&self, leaving: Selection<'_>, count: usize, list: &[BpProps]) -> bool
         requires { count ≡ length (selected leaving self.now) }
@@ -185,6 +198,15 @@ impl Breakpoints {
     {
         let staying = self.map.len() - count;
         list.len() > MOST - staying || self.clashes(leaving, list)
+    }
+
+    /// Whether new breakpoints have no place when the chosen leave: there are too many then, or one of the IDs is taken
+    /// or given twice.
+    #[tactic(auto, using(crate::proofs::Fresh::place_turned))]
+    fn has_no_place(&self, leaving: Selection<'_>, list: &[BpProps]) -> bool
+        ensures { result ≡ has_no_place list.now (unselected leaving.entry self.now) }
+    {
+        self.is_crowded(leaving, self.count(leaving), list) || has_twice(list)
     }
 
     /// The IDs of the chosen, in the order of the list.
@@ -219,22 +241,22 @@ impl Breakpoints {
         &mut self,
         channel: u64,
         leaving: Selection<'_>,
-        added: Props,
+        list: &[BpProps],
     ) -> Result<BpDone, AllocError>
-        ensures done { IfOk result (λ told. told ≡ (if has_no_place added (unselected leaving.entry self.old) then BpDone.Failed 1
-            else BpDone.Changed (ids_of (selected leaving.entry self.old)) added [])) }
-        ensures after { OnOk result (self.new ≡ (if has_no_place added (unselected leaving.entry self.old) then self.old
-            else unselected leaving.entry self.old ++ rows_for channel added)) }
+        ensures refused { IsTrue (has_no_place list.now (unselected leaving.entry self.old)) → result ≡ Ok (BpDone.Failed 1) }
+        ensures done { IfOk result (λ told. told ≡ (if has_no_place list.now (unselected leaving.entry self.old) then BpDone.Failed 1
+            else BpDone.Changed (ids_of (selected leaving.entry self.old)) list.now [])) }
+        ensures after { OnOk result (self.new ≡ (if has_no_place list.now (unselected leaving.entry self.old) then self.old
+            else unselected leaving.entry self.old ++ rows_for channel list.now)) }
         ensures kept { OnErr result (self.new ≡ self.old) }
     {
-        let alloc = added.allocator();
-        let removed = self.ids_of(leaving)?;
-        if self.is_crowded(leaving, removed.len(), added.as_slice()) {
+        if self.has_no_place(leaving, list) {
             return Ok(BpDone::Failed(OTHER));
         }
-        let Some(fresh) = keyed(alloc, channel, added.as_slice())? else {
-            return Ok(BpDone::Failed(OTHER));
-        };
+        let alloc = *self.map.allocator();
+        let removed = self.ids_of(leaving)?;
+        let added = copies(alloc, list)?;
+        let fresh = keyed(alloc, channel, list)?;
         replace(&mut self.map, leaving, fresh)?;
         Ok(BpDone::Changed {
             removed,
@@ -244,27 +266,27 @@ impl Breakpoints {
     }
 
     fn add(&mut self, channel: u64, props: &BpProps) -> Result<BpDone, AllocError>
+        ensures refused { IsTrue (has_no_place (props.now ∷ []) self.old) → result ≡ Ok (BpDone.Failed 1) }
         ensures done { IfOk result (λ told. told ≡ done channel (Command.BpAdd props.now) self.old) }
         ensures after { OnOk result (self.new ≡ after channel (Command.BpAdd props.now) self.old) }
         ensures kept { OnErr result (self.new ≡ self.old) }
     {
-        let mut added = Props::new(*self.map.allocator());
-        added.push(props.copy()?)?;
-        self.put(channel, Selection::Nothing, added)
+        self.put(channel, Selection::Nothing, slice::from_ref(props))
     }
 
     fn change(&mut self, props: &BpProps) -> Result<BpDone, AllocError>
+        ensures refused { IsTrue (not (is_there props.now.id self.old)) → result ≡ Ok (BpDone.Failed 1) }
         ensures done { IfOk result (λ told. told ≡ done 0 (Command.BpChange props.now) self.old) }
         ensures after { OnOk result (self.new ≡ after 0 (Command.BpChange props.now) self.old) }
         ensures kept { OnErr result (self.new ≡ self.old) }
     {
-        let alloc = *self.map.allocator();
-        let stored = props.copy()?;
-        let mut changed = Props::new(alloc);
-        changed.push(props.copy()?)?;
-        if !set_props(&mut self.map, stored) {
+        if !self.is_there(props.id.as_bytes()) {
             return Ok(BpDone::Failed(OTHER));
         }
+        let alloc = *self.map.allocator();
+        let stored = props.copy()?;
+        let changed = copies(alloc, slice::from_ref(props))?;
+        set_props(&mut self.map, stored);
         Ok(BpDone::Changed {
             removed: Texts::new(alloc),
             added: Props::new(alloc),
@@ -274,6 +296,7 @@ impl Breakpoints {
 
     /// Enables or disables the named ones.
     fn switch(&mut self, ids: &[Text], enabled: bool) -> Result<BpDone, AllocError>
+        ensures refused { IsTrue (lacks ids.now self.old) → result ≡ Ok (BpDone.Failed 1) }
         ensures done { IfOk result (λ told. told ≡ (if lacks ids.now self.old then BpDone.Failed 1
             else BpDone.Changed [] [] (switched enabled ids.now self.old))) }
         ensures after { OnOk result (self.new ≡ (if lacks ids.now self.old then self.old
@@ -294,6 +317,7 @@ impl Breakpoints {
     }
 
     fn remove(&mut self, ids: &[Text]) -> Result<BpDone, AllocError>
+        ensures refused { IsTrue (lacks ids.now self.old) → result ≡ Ok (BpDone.Failed 1) }
         ensures done { IfOk result (λ told. told ≡ done 0 (Command.BpRemove ids.now) self.old) }
         ensures after { OnOk result (self.new ≡ after 0 (Command.BpRemove ids.now) self.old) }
         ensures kept { OnErr result (self.new ≡ self.old) }

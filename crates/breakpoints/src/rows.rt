@@ -1,38 +1,64 @@
 //! The map that keeps the breakpoints, each under its ID, in the order of the list.
-ghost use Rattle.std.specs.Prelude.{◌≡◌, ◌≤◌, ◌++◌, not, bytes_eq, filter, length, map, is_some, Some, IfOk, IfSome, IfNone, IsOk, OnOk, OnErr, true, false, if◌then◌else◌};
-ghost use Rattle.std.specs.List.{IsDistinct};
+ghost use Rattle.std.specs.Prelude.{◌≡◌, ◌≤◌, ◌++◌, not, bytes_eq, filter, map, IfOk, OnOk, OnErr, false};
+ghost use Rattle.std.specs.List.{IsDistinct, list_any};
 ghost use Rattle.indexmap.specs.IndexMap.{keys, spare, values};
 ghost use Rattle.breakpoints.specs.Changes.{has_twice, row_with_flag, row_with_props};
 ghost use Rattle.breakpoints.specs.Keyed.{AreApart, AreKeyed, IsKept, with_values};
-ghost use Rattle.breakpoints.specs.Rows.{is_there, rows_for};
+ghost use Rattle.breakpoints.specs.Rows.{rows_for};
 ghost use Rattle.breakpoints.specs.Selecting.{selects};
 
 use crate::selection::{Selection, is_among, selects};
 use indexmap::IndexMap;
 use std::alloc::{AllocError, Global};
-use tcf_values::{BpProps, Duplicate, Text};
+use tcf_values::{BpProps, Duplicate, Props, Text};
 
 /// Each breakpoint beside the channel that owns it.
 pub(crate) type Rows = IndexMap<Vec<u8>, (u64, BpProps)>;
 
-/// New breakpoints of a channel, each under its ID; `None` where an ID is given twice.
-pub(crate) fn keyed(
-    alloc: Global,
-    channel: u64,
-    list: &[BpProps],
-) -> Result<Option<Rows>, AllocError>
-    ensures twice { IfOk result (λ made. is_some made ≡ not (has_twice (map (λ props. props.id) list.now))) }
-    ensures rows { IfOk result (λ made. IfSome made (λ rows. values rows ≡ rows_for channel list.now)) }
-    ensures keyed { IfOk result (λ made. IfSome made (λ rows. AreKeyed rows.entries)) }
+/// Whether one of these has this ID.
+fn is_given(list: &[BpProps], id: &[u8]) -> bool
+    ensures { result ≡ list_any (λ props. bytes_eq id.now props.id) list.now }
+{
+    list.iter().any(|props| id == props.id.as_bytes())
+}
+
+/// Whether an ID is given twice.
+pub(crate) fn has_twice(list: &[BpProps]) -> bool
+    ensures { result ≡ has_twice (map (λ props. props.id) list.now) }
+{
+    let mut rest = list;
+    while let Some((first, later)) = rest.split_first() {
+        if is_given(later, first.id.as_bytes()) {
+            return true;
+        }
+        rest = later;
+    }
+    false
+}
+
+/// The same properties again.
+pub(crate) fn copies(alloc: Global, list: &[BpProps]) -> Result<Props, AllocError>
+    ensures { IfOk result (λ made. made ≡ list.now) }
+{
+    let mut made = Props::new(alloc);
+    for props in list {
+        made.push(props.copy()?)?;
+    }
+    Ok(made)
+}
+
+/// New breakpoints of a channel, each under its ID.
+pub(crate) fn keyed(alloc: Global, channel: u64, list: &[BpProps]) -> Result<Rows, AllocError>
+    requires { has_twice (map (λ props. props.id) list.now) ≡ false }
+    ensures rows { IfOk result (λ rows. values rows ≡ rows_for channel list.now) }
+    ensures keyed { IfOk result (λ rows. AreKeyed rows.entries) }
 {
     let mut rows = IndexMap::with_capacity(alloc, list.len())?;
     for props in list {
         let id = Vec::from_slice(alloc, props.id.as_bytes())?;
-        if rows.insert(id, (channel, props.copy()?))?.is_some() {
-            return Ok(None);
-        }
+        rows.insert(id, (channel, props.copy()?))?;
     }
-    Ok(Some(rows))
+    Ok(rows)
 }
 
 /// Takes out the chosen. The others keep their order, and no room is lost.
@@ -64,18 +90,13 @@ pub(crate) fn replace(
     Ok(())
 }
 
-/// Puts the properties in the place of those of the same ID, and answers whether there are some.
-pub(crate) fn set_props(rows: &mut Rows, props: BpProps) -> bool
+/// Puts the properties in the place of those of the same ID, where there are some.
+pub(crate) fn set_props(rows: &mut Rows, props: BpProps)
     requires { IsKept rows.old.entries }
-    ensures found { result ≡ is_there props.id (values rows.old) }
-    ensures entries { rows.new.entries ≡ with_values (row_with_props props) rows.old.entries }
+    ensures { rows.new.entries ≡ with_values (row_with_props props) rows.old.entries }
 {
-    match rows.get_mut(props.id.as_bytes()) {
-        Some(row) => {
-            row.1 = props;
-            true
-        }
-        None => false,
+    if let Some(row) = rows.get_mut(props.id.as_bytes()) {
+        row.1 = props;
     }
 }
 

@@ -1,7 +1,7 @@
 //! The commands of Memory and Registers, executed.
 ghost use Rattle.std.specs.Prelude.{◌≡◌, IfErr, IfOk, IsTrue, OnErr, OnOk};
 ghost use Rattle.data_services.specs.Commands.{data_after, data_effect, data_fault, is_data};
-ghost use Rattle.tcf_values.specs.Faults.{IsDue};
+ghost use Rattle.target_contexts.specs.Refusals.{IsRefusalOf};
 
 use crate::{locations, memory, registers};
 use std::alloc::{AllocError, Global};
@@ -12,8 +12,9 @@ use tcf_values::{Answer, Command, Effect, Refusal};
 ///
 /// A command that fails a check of its row answers the error report of the first one, and changes nothing: 16 where
 /// there is no such live process, thread or register, 14 where the thread runs, 15 where a size, a length or the number
-/// of locations is out of its bounds, 17 where an address lies outside memory or a pc would be no multiple of 4. After
-/// want of memory the targets are as they were.
+/// of locations is out of its bounds, 17 where an address lies outside memory or a pc would be no multiple of 4. That is
+/// found before any memory is asked for, so want of memory can come in its place for the report alone. After want of
+/// memory the targets are as they were.
 pub fn apply(alloc: Global, targets: &mut Targets, command: &Command) -> Result<Effect, AllocError>
     requires { IsTrue (is_data command.now) }
     ensures effect { IfOk result (λ effect. effect ≡ data_effect command.now targets.old) }
@@ -32,7 +33,7 @@ fn execute(alloc: Global, targets: &mut Targets, command: &Command) -> Result<Ef
     requires { IsTrue (is_data command.now) }
     ensures effect { IfOk result (λ effect. effect ≡ data_effect command.now targets.old) }
     ensures after { OnOk result (targets.new ≡ data_after command.now targets.old) }
-    ensures due { IfErr result (IsDue (data_fault command.now targets.old)) }
+    ensures refused { IfErr result (IsRefusalOf (data_fault command.now targets.old)) }
     ensures kept { OnErr result (targets.new ≡ targets.old) }
 {
     match command {

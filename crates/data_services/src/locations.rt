@@ -1,12 +1,13 @@
 //! The commands of the service Registers for several locations: getm and setm.
 ghost use Rattle.std.specs.Prelude.{◌≡◌, ◌∷◌, [], length, All, IfErr, IfOk, OnErr, OnOk};
-ghost use Rattle.tcf_values.specs.Faults.{IsDue};
+ghost use Rattle.target_contexts.specs.Refusals.{IsRefusalOf};
 ghost use Rattle.data_services.specs.Parts.{IsInside, bytes_of, part_named, parts_named, sizes};
 ghost use Rattle.data_services.specs.RegisterRows.{location_fault, name_one, registers_after, registers_events, registers_get_fault, registers_set_fault};
 
 use crate::named::suspended_register;
 use crate::parts::{Part, bytes_of, has_size, names_off_after, put_parts};
 use crate::registers::register_changed;
+use arrayvec::ArrayVec;
 use std::alloc::{AllocError, Global};
 use target_contexts::Targets;
 use tcf_values::{Bytes, EventData, Events, Fault, Location, Locations, Refusal, Text};
@@ -17,14 +18,17 @@ const MOST: usize = 256;
 /// How many bytes a register has.
 const WIDTH: i128 = 4;
 
+/// What locations name. It takes no memory, so that a fault is found before any is asked for.
+type Parts = ArrayVec<Part, MOST>;
+
 /// Registers.getm: the bytes of the locations, in order.
 pub(crate) fn get(alloc: Global, targets: &Targets, list: &Locations) -> Result<Bytes, Refusal>
     ensures bytes { IfOk result (λ bytes. bytes ≡ bytes_of targets.now.processes (parts_named list.now)) }
     ensures free { OnOk result (registers_get_fault list.now targets.now.processes ≡ None) }
-    ensures due { IfErr result (IsDue (registers_get_fault list.now targets.now.processes)) }
+    ensures refused { IfErr result (IsRefusalOf (registers_get_fault list.now targets.now.processes)) }
 {
-    let parts = parts_to_get(alloc, targets, list.as_slice())?;
-    Ok(bytes_of(alloc, targets, &parts)?)
+    let parts = parts_to_get(targets, list.as_slice())?;
+    Ok(bytes_of(alloc, targets, parts.as_slice())?)
 }
 
 /// Registers.setm: puts the bytes into the locations, in order, and tells of the change. A refused call changes
@@ -38,28 +42,28 @@ pub(crate) fn set(
     ensures events { IfOk result (λ events. events ≡ registers_events list.now) }
     ensures free { OnOk result (registers_set_fault list.now bytes.now targets.old ≡ None) }
     ensures after { OnOk result (targets.new ≡ registers_after list.now bytes.now targets.old) }
-    ensures due { IfErr result (IsDue (registers_set_fault list.now bytes.now targets.old)) }
+    ensures refused { IfErr result (IsRefusalOf (registers_set_fault list.now bytes.now targets.old)) }
     ensures kept { OnErr result (targets.new ≡ targets.old) }
 {
-    let parts = parts_to_set(alloc, targets, list.as_slice(), bytes.as_slice())?;
+    let parts = parts_to_set(targets, list, bytes)?;
     let events = registers_changed(alloc, list.as_slice())?;
-    put_parts(targets, &parts, bytes.as_slice());
+    put_parts(targets, parts.as_slice(), bytes.as_slice());
     Ok(events)
 }
 
 /// The checks of a getm.
-fn parts_to_get(alloc: Global, targets: &Targets, list: &[Location]) -> Result<Vec<Part>, Refusal>
+fn parts_to_get(targets: &Targets, list: &[Location]) -> Result<Parts, Fault>
     ensures parts { IfOk result (λ parts. parts.items ≡ parts_named list.now) }
     ensures inside { IfOk result (λ parts. All IsInside parts.items) }
     ensures free { OnOk result (registers_get_fault list.now targets.now.processes ≡ None) }
-    ensures due { IfErr result (IsDue (registers_get_fault list.now targets.now.processes)) }
+    ensures due { IfErr result (λ fault. registers_get_fault list.now targets.now.processes ≡ Some fault) }
 {
     if list.len() > MOST {
-        return Err(Fault::BadSize.into());
+        return Err(Fault::BadSize);
     }
-    let mut parts = Vec::with_capacity(alloc, list.len())?;
+    let mut parts = Parts::new();
     for location in list {
-        parts.push(part_to_get(targets, location)?)?;
+        parts.push(part_to_get(targets, location)?);
     }
     Ok(parts)
 }
@@ -84,24 +88,19 @@ fn part_to_get(targets: &Targets, location: &Location) -> Result<Part, Fault>
 }
 
 /// The checks of a setm.
-fn parts_to_set(
-    alloc: Global,
-    targets: &Targets,
-    list: &[Location],
-    bytes: &[u8],
-) -> Result<Vec<Part>, Refusal>
+fn parts_to_set(targets: &Targets, list: &Locations, bytes: &Bytes) -> Result<Parts, Fault>
     ensures parts { IfOk result (λ parts. parts.items ≡ parts_named list.now) }
     ensures inside { IfOk result (λ parts. All IsInside parts.items) }
     ensures size { IfOk result (λ parts. sizes parts.items ≡ length bytes.now) }
     ensures free { OnOk result (registers_set_fault list.now bytes.now targets.now ≡ None) }
-    ensures due { IfErr result (IsDue (registers_set_fault list.now bytes.now targets.now)) }
+    ensures due { IfErr result (λ fault. registers_set_fault list.now bytes.now targets.now ≡ Some fault) }
 {
-    let parts = parts_to_get(alloc, targets, list)?;
-    if !has_size(&parts, bytes.len()) {
-        return Err(Fault::BadSize.into());
+    let parts = parts_to_get(targets, list.as_slice())?;
+    if !has_size(parts.as_slice(), bytes.len()) {
+        return Err(Fault::BadSize);
     }
-    if names_off_after(targets, &parts, bytes) {
-        return Err(Fault::BadAddress.into());
+    if names_off_after(targets, parts.as_slice(), bytes.as_slice()) {
+        return Err(Fault::BadAddress);
     }
     Ok(parts)
 }

@@ -1,7 +1,7 @@
 //! The commands of the service Memory.
 ghost use Rattle.std.specs.Prelude.{◌≡◌, ◌+◌, ◌≤◌, ◌<◌, pos, length, false, true, IfErr, IfOk, OnErr, OnOk, unsigned_abs};
 ghost use Rattle.data_services.specs.Bytes.{part_of, with_part};
-ghost use Rattle.tcf_values.specs.Faults.{IsDue};
+ghost use Rattle.target_contexts.specs.Refusals.{IsRefusalOf};
 ghost use Rattle.target_contexts.specs.Named.{number_named};
 ghost use Rattle.data_services.specs.Named.{process_named};
 ghost use Rattle.data_services.specs.MemoryRows.{is_no_size, is_outside, memory_get_fault, memory_bytes, memory_set_fault, memory_events, memory_after};
@@ -34,7 +34,7 @@ pub(crate) fn get(
 ) -> Result<Bytes, Refusal>
     ensures bytes { IfOk result (λ bytes. bytes ≡ memory_bytes addr size (process_named id.now targets.now.processes)) }
     ensures free { OnOk result (memory_get_fault id.now addr size targets.now.processes ≡ None) }
-    ensures due { IfErr result (IsDue (memory_get_fault id.now addr size targets.now.processes)) }
+    ensures refused { IfErr result (IsRefusalOf (memory_get_fault id.now addr size targets.now.processes)) }
 {
     let number = live_process(targets, id)?;
     let process = targets.process(number).ok_or(Fault::BadContext)?;
@@ -56,7 +56,7 @@ pub(crate) fn set(
     ensures events { IfOk result (λ events. events ≡ memory_events (number_named id.now) addr size) }
     ensures free { OnOk result (memory_set_fault id.now addr size bytes.now targets.old.processes ≡ None) }
     ensures after { OnOk result (targets.new ≡ memory_after id.now addr bytes.now targets.old) }
-    ensures due { IfErr result (IsDue (memory_set_fault id.now addr size bytes.now targets.old.processes)) }
+    ensures refused { IfErr result (IsRefusalOf (memory_set_fault id.now addr size bytes.now targets.old.processes)) }
     ensures kept { OnErr result (targets.new ≡ targets.old) }
 {
     let span = span_to_set(targets, id, addr, size, bytes)?;

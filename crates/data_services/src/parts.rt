@@ -18,6 +18,20 @@ pub(crate) struct Part {
     pub size: usize,
 }
 
+impl Default for Part {
+    fn default() -> Self {
+        Part {
+            register: RegisterId {
+                process: 0,
+                thread: 0,
+                index: 0,
+            },
+            offset: 0,
+            size: 0,
+        }
+    }
+}
+
 /// The four bytes of a number, the least first.
 #[tactic(auto, unfolding(crate::specs::Bytes::word_bytes))]
 pub(crate) fn word_bytes(number: u32) -> [u8; 4]

@@ -2,7 +2,7 @@
 ghost use Rattle.std.specs.Prelude.{◌≡◌, ◌==◌, ◌∷◌, [], if◌then◌else◌, length, IfErr, IfOk, OnErr, OnOk};
 ghost use Rattle.tcf_values.specs.Ids.{register_of};
 ghost use Rattle.data_services.specs.Bytes.{word_of};
-ghost use Rattle.tcf_values.specs.Faults.{IsDue};
+ghost use Rattle.target_contexts.specs.Refusals.{IsRefusalOf};
 ghost use Rattle.data_services.specs.Named.{holder_of};
 ghost use Rattle.data_services.specs.RegisterRows.{register_get_fault, register_bytes, register_set_fault, register_after};
 
@@ -16,7 +16,7 @@ use tcf_values::{Bytes, Duplicate, EventData, Events, Fault, PC, Refusal, Regist
 pub(crate) fn get(alloc: Global, targets: &Targets, id: &Text) -> Result<Bytes, Refusal>
     ensures bytes { IfOk result (λ bytes. bytes ≡ register_bytes (register_of id.now) (holder_of id.now targets.now.processes)) }
     ensures free { OnOk result (register_get_fault id.now targets.now.processes ≡ None) }
-    ensures due { IfErr result (IsDue (register_get_fault id.now targets.now.processes)) }
+    ensures refused { IfErr result (IsRefusalOf (register_get_fault id.now targets.now.processes)) }
 {
     let register = suspended_register(targets, id)?;
     let process = targets.process(register.process).ok_or(Fault::BadContext)?;
@@ -34,7 +34,7 @@ pub(crate) fn set(
     ensures events { IfOk result (λ events. events ≡ EventData.RegChanged id.now ∷ []) }
     ensures free { OnOk result (register_set_fault id.now bytes.now targets.old.processes ≡ None) }
     ensures after { OnOk result (targets.new ≡ register_after (register_of id.now) (word_of bytes.now) targets.old) }
-    ensures due { IfErr result (IsDue (register_set_fault id.now bytes.now targets.old.processes)) }
+    ensures refused { IfErr result (IsRefusalOf (register_set_fault id.now bytes.now targets.old.processes)) }
     ensures kept { OnErr result (targets.new ≡ targets.old) }
 {
     let (register, number) = number_to_set(targets, id, bytes)?;

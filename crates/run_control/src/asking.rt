@@ -1,6 +1,6 @@
 //! The commands that ask: they change nothing and tell nothing.
-ghost use Rattle.std.specs.Prelude.{◌≡◌, ◌<◌, map, All, if◌then◌else◌, Some, None, IfErr, IfOk, OnOk};
-ghost use Rattle.tcf_values.specs.Faults.{IsDue};
+ghost use Rattle.std.specs.Prelude.{◌≡◌, ◌<◌, map, All, if◌then◌else◌, Some, None, IfErr, IfNone, IfOk, OnOk};
+ghost use Rattle.target_contexts.specs.Refusals.{IsRefusalOf};
 ghost use Rattle.tcf_values.specs.Ids.{context_of};
 ghost use Rattle.target_contexts.specs.Live.{numbers_of, process_of};
 ghost use Rattle.target_contexts.specs.Named.{attached_in, process_at_number, thread_named};
@@ -20,7 +20,7 @@ use tcf_values::{
 pub(crate) fn context(targets: &Targets, id: &Text) -> Result<Answer, Refusal>
     ensures answer { IfOk result (λ answer. answer ≡ context_answer (data_named id.now targets.now.processes)) }
     ensures free { OnOk result (context_fault id.now targets.now.processes ≡ None) }
-    ensures due { IfErr result (IsDue (context_fault id.now targets.now.processes)) }
+    ensures refused { IfErr result (IsRefusalOf (context_fault id.now targets.now.processes)) }
 {
     match data_named(targets, id)? {
         Some(context) => Ok(Answer::Context(context)),
@@ -28,9 +28,10 @@ pub(crate) fn context(targets: &Targets, id: &Text) -> Result<Answer, Refusal>
     }
 }
 
-/// The data of the live process or thread that a text names.
+/// The data of the live process or thread that a text names; `None` where there is none, whatever the memory.
 fn data_named(targets: &Targets, id: &Text) -> Result<Option<ContextData>, AllocError>
-    ensures { IfOk result (λ found. found ≡ data_named id.now targets.now.processes) }
+    ensures data { IfOk result (λ found. found ≡ data_named id.now targets.now.processes) }
+    ensures missing { IfNone (data_named id.now targets.now.processes) (result ≡ Ok None) }
 {
     match context_id(id.as_bytes()) {
         Some(context) => targets.context(context),
@@ -42,7 +43,7 @@ fn data_named(targets: &Targets, id: &Text) -> Result<Option<ContextData>, Alloc
 pub(crate) fn children(alloc: Global, targets: &Targets, id: &Text) -> Result<Texts, Refusal>
     ensures ids { IfOk result (λ ids. ids ≡ children_named id.now targets.now.processes) }
     ensures free { OnOk result (children_fault id.now targets.now.processes ≡ None) }
-    ensures due { IfErr result (IsDue (children_fault id.now targets.now.processes)) }
+    ensures refused { IfErr result (IsRefusalOf (children_fault id.now targets.now.processes)) }
 {
     if is_empty(id) {
         return Ok(listed(alloc, targets, false)?);
@@ -86,7 +87,7 @@ fn children_of(alloc: Global, id: &Text) -> Result<Texts, AllocError>
 pub(crate) fn state(targets: &Targets, id: &Text) -> Result<Answer, Refusal>
     ensures answer { IfOk result (λ answer. answer ≡ state_answer (process_at_number (thread_named id.now) targets.now.processes)) }
     ensures free { OnOk result (state_fault id.now targets.now.processes ≡ None) }
-    ensures due { IfErr result (IsDue (state_fault id.now targets.now.processes)) }
+    ensures refused { IfErr result (IsRefusalOf (state_fault id.now targets.now.processes)) }
 {
     let number = live_thread(targets, id)?;
     let process = targets.process(number).ok_or(Fault::BadContext)?;
@@ -110,7 +111,7 @@ fn run_state(process: &Process) -> Result<RunState, AllocError>
 pub(crate) fn process(alloc: Global, targets: &Targets, id: &Text) -> Result<Answer, Refusal>
     ensures answer { IfOk result (λ answer. answer ≡ process_answer (process_named id.now) targets.now.processes) }
     ensures free { OnOk result (process_fault id.now targets.now.processes ≡ None) }
-    ensures due { IfErr result (IsDue (process_fault id.now targets.now.processes)) }
+    ensures refused { IfErr result (IsRefusalOf (process_fault id.now targets.now.processes)) }
 {
     let number = live_process(targets, id)?;
     Ok(process_answer(alloc, targets, number)?)
@@ -144,7 +145,7 @@ pub(crate) fn processes(
 ) -> Result<Texts, Refusal>
     ensures ids { IfOk result (λ ids. ids ≡ processes_named id.now only_attached targets.now.processes) }
     ensures free { OnOk result (processes_fault id.now targets.now.processes ≡ None) }
-    ensures due { IfErr result (IsDue (processes_fault id.now targets.now.processes)) }
+    ensures refused { IfErr result (IsRefusalOf (processes_fault id.now targets.now.processes)) }
 {
     if is_empty(id) {
         return Ok(listed(alloc, targets, only_attached)?);

@@ -1,7 +1,7 @@
 //! Start, attach and detach.
 ghost use Rattle.std.specs.Prelude.{◌≡◌, ◌<◌, Some, None, IfErr, IfOk, OnErr, OnOk};
 ghost use Rattle.tcf_values.specs.Effects.{tells};
-ghost use Rattle.tcf_values.specs.Faults.{IsDue};
+ghost use Rattle.target_contexts.specs.Refusals.{IsRefusalOf};
 ghost use Rattle.target_contexts.specs.Changes.{with_change};
 ghost use Rattle.target_contexts.specs.Named.{is_suspended};
 ghost use Rattle.target_contexts.specs.Starting.{started};
@@ -31,7 +31,7 @@ pub(crate) fn start(
     ensures effect { IfOk result (λ effect. effect ≡ tells (start_events bps.now targets.old.next targets.new) (process_answer (Some targets.old.next) targets.new.processes)) }
     ensures free { OnOk result (start_fault file.now targets.old ≡ None) }
     ensures after { OnOk result (targets.new ≡ started file.now attach targets.old) }
-    ensures due { IfErr result (IsDue (start_fault file.now targets.old)) }
+    ensures refused { IfErr result (IsRefusalOf (start_fault file.now targets.old)) }
     ensures kept { IfErr result (λ refusal. IfDue refusal (targets.new ≡ targets.old)) }
 {
     let number = add(targets, file, attach)?;
@@ -48,7 +48,7 @@ fn add(targets: &mut Targets, file: &Text, attach: bool) -> Result<u32, Refusal>
     ensures number { IfOk result (λ number. number ≡ targets.old.next) }
     ensures free { OnOk result (start_fault file.now targets.old ≡ None) }
     ensures after { OnOk result (targets.new ≡ started file.now attach targets.old) }
-    ensures due { IfErr result (IsDue (start_fault file.now targets.old)) }
+    ensures refused { IfErr result (IsRefusalOf (start_fault file.now targets.old)) }
     ensures kept { OnErr result (targets.new ≡ targets.old) }
 {
     match targets.add(file.as_bytes(), attach) {
@@ -69,7 +69,7 @@ pub(crate) fn attach(
     ensures events { IfOk result (λ events. events ≡ events_of (λ number. attach_events bps.now number targets.new) (process_named id.now)) }
     ensures free { OnOk result (attach_fault id.now targets.old.processes ≡ None) }
     ensures after { OnOk result (targets.new ≡ left_of attach_after (process_named id.now) targets.old) }
-    ensures due { IfErr result (IsDue (attach_fault id.now targets.old.processes)) }
+    ensures refused { IfErr result (IsRefusalOf (attach_fault id.now targets.old.processes)) }
     ensures kept { IfErr result (λ refusal. IfDue refusal (targets.new ≡ targets.old)) }
 {
     let number = to_attach(targets, id)?;
@@ -116,7 +116,7 @@ pub(crate) fn detach(
     ensures events { IfOk result (λ events. events ≡ events_of (λ number. detach_events bps.now (is_suspended (process_there id.now targets.old.processes)) number targets.new) (process_named id.now)) }
     ensures free { OnOk result (detach_fault id.now targets.old.processes ≡ None) }
     ensures after { OnOk result (targets.new ≡ left_of detach_after (process_named id.now) targets.old) }
-    ensures due { IfErr result (IsDue (detach_fault id.now targets.old.processes)) }
+    ensures refused { IfErr result (IsRefusalOf (detach_fault id.now targets.old.processes)) }
     ensures kept { IfErr result (λ refusal. IfDue refusal (targets.new ≡ targets.old)) }
 {
     let number = to_detach(targets, id)?;

@@ -1,7 +1,7 @@
 //! The commands of RunControl, Processes and Trace, executed.
-ghost use Rattle.std.specs.Prelude.{◌≡◌, None, IfErr, IfOk, IsTrue, OnOk};
+ghost use Rattle.std.specs.Prelude.{◌≡◌, None, IfErr, IfOk, IsSome, IsTrue, OnErr, OnOk};
 ghost use Rattle.tcf_values.specs.Effects.{tells};
-ghost use Rattle.tcf_values.specs.Faults.{IsDue};
+ghost use Rattle.target_contexts.specs.Refusals.{IsRefusalOf};
 ghost use Rattle.run_control.specs.Commands.{is_run, is_told, run_after, run_effect, run_fault, run_given, run_left};
 ghost use Rattle.run_control.specs.Refusing.{IfDue};
 
@@ -17,8 +17,9 @@ use tcf_values::{Answer, Command, Effect, Events, Refusal};
 /// A command that fails a check of its row answers the error report of the first one, and changes nothing: 16 where there
 /// is no such live process or thread, 10 where a thread to be suspended is, 12 where a thread to be resumed or traced
 /// runs, 13 where a process to be attached is, 15 where an image is too large, 20 where a count is out of its bounds, 23
-/// where a mode isn't 0 or 2, and 1 for every other cause. After want of memory the targets are valid, and nothing more is
-/// known of them.
+/// where a mode isn't 0 or 2, and 1 for every other cause. That is found before any memory is asked for, so want of memory
+/// can come in its place for the report alone, and then nothing has changed either. Where no check fails, the targets are
+/// valid after want of memory, and nothing more is known of them.
 pub fn apply(
     alloc: Global,
     targets: &mut Targets,
@@ -28,6 +29,7 @@ pub fn apply(
     requires { IsTrue (is_run command.now) }
     ensures effect { IfOk result (λ effect. effect ≡ run_effect command.now bps.now targets.old) }
     ensures after { OnOk result (targets.new ≡ run_after command.now bps.now targets.old) }
+    ensures kept { OnErr result (IsSome (run_fault command.now targets.old) → targets.new ≡ targets.old) }
 {
     match execute(alloc, targets, bps, command) {
         Ok(effect) => Ok(effect),
@@ -47,7 +49,7 @@ fn execute(
     ensures given { IfOk result (λ effect. effect ≡ run_given command.now bps.now targets.old targets.new) }
     ensures free { OnOk result (run_fault command.now targets.old ≡ None) }
     ensures left { OnOk result (targets.new ≡ run_left command.now bps.now targets.old) }
-    ensures due { IfErr result (IsDue (run_fault command.now targets.old)) }
+    ensures refused { IfErr result (IsRefusalOf (run_fault command.now targets.old)) }
     ensures kept { IfErr result (λ refusal. IfDue refusal (targets.new ≡ targets.old)) }
 {
     match command {
@@ -86,7 +88,7 @@ fn tell(
     ensures given { IfOk result (λ events. tells events Answer.Nothing ≡ run_given command.now bps.now targets.old targets.new) }
     ensures free { OnOk result (run_fault command.now targets.old ≡ None) }
     ensures left { OnOk result (targets.new ≡ run_left command.now bps.now targets.old) }
-    ensures due { IfErr result (IsDue (run_fault command.now targets.old)) }
+    ensures refused { IfErr result (IsRefusalOf (run_fault command.now targets.old)) }
     ensures kept { IfErr result (λ refusal. IfDue refusal (targets.new ≡ targets.old)) }
 {
     match command {

@@ -1,6 +1,6 @@
 //! The end of a process.
 ghost use Rattle.std.specs.Prelude.{◌≡◌, ◌<◌, None, IfErr, IfOk, OnOk};
-ghost use Rattle.tcf_values.specs.Faults.{IsDue};
+ghost use Rattle.target_contexts.specs.Refusals.{IsRefusalOf};
 ghost use Rattle.target_contexts.specs.Named.{number_named};
 ghost use Rattle.run_control.specs.Asking.{process_fault};
 ghost use Rattle.run_control.specs.Commands.{events_of, left_of, terminate_code};
@@ -47,7 +47,7 @@ pub(crate) fn terminate(
     ensures events { IfOk result (λ events. events ≡ events_of (λ number. end_events bps.now number terminate_code targets.new) (number_named id.now)) }
     ensures free { OnOk result (terminate_fault id.now targets.old.processes ≡ None) }
     ensures after { OnOk result (targets.new ≡ left_of end_after (number_named id.now) targets.old) }
-    ensures due { IfErr result (IsDue (terminate_fault id.now targets.old.processes)) }
+    ensures refused { IfErr result (IsRefusalOf (terminate_fault id.now targets.old.processes)) }
     ensures kept { IfErr result (λ refusal. IfDue refusal (targets.new ≡ targets.old)) }
 {
     let number = live(targets, id)?;
@@ -64,7 +64,7 @@ pub(crate) fn terminate_process(
     ensures events { IfOk result (λ events. events ≡ events_of (λ number. end_events bps.now number terminate_code targets.new) (process_named id.now)) }
     ensures free { OnOk result (process_fault id.now targets.old.processes ≡ None) }
     ensures after { OnOk result (targets.new ≡ left_of end_after (process_named id.now) targets.old) }
-    ensures due { IfErr result (IsDue (process_fault id.now targets.old.processes)) }
+    ensures refused { IfErr result (IsRefusalOf (process_fault id.now targets.old.processes)) }
     ensures kept { IfErr result (λ refusal. IfDue refusal (targets.new ≡ targets.old)) }
 {
     let number = live_process(targets, id)?;

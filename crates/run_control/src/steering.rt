@@ -1,6 +1,6 @@
 //! Resume and suspend.
 ghost use Rattle.std.specs.Prelude.{◌≡◌, ◌<◌, ◌≤ℤ◌, pos, [], Some, None, IfErr, IfOk, OnErr, OnOk};
-ghost use Rattle.tcf_values.specs.Faults.{IsDue};
+ghost use Rattle.target_contexts.specs.Refusals.{IsRefusalOf};
 ghost use Rattle.target_contexts.specs.Changes.{with_change};
 ghost use Rattle.target_contexts.specs.Named.{thread_named};
 ghost use Rattle.target_contexts.specs.Starting.{suspended_text};
@@ -69,7 +69,7 @@ pub(crate) fn resume(
     ensures events { IfOk result (λ events. events ≡ events_of resumed_events (thread_named id.now)) }
     ensures free { OnOk result (resume_fault id.now mode count targets.old.processes ≡ None) }
     ensures after { OnOk result (targets.new ≡ left_of (resume_after (left_by mode count)) (thread_named id.now) targets.old) }
-    ensures due { IfErr result (IsDue (resume_fault id.now mode count targets.old.processes)) }
+    ensures refused { IfErr result (IsRefusalOf (resume_fault id.now mode count targets.old.processes)) }
     ensures kept { OnErr result (targets.new ≡ targets.old) }
 {
     let number = to_resume(targets, id, mode, count)?;
@@ -129,7 +129,7 @@ pub(crate) fn suspend(alloc: Global, targets: &mut Targets, id: &Text) -> Result
     ensures events { IfOk result (λ events. events ≡ events_of (λ number. suspend_events number targets.new) (thread_named id.now)) }
     ensures free { OnOk result (suspend_fault id.now targets.old.processes ≡ None) }
     ensures after { OnOk result (targets.new ≡ left_of suspend_after (thread_named id.now) targets.old) }
-    ensures due { IfErr result (IsDue (suspend_fault id.now targets.old.processes)) }
+    ensures refused { IfErr result (IsRefusalOf (suspend_fault id.now targets.old.processes)) }
     ensures kept { IfErr result (λ refusal. IfDue refusal (targets.new ≡ targets.old)) }
 {
     let number = to_suspend(targets, id)?;

@@ -31,11 +31,15 @@ fn image(alloc: Global, name: &str, bytes: &[u8]) -> Result<Image, AllocError> {
     })
 }
 
-/// The images `a` and `loop`, nothing started, and no breakpoint.
+/// The images `a`, `loop` and `large`, which is a byte too large, nothing started, and no breakpoint.
 fn machine(alloc: Global) -> Result<Debugged, Fail> {
     let mut images = Vec::new(alloc);
     images.push(image(alloc, "a", &A)?)?;
     images.push(image(alloc, "loop", &LOOP)?)?;
+    images.push(Image {
+        name: Text::from_str(alloc, "large")?,
+        bytes: Bytes::from_vec(vec![in alloc; 0; 65_537]?),
+    })?;
     Ok(Debugged {
         targets: Targets::new(alloc, images)?,
         bps: Breakpoints::new(alloc),
@@ -133,17 +137,24 @@ fn effect_text(alloc: Global, effect: &Effect) -> Result<String, AllocError> {
     format!(in alloc; "{events}{progress}{answer}")
 }
 
+fn execute(alloc: Global, machine: &mut Debugged, command: Command) -> Result<Effect, AllocError>
+    requires { IsTrue (is_run command) }
+{
+    apply(alloc, &mut machine.targets, &machine.bps, &command)
+}
+
 /// Executes a command, and compares its events, its progress and its answer.
 fn assert_command(
     rt: &(impl Abort + AllocGlobal),
     machine: &mut Debugged,
-    command: &Command,
+    command: Command,
     want: &str,
 ) -> Result<(), Fail>
-    requires { IsTrue (is_run command.now) }
+    requires { IsTrue (is_run command) }
 {
-    let effect = apply(rt.alloc(), &mut machine.targets, &machine.bps, command)?;
-    assert_eq!(rt; effect_text(rt.alloc(), &effect)?.as_str(), want);
+    let effect = execute(rt.alloc(), machine, command)?;
+    let text = effect_text(rt.alloc(), &effect)?;
+    assert_eq!(rt; text.as_str(), want);
     Ok(())
 }
 
@@ -154,15 +165,16 @@ fn assert_start(
     attach: bool,
     want: &str,
 ) -> Result<(), Fail> {
-    let alloc = rt.alloc();
+    let directory = Text::from_str(rt.alloc(), "")?;
+    let file = Text::from_str(rt.alloc(), file)?;
     let command = Command::ProcStart {
-        directory: Text::from_str(alloc, "")?,
-        file: Text::from_str(alloc, file)?,
-        args: Texts::new(alloc),
-        environment: Texts::new(alloc),
+        directory,
+        file,
+        args: Texts::new(rt.alloc()),
+        environment: Texts::new(rt.alloc()),
         attach,
     };
-    assert_command(rt, machine, &command, want)
+    assert_command(rt, machine, command, want)
 }
 
 fn assert_attach(
@@ -171,7 +183,7 @@ fn assert_attach(
     want: &str,
 ) -> Result<(), Fail> {
     let id = Text::from_str(rt.alloc(), "P1")?;
-    assert_command(rt, machine, &Command::ProcAttach { id }, want)
+    assert_command(rt, machine, Command::ProcAttach { id }, want)
 }
 
 fn assert_detach(
@@ -180,7 +192,7 @@ fn assert_detach(
     want: &str,
 ) -> Result<(), Fail> {
     let id = Text::from_str(rt.alloc(), "P1")?;
-    assert_command(rt, machine, &Command::ProcDetach { id }, want)
+    assert_command(rt, machine, Command::ProcDetach { id }, want)
 }
 
 fn assert_resume(
@@ -191,7 +203,7 @@ fn assert_resume(
     want: &str,
 ) -> Result<(), Fail> {
     let id = Text::from_str(rt.alloc(), "P1.1")?;
-    assert_command(rt, machine, &Command::Resume { id, mode, count }, want)
+    assert_command(rt, machine, Command::Resume { id, mode, count }, want)
 }
 
 fn assert_suspend(
@@ -200,7 +212,7 @@ fn assert_suspend(
     want: &str,
 ) -> Result<(), Fail> {
     let id = Text::from_str(rt.alloc(), "P1.1")?;
-    assert_command(rt, machine, &Command::Suspend { id }, want)
+    assert_command(rt, machine, Command::Suspend { id }, want)
 }
 
 fn assert_trace(
@@ -210,17 +222,34 @@ fn assert_trace(
     want: &str,
 ) -> Result<(), Fail> {
     let id = Text::from_str(rt.alloc(), "P1.1")?;
-    assert_command(rt, machine, &Command::TraceRun { id, count }, want)
+    assert_command(rt, machine, Command::TraceRun { id, count }, want)
 }
 
-fn assert_state(
-    rt: &(impl Abort + AllocGlobal),
-    machine: &mut Debugged,
-    id: &str,
-    want: &str,
-) -> Result<(), Fail> {
-    let id = Text::from_str(rt.alloc(), id)?;
-    assert_command(rt, machine, &Command::GetState { id }, want)
+/// A command of each row whose first check is that there is such a process or thread.
+fn naming(row: u8, id: Text) -> Command
+    ensures { IsTrue (is_run result) }
+{
+    match row {
+        0 => Command::GetContext { id },
+        1 => Command::GetChildren { id },
+        2 => Command::GetState { id },
+        3 => Command::Resume {
+            id,
+            mode: 0,
+            count: 1,
+        },
+        4 => Command::Suspend { id },
+        5 => Command::Terminate { id },
+        6 => Command::ProcContext { id },
+        7 => Command::ProcChildren {
+            id,
+            attached: false,
+        },
+        8 => Command::ProcAttach { id },
+        9 => Command::ProcDetach { id },
+        10 => Command::ProcTerminate { id },
+        _ => Command::TraceRun { id, count: 1 },
+    }
 }
 
 /// The events of a tick of the thread P1.1; `no tick` where that doesn't run.
@@ -238,46 +267,46 @@ fn assert_tick(
     machine: &mut Debugged,
     want: &str,
 ) -> Result<(), Fail> {
-    assert_eq!(rt; tick_text(rt.alloc(), machine)?.as_str(), want);
+    let text = tick_text(rt.alloc(), machine)?;
+    assert_eq!(rt; text.as_str(), want);
     Ok(())
+}
+
+/// A process that isn't attached raises an exception.
+fn end_by_exception(rt: &(impl Abort + AllocGlobal), machine: &mut Debugged) -> Result<(), Fail> {
+    assert_start(rt, machine, "a", false, "added; P1")?;
+    assert_tick(rt, machine, "")?;
+    assert_tick(rt, machine, "")?;
+    assert_tick(rt, machine, "removed P1.1 P1; exited P1 -2; ")?;
+    assert_tick(rt, machine, "no tick")
 }
 
 #[test]
 fn an_exception_ends_what_is_not_attached(rt: HostRuntime) -> Result<(), Fail> {
-    let mut machine = machine(rt.alloc())?;
-    assert_start(&rt, &mut machine, "a", false, "added; P1")?;
-    assert_tick(&rt, &mut machine, "")?;
-    assert_tick(&rt, &mut machine, "")?;
-    assert_tick(&rt, &mut machine, "removed P1.1 P1; exited P1 -2; ")?;
-    assert_tick(&rt, &mut machine, "no tick")
+    end_by_exception(&rt, &mut machine(rt.alloc())?)
+}
+
+/// What the start of an image tells with a debugger.
+const SUSPENDED: &str = "added; suspended P1.1 0 Suspended; P1";
+
+/// A process that is attached raises an exception.
+fn stop_by_exception(rt: &(impl Abort + AllocGlobal), machine: &mut Debugged) -> Result<(), Fail> {
+    assert_start(rt, machine, "a", true, SUSPENDED)?;
+    assert_resume(rt, machine, 2, 3, "resumed P1.1; done")?;
+    assert_tick(rt, machine, "")?;
+    assert_tick(rt, machine, "")?;
+    assert_tick(rt, machine, "suspended P1.1 8 Exception; ")
 }
 
 #[test]
 fn an_exception_suspends_what_is_attached(rt: HostRuntime) -> Result<(), Fail> {
-    let mut machine = machine(rt.alloc())?;
-    assert_start(
-        &rt,
-        &mut machine,
-        "a",
-        true,
-        "added; suspended P1.1 0 Suspended; P1",
-    )?;
-    assert_resume(&rt, &mut machine, 2, 3, "resumed P1.1; done")?;
-    assert_tick(&rt, &mut machine, "")?;
-    assert_tick(&rt, &mut machine, "")?;
-    assert_tick(&rt, &mut machine, "suspended P1.1 8 Exception; ")
+    stop_by_exception(&rt, &mut machine(rt.alloc())?)
 }
 
 #[test]
 fn a_trace_tells_each_address(rt: HostRuntime) -> Result<(), Fail> {
     let mut machine = machine(rt.alloc())?;
-    assert_start(
-        &rt,
-        &mut machine,
-        "loop",
-        true,
-        "added; suspended P1.1 0 Suspended; P1",
-    )?;
+    assert_start(&rt, &mut machine, "loop", true, SUSPENDED)?;
     assert_trace(&rt, &mut machine, 2, "suspended P1.1 8 Step; 0 4 count 2")
 }
 
@@ -285,40 +314,80 @@ fn a_trace_tells_each_address(rt: HostRuntime) -> Result<(), Fail> {
 fn a_breakpoint_suspends_at_the_new_pc(rt: HostRuntime) -> Result<(), Fail> {
     let mut machine = machine(rt.alloc())?;
     add_breakpoint(rt.alloc(), &mut machine, "4")?;
-    assert_start(
+    assert_start(&rt, &mut machine, "loop", false, "added; status b; P1")?;
+    assert_attach(
         &rt,
         &mut machine,
-        "loop",
-        true,
-        "added; suspended P1.1 0 Suspended; status b; P1",
+        "changed; suspended P1.1 0 Suspended; status b; done",
     )?;
     assert_resume(&rt, &mut machine, 0, 1, "resumed P1.1; done")?;
     assert_tick(&rt, &mut machine, "suspended P1.1 4 Breakpoint b; ")
+}
+
+/// Resume, trace and suspend are refused of a thread that runs, and isn't attached.
+fn refuse_running(rt: &(impl Abort + AllocGlobal), machine: &mut Debugged) -> Result<(), Fail> {
+    assert_resume(rt, machine, 0, 1, "code 12")?;
+    assert_resume(rt, machine, 1, 1, "code 23")?;
+    assert_resume(rt, machine, 2, 65, "code 20")?;
+    assert_trace(rt, machine, 65, "code 20")?;
+    assert_trace(rt, machine, 64, "code 12")?;
+    assert_suspend(rt, machine, "code 1")?;
+    assert_detach(rt, machine, "code 1")
 }
 
 #[test]
 fn a_thread_is_resumed_once(rt: HostRuntime) -> Result<(), Fail> {
     let mut machine = machine(rt.alloc())?;
     assert_start(&rt, &mut machine, "a", false, "added; P1")?;
-    assert_resume(&rt, &mut machine, 0, 1, "code 12")?;
-    assert_resume(&rt, &mut machine, 1, 1, "code 23")?;
-    assert_resume(&rt, &mut machine, 2, 65, "code 20")?;
-    assert_state(&rt, &mut machine, "P2.1", "code 16")
+    refuse_running(&rt, &mut machine)
+}
+
+/// Suspend and attach are refused of a thread that is suspended, and then its process is detached.
+fn refuse_suspended(rt: &(impl Abort + AllocGlobal), machine: &mut Debugged) -> Result<(), Fail> {
+    assert_suspend(rt, machine, "code 10")?;
+    assert_attach(rt, machine, "code 13")?;
+    assert_detach(rt, machine, "changed; resumed P1.1; done")
 }
 
 #[test]
 fn a_process_is_attached_once(rt: HostRuntime) -> Result<(), Fail> {
     let mut machine = machine(rt.alloc())?;
-    assert_start(&rt, &mut machine, "b", true, "code 1")?;
-    assert_start(
-        &rt,
-        &mut machine,
-        "a",
-        true,
-        "added; suspended P1.1 0 Suspended; P1",
-    )?;
-    assert_suspend(&rt, &mut machine, "code 10")?;
-    assert_attach(&rt, &mut machine, "code 13")?;
-    assert_detach(&rt, &mut machine, "changed; resumed P1.1; done")?;
-    assert_detach(&rt, &mut machine, "code 1")
+    assert_start(&rt, &mut machine, "a", true, SUSPENDED)?;
+    refuse_suspended(&rt, &mut machine)
+}
+
+/// The command of a row is refused of what isn't there.
+fn refuse_missing(
+    rt: &(impl Abort + AllocGlobal),
+    machine: &mut Debugged,
+    row: u8,
+) -> Result<(), Fail> {
+    let id = Text::from_str(rt.alloc(), "P2.1")?;
+    assert_command(rt, machine, naming(row, id), "code 16")
+}
+
+#[test]
+fn what_is_not_there_is_refused_by_each_command(rt: HostRuntime) -> Result<(), Fail> {
+    let mut machine = machine(rt.alloc())?;
+    for row in 0..12 {
+        refuse_missing(&rt, &mut machine, row)?;
+    }
+    Ok(())
+}
+
+/// Fills the target with 64 processes.
+fn fill(machine: &mut Debugged) -> Result<(), Fail> {
+    for _ in 0..64 {
+        let _ = machine.targets.add(b"a", false).ok().ok_or("no start")?;
+    }
+    Ok(())
+}
+
+#[test]
+fn a_start_is_refused(rt: HostRuntime) -> Result<(), Fail> {
+    let mut machine = machine(rt.alloc())?;
+    assert_start(&rt, &mut machine, "none", true, "code 1")?;
+    assert_start(&rt, &mut machine, "large", false, "code 15")?;
+    fill(&mut machine)?;
+    assert_start(&rt, &mut machine, "a", false, "code 1")
 }

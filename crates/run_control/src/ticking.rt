@@ -1,5 +1,5 @@
 //! A tick: one instruction of a thread that runs.
-ghost use Rattle.std.specs.Prelude.{◌≡◌, ◌<◌, Some, IfOk, IfSome, OnOk, IsSome, option_map};
+ghost use Rattle.std.specs.Prelude.{◌≡◌, ◌<◌, Some, None, IfNone, IfOk, IfSome, OnOk, option_map};
 ghost use Rattle.target_contexts.specs.Changes.{with_change};
 ghost use Rattle.target_contexts.specs.Live.{process_of};
 ghost use Rattle.run_control.specs.Executing.{stepped};
@@ -12,7 +12,7 @@ use target_contexts::{Targets, ThreadState, thread_for};
 use tcf_values::{ContextId, Duplicate, Events};
 
 /// Executes one instruction of a thread, and answers the events of it. `None` comes exactly where that isn't a live
-/// thread that runs, and then nothing changes.
+/// thread that runs, and then nothing changes, whatever the memory.
 ///
 /// An exit ends the process with its code. An exception suspends the thread where its process is attached, and else
 /// ends the process with the code -2. After an executed instruction the breakpoints at the new pc suspend the thread;
@@ -25,6 +25,7 @@ pub fn step(
 ) -> Result<Option<Events>, AllocError>
     ensures events { IfOk result (λ told. told ≡ tick_events bps.now thread targets.old) }
     ensures after { OnOk result (targets.new ≡ tick_after bps.now thread targets.old) }
+    ensures idle { IfNone (tick_events bps.now thread targets.old) (result ≡ Ok None) }
 {
     match running_number(targets, thread) {
         Some(number) => Ok(Some(tick(alloc, targets, bps, number)?)),

@@ -1,6 +1,6 @@
 //! Trace.run: several instructions of a suspended thread at once.
 ghost use Rattle.std.specs.Prelude.{◌≡◌, ◌<◌, ◌≤◌, ◌≤ℤ◌, pos, length, unsigned_abs, Some, None, IfErr, IfOk, IfSome, OnOk, option_map};
-ghost use Rattle.tcf_values.specs.Faults.{IsDue};
+ghost use Rattle.target_contexts.specs.Refusals.{IsRefusalOf};
 ghost use Rattle.target_contexts.specs.Changes.{with_change};
 ghost use Rattle.target_contexts.specs.Live.{process_of};
 ghost use Rattle.target_contexts.specs.Named.{thread_named};
@@ -35,7 +35,7 @@ pub(crate) fn run(
     ensures effect { IfOk result (λ effect. effect ≡ trace_given bps.now (unsigned_abs count) (thread_named id.now) targets.old targets.new) }
     ensures free { OnOk result (trace_fault id.now count targets.old.processes ≡ None) }
     ensures after { OnOk result (targets.new ≡ left_of (trace_after bps.now (unsigned_abs count)) (thread_named id.now) targets.old) }
-    ensures due { IfErr result (IsDue (trace_fault id.now count targets.old.processes)) }
+    ensures refused { IfErr result (IsRefusalOf (trace_fault id.now count targets.old.processes)) }
     ensures kept { IfErr result (λ refusal. IfDue refusal (targets.new ≡ targets.old)) }
 {
     let number = to_trace(targets, id, count)?;

@@ -4,8 +4,8 @@ ghost use Rattle.breakpoints.specs.Changes.{after, changes_list, done};
 ghost use Rattle.breakpoints.specs.declared.breakpoints.BpDone.{BpDone};
 ghost use Rattle.command_tables.specs.Canonical.{IsReadable};
 ghost use Rattle.target_contexts.specs.Named.{attached_in};
+ghost use Rattle.target_contexts.specs.Refusals.{IsRefusalOf};
 ghost use Rattle.tcf_values.specs.Effects.{gives};
-ghost use Rattle.tcf_values.specs.Faults.{IsDue};
 ghost use Rattle.target_hub.specs.BreakpointsRows.{added_events, ask_answer, ask_fault, breakpoints_after, breakpoints_effect, changed_events, effect_of, removed_events, status_events};
 ghost use Rattle.target_hub.specs.Limits.{AreReadable, IsKnown};
 
@@ -13,6 +13,7 @@ use crate::target::Target;
 use breakpoints::{BpDone, status_event};
 use run_control::attached;
 use std::alloc::{AllocError, Global};
+use target_contexts::Targets;
 use tcf_values::{
     Answer, BpProps, Command, Duplicate, Effect, EventData, Events, Fault, Props, Refusal, Text,
     Texts, report,
@@ -33,15 +34,14 @@ pub(crate) fn change(
     ensures after { OnOk result (target.new ≡ breakpoints_after channel command.now target.old) }
     ensures readable { AreReadable target.new.breakpoints }
 {
-    let attached = attached(&target.contexts)?;
     let done = target.breakpoints.apply(channel, command)?;
-    told(alloc, &attached, done)
+    told(alloc, &target.contexts, done)
 }
 
 /// What a change of the list tells.
-fn told(alloc: Global, attached: &[u32], done: BpDone) -> Result<Effect, AllocError>
+fn told(alloc: Global, targets: &Targets, done: BpDone) -> Result<Effect, AllocError>
     requires { IsKnown done }
-    ensures { IfOk result (λ effect. effect ≡ effect_of attached.now done) }
+    ensures { IfOk result (λ effect. effect ≡ effect_of (attached_in targets.now.processes) done) }
 {
     match done {
         BpDone::Failed(code) => Ok(Effect::gives(alloc, Answer::Failed(report(alloc, code)?))),
@@ -50,11 +50,12 @@ fn told(alloc: Global, attached: &[u32], done: BpDone) -> Result<Effect, AllocEr
             added,
             changed,
         } => {
+            let attached = attached(targets)?;
             let mut events = removed_events(alloc, removed)?;
             tell_added(&added, &mut events)?;
             tell_changed(&changed, &mut events)?;
-            tell_statuses(alloc, attached, added.as_slice(), &mut events)?;
-            tell_statuses(alloc, attached, changed.as_slice(), &mut events)?;
+            tell_statuses(alloc, &attached, added.as_slice(), &mut events)?;
+            tell_statuses(alloc, &attached, changed.as_slice(), &mut events)?;
             Ok(Effect::tells(alloc, events, Answer::Nothing))
         }
     }
@@ -123,7 +124,7 @@ fn ask_answer(alloc: Global, target: &Target, command: &Command) -> Result<Answe
     requires { changes_list command.now ≡ false }
     ensures answer { IfOk result (λ answer. answer ≡ ask_answer command.now (attached_in target.now.contexts.processes) target.now.breakpoints) }
     ensures free { OnOk result (ask_fault command.now target.now ≡ None) }
-    ensures due { IfErr result (IsDue (ask_fault command.now target.now)) }
+    ensures refused { IfErr result (IsRefusalOf (ask_fault command.now target.now)) }
 {
     match command {
         Command::BpIds => Ok(Answer::Ids(target.breakpoints.ids()?)),
@@ -138,7 +139,7 @@ fn ask_answer(alloc: Global, target: &Target, command: &Command) -> Result<Answe
 fn properties(target: &Target, id: &Text) -> Result<Answer, Refusal>
     ensures answer { IfOk result (λ answer. answer ≡ ask_answer (Command.BpProperties id.now) [] target.now.breakpoints) }
     ensures free { OnOk result (ask_fault (Command.BpProperties id.now) target.now ≡ None) }
-    ensures due { IfErr result (IsDue (ask_fault (Command.BpProperties id.now) target.now)) }
+    ensures refused { IfErr result (IsRefusalOf (ask_fault (Command.BpProperties id.now) target.now)) }
 {
     let props = target.breakpoints.props(id.as_bytes()).ok_or(Fault::Other)?;
     Ok(Answer::Bp(props.copy()?))
@@ -148,8 +149,9 @@ fn properties(target: &Target, id: &Text) -> Result<Answer, Refusal>
 fn status(target: &Target, id: &Text) -> Result<Answer, Refusal>
     ensures answer { IfOk result (λ answer. answer ≡ ask_answer (Command.BpGetStatus id.now) (attached_in target.now.contexts.processes) target.now.breakpoints) }
     ensures free { OnOk result (ask_fault (Command.BpGetStatus id.now) target.now ≡ None) }
-    ensures due { IfErr result (IsDue (ask_fault (Command.BpGetStatus id.now) target.now)) }
+    ensures refused { IfErr result (IsRefusalOf (ask_fault (Command.BpGetStatus id.now) target.now)) }
 {
+    target.breakpoints.props(id.as_bytes()).ok_or(Fault::Other)?;
     let attached = attached(&target.contexts)?;
     let status = target.breakpoints.status(id.as_bytes(), &attached)?;
     Ok(Answer::Status(status.ok_or(Fault::Other)?))
@@ -159,7 +161,7 @@ fn status(target: &Target, id: &Text) -> Result<Answer, Refusal>
 fn capabilities(target: &Target, id: &Text) -> Result<Answer, Refusal>
     ensures answer { IfOk result (λ answer. answer ≡ Answer.Capabilities) }
     ensures free { OnOk result (ask_fault (Command.BpCapabilities id.now) target.now ≡ None) }
-    ensures due { IfErr result (IsDue (ask_fault (Command.BpCapabilities id.now) target.now)) }
+    ensures refused { IfErr result (IsRefusalOf (ask_fault (Command.BpCapabilities id.now) target.now)) }
 {
     match id.as_bytes() {
         [] => Ok(Answer::Capabilities),

@@ -1,5 +1,5 @@
 //! The hub: the one target of all channels, and what is done to it.
-ghost use Rattle.std.specs.Prelude.{◌≡◌, true, false, filter, IfOk, IfSome, IsSome, OnErr, OnOk};
+ghost use Rattle.std.specs.Prelude.{◌≡◌, true, false, filter, None, IfNone, IfOk, IfSome, IsSome, OnErr, OnOk};
 ghost use Rattle.command_tables.specs.Canonical.{IsReadable};
 ghost use Rattle.command_tables.specs.Reading.{IsReading};
 ghost use Rattle.reply_tables.specs.Written.{IsRefusal};
@@ -66,8 +66,8 @@ impl Hub {
     }
 
     /// Executes what a channel's command is read as. A known command is answered by the canonical data of its answer, one
-    /// whose arguments don't read by the report of the reading's code, and one that isn't known by `Unknown`; the last two
-    /// change nothing and tell nothing.
+    /// whose arguments don't read by the report of the reading's code, and one that isn't known by `Unknown`, whatever the
+    /// memory; the last two change nothing and tell nothing.
     pub fn execute(
         &mut self,
         channel: u64,
@@ -76,6 +76,7 @@ impl Hub {
         reading: &Reading,
     ) -> Result<Done, AllocError>
         requires { IsReading service.now name.now reading.now }
+        ensures unknown { self.old.is_spent ≡ false → reading.now ≡ Reading.Unknown → result ≡ Ok (only Answered.Unknown) }
         ensures done { IfOk result (λ done. done ≡ executed channel service.now name.now reading.now self.old.target) }
         ensures after { OnOk result (self.new ≡ usable (after_reading channel reading.now self.old.target)) }
         ensures events { IfOk result (λ done. AreEvents done.events) }
@@ -92,9 +93,10 @@ impl Hub {
     }
 
     /// Executes one instruction of a thread, and answers its events; `None` exactly where that isn't a live thread that
-    /// runs, and then nothing changes.
+    /// runs, and then nothing changes, whatever the memory.
     #[tactic(auto, using(crate::proofs::Told::tick_fits))]
     pub fn tick(&mut self, thread: ContextId) -> Result<Option<Events>, AllocError>
+        ensures idle { self.old.is_spent ≡ false → IfNone (tick_told thread self.old.target) (result ≡ Ok None) }
         ensures told { IfOk result (λ told. told ≡ tick_told thread self.old.target) }
         ensures after { OnOk result (self.new ≡ usable (ticked thread self.old.target)) }
         ensures events { IfOk result (λ told. IfSome told AreEvents) }
@@ -149,6 +151,7 @@ impl Hub {
         ensures target { self.new.target ≡ self.old.target }
         ensures bounded { OnOk result (IsBounded self.old.target) }
         ensures fresh { OnOk result (self.old.is_spent ≡ false) }
+        ensures refused { OnErr result (self.old.is_spent ≡ true) }
         ensures spent { self.new.is_spent ≡ true }
     {
         if self.spent {
@@ -170,6 +173,7 @@ impl Hub {
     ) -> Result<Done, AllocError>
         requires reading { IsReading service.now name.now reading.now }
         requires begun { self.old.is_spent ≡ true }
+        ensures unknown { reading.now ≡ Reading.Unknown → result ≡ Ok (only Answered.Unknown) }
         ensures done { IfOk result (λ done. done ≡ executed channel service.now name.now reading.now self.old.target) }
         ensures after { OnOk result (self.new.target ≡ after_reading channel reading.now self.old.target) }
         ensures events { IfOk result (λ done. AreEvents done.events) }

@@ -81,6 +81,32 @@ fn assert_result(rt: &(impl Abort + AllocGlobal), done: &Done, expected: &[u8]) 
     }
 }
 
+/// Executes a channel's command, which tells this.
+fn assert_events(
+    rt: &(impl Abort + AllocGlobal),
+    hub: &mut Hub,
+    channel: u64,
+    names: (&str, &str),
+    body: &[u8],
+    expected: &[u8],
+) -> Result<(), Fail> {
+    let done = run(rt.alloc(), hub, channel, names, body)?;
+    assert_told(rt, done.events.as_slice(), expected)
+}
+
+/// Executes a command of the channel 0, which is answered by a result with this data.
+fn assert_answer(
+    rt: &(impl Abort + AllocGlobal),
+    hub: &mut Hub,
+    names: (&str, &str),
+    body: &[u8],
+    expected: &[u8],
+) -> Result<(), Fail> {
+    let done = run(rt.alloc(), hub, 0, names, body)?;
+    assert_result(rt, &done, expected);
+    Ok(())
+}
+
 /// Executes an instruction of the thread of P1, which tells this.
 fn tick(rt: &(impl Abort + AllocGlobal), hub: &mut Hub, expected: &[u8]) -> Result<(), Fail> {
     match hub.tick(ContextId::Thread(1, 1))? {
@@ -92,71 +118,95 @@ fn tick(rt: &(impl Abort + AllocGlobal), hub: &mut Hub, expected: &[u8]) -> Resu
     }
 }
 
+/// A process that isn't attached is started.
+fn start(rt: &(impl Abort + AllocGlobal), hub: &mut Hub) -> Result<(), Fail> {
+    assert_events(
+        rt,
+        hub,
+        0,
+        ("Processes", "start"),
+        b"\"\"\0\"a\"\0[]\0[]\0false\0",
+        b"contextAdded[{\"CanCount\":0,\"CanResume\":0,\"CanSuspend\":false,\"CanTerminate\":true,\"HasState\":false,\"ID\":\"P1\",\"IsContainer\":true,\"Name\":\"a\",\"ProcessID\":\"P1\"},{\"CanCount\":0,\"CanResume\":0,\"CanSuspend\":false,\"CanTerminate\":true,\"HasState\":true,\"ID\":\"P1.1\",\"IsContainer\":false,\"ParentID\":\"P1\",\"ProcessID\":\"P1\"}]\0",
+    )
+}
+
 #[test]
 fn a_process_without_a_debugger_ends_by_an_exception(rt: HostRuntime) -> Result<(), Fail> {
     let mut hub = hub(rt.alloc())?;
-    let start = b"\"\"\0\"a\"\0[]\0[]\0false\0";
-    let done = run(rt.alloc(), &mut hub, 0, ("Processes", "start"), start)?;
-    assert_told(
-        &rt,
-        done.events.as_slice(),
-        b"contextAdded[{\"CanCount\":0,\"CanResume\":0,\"CanSuspend\":false,\"CanTerminate\":true,\"HasState\":false,\"ID\":\"P1\",\"IsContainer\":true,\"Name\":\"a\",\"ProcessID\":\"P1\"},{\"CanCount\":0,\"CanResume\":0,\"CanSuspend\":false,\"CanTerminate\":true,\"HasState\":true,\"ID\":\"P1.1\",\"IsContainer\":false,\"ParentID\":\"P1\",\"ProcessID\":\"P1\"}]\0",
-    )?;
+    start(&rt, &mut hub)?;
     tick(&rt, &mut hub, b"")?;
     tick(&rt, &mut hub, b"")?;
-    tick(
-        &rt,
-        &mut hub,
-        b"contextRemoved[\"P1.1\",\"P1\"]\0exited\"P1\"\0-2\0",
-    )?;
+    let told = b"contextRemoved[\"P1.1\",\"P1\"]\0exited\"P1\"\0-2\0";
+    tick(&rt, &mut hub, told)?;
     assert!(rt; hub.tick(ContextId::Thread(1, 1))?.is_none());
     Ok(())
 }
 
 #[test]
-fn what_is_not_known_is_told_from_what_does_not_read(rt: HostRuntime) -> Result<(), Fail> {
+fn what_is_not_known_is_told(rt: HostRuntime) -> Result<(), Fail> {
     let mut hub = hub(rt.alloc())?;
     let done = run(rt.alloc(), &mut hub, 0, ("Symbols", "find"), b"\"P1\"\0")?;
     assert!(rt; matches!(&done.answer, Answered::Unknown));
-    let done = run(
-        rt.alloc(),
-        &mut hub,
-        0,
-        ("RunControl", "getContext"),
-        b"5\0",
-    )?;
-    assert_result(&rt, &done, b"{\"Code\":3,\"Format\":\"protocol\"}\0null\0");
     Ok(())
+}
+
+#[test]
+fn what_does_not_read_is_refused(rt: HostRuntime) -> Result<(), Fail> {
+    let mut hub = hub(rt.alloc())?;
+    let names = ("RunControl", "getContext");
+    let expected = b"{\"Code\":3,\"Format\":\"protocol\"}\0null\0";
+    assert_answer(&rt, &mut hub, names, b"5\0", expected)
 }
 
 #[test]
 fn an_agent_knows_no_peers(rt: HostRuntime) -> Result<(), Fail> {
     let mut hub = hub(rt.alloc())?;
-    let done = run(
-        rt.alloc(),
+    let expected = b"{\"Code\":7,\"Format\":\"unknown-peer\"}\0";
+    assert_answer(
+        &rt,
         &mut hub,
-        0,
         ("Locator", "redirect"),
         b"\"V2\"\0",
+        expected,
     )?;
-    assert_result(&rt, &done, b"{\"Code\":7,\"Format\":\"unknown-peer\"}\0");
-    let done = run(rt.alloc(), &mut hub, 0, ("Locator", "getPeers"), b"")?;
-    assert_result(&rt, &done, b"\0[]\0");
-    Ok(())
+    assert_answer(&rt, &mut hub, ("Locator", "getPeers"), b"", b"\0[]\0")
 }
 
 #[test]
 fn a_channel_that_goes_takes_its_breakpoints_with_it(rt: HostRuntime) -> Result<(), Fail> {
     let mut hub = hub(rt.alloc())?;
+    let names = ("Breakpoints", "add");
     let props = b"{\"ID\":\"b1\",\"Location\":\"8\"}\0";
-    let done = run(rt.alloc(), &mut hub, 1, ("Breakpoints", "add"), props)?;
-    assert_told(
+    assert_events(
         &rt,
-        done.events.as_slice(),
+        &mut hub,
+        1,
+        names,
+        props,
         b"contextAdded[{\"Enabled\":false,\"ID\":\"b1\",\"Location\":\"8\"}]\0status\"b1\"\0{\"Instances\":[]}\0",
     )?;
-    let done = run(rt.alloc(), &mut hub, 0, ("Breakpoints", "add"), props)?;
-    assert_result(&rt, &done, b"{\"Code\":1,\"Format\":\"other\"}\0");
+    let refused = b"{\"Code\":1,\"Format\":\"other\"}\0";
+    assert_answer(&rt, &mut hub, names, props, refused)?;
     let told = hub.close(1)?;
     assert_told(&rt, told.as_slice(), b"contextRemoved[\"b1\"]\0")
+}
+
+/// A command of Breakpoints is refused by this report.
+fn refuse(
+    rt: &(impl Abort + AllocGlobal),
+    name: &str,
+    id: &[u8],
+    expected: &[u8],
+) -> Result<(), Fail> {
+    let mut hub = hub(rt.alloc())?;
+    assert_answer(rt, &mut hub, ("Breakpoints", name), id, expected)
+}
+
+#[test]
+fn what_is_not_there_is_refused(rt: HostRuntime) -> Result<(), Fail> {
+    let other = b"{\"Code\":1,\"Format\":\"other\"}\0null\0";
+    let no_context = b"{\"Code\":16,\"Format\":\"bad-context\"}\0null\0";
+    refuse(&rt, "getProperties", b"\"b1\"\0", other)?;
+    refuse(&rt, "getStatus", b"\"b1\"\0", other)?;
+    refuse(&rt, "getCapabilities", b"\"P1\"\0", no_context)
 }

@@ -1,5 +1,5 @@
 //! What no clause says: that calls succeed where there is memory, and that the definitions are the rules.
-ghost use Rattle.std.specs.Prelude.{◌+◌, ◌<◌, ◌^◌, IsTrue};
+ghost use Rattle.std.specs.Prelude.{IfOk, IsTrue};
 ghost use Rattle.breakpoints.specs.Changes.{changes_list};
 
 use super::*;
@@ -91,283 +91,281 @@ fn listed(alloc: Global, list: &Breakpoints) -> Result<String, AllocError> {
     Ok(line)
 }
 
-/// Executes a command of a channel, and compares what it tells and the list after it.
-fn assert_step(
-    rt: &impl Abort,
-    list: &mut Breakpoints,
-    channel: u64,
-    command: &Command,
-    want_told: &str,
-    want_list: &str,
-) -> Result<(), Fail>
-    requires { IsTrue (changes_list command.now) }
+/// The commands that change the list.
+#[derive(Clone, Copy)]
+enum Kind {
+    Set,
+    Add,
+    Change,
+    Enable,
+    Disable,
+    Remove,
+}
+
+/// A command with these IDs, which stand between blanks: of disabled breakpoints where it has properties, and of one ID
+/// where it has those of one.
+fn command(alloc: Global, kind: Kind, ids: &str) -> Result<Command, AllocError>
+    ensures { IfOk result (λ command. IsTrue (changes_list command)) }
 {
+    Ok(match kind {
+        Kind::Set => Command::BpSet {
+            list: props(alloc, ids)?,
+        },
+        Kind::Add => Command::BpAdd {
+            props: bare(alloc, ids, false)?,
+        },
+        Kind::Change => Command::BpChange {
+            props: bare(alloc, ids, false)?,
+        },
+        Kind::Enable => Command::BpEnable {
+            ids: texts(alloc, ids)?,
+        },
+        Kind::Disable => Command::BpDisable {
+            ids: texts(alloc, ids)?,
+        },
+        Kind::Remove => Command::BpRemove {
+            ids: texts(alloc, ids)?,
+        },
+    })
+}
+
+/// Executes a command of a channel.
+fn run(list: &mut Breakpoints, channel: u64, command: Command) -> Result<BpDone, AllocError>
+    requires { IsTrue (changes_list command) }
+{
+    list.apply(channel, &command)
+}
+
+/// What a command of a channel tells.
+fn told_by(
+    list: &mut Breakpoints,
+    channel: u64,
+    kind: Kind,
+    ids: &str,
+) -> Result<String, AllocError> {
     let alloc = *list.map.allocator();
-    let done = list.apply(channel, command)?;
-    assert_eq!(rt; told(alloc, &done)?.as_str(), want_told);
-    assert_eq!(rt; listed(alloc, list)?.as_str(), want_list);
-    Ok(())
+    let done = run(list, channel, command(alloc, kind, ids)?)?;
+    told(alloc, &done)
 }
 
-fn assert_set(
-    rt: &impl Abort,
-    list: &mut Breakpoints,
-    channel: u64,
-    ids: &str,
-    want: (&str, &str),
-) -> Result<(), Fail> {
-    let command = Command::BpSet {
-        list: props(*list.map.allocator(), ids)?,
-    };
-    assert_step(rt, list, channel, &command, want.0, want.1)
-}
-
-fn assert_add(
-    rt: &impl Abort,
-    list: &mut Breakpoints,
-    channel: u64,
-    id: &str,
-    want: (&str, &str),
-) -> Result<(), Fail> {
-    let command = Command::BpAdd {
-        props: bare(*list.map.allocator(), id, false)?,
-    };
-    assert_step(rt, list, channel, &command, want.0, want.1)
-}
-
-fn assert_change(
-    rt: &impl Abort,
-    list: &mut Breakpoints,
-    channel: u64,
-    id: &str,
-    want: (&str, &str),
-) -> Result<(), Fail> {
-    let command = Command::BpChange {
-        props: bare(*list.map.allocator(), id, false)?,
-    };
-    assert_step(rt, list, channel, &command, want.0, want.1)
-}
-
-fn assert_enable(
-    rt: &impl Abort,
-    list: &mut Breakpoints,
-    ids: &str,
-    want: (&str, &str),
-) -> Result<(), Fail> {
-    let command = Command::BpEnable {
-        ids: texts(*list.map.allocator(), ids)?,
-    };
-    assert_step(rt, list, BOB, &command, want.0, want.1)
-}
-
-fn assert_disable(
-    rt: &impl Abort,
-    list: &mut Breakpoints,
-    ids: &str,
-    want: (&str, &str),
-) -> Result<(), Fail> {
-    let command = Command::BpDisable {
-        ids: texts(*list.map.allocator(), ids)?,
-    };
-    assert_step(rt, list, ALICE, &command, want.0, want.1)
-}
-
-fn assert_remove(
-    rt: &impl Abort,
-    list: &mut Breakpoints,
-    ids: &str,
-    want: (&str, &str),
-) -> Result<(), Fail> {
-    let command = Command::BpRemove {
-        ids: texts(*list.map.allocator(), ids)?,
-    };
-    assert_step(rt, list, BOB, &command, want.0, want.1)
+/// What was told, and the list.
+fn with_list(list: &Breakpoints, told: &str) -> Result<String, AllocError> {
+    let text = listed(*list.map.allocator(), list)?;
+    format!(in *list.map.allocator(); "{told}: {}", text.as_str())
 }
 
 /// Puts one breakpoint last, and says nothing of it.
 fn put(list: &mut Breakpoints, channel: u64, props: BpProps) -> Result<(), AllocError> {
-    let _ = list.apply(channel, &Command::BpAdd { props })?;
+    let _ = run(list, channel, Command::BpAdd { props })?;
     Ok(())
+}
+
+fn put_bare(
+    list: &mut Breakpoints,
+    channel: u64,
+    id: &str,
+    enabled: bool,
+) -> Result<(), AllocError> {
+    let props = bare(*list.map.allocator(), id, enabled)?;
+    put(list, channel, props)
+}
+
+fn put_four(list: &mut Breakpoints) -> Result<(), AllocError> {
+    put_bare(list, ALICE, "a", false)?;
+    put_bare(list, ALICE, "b", false)?;
+    put_bare(list, BOB, "c", true)?;
+    put_bare(list, ALICE, "d", false)
 }
 
 /// Alice has a and b, then Bob has c, enabled, then Alice has d.
 fn four(alloc: Global) -> Result<Breakpoints, AllocError> {
     let mut list = Breakpoints::new(alloc);
-    put(&mut list, ALICE, bare(alloc, "a", false)?)?;
-    put(&mut list, ALICE, bare(alloc, "b", false)?)?;
-    put(&mut list, BOB, bare(alloc, "c", true)?)?;
-    put(&mut list, ALICE, bare(alloc, "d", false)?)?;
+    put_four(&mut list)?;
     Ok(list)
+}
+
+/// What a command tells, and the list after it.
+fn done_by(
+    list: &mut Breakpoints,
+    channel: u64,
+    kind: Kind,
+    ids: &str,
+) -> Result<String, AllocError> {
+    let told = told_by(list, channel, kind, ids)?;
+    with_list(list, told.as_str())
+}
+
+/// What a command tells where those four are, and the list after it.
+fn assert_done(
+    rt: &impl Abort,
+    alloc: Global,
+    channel: u64,
+    kind: Kind,
+    ids: &str,
+    want: &str,
+) -> Result<(), Fail> {
+    let text = done_by(&mut four(alloc)?, channel, kind, ids)?;
+    assert_eq!(rt; text.as_str(), want);
+    Ok(())
+}
+
+/// Whether a command is refused where those four are, and changes nothing.
+fn assert_refused(rt: &impl Abort, alloc: Global, kind: Kind, ids: &str) -> Result<(), Fail> {
+    assert_done(rt, alloc, ALICE, kind, ids, "failed 1: 1a 1b 2c+ 1d ")
 }
 
 #[test]
 fn set_replaces_the_channels_own_alone(rt: HostRuntime) -> Result<(), Fail> {
-    let mut list = four(rt.alloc())?;
-    assert_set(&rt, &mut list, BOB, "e f", ("-c +e f ~", "1a 1b 1d 2e 2f "))?;
-    assert_set(
-        &rt,
-        &mut list,
-        ALICE,
-        "b a",
-        ("-a b d +b a ~", "2e 2f 1b 1a "),
-    )?;
-    assert_set(&rt, &mut list, ALICE, "", ("-b a +~", "2e 2f "))?;
-    assert_set(&rt, &mut list, ALICE, "", ("-+~", "2e 2f "))
+    let alloc = rt.alloc();
+    let set = Kind::Set;
+    assert_done(&rt, alloc, BOB, set, "e f", "-c +e f ~: 1a 1b 1d 2e 2f ")?;
+    assert_done(&rt, alloc, ALICE, set, "b a", "-a b d +b a ~: 2c+ 1b 1a ")?;
+    assert_done(&rt, alloc, ALICE, set, "", "-a b d +~: 2c+ ")
 }
 
 #[test]
-fn set_is_refused_where_an_id_is_taken_or_given_twice(rt: HostRuntime) -> Result<(), Fail> {
-    let mut list = four(rt.alloc())?;
-    let refused = ("failed 1", "1a 1b 2c+ 1d ");
-    assert_set(&rt, &mut list, ALICE, "e c", refused)?;
-    assert_set(&rt, &mut list, ALICE, "e f e", refused)?;
-    assert_set(&rt, &mut list, BOB, "c d", refused)?;
-    assert_set(&rt, &mut list, 3, "a", refused)
-}
-
-#[test]
-fn add_puts_one_last_where_its_id_is_new(rt: HostRuntime) -> Result<(), Fail> {
-    let mut list = Breakpoints::new(rt.alloc());
-    assert_add(&rt, &mut list, ALICE, "a", ("-+a ~", "1a "))?;
-    assert_add(&rt, &mut list, BOB, "b", ("-+b ~", "1a 2b "))?;
-    assert_add(&rt, &mut list, ALICE, "a", ("failed 1", "1a 2b "))?;
-    assert_add(&rt, &mut list, ALICE, "b", ("failed 1", "1a 2b "))?;
-    assert_add(&rt, &mut list, ALICE, "A", ("-+A ~", "1a 2b 1A "))
-}
-
-#[test]
-fn change_replaces_in_place_and_the_owner_stays(rt: HostRuntime) -> Result<(), Fail> {
-    let mut list = four(rt.alloc())?;
-    assert_change(&rt, &mut list, ALICE, "c", ("-+~c ", "1a 1b 2c 1d "))?;
-    assert_change(&rt, &mut list, BOB, "b", ("-+~b ", "1a 1b 2c 1d "))?;
-    assert_change(&rt, &mut list, ALICE, "e", ("failed 1", "1a 1b 2c 1d "))
-}
-
-#[test]
-fn enable_tells_those_that_change(rt: HostRuntime) -> Result<(), Fail> {
-    let mut list = four(rt.alloc())?;
-    assert_enable(&rt, &mut list, "d c a d", ("-+~a+ d+ ", "1a+ 1b 2c+ 1d+ "))?;
-    assert_enable(&rt, &mut list, "a d", ("-+~", "1a+ 1b 2c+ 1d+ "))?;
-    assert_enable(&rt, &mut list, "b e", ("failed 1", "1a+ 1b 2c+ 1d+ "))
-}
-
-#[test]
-fn disable_tells_those_that_change(rt: HostRuntime) -> Result<(), Fail> {
-    let mut list = four(rt.alloc())?;
-    assert_disable(&rt, &mut list, "e c", ("failed 1", "1a 1b 2c+ 1d "))?;
-    assert_disable(&rt, &mut list, "c b c", ("-+~c ", "1a 1b 2c 1d "))?;
-    assert_disable(&rt, &mut list, "", ("-+~", "1a 1b 2c 1d "))
-}
-
-#[test]
-fn remove_tells_in_the_order_of_the_list(rt: HostRuntime) -> Result<(), Fail> {
-    let mut list = four(rt.alloc())?;
-    assert_remove(&rt, &mut list, "c e", ("failed 1", "1a 1b 2c+ 1d "))?;
-    assert_remove(&rt, &mut list, "d c a c d", ("-a c d +~", "1b "))?;
-    assert_remove(&rt, &mut list, "a", ("failed 1", "1b "))?;
-    assert_remove(&rt, &mut list, "", ("-+~", "1b "))
-}
-
-/// The IDs that go with a channel, and the list after it.
-fn assert_gone(
-    rt: &impl Abort,
-    list: &mut Breakpoints,
-    channel: u64,
-    want: (&str, &str),
+fn new_breakpoints_are_refused_where_an_id_is_taken_or_given_twice(
+    rt: HostRuntime,
 ) -> Result<(), Fail> {
-    let alloc = *list.map.allocator();
-    let told = list.gone(channel)?;
-    assert_eq!(rt; joined(alloc, told.as_slice())?.as_str(), want.0);
-    assert_eq!(rt; listed(alloc, list)?.as_str(), want.1);
-    Ok(())
+    let alloc = rt.alloc();
+    assert_refused(&rt, alloc, Kind::Set, "e c")?;
+    assert_refused(&rt, alloc, Kind::Set, "e f e")?;
+    assert_refused(&rt, alloc, Kind::Add, "a")
 }
 
 #[test]
-fn a_channel_that_goes_takes_its_own_along(rt: HostRuntime) -> Result<(), Fail> {
-    let mut list = four(rt.alloc())?;
-    assert_gone(&rt, &mut list, 3, ("", "1a 1b 2c+ 1d "))?;
-    assert_gone(&rt, &mut list, ALICE, ("a b d ", "2c+ "))?;
-    assert_gone(&rt, &mut list, ALICE, ("", "2c+ "))?;
-    assert_gone(&rt, &mut list, BOB, ("c ", ""))
+fn what_is_not_there_is_refused(rt: HostRuntime) -> Result<(), Fail> {
+    let alloc = rt.alloc();
+    assert_refused(&rt, alloc, Kind::Change, "e")?;
+    assert_refused(&rt, alloc, Kind::Enable, "b e")?;
+    assert_refused(&rt, alloc, Kind::Disable, "e c")?;
+    assert_refused(&rt, alloc, Kind::Remove, "c e")
 }
 
-/// So many disabled breakpoints, of the IDs from `first` on.
-fn many(alloc: Global, first: u32, count: u32) -> Result<Props, AllocError>
-    requires { first + count < 2 ^ 32 }
-{
-    let mut list = Props::new(alloc);
-    for number in first..first + count {
-        list.push(bare(alloc, format!(in alloc; "b{number}")?.as_str(), false)?)?;
+#[test]
+fn add_puts_one_last_and_change_leaves_it_in_place(rt: HostRuntime) -> Result<(), Fail> {
+    let alloc = rt.alloc();
+    assert_done(&rt, alloc, BOB, Kind::Add, "A", "-+A ~: 1a 1b 2c+ 1d 2A ")?;
+    assert_done(&rt, alloc, ALICE, Kind::Change, "c", "-+~c : 1a 1b 2c 1d ")
+}
+
+#[test]
+fn those_are_told_that_change_in_the_order_of_the_list(rt: HostRuntime) -> Result<(), Fail> {
+    let alloc = rt.alloc();
+    assert_done(
+        &rt,
+        alloc,
+        BOB,
+        Kind::Enable,
+        "d c a d",
+        "-+~a+ d+ : 1a+ 1b 2c+ 1d+ ",
+    )?;
+    assert_done(
+        &rt,
+        alloc,
+        ALICE,
+        Kind::Disable,
+        "c b c",
+        "-+~c : 1a 1b 2c 1d ",
+    )?;
+    assert_done(&rt, alloc, BOB, Kind::Remove, "d c a c d", "-a c d +~: 1b ")
+}
+
+/// So many IDs, with a blank behind each.
+fn numbered(alloc: Global, count: u32) -> Result<String, AllocError> {
+    let mut line = String::new(alloc);
+    for number in 0..count {
+        line.push_str(format!(in alloc; "b{number} ")?.as_str())?;
     }
-    Ok(list)
+    Ok(line)
 }
 
-/// Sets so many breakpoints, of the IDs from `first` on: whether it is done, and how many there are then.
+/// Alice sets so many; so many are there then.
 fn assert_count(
     rt: &impl Abort,
     list: &mut Breakpoints,
-    channel: u64,
-    new: (u32, u32),
-    want: (bool, usize),
-) -> Result<(), Fail>
-    requires { new.0 + new.1 < 2 ^ 32 }
-{
-    let command = Command::BpSet {
-        list: many(*list.map.allocator(), new.0, new.1)?,
-    };
-    let done = list.apply(channel, &command)?;
-    assert_eq!(rt; matches!(done, BpDone::Changed { .. }), want.0);
-    assert_eq!(rt; list.ids()?.len(), want.1);
+    count: u32,
+    want: usize,
+) -> Result<(), Fail> {
+    let ids = numbered(*list.map.allocator(), count)?;
+    let _ = told_by(list, ALICE, Kind::Set, ids.as_str())?;
+    assert!(rt; list.map.len() == want);
+    Ok(())
+}
+
+/// One more is refused.
+fn refuse_one(rt: &impl Abort, list: &mut Breakpoints) -> Result<(), Fail> {
+    let told = told_by(list, BOB, Kind::Add, "a")?;
+    assert_eq!(rt; told.as_str(), "failed 1");
     Ok(())
 }
 
 #[test]
 fn there_are_at_most_256(rt: HostRuntime) -> Result<(), Fail> {
     let mut list = Breakpoints::new(rt.alloc());
-    assert_count(&rt, &mut list, ALICE, (0, 257), (false, 0))?;
-    assert_count(&rt, &mut list, ALICE, (0, 255), (true, 255))?;
-    assert_count(&rt, &mut list, BOB, (1000, 2), (false, 255))?;
-    assert_count(&rt, &mut list, BOB, (1000, 1), (true, 256))?;
-    assert_count(&rt, &mut list, 3, (2000, 1), (false, 256))?;
-    assert_count(&rt, &mut list, ALICE, (500, 255), (true, 256))?;
-    assert_count(&rt, &mut list, ALICE, (0, 256), (false, 256))?;
-    assert_count(&rt, &mut list, ALICE, (0, 2), (true, 3))
+    assert_count(&rt, &mut list, 257, 0)?;
+    assert_count(&rt, &mut list, 256, 256)?;
+    refuse_one(&rt, &mut list)
+}
+
+/// The IDs that go with a channel, and the list after it.
+fn gone_with(list: &mut Breakpoints, channel: u64) -> Result<String, AllocError> {
+    let ids = list.gone(channel)?;
+    let told = joined(*list.map.allocator(), ids.as_slice())?;
+    with_list(list, told.as_str())
+}
+
+/// The same where those four are.
+fn assert_gone(rt: &impl Abort, alloc: Global, channel: u64, want: &str) -> Result<(), Fail> {
+    let text = gone_with(&mut four(alloc)?, channel)?;
+    assert_eq!(rt; text.as_str(), want);
+    Ok(())
+}
+
+#[test]
+fn a_channel_that_goes_takes_its_own_along(rt: HostRuntime) -> Result<(), Fail> {
+    assert_gone(&rt, rt.alloc(), ALICE, "a b d : 2c+ ")?;
+    assert_gone(&rt, rt.alloc(), 3, ": 1a 1b 2c+ 1d ")
 }
 
 /// Whether the breakpoint of this ID is there, and enabled.
-fn assert_enabled(rt: &impl Abort, list: &Breakpoints, id: &[u8], want: Option<bool>) {
-    assert_eq!(rt; list.props(id).map(|props| props.enabled), want);
+fn enabled(list: &Breakpoints, id: &[u8]) -> Option<bool> {
+    list.props(id).map(|props| props.enabled)
+}
+
+fn ids_text(list: &Breakpoints) -> Result<String, AllocError> {
+    let ids = list.ids()?;
+    joined(*list.map.allocator(), ids.as_slice())
 }
 
 #[test]
 fn properties_and_ids_are_those_of_the_list(rt: HostRuntime) -> Result<(), Fail> {
     let list = four(rt.alloc())?;
-    assert_eq!(rt;
-        joined(rt.alloc(), list.ids()?.as_slice())?.as_str(),
-        "a b c d "
-    );
-    assert_enabled(&rt, &list, b"a", Some(false));
-    assert_enabled(&rt, &list, b"c", Some(true));
-    assert_enabled(&rt, &list, b"e", None);
-    assert_enabled(&rt, &list, b"", None);
-    assert_enabled(&rt, &list, b"\xff", None);
+    let ids = ids_text(&list)?;
+    assert_eq!(rt; ids.as_str(), "a b c d ");
+    assert!(rt; matches!(enabled(&list, b"c"), Some(true)));
+    assert!(rt; enabled(&list, b"e").is_none());
     Ok(())
 }
 
-/// One breakpoint `b`, with this Location and these ContextIds, none where they are empty.
-fn one(
+/// Properties with this Location and these ContextIds, none where they are empty.
+fn placed(
     alloc: Global,
+    id: &str,
     enabled: bool,
-    location: Option<&str>,
+    location: &str,
     contexts: &str,
-) -> Result<Breakpoints, AllocError> {
-    let mut props = bare(alloc, "b", enabled)?;
-    if let Some(location) = location {
-        props.location = Some(text(alloc, location)?);
-    }
+) -> Result<BpProps, AllocError> {
+    let mut props = bare(alloc, id, enabled)?;
+    props.location = Some(text(alloc, location)?);
     if !contexts.is_empty() {
         props.contexts = Some(texts(alloc, contexts)?);
     }
+    Ok(props)
+}
+
+/// A list of one breakpoint.
+fn one(alloc: Global, props: BpProps) -> Result<Breakpoints, AllocError> {
     let mut list = Breakpoints::new(alloc);
     put(&mut list, ALICE, props)?;
     Ok(list)
@@ -377,81 +375,63 @@ fn one(
 fn shown(alloc: Global, instances: &[Instance]) -> Result<String, AllocError> {
     let mut line = String::new(alloc);
     for instance in instances {
-        line.push_str(instance.context.as_str())?;
-        match &instance.place {
-            Place::Address(address) => {
-                line.push_str(format!(in alloc; "@{address} ")?.as_str())?;
-            }
-            Place::Error(error) => {
-                line.push_str(format!(in alloc; "!{} ", error.as_str())?.as_str())?;
-            }
-        }
+        let context = instance.context.as_str();
+        let text = match &instance.place {
+            Place::Address(address) => format!(in alloc; "{context}@{address} ")?,
+            Place::Error(error) => format!(in alloc; "{context}!{} ", error.as_str())?,
+        };
+        line.push_str(text.as_str())?;
     }
     Ok(line)
 }
 
-/// The status of `b` where the processes 1, 2 and 7 are attached.
-fn assert_status(rt: &impl Abort, list: &Breakpoints, want: &str) -> Result<(), Fail> {
-    let alloc = *list.map.allocator();
+/// The status of the breakpoint `b`, where the processes 1, 2 and 7 are attached.
+fn status_text(list: &Breakpoints) -> Result<String, Fail> {
     let status = list.status(b"b", &[1, 2, 7])?.ok_or("no status")?;
-    assert_eq!(rt; shown(alloc, status.instances.as_slice())?.as_str(), want);
+    Ok(shown(*list.map.allocator(), status.instances.as_slice())?)
+}
+
+/// The same where it has these properties.
+fn assert_status(rt: &impl Abort, alloc: Global, props: BpProps, want: &str) -> Result<(), Fail> {
+    let text = status_text(&one(alloc, props)?)?;
+    assert_eq!(rt; text.as_str(), want);
     Ok(())
 }
 
-/// The status of an enabled breakpoint with this Location for P1.
-fn assert_place(rt: &impl Abort, alloc: Global, location: &str, want: &str) -> Result<(), Fail> {
-    assert_status(rt, &one(alloc, true, Some(location), "P1")?, want)
+/// The status of an enabled breakpoint for P1 with each of these Locations, which stand between bars.
+fn assert_places(rt: &impl Abort, alloc: Global, locations: &str, want: &str) -> Result<(), Fail> {
+    for location in locations.split('|') {
+        assert_status(rt, alloc, placed(alloc, "b", true, location, "P1")?, want)?;
+    }
+    Ok(())
 }
 
 #[test]
 fn a_location_is_a_number(rt: HostRuntime) -> Result<(), Fail> {
     let alloc = rt.alloc();
-    assert_place(&rt, alloc, "0x10", "P1@16 ")?;
-    assert_place(&rt, alloc, "0X1c", "P1@28 ")?;
-    assert_place(&rt, alloc, "0xfFfC", "P1@65532 ")?;
-    assert_place(&rt, alloc, "0016", "P1@16 ")?;
-    assert_place(&rt, alloc, "0x00000000000000000004", "P1@4 ")?;
-    assert_place(
+    assert_places(&rt, alloc, "0|0x0", "P1@0 ")?;
+    assert_places(
         &rt,
         alloc,
-        "00000000000000000000000000000065532",
-        "P1@65532 ",
+        "0016|0x10|0X10|0x00000000000000000010",
+        "P1@16 ",
     )?;
-    assert_place(&rt, alloc, "0", "P1@0 ")?;
-    assert_place(&rt, alloc, "0x0", "P1@0 ")
-}
-
-#[test]
-fn what_is_no_address_is_an_error(rt: HostRuntime) -> Result<(), Fail> {
-    let alloc = rt.alloc();
-    assert_place(&rt, alloc, "6", "P1!bad-location ")?;
-    assert_place(&rt, alloc, "16a", "P1!bad-location ")?;
-    assert_place(&rt, alloc, "", "P1!bad-location ")?;
-    assert_place(&rt, alloc, "65536", "P1!bad-location ")?;
-    assert_place(&rt, alloc, "0x10000", "P1!bad-location ")?;
-    assert_place(&rt, alloc, "0x", "P1!bad-location ")?;
-    assert_place(&rt, alloc, "0xg", "P1!bad-location ")?;
-    assert_place(&rt, alloc, "+16", "P1!bad-location ")?;
-    assert_place(&rt, alloc, "0x+4", "P1!bad-location ")?;
-    assert_place(
+    assert_places(
         &rt,
         alloc,
-        "99999999999999999999999999999999999999",
-        "P1!bad-location ",
+        "0xfFfC|00000000000000000000000000000065532",
+        "P1@65532 ",
     )
 }
 
 #[test]
-fn more_that_is_no_address(rt: HostRuntime) -> Result<(), Fail> {
-    let alloc = rt.alloc();
-    assert_place(&rt, alloc, "-4", "P1!bad-location ")?;
-    assert_place(&rt, alloc, " 4", "P1!bad-location ")?;
-    assert_place(&rt, alloc, "4 ", "P1!bad-location ")?;
-    assert_place(&rt, alloc, "main", "P1!bad-location ")?;
-    assert_place(&rt, alloc, "x10", "P1!bad-location ")?;
-    assert_place(&rt, alloc, "00x10", "P1!bad-location ")?;
-    assert_place(&rt, alloc, "4294967312", "P1!bad-location ")?;
-    assert_place(&rt, alloc, "\u{664}", "P1!bad-location ")
+fn what_is_no_address_is_an_error(rt: HostRuntime) -> Result<(), Fail> {
+    assert_places(
+        &rt,
+        rt.alloc(),
+        "6|16a||65536|0x10000|0x|0xg|+16|0x+4|-4| 4|4 |main|x10|00x10|4294967312|99999999999999999999999999999999999999|\u{664}",
+        "P1!bad-location ",
+    )
 }
 
 /// The status of a breakpoint at 16 with these ContextIds.
@@ -462,7 +442,12 @@ fn assert_instances(
     contexts: &str,
     want: &str,
 ) -> Result<(), Fail> {
-    assert_status(rt, &one(alloc, enabled, Some("16"), contexts)?, want)
+    assert_status(
+        rt,
+        alloc,
+        placed(alloc, "b", enabled, "16", contexts)?,
+        want,
+    )
 }
 
 #[test]
@@ -470,70 +455,80 @@ fn instances_are_in_the_attached_processes_that_are_named(rt: HostRuntime) -> Re
     let alloc = rt.alloc();
     assert_instances(&rt, alloc, true, "", "P1@16 P2@16 P7@16 ")?;
     assert_instances(&rt, alloc, false, "", "")?;
-    assert_instances(&rt, alloc, true, "P7 P1", "P1@16 P7@16 ")?;
-    assert_instances(&rt, alloc, true, "P1.7 P1 P2.1", "P1@16 P2@16 ")?;
-    assert_instances(&rt, alloc, true, "P3 P10", "")?;
-    assert_instances(&rt, alloc, true, "p1 P01 1 P1.1.x0 P P1.0", "")
+    assert_instances(&rt, alloc, true, "P7 P1.7 P1 P2.1", "P1@16 P2@16 P7@16 ")?;
+    assert_instances(&rt, alloc, true, "P3 P10 p1 P01 1 P1.1.x0 P P1.0", "")
+}
+
+#[test]
+fn without_a_location_there_is_no_address(rt: HostRuntime) -> Result<(), Fail> {
+    assert_status(
+        &rt,
+        rt.alloc(),
+        bare(rt.alloc(), "b", true)?,
+        "P1!bad-location P2!bad-location P7!bad-location ",
+    )
 }
 
 #[test]
 fn there_is_no_status_without_a_breakpoint(rt: HostRuntime) -> Result<(), Fail> {
-    let list = one(rt.alloc(), true, None, "")?;
-    assert_status(
-        &rt,
-        &list,
-        "P1!bad-location P2!bad-location P7!bad-location ",
-    )?;
+    let list = Breakpoints::new(rt.alloc());
     assert!(rt; list.status(b"c", &[1])?.is_none());
     Ok(())
 }
 
-/// An enabled breakpoint with this Location and these ContextIds.
-fn placed(alloc: Global, id: &str, location: &str, contexts: &str) -> Result<BpProps, AllocError> {
-    let mut props = bare(alloc, id, true)?;
-    props.location = Some(text(alloc, location)?);
-    if !contexts.is_empty() {
-        props.contexts = Some(texts(alloc, contexts)?);
-    }
-    Ok(props)
+fn put_placed(
+    list: &mut Breakpoints,
+    id: &str,
+    enabled: bool,
+    contexts: &str,
+) -> Result<(), AllocError> {
+    let props = placed(*list.map.allocator(), id, enabled, "16", contexts)?;
+    put(list, ALICE, props)
 }
 
-/// a is enabled at 16, b disabled at 16, c enabled at 16 for P2, d enabled at 0x10 for both, and e at no address.
-fn five(alloc: Global) -> Result<Breakpoints, AllocError> {
+fn put_three(list: &mut Breakpoints) -> Result<(), AllocError> {
+    put_placed(list, "a", true, "")?;
+    put_placed(list, "b", false, "")?;
+    put_placed(list, "c", true, "P2.3")
+}
+
+/// At 16, a is enabled for all, b disabled for all, and c enabled for P2.
+fn three(alloc: Global) -> Result<Breakpoints, AllocError> {
     let mut list = Breakpoints::new(alloc);
-    put(&mut list, ALICE, placed(alloc, "a", "16", "")?)?;
-    let mut disabled = placed(alloc, "b", "16", "")?;
-    disabled.enabled = false;
-    put(&mut list, ALICE, disabled)?;
-    put(&mut list, ALICE, placed(alloc, "c", "16", "P2.3")?)?;
-    put(&mut list, ALICE, placed(alloc, "d", "0x10", "P1 P2")?)?;
-    put(&mut list, ALICE, placed(alloc, "e", "17", "")?)?;
+    put_three(&mut list)?;
     Ok(list)
 }
 
 /// What a thread of a process hits at `pc`.
+fn hits_text(
+    list: &Breakpoints,
+    process: u32,
+    attached: bool,
+    pc: u32,
+) -> Result<String, AllocError> {
+    let hits = list.hits(process, attached, pc)?;
+    joined(*list.map.allocator(), hits.as_slice())
+}
+
+/// The same where those three are.
 fn assert_hits(
     rt: &impl Abort,
-    list: &Breakpoints,
+    alloc: Global,
     process: u32,
     attached: bool,
     pc: u32,
     want: &str,
 ) -> Result<(), Fail> {
-    let hits = list.hits(process, attached, pc)?;
-    let alloc = *list.map.allocator();
-    assert_eq!(rt; joined(alloc, hits.as_slice())?.as_str(), want);
+    let text = hits_text(&three(alloc)?, process, attached, pc)?;
+    assert_eq!(rt; text.as_str(), want);
     Ok(())
 }
 
 #[test]
 fn a_thread_hits_what_has_an_instance_at_its_pc(rt: HostRuntime) -> Result<(), Fail> {
-    let list = five(rt.alloc())?;
-    assert_hits(&rt, &list, 1, true, 16, "a d ")?;
-    assert_hits(&rt, &list, 2, true, 16, "a c d ")?;
-    assert_hits(&rt, &list, 3, true, 16, "a ")?;
-    assert_hits(&rt, &list, 1, false, 16, "")?;
-    assert_hits(&rt, &list, 1, true, 20, "")?;
-    assert_hits(&rt, &list, 1, true, 17, "")?;
-    assert_hits(&rt, &list, 1, true, 0, "")
+    let alloc = rt.alloc();
+    assert_hits(&rt, alloc, 1, true, 16, "a ")?;
+    assert_hits(&rt, alloc, 2, true, 16, "a c ")?;
+    assert_hits(&rt, alloc, 1, false, 16, "")?;
+    assert_hits(&rt, alloc, 1, true, 20, "")
 }

@@ -1,7 +1,5 @@
 use Rattle.std.proofs.Common.{◌≡◌, take}
-use Rattle.std.specs.Prelude.{bytes_eq}
-use Rattle.std.specs.List.{IsDistinct}
-use Rattle.std.specs.Map.{keys_of, values_of}
+use Rattle.std.specs.Map.{values_of}
 use Rattle.breakpoints.specs.Keyed.{AreKeyed}
 use Rattle.breakpoints.specs.Rows.{rows_for}
 use Rattle.breakpoints.proofs.rows.keyed.Given as goal
@@ -11,5 +9,4 @@ abbrev pub invariant-loop-props : goal.invariant-loop-props
 invariant-loop-props l = record {
   rows : values_of l.rows.entries ≡ rows_for l.channel (take l.props-index l.list);
   keyed : AreKeyed l.rows.entries;
-  unique : IsDistinct (λ x y. bytes_eq x.items y.items) (keys_of l.rows.entries);
 }

@@ -2,31 +2,21 @@ use Rattle.std.proofs.Common.{ℕ, sym, ap, ◌∙◌}
 use Rattle.std.specs.Prelude.{bytes_eq}
 use Rattle.std.specs.Map.{lookup, set_value}
 use Rattle.tcf_values.specs.declared.values.BpProps.{BpProps}
-use Rattle.breakpoints.proofs.Lookup.{none_found, one_found}
+use Rattle.breakpoints.proofs.Lookup.{none_found}
 use Rattle.breakpoints.proofs.Written.{none_written, one_written}
 use Rattle.breakpoints.proofs.rows.set_props.Goals as goal
 
-pub returns-in-Some-clause-found : goal.returns-in-Some-clause-found
-returns-in-Some-clause-found c =
-    sym (one_found c.args.props.id c.args.rows.now.entries c.in-Some.row.now c.requires.keyed
-    (c.in-Some.ensures.value ∙ ap (λ id. lookup (λ k. bytes_eq id k.items) c.args.rows.now.entries) c.as_bytes.ensures))
-
 -- the one breakpoint of the ID is written
-pub returns-in-Some-clause-entries : goal.returns-in-Some-clause-entries
-returns-in-Some-clause-entries c =
+pub returns-in-Some : goal.returns-in-Some
+returns-in-Some c =
     let row : ℕ × BpProps = (c.in-Some.row.now.0, c.args.props) in
     (c.get_mut.follows.holds row).0
     ∙ ap (λ id. set_value (λ k. bytes_eq id k.items) c.args.rows.now.entries row) c.as_bytes.ensures
     ∙ one_written c.args.props c.args.rows.now.entries c.in-Some.row.now c.requires.keyed c.requires.orderly.differ
     (sym (c.in-Some.ensures.value ∙ ap (λ id. lookup (λ k. bytes_eq id k.items) c.args.rows.now.entries) c.as_bytes.ensures))
 
-pub returns-in-None-clause-found : goal.returns-in-None-clause-found
-returns-in-None-clause-found c =
-    sym (none_found c.args.props.id c.args.rows.now.entries c.requires.keyed
-    (c.in-None.ensures.value ∙ ap (λ id. lookup (λ k. bytes_eq id k.items) c.args.rows.now.entries) c.as_bytes.ensures))
-
-pub returns-in-None-clause-entries : goal.returns-in-None-clause-entries
-returns-in-None-clause-entries c =
+pub returns-in_default : goal.returns-in_default
+returns-in_default c =
     ap (λ m. m.entries) c.get_mut.follows.holds-at-none
     ∙ sym (none_written c.args.props c.args.rows.now.entries (none_found c.args.props.id c.args.rows.now.entries c.requires.keyed
-    (c.in-None.ensures.value ∙ ap (λ id. lookup (λ k. bytes_eq id k.items) c.args.rows.now.entries) c.as_bytes.ensures)))
+    (c.in_default.ensures.value ∙ ap (λ id. lookup (λ k. bytes_eq id k.items) c.args.rows.now.entries) c.as_bytes.ensures)))

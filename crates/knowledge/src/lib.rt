@@ -12,3 +12,6 @@ mod thread_map;
 pub use knowledge::Knowledge;
 pub use laws::{learning_is_monotone, what_is_read_is_known};
 pub use state::StateFact;
+
+#[cfg(test)]
+mod tests;

@@ -1,0 +1,10 @@
+pub mod Lists
+pub mod Filtered
+pub mod Greetless
+pub mod Sending
+pub mod Lines
+pub mod Placed
+pub mod Followed
+pub mod Heard
+pub mod Few
+pub mod Tokens

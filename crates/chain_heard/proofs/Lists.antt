@@ -1,0 +1,93 @@
+-- Fronts of lists, and lists by a test.
+use Rattle.std.proofs.Common.{◌≡◌, zero, suc, inl, Bool, true, false, ◌||◌, cond, List, [], ◌∷◌, ◌++◌, map, filter, refl, ap, sym, ◌∙◌, arith}
+use Rattle.std.specs.List.{AllByRecursion, Contains, flat_map}
+use Rattle.std.proofs.lemmas.List.{append_assoc, map-append}
+use Rattle.std.proofs.lemmas.List.Concat.{flat_map-append}
+use Rattle.std.proofs.lemmas.List.Elements.{filter-append}
+use Rattle.target_hub.specs.Ordered.{IsPrefixOf, IsSubsequenceOf}
+
+-- ---- fronts
+
+pub front_first : {A : Type 0} → (x y : A) (xs ys : List A) → IsPrefixOf (x ∷ xs) (y ∷ ys) → x ≡ y
+front_first x y xs ys p = let whole : x ∷ (xs ++ p.0) ≡ y ∷ ys = p.1 in cc
+
+pub front_rest : {A : Type 0} → (x y : A) (xs ys : List A) → IsPrefixOf (x ∷ xs) (y ∷ ys) → IsPrefixOf xs ys
+front_rest x y xs ys p =
+    let whole : x ∷ (xs ++ p.0) ≡ y ∷ ys = p.1 in
+    let tail : xs ++ p.0 ≡ ys = cc in (p.0, tail)
+
+pub no_front : {A : Type 0} → (x : A) (xs : List A) → IsPrefixOf (x ∷ xs) [] → ⊥
+no_front {A} x xs p =
+    let none : List A = [] in
+    let whole : x ∷ (xs ++ p.0) ≡ none = p.1 in cc
+
+pub front_map : {A B : Type 0} → (f : A → B) (xs ys : List A) → IsPrefixOf xs ys → IsPrefixOf (map f xs) (map f ys)
+front_map f xs ys p = (map f p.0, sym (map-append f xs p.0) ∙ ap (map f) p.1)
+
+pub front_filter : {A : Type 0} → (q : A → Bool) (xs ys : List A) → IsPrefixOf xs ys → IsPrefixOf (filter q xs) (filter q ys)
+front_filter q xs ys p = (filter q p.0, sym (filter-append q xs p.0) ∙ ap (filter q) p.1)
+
+pub front_flat : {A B : Type 0} → (f : A → List B) (xs ys : List A) → IsPrefixOf xs ys → IsPrefixOf (flat_map f xs) (flat_map f ys)
+front_flat f xs ys p = (flat_map f p.0, sym (flat_map-append f xs p.0) ∙ ap (flat_map f) p.1)
+
+pub front_of_front : {A : Type 0} → (xs ys zs : List A) → IsPrefixOf xs ys → IsPrefixOf ys zs → IsPrefixOf xs zs
+front_of_front xs ys zs p q = (p.0 ++ q.0, sym (append_assoc xs p.0 q.0) ∙ ap (λ l. l ++ q.0) p.1 ∙ q.1)
+
+pub front_subsequence : {A : Type 0} → (xs ys : List A) → IsPrefixOf xs ys → IsSubsequenceOf xs ys
+front_subsequence [] ys p = tt
+front_subsequence (x ∷ xs) [] p = absurd (no_front x xs p)
+front_subsequence (x ∷ xs) (y ∷ ys) p = inl (front_first x y xs ys p, front_subsequence xs ys (front_rest x y xs ys p))
+
+-- ---- by a test
+
+pub or_none : (b : Bool) → (b || false) ≡ b
+or_none true = refl
+or_none false = refl
+
+pub map_map : {A B C : Type 0} → (f : B → C) (g : A → B) (xs : List A) → map f (map g xs) ≡ map (λ x. f (g x)) xs
+map_map f g [] = refl
+map_map f g (x ∷ xs) = ap (λ l. f (g x) ∷ l) (map_map f g xs)
+
+pub filter_mapped : {A B : Type 0} → (q : B → Bool) (f : A → B) (xs : List A) → filter q (map f xs) ≡ map f (filter (λ x. q (f x)) xs)
+filter_mapped q f [] = refl
+filter_mapped {A} {B} q f (x ∷ xs) = by_flag (q (f x)) x (filter q (map f xs)) (filter (λ y. q (f y)) xs) (filter_mapped q f xs)
+  where
+    by_flag : (b : Bool) (y : A) (us : List B) (vs : List A) → us ≡ map f vs → cond b (f y ∷ us) us ≡ map f (cond b (y ∷ vs) vs)
+    by_flag true y us vs e = ap (λ l. f y ∷ l) e
+    by_flag false y us vs e = e
+
+pub filter_same : {A : Type 0} → (p q : A → Bool) → ((x : A) → p x ≡ q x) → (xs : List A) → filter p xs ≡ filter q xs
+filter_same p q same [] = refl
+filter_same p q same (x ∷ xs) = ap (λ b. cond b (x ∷ filter p xs) (filter p xs)) (same x) ∙ ap (λ l. cond (q x) (x ∷ l) l) (filter_same p q same xs)
+
+-- ---- what holds of each
+
+pub all_append : {A : Type 0} → (P : A → Type 0) (xs ys : List A) → AllByRecursion P xs → AllByRecursion P ys → AllByRecursion P (xs ++ ys)
+all_append P [] ys left right = right
+all_append P (x ∷ xs) ys left right = (left.0, all_append P xs ys left.1 right)
+
+pub all_map : {A B : Type 0} → (P : B → Type 0) (Q : A → Type 0) (f : A → B) (xs : List A) → ((x : A) → Q x → P (f x)) → AllByRecursion Q xs → AllByRecursion P (map f xs)
+all_map P Q f [] each all = tt
+all_map P Q f (x ∷ xs) each all = (each x all.0, all_map P Q f xs each all.1)
+
+pub all_each : {A : Type 0} → (P : A → Type 0) (xs : List A) → ((x : A) → P x) → AllByRecursion P xs
+all_each P [] each = tt
+all_each P (x ∷ xs) each = (each x, all_each P xs each)
+
+pub all_weaker : {A : Type 0} → (P Q : A → Type 0) (xs : List A) → ((x : A) → P x → Q x) → AllByRecursion P xs → AllByRecursion Q xs
+all_weaker P Q [] each all = tt
+all_weaker P Q (x ∷ xs) each all = (each x all.0, all_weaker P Q xs each all.1)
+
+pub all_test : {A : Type 0} → (P : A → Type 0) (b : Bool) (xs ys : List A) → (b ≡ true → AllByRecursion P xs) → (b ≡ false → AllByRecursion P ys) → AllByRecursion P (cond b xs ys)
+all_test P true xs ys first second = first refl
+all_test P false xs ys first second = second refl
+
+pub all_filter : {A : Type 0} → (P : A → Type 0) (q : A → Bool) (xs : List A) → AllByRecursion P xs → AllByRecursion P (filter q xs)
+all_filter P q [] all = tt
+all_filter P q (x ∷ xs) all = all_test P (q x) (x ∷ filter q xs) (filter q xs) (λ _. (all.0, all_filter P q xs all.1)) (λ _. all_filter P q xs all.1)
+
+-- ---- what stands in a list
+
+pub in_one : {A : Type 0} → (x y : A) → Contains (x ∷ []) y → y ≡ x
+in_one x y (zero, within, is) = sym is
+in_one x y (suc k, within, is) = absurd (omega arith)

@@ -1,0 +1,9 @@
+//! What the log of a client owes to the history of the target, by what the client took.
+#![tactic(auto)]
+
+pub mod laws;
+
+pub use laws::{
+    commands_are_few, nothing_heard_is_ordered, unused_tokens_change_nothing,
+    what_was_heard_is_ordered,
+};

@@ -7,7 +7,7 @@ use Rattle.tcf_schedules.specs.declared.schedule.NamedImage.{NamedImage}
 use Rattle.tcf_schedules.specs.declared.schedule.Schedule.{Schedule}
 use Rattle.tcf_schedules.specs.declared.schedule.TextFault.{TextFault}
 use Rattle.tcf_schedules.specs.declared.schedule.TextFault.TheVariants.{Form, Late, Repeat, Unknown, Many}
-use Rattle.tcf_schedules.specs.Plan.{Plan, opens as plan_opens, send as plan_send, deliver as plan_deliver, turn as plan_turn, tick as plan_tick, close as plan_close, cut as plan_cut, rounds as plan_rounds, times as plan_times, plans_of, step_size, step_count, adds_at}
+use Rattle.tcf_schedules.specs.Plan.{AreSteps, Plan, opens as plan_opens, send as plan_send, deliver as plan_deliver, turn as plan_turn, tick as plan_tick, close as plan_close, cut as plan_cut, rounds as plan_rounds, times as plan_times, plans_of, step_size, step_count, adds_at}
 use Rattle.tcf_schedules.specs.Words.{data_of, bytes_of}
 use Rattle.tcf_schedules.specs.Line.{PlainStep, opens, sends, delivers, turns, ticks, closes, cuts, LineStep, once, rounds, times, LineHead, image, chain, LineValue, head, step, IsHead, IsLineStep, head_spelling, step_spelling, Says}
 use Rattle.tcf_schedules.specs.Reading.{value_of}
@@ -255,3 +255,7 @@ ReadsWhatIsSaid = (file : List ℕ) (s : ScheduleValue) → (schedule_of file �
 -- the law: a file is refused for its first bad line, and for what is wrong with that line
 abbrev pub RefusesTheFirst : Type 0
 RefusesTheFirst = (file : List ℕ) (number : ℕ) (what : TextFault) → (schedule_of file ≡ Err (record { line = number; what = what })) ↔ IsFirstBad file number what
+
+-- the law: the steps of a schedule that is read are those that its chains can have, and at most 1,000,000
+abbrev pub ReadsWithin : Type 0
+ReadsWithin = (file : List ℕ) (s : ScheduleValue) → schedule_of file ≡ Ok s → AreSteps s.chains s.plans

@@ -11,3 +11,4 @@ pub mod Holding
 pub mod Turning
 pub mod Truth
 pub mod Told
+pub mod Strangers

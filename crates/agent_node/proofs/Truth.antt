@@ -148,7 +148,7 @@ holds_ticked images history thread a pasts h = ticked_full (is_full a) images hi
 
 -- ---- Any call
 
-abbrev HoldsRun : List Image → AgentRun → Type 0
+abbrev pub HoldsRun : List Image → AgentRun → Type 0
 HoldsRun images r = Holds images r.agent r.history r.channels
 
 holds_called : Laws → (images : List Image) (call : Call) (r : AgentRun) → HoldsRun images r → HoldsRun images (after_call call r)
@@ -159,11 +159,11 @@ holds_called laws images (turns k) r h = holds_turned laws images r.history k r.
 holds_called laws images (ticks thread) r h = holds_ticked images r.history thread r.agent r.channels h
 holds_called laws images (gives k) r h = holds_given laws images r.history k r.agent r.channels h
 
-holds_all : Laws → (images : List Image) (calls : List Call) (r : AgentRun) → HoldsRun images r → HoldsRun images (after_all calls r)
+pub holds_all : Laws → (images : List Image) (calls : List Call) (r : AgentRun) → HoldsRun images r → HoldsRun images (after_all calls r)
 holds_all laws images [] r h = h
 holds_all laws images (call ∷ calls) r h = holds_all laws images calls (after_call call r) (holds_called laws images call r h)
 
-holds_first : (images : List Image) → HoldsRun images (no_calls images)
+pub holds_first : (images : List Image) → HoldsRun images (no_calls images)
 unfolding first_target
 holds_first images = record {
   target = refl;

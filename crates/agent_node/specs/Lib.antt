@@ -5,3 +5,4 @@ pub mod Channels
 pub mod Agent
 pub mod Runs
 pub mod AgentLaws
+pub mod Strangers

@@ -10,7 +10,7 @@ mod telling;
 
 pub use agent::{AgentNode, Turned};
 pub use channel::Channel;
-pub use laws::an_agent_tells_the_truth;
+pub use laws::{an_agent_has_no_strangers, an_agent_tells_the_truth};
 pub use numbers::Span;
 pub use target_hub::{Image, Input};
 

@@ -23,3 +23,4 @@ pub mod Arriving
 pub mod Received
 pub mod Sent
 pub mod ClosingSo
+pub mod Waiting

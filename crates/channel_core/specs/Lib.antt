@@ -16,3 +16,4 @@ pub mod RunLaws
 pub mod Arrivals
 pub mod ReceivingLaws
 pub mod QueueLaws
+pub mod Greeting

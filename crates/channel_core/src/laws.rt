@@ -1,4 +1,5 @@
 //! Laws of an end.
+ghost use Rattle.channel_core.specs.Greeting.{WaitsForHello};
 ghost use Rattle.channel_core.specs.Laws.{GivesEach, GoesOut};
 ghost use Rattle.channel_core.specs.ReceivingLaws.{EndsFairly, QueuesReadable, ReceivesInOrder, WhereAQueueComes};
 ghost use Rattle.channel_core.specs.QueueLaws.{ClosesOnlySo, QueuesItsMessages, QueuesNoCommand, QueuesWhatIsSent, TakesNothingClosed};
@@ -101,4 +102,9 @@ pub fn a_closed_end_takes_nothing<T>()
 /// that no call opens a closed one.
 pub fn an_end_closes_only_so<T>()
     ensures { AfterAllCalls {T = T} ClosesOnlySo }
+{}
+
+/// The law that no command is queued before the Hello of the other side was taken.
+pub fn no_command_goes_out_before_the_hello<T>()
+    ensures { AfterAllCalls {T = T} WaitsForHello }
 {}

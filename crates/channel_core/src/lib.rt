@@ -19,9 +19,8 @@ pub use laws::{
     calls_with_memory_spend_nothing, commands_are_sent_in_order,
     each_answer_is_that_of_a_sent_command, every_pending_tag_is_drained,
     no_command_goes_out_before_the_hello, nothing_is_held_where_commands_go_out,
-    only_what_is_sent_is_queued,
-    the_held_go_out_up_to_a_redirect, the_level_told_fits_the_inbox, what_is_queued_can_be_read,
-    what_is_queued_goes_out_in_order, what_was_queued_is_received,
+    only_what_is_sent_is_queued, the_held_go_out_up_to_a_redirect, the_level_told_fits_the_inbox,
+    what_is_queued_can_be_read, what_is_queued_goes_out_in_order, what_was_queued_is_received,
 };
 pub use sending::{Refused, SendRefusal};
 pub use states::{Cause, EndState, Reason};

@@ -1,0 +1,10 @@
+use Rattle.std.proofs.Common.{◌≡◌, ◌-◌, length}
+use Rattle.tcf_schedules.specs.Plan.{plan_of}
+use Rattle.tcf_world.specs.World.{played, repeated}
+use Rattle.tcf_world.proofs.world.World.play_times.Given as goal
+
+abbrev pub invariant-loop-counter : goal.invariant-loop-counter
+invariant-loop-counter l = record {
+  played : repeated l.count (played (plan_of l.step)) l.initial.self ≡ repeated (l.count - l.counter) (played (plan_of l.step)) l.self;
+  chains : length l.self.chains ≡ length l.initial.self.chains;
+}

@@ -38,11 +38,11 @@ input_kept : (input : Option Input) (w : WorldValue) → IsKept w (with_input in
 input_kept None w = refl
 input_kept (Some input) w = refl
 
-on_kept : (change : Chain → Chain) (at : ℕ) (there : Option Chain) (w : WorldValue) → IsKept w (on_some change at there w)
+pub on_kept : (change : Chain → Chain) (at : ℕ) (there : Option Chain) (w : WorldValue) → IsKept w (on_some change at there w)
 on_kept change at None w = refl
 on_kept change at (Some chain) w = length-set w.chains at (change chain)
 
-both_kept : (change : Chain → AgentValue → Both) (at : ℕ) (there : Option Chain) (w : WorldValue) → IsKept w (with_some change at there w)
+pub both_kept : (change : Chain → AgentValue → Both) (at : ℕ) (there : Option Chain) (w : WorldValue) → IsKept w (with_some change at there w)
 both_kept change at None w = refl
 both_kept change at (Some chain) w = length-set w.chains at (change chain w.agent).chain
 
@@ -60,7 +60,7 @@ opened_kept at (Some chain) w = by_flag (is_opened chain)
     by_flag true = refl
     by_flag false = connected_kept at chain w
 
-turned_kept : (at : ℕ) (there : Option Chain) (w : WorldValue) → IsKept w (agent_turned at there w)
+pub turned_kept : (at : ℕ) (there : Option Chain) (w : WorldValue) → IsKept w (agent_turned at there w)
 turned_kept at None w = refl
 turned_kept at (Some chain) w =
     let next = turned_on chain.channel w.agent in

@@ -1,9 +1,10 @@
 //! The world: one agent, and the chains of a schedule, played step by step.
 ghost use Rattle.std.specs.Prelude.{◌≡◌, ◌<◌, true, false, IfOk, IfSome, OnErr, OnOk, length, slice_get};
 ghost use Rattle.tcf_message.specs.Message.{HasNoZero};
-ghost use Rattle.tcf_schedules.specs.Plan.{plan_of};
+ghost use Rattle.std.specs.List.{AllByRecursion};
+ghost use Rattle.tcf_schedules.specs.Plan.{plan_of, plans_of};
 ghost use Rattle.tcf_world.specs.Chain.{all_down, all_taken_down, all_up, is_opened, turned_down};
-ghost use Rattle.tcf_world.specs.World.{IsNotRepeated, IsPlayable, IsSingle, agent_turned, all_carried, carried, closed_at, connected_at, cut_at, delivered_at, image_of, images_of, log_at, new_chains, new_world, on_chain, opened_at, opening, played, quiet_at, repeated, round_all, round_at, round_of, rounds, sent_at, tick_of, ticked_in, turned_at, up_taken, with_agent, with_input};
+ghost use Rattle.tcf_world.specs.World.{IsNotRepeated, IsPlayable, IsSingle, agent_turned, all_carried, carried, closed_at, connected_at, cut_at, delivered_at, image_of, images_of, log_at, new_chains, new_world, on_chain, opened_at, opening, played, quiet_at, repeated, round_all, round_at, round_of, rounds, run, sent_at, tick_of, ticked_in, turned_at, up_taken, with_agent, with_input};
 
 use crate::chain::Chain;
 use agent_node::{AgentNode, Image};
@@ -68,6 +69,18 @@ impl World {
             self.spent = true;
         }
         answer
+    }
+
+    /// Plays the steps, in order. There are as many chains as before.
+    pub fn play_all(&mut self, steps: &[ScheduleStep]) -> Result<(), AllocError>
+        requires { AllByRecursion (IsPlayable (length self.old.chains)) (plans_of steps.now) }
+        ensures played { OnOk result (self.new ≡ run (plans_of steps.now) self.old) }
+        ensures chains { OnOk result (length self.new.chains ≡ length self.old.chains) }
+    {
+        for step in steps {
+            self.play(step)?;
+        }
+        Ok(())
     }
 
     fn try_play(&mut self, step: &ScheduleStep) -> Result<(), AllocError>

@@ -1,7 +1,7 @@
 -- Calls of an agent that are of one channel: what it queued is given out, parts of messages come, and its bytes end.
-use Rattle.std.proofs.Common.{◌≡◌, ℕ, suc, ◌+◌, ◌<◌, ◌≤◌, ◌==◌, Bool, true, false, not, cond, nat_lt, List, [], ◌∷◌, ◌++◌, drop, length, map, Option, Some, None, refl, sym, ap, ◌∙◌, subst, arith, append-nil, eqb-true, one-add, ltb-true, ltb-false, lt-ltb, le-ltb}
-use Rattle.std.specs.Prelude.{option_map, slice_get}
-use Rattle.std.specs.List.{AllByRecursion, list_any, position_or_len}
+use Rattle.std.proofs.Common.{◌≡◌, ℕ, ◌==◌, Bool, true, false, not, cond, List, [], ◌∷◌, ◌++◌, drop, map, Option, Some, None, refl, sym, ap, ◌∙◌, subst, append-nil, eqb-true}
+use Rattle.std.specs.Prelude.{option_map}
+use Rattle.std.specs.List.{AllByRecursion, list_any}
 use Rattle.channel_core.specs.Arrivals.{arrived, marked}
 use Rattle.channel_core.specs.Beginning.{new_end}
 use Rattle.channel_core.specs.Closing.{is_closed}
@@ -15,73 +15,17 @@ use Rattle.target_contexts.specs.declared.process.Image.{Image}
 use Rattle.target_hub.specs.Sent.{agent_services}
 use Rattle.agent_node.specs.Agent.{after_giving}
 use Rattle.agent_node.specs.AgentLaws.{AgentTellsTheTruth, IsEndOf}
-use Rattle.agent_node.specs.Channels.{End, changed, changed_at, channel_at, channel_end, end_in, place_of, put_at, with_end}
+use Rattle.agent_node.specs.Channels.{End, channel_end, end_in, with_end}
 use Rattle.agent_node.specs.Runs.{AgentRun, Call, Past, after_all, after_call, bytes_end, comes, gives, no_calls, on_number, on_open, run_of, with_calls}
 use Rattle.agent_node.specs.Strangers.{HasNoStranger, NoStrangersAfterAnyCalls}
 use Rattle.agent_node.specs.declared.channel.Channel.{Channel}
 use Rattle.tcf_world.specs.Chain.{agent_emptied, emptied, parts_delivered, queue_of}
 use Rattle.tcf_world.proofs.Bytes.{bytes_by}
 use Rattle.tcf_world.proofs.Calls.{calls_more, putting}
+use Rattle.tcf_world.proofs.Queued.{changed_first as changed_is, found, in_first as first_changed, place_found}
 use Rattle.tcf_world.proofs.Pasts.{at_all, at_number, at_one, at_open, number_leaves, numbers_mapped, on_number_keeps, on_open_keeps, open_leaves, over_by, past_at, same_elsewhere, with_twice}
 
--- ---- The channel of a number, as the first of a list that has it
-
-abbrev pub found : ℕ → List Channel → Option Channel
-found k [] = None
-found k (c ∷ cs) = cond (c.number == k) (Some c) (found k cs)
-
-abbrev pub first_changed : ℕ → (End → End) → List Channel → List Channel
-first_changed k change [] = []
-first_changed k change (c ∷ cs) = cond (c.number == k) (with_end (change c.end) c ∷ cs) (c ∷ first_changed k change cs)
-
-lt_more : (p n : ℕ) → nat_lt (suc p) (suc n) ≡ nat_lt p n
-lt_more p n = by_flag (nat_lt p n) refl
-  where
-    by_flag : (flag : Bool) → nat_lt p n ≡ flag → nat_lt (suc p) (suc n) ≡ nat_lt p n
-    by_flag true is = let less : p < n = ltb-true p n is in lt-ltb (suc p) (suc n) (omega arith) ∙ sym is
-    by_flag false is = let more : n ≤ p = ltb-false p n is in le-ltb (suc p) (suc n) (omega arith) ∙ sym is
-
-abbrev first_place : ℕ → List Channel → ℕ
-first_place k cs = position_or_len (λ c. c.number == k) cs
-
-abbrev within : Bool → ℕ → Option ℕ
-within flag place = cond flag (Some place) None
-
-behind : (flag : Bool) (place : ℕ) (c : Channel) (cs : List Channel) → channel_at (within flag (suc place)) (c ∷ cs) ≡ channel_at (within flag place) cs
-behind true place c cs = refl
-behind false place c cs = refl
-
-pub place_found : (k : ℕ) (cs : List Channel) → channel_at (place_of k cs) cs ≡ found k cs
-place_found k [] = refl
-place_found k (c ∷ cs) = by_flag (c.number == k) (place_found k cs)
-  where
-    by_flag : (flag : Bool) → channel_at (place_of k cs) cs ≡ found k cs
-        → channel_at (within (nat_lt (cond (not flag) (1 + first_place k cs) 0) (suc (length cs))) (cond (not flag) (1 + first_place k cs) 0)) (c ∷ cs) ≡ cond flag (Some c) (found k cs)
-    by_flag true rest = let first : nat_lt 0 (suc (length cs)) ≡ true = lt-ltb 0 (suc (length cs)) (omega arith) in rw first refl
-    by_flag false rest =
-        rw one-add
-        (ap (λ b. channel_at (within b (suc (first_place k cs))) (c ∷ cs)) (lt_more (first_place k cs) (length cs)) ∙ behind (nat_lt (first_place k cs) (length cs)) (first_place k cs) c cs ∙ rest)
-
-put_behind : (place : ℕ) (change : End → End) (c : Channel) (cs : List Channel) (there : Option Channel) → put_at (suc place) change (c ∷ cs) there ≡ c ∷ put_at place change cs there
-put_behind place change c cs None = refl
-put_behind place change c cs (Some x) = refl
-
-changed_behind : (flag : Bool) (place : ℕ) (change : End → End) (c : Channel) (cs : List Channel) → changed_at (within flag (suc place)) change (c ∷ cs) ≡ c ∷ changed_at (within flag place) change cs
-changed_behind true place change c cs = put_behind place change c cs (slice_get cs place)
-changed_behind false place change c cs = refl
-
-pub changed_is : (k : ℕ) (change : End → End) (cs : List Channel) → changed k change cs ≡ first_changed k change cs
-changed_is k change [] = refl
-changed_is k change (c ∷ cs) = by_flag (c.number == k) (changed_is k change cs)
-  where
-    by_flag : (flag : Bool) → changed k change cs ≡ first_changed k change cs
-        → changed_at (within (nat_lt (cond (not flag) (1 + first_place k cs) 0) (suc (length cs))) (cond (not flag) (1 + first_place k cs) 0)) change (c ∷ cs)
-        ≡ cond flag (with_end (change c.end) c ∷ cs) (c ∷ first_changed k change cs)
-    by_flag true rest = let first : nat_lt 0 (suc (length cs)) ≡ true = lt-ltb 0 (suc (length cs)) (omega arith) in rw first refl
-    by_flag false rest =
-        rw one-add
-        (ap (λ b. changed_at (within b (suc (first_place k cs))) change (c ∷ cs)) (lt_more (first_place k cs) (length cs))
-        ∙ changed_behind (nat_lt (first_place k cs) (length cs)) (first_place k cs) change c cs ∙ ap (λ xs. c ∷ xs) rest)
+-- ---- The channel of a number, changed
 
 found_changed : (k : ℕ) (change : End → End) (cs : List Channel) → found k (first_changed k change cs) ≡ option_map (λ c. with_end (change c.end) c) (found k cs)
 found_changed k change [] = refl

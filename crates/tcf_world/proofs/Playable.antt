@@ -1,10 +1,10 @@
 -- The steps of a file that is read can be played: its chains have no value-adds, so each has the hop 0 and the nodes 0
 -- and 1 alone.
-use Rattle.std.proofs.Common.{◌≡◌, ℕ, zero, suc, ◌+◌, ◌≤◌, ◌<◌, Bool, true, false, List, [], ◌∷◌, length, map, Option, Some, None, refl, ap, sym, subst, ◌∙◌, arith}
-use Rattle.std.specs.List.{AllByRecursion, slice_get}
+use Rattle.std.proofs.Common.{ℕ, zero, suc, ◌+◌, ◌≤◌, true, false, List, [], ◌∷◌, length, sym, subst, arith}
+use Rattle.std.specs.List.{AllByRecursion}
 use Rattle.tcf_schedules.specs.Line.{IsHead, LineHead, image, chain}
-use Rattle.tcf_schedules.specs.Plan.{IsHop, IsSingle as IsSingleStep, IsStep, IsTurn, Plan, adds_at, adds_in, close, cut, deliver, opens, plans_of, rounds, send, tick, times, turn}
-use Rattle.tcf_schedules.specs.Schedule.{ReadsWhatIsSaid, ReadsWithin, ScheduleValue, chains_in, schedule_of}
+use Rattle.tcf_schedules.specs.Plan.{IsSingle as IsSingleStep, IsStep, Plan, adds_at, close, cut, deliver, opens, rounds, send, tick, times, turn}
+use Rattle.tcf_schedules.specs.Schedule.{ReadsWhatIsSaid, ReadsWithin, chains_in}
 use Rattle.tcf_schedules.specs.declared.schedule.ChainHead.{ChainHead}
 use Rattle.tcf_world.specs.Playing.{HoldsOfEveryFile, ReadIsPlayable}
 use Rattle.tcf_world.specs.World.{IsPlayable, IsSingle, images_of}

@@ -1,8 +1,8 @@
 -- Whatever is played, there are as many chains as before.
-use Rattle.std.proofs.Common.{◌≡◌, ℕ, zero, suc, ◌+◌, ◌<◌, Bool, true, false, List, [], ◌∷◌, length, Option, Some, None, refl, ap, sym, subst, ◌∙◌, arith, drop, get_or}
+use Rattle.std.proofs.Common.{◌≡◌, ℕ, zero, suc, ◌+◌, ◌<◌, Bool, true, false, List, ◌∷◌, length, Option, Some, None, refl, ap, sym, subst, ◌∙◌, arith, drop, get_or}
 use Rattle.std.specs.Prelude.{if◌then◌else◌, slice_get}
 use Rattle.std.specs.List.{AllByRecursion}
-use Rattle.std.proofs.lemmas.List.{drop_more, get_or-map, length-map, length-set}
+use Rattle.std.proofs.lemmas.List.{drop_more, get_or-map, length-map}
 use Rattle.std.proofs.lemmas.List.Elements.{All-from_recursion}
 use Rattle.tcf_schedules.specs.Plan.{Plan, plan_of, plans_of, close, cut as cut_plan, deliver, opens, rounds as rounds_plan, send, tick, times, turn}
 use Rattle.tcf_schedules.specs.declared.schedule.ScheduleStep.{ScheduleStep}

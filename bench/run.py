@@ -17,7 +17,10 @@ import tempfile
 HERE = os.path.dirname(os.path.abspath(__file__))
 TOP = os.path.dirname(HERE)
 SIZE = 16 * 1024 * 1024
+HALF = 512 * 1024
 RUNS = 5
+BAD_TEXT = 2
+NEWLINE = b"\n"
 
 
 def escaped(message):
@@ -47,11 +50,58 @@ def threes():
     return bytes(stream)
 
 
-def schedule(size):
-    """A schedule of so many bytes: comments, and then a chain with 90 steps, of which 44 are deliveries."""
+def comments(size):
+    """A schedule of so many bytes: comments, and then a chain with a few steps."""
     steps = b"chain A 0\nopen A\nrounds 1\n" + b"send A Locator sync\n" * 44 + b"deliver A 0 up 20\n" * 44
     line = b"# a line that is skipped, as most of this file's lines are\n"
     return line * ((size - len(steps)) // len(line)) + steps
+
+
+def one_line(size):
+    """A line of so many bytes, without an end, that isn't one of a schedule."""
+    return b"x" * size
+
+
+def opened(count):
+    """The header of so many chains, each of which is opened, with a suspended thread of the image `loop`."""
+    names = ["A"] + ["C%d" % number for number in range(1, count)]
+    lines = ["image loop 93801000130111006ff09fff"]
+    lines += ["chain %s 0" % name for name in names] + ["open %s" % name for name in names]
+    lines += ["rounds 1", 'send A Processes start "" "loop" [] [] true', "rounds 1"]
+    return "".join(line + "\n" for line in lines)
+
+
+def repeated(count, step):
+    """The lines for so many times a step."""
+    lines = ("times 10000 %s\n" % step) * (count // 10_000)
+    return lines + ("times %d %s\n" % (count % 10_000, step) if count % 10_000 else "")
+
+
+def gets(count):
+    """So many readings of 4 bytes, 100 in a round."""
+    return (opened(1) + 'times 100 send A Memory get "P1" 0 1 4 0\nrounds 1\n' * (count // 100)).encode()
+
+
+def hears(chains, count):
+    """So many chains that hear of so many resumes, and of as many suspends."""
+    lines = 'send A RunControl resume "P1.1" 0 1\nsend A RunControl suspend "P1.1"\nrounds 1\n'
+    return (opened(chains) + lines * count).encode()
+
+
+def pieces(way, piece):
+    """Half a MiB in flight, one command that goes up or 8 answers that come down, delivered in pieces of so many bytes."""
+    if way == "up":
+        sends = "send A Locator sync %s\n" % ("x" * HALF)
+    else:
+        sends = 'times 8 send A Memory get "P1" 0 1 49152 0\ndeliver A 0 up 65536\ntimes 8 turn A 1 up\n'
+    steps = repeated((HALF + 1_000) // piece + 1, "deliver A 0 %s %d" % (way, piece))
+    return (opened(1) + sends + steps + "rounds 2\n").encode()
+
+
+def ticks(count):
+    """A schedule of so many steps, of which all but 6 are ticks of a running thread."""
+    resume = 'send A RunControl resume "P1.1" 0 1\nrounds 1\n'
+    return (opened(1) + resume + repeated(count - 6, "tick P1.1")).encode()
 
 
 def busy():
@@ -60,17 +110,18 @@ def busy():
     return used.ru_utime + used.ru_stime
 
 
-def run(words, folder):
-    """The processor seconds that a run took, its greatest memory in bytes, and its output."""
+def run(words, folder, status=0):
+    """The processor seconds that a run took, its greatest memory in bytes, and its output. It ends with the status."""
     notes = os.path.join(folder, "notes")
     with open(os.path.join(folder, "output"), "w+b") as output:
         before = busy()
-        subprocess.run(["/usr/bin/time", "-f", "%M", "-o", notes] + words, stdout=output, check=True)
+        done = subprocess.run(["/usr/bin/time", "-f", "%M", "-o", notes] + words, stdout=output)
+        assert done.returncode == status, "another status"
         seconds = busy() - before
         output.seek(0)
         text = output.read()
     with open(notes) as lines:
-        kilobytes = int(lines.read())
+        kilobytes = int(lines.read().split()[-1])
     return seconds, kilobytes * 1024, text
 
 
@@ -93,15 +144,40 @@ def compare(name, stream, program, baseline, folder):
     )
 
 
-def play(program, folder):
-    for part in (4, 2, 1):
-        path = os.path.join(folder, "schedule")
-        with open(path, "wb") as file:
-            file.write(schedule(SIZE // part))
-        size = os.path.getsize(path)
-        times = [run([program, "chain", path], folder)[0] for _ in range(RUNS)]
-        seconds = statistics.median(times)
-        print(f"chain: {size} bytes, {seconds:.3f} s, {1e9 * seconds / size:.2f} ns a byte")
+def play(program, name, schedule, folder):
+    """Plays the schedule, and gives the processor seconds that it took."""
+    path = os.path.join(folder, "schedule")
+    with open(path, "wb") as file:
+        file.write(schedule)
+    times, memory, text = [], 0, b""
+    for _ in range(RUNS):
+        seconds, peak, text = run([program, "chain", path], folder, BAD_TEXT if name.startswith("one line") else 0)
+        times.append(seconds)
+        memory = max(memory, peak)
+    seconds = statistics.median(times)
+    print(
+        f"chain {name}: {len(schedule)} bytes, {seconds:.3f} s, memory {memory} bytes, "
+        f"output {len(text)} bytes in {text.count(NEWLINE)} lines"
+    )
+    return seconds
+
+
+def growth(program, rows, folder):
+    """Plays each of these named schedules, and says how much longer each takes than the one before."""
+    times = [play(program, name, schedule, folder) for name, schedule in rows]
+    ratios = [f"{longer / shorter:.2f}" for shorter, longer in zip(times, times[1:])]
+    print("  ratios " + ", ".join(ratios))
+
+
+def play_all(program, folder):
+    sizes = (SIZE // 4, SIZE // 2, SIZE)
+    growth(program, [("comments", comments(size)) for size in sizes], folder)
+    growth(program, [("one line", one_line(size)) for size in sizes], folder)
+    growth(program, [(f"{count} gets", gets(count)) for count in (100_000, 200_000, 400_000)], folder)
+    growth(program, [(f"{count} chains hear", hears(count, 10_000)) for count in (1, 64)], folder)
+    for way in ("up", "down"):
+        growth(program, [(f"{way} in pieces of {piece}", pieces(way, piece)) for piece in (65_536, 100, 1)], folder)
+    growth(program, [(f"{count} ticks", ticks(count)) for count in (250_000, 500_000, 1_000_000)], folder)
 
 
 def built():
@@ -118,7 +194,7 @@ def main():
         subprocess.run(["cc", "-O2", "-o", baseline, os.path.join(HERE, "show_baseline.c")], check=True)
         compare("sync_commands", sync_commands(), program, baseline, folder)
         compare("threes", threes(), program, baseline, folder)
-        play(program, folder)
+        play_all(program, folder)
 
 
 if __name__ == "__main__":

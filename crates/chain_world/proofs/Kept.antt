@@ -1,140 +1,87 @@
--- What each step of a schedule keeps: where the commands of the client stand, each in its order.
-use Rattle.std.proofs.Common.{◌≡◌, ℕ, ◌+◌, ◌≤◌, List, [], ◌∷◌, ◌++◌, length, map, Bool, true, false}
-use Rattle.std.specs.Prelude.{None, Some}
-use Rattle.std.specs.List.{flat_map, list_any, Contains}
-use Rattle.std.specs.Fmt.{decimal}
-use Rattle.tcf_text.specs.declared.log.LogLine.{LogLine}
-use Rattle.tcf_text.specs.declared.log.LogLine.TheVariants.{Closed}
-use Rattle.chain_world.specs.declared.end.EndState.{EndState}
-use Rattle.chain_world.specs.declared.end.EndState.TheVariants.{Unopened, Opening, Live}
-use Rattle.chain_world.specs.declared.client.Pending.{Pending}
-use Rattle.chain_world.specs.declared.history.Input.{Input}
-use Rattle.chain_world.specs.declared.history.Input.TheVariants.{Opened}
-use Rattle.chain_world.specs.Each.{Each}
-use Rattle.chain_world.specs.Marked.{Marked, unmarked}
-use Rattle.chain_world.specs.Hello.{greeting, agent_services, client_services}
-use Rattle.chain_world.specs.History.{Told, answer_at, reading_of, sent, executed_on, opened_by, IsLegal}
-use Rattle.chain_world.specs.Client.{command_message}
-use Rattle.chain_world.specs.Agent.{reply_to, new_agent}
-use Rattle.chain_world.proofs.Queues.{Queued}
-use Rattle.chain_world.specs.Lines.{Accepted, accepted, finals, received, from_hello, last_mark, is_placed_hello, answer_of, bare_answer_of}
-use Rattle.chain_world.specs.Once.{numbers, is_end, AnswersPending}
-use Rattle.chain_world.specs.Ordered.{IsPlaced, OpensAt, hello_position, read}
+-- A single step is no repetition, and keeps how many chains there are.
+use Rattle.std.proofs.Common.{◌≡◌, ℕ, suc, Bool, true, false, List, [], ◌∷◌, length, Option, Some, None, refl, ap, ◌∙◌}
+use Rattle.std.specs.Prelude.{if◌then◌else◌, slice_get}
+use Rattle.std.proofs.lemmas.List.{length-set}
+use Rattle.agent_node.specs.AgentValue.{AgentValue}
+use Rattle.agent_node.specs.Agent as agent
+use Rattle.target_hub.specs.declared.input.Input.{Input}
+use Rattle.tcf_schedules.specs.Plan.{Plan, close, cut as cut_plan, deliver, opens, rounds as rounds_plan, send, tick, times, turn}
+use Rattle.tcf_values.specs.declared.ids.ContextId.{ContextId}
+use Rattle.chain_world.specs.Chain.{Both, carried_down, closed, cut, delivered_down, delivered_up, is_opened, opened, sent, turned_down, turned_on}
+use Rattle.chain_world.specs.World.{IsNotRepeated, IsSingle, agent_turned, all_carried, carried, connected_at, on_some, opened_from, opening, played, tick_of, with_both, with_input, with_some, after_next}
+use Rattle.chain_world.specs.WorldValue.{WorldValue}
+use Rattle.chain_world.specs.declared.chain.Chain.{Chain}
 
--- a command whose answer is in flight, with the answer's position
-pub record Coming : Type 0 where
-  pub command : Accepted
-  pub position : ℕ
+pub single_isnt_repeated : (plan : Plan) → IsSingle plan → IsNotRepeated plan
+single_isnt_repeated (opens chain) is = tt
+single_isnt_repeated (send chain service name body) is = tt
+single_isnt_repeated (deliver chain hop up count) is = tt
+single_isnt_repeated (turn chain node up) is = tt
+single_isnt_repeated (tick thread) is = tt
+single_isnt_repeated (close chain) is = tt
+single_isnt_repeated (cut_plan chain hop) is = tt
+single_isnt_repeated (rounds_plan count) is = absurd is
+single_isnt_repeated (times count plan) is = absurd is
 
-abbrev pub commands_of : List Coming → List Accepted
-commands_of coming = map (λ (x : Coming). x.command) coming
+abbrev pub IsKept : WorldValue → WorldValue → Type 0
+IsKept w next = length next.chains ≡ length w.chains
 
-abbrev pub message_of : Accepted → Marked
-message_of c = command_message c.number c.service c.name c.body
+all_kept : (chains : List Chain) (a : AgentValue) → length (all_carried chains a).chains ≡ length chains
+all_kept [] a = refl
+all_kept (chain ∷ chains) a = ap (λ n. suc n) (all_kept chains (carried_down chain a).agent)
 
-abbrev pub pending_of : Accepted → Pending
-pending_of c = record { number = c.number; token = decimal c.number }
+carried_kept : (w : WorldValue) → IsKept w (carried w)
+unfolding carried
+carried_kept w = all_kept w.chains w.agent
 
-abbrev pub reply_of : Coming → Marked
-reply_of x =
-    record { message = reply_to (decimal x.command.number) (reading_of x.command.service x.command.name); mark = Some x.position }
+input_kept : (input : Option Input) (w : WorldValue) → IsKept w (with_input input w)
+input_kept None w = refl
+input_kept (Some input) w = refl
 
-abbrev pub told_as : Coming → Told
-told_as x = answer_at x.position (reading_of x.command.service x.command.name)
+pub on_kept : (change : Chain → Chain) (at : ℕ) (there : Option Chain) (w : WorldValue) → IsKept w (on_some change at there w)
+on_kept change at None w = refl
+on_kept change at (Some chain) w = length-set w.chains at (change chain)
 
--- the Hellos in flight to an end that waits for one
-abbrev pub hello_up : EndState → List Marked
-hello_up Opening = unmarked (greeting client_services) ∷ []
-hello_up Unopened = []
-hello_up Live = []
+pub both_kept : (change : Chain → AgentValue → Both) (at : ℕ) (there : Option Chain) (w : WorldValue) → IsKept w (with_some change at there w)
+both_kept change at None w = refl
+both_kept change at (Some chain) w = length-set w.chains at (change chain w.agent).chain
 
-abbrev pub hello_down : Marked
-hello_down = record { message = greeting agent_services; mark = Some 1 }
+connected_kept : (at : ℕ) (chain : Chain) (w : WorldValue) → IsKept w (connected_at at chain w)
+connected_kept at chain w =
+    let next : WorldValue = record (with_both at (opened w.next chain w.agent) w) { next = after_next w.next } in
+    let input = opening (agent.opened w.next w.agent).0 w.next in
+    carried_kept (with_input input next) ∙ input_kept input next ∙ length-set w.chains at (opened w.next chain w.agent).chain
 
-abbrev pub IsConnected : EndState → Type 0
-IsConnected Unopened = ⊥
-IsConnected Opening = Unit {0}
-IsConnected Live = Unit {0}
+opened_kept : (at : ℕ) (there : Option Chain) (w : WorldValue) → IsKept w (opened_from at there w)
+opened_kept at None w = refl
+opened_kept at (Some chain) w = by_flag (is_opened chain)
+  where
+    by_flag : (flag : Bool) → IsKept w (if flag then w else connected_at at chain w)
+    by_flag true = refl
+    by_flag false = connected_kept at chain w
 
--- from n on, the numbers go up by one to m
-abbrev pub Counts : ℕ → List ℕ → ℕ → Type 0
-Counts n [] m = n ≡ m
-Counts n (x ∷ xs) m = (x ≡ n + 1) × Counts (n + 1) xs m
+pub turned_kept : (at : ℕ) (there : Option Chain) (w : WorldValue) → IsKept w (agent_turned at there w)
+turned_kept at None w = refl
+turned_kept at (Some chain) w =
+    let next = turned_on chain.channel w.agent in
+    let after : WorldValue = record w { agent = next.1 } in
+    carried_kept (with_input next.0 after) ∙ input_kept next.0 after
 
--- the positions of what comes rise from low to high
-abbrev pub Rises : ℕ → List Coming → ℕ → Type 0
-Rises low [] high = low ≤ high
-Rises low (x ∷ xs) high = (low ≤ x.position) × Rises x.position xs high
+ticked_kept : (thread : ContextId) (w : WorldValue) → IsKept w (played (tick thread) w)
+ticked_kept thread w =
+    let next = agent.ticked thread w.agent in
+    let after : WorldValue = record w { agent = next.1 } in
+    carried_kept (with_input (tick_of next.0 thread) after) ∙ input_kept (tick_of next.0 thread) after
 
-abbrev pub is_closed : LogLine → Bool
-is_closed (Closed number) = true
-is_closed line = false
-
--- what holds of the log and the history wherever the client stands
-pub record Common (log : List LogLine) (history : List Input) (count : ℕ) : Type 0 where
-  pub counted : Counts 0 (numbers (accepted log)) count
-  pub legal : IsLegal history
-  pub answers : Each AnswersPending log
-  pub placed : Each (IsPlaced history) log
-  pub open_yet : list_any is_end log ≡ false
-  pub unclosed : list_any is_closed log ≡ false
-  pub bare : flat_map bare_answer_of log ≡ []
-
--- the client isn't connected
-pub record Sleeping (w : Queued) : Type 0 where
-  pub common : Common w.client.log w.agent.history w.client.accepted
-  pub state : w.client.state ≡ Unopened
-  pub agent : w.agent ≡ new_agent
-  pub pending : w.client.pending ≡ []
-  pub held : w.client.held ≡ []
-  pub up : w.up ≡ []
-  pub down : w.down ≡ []
-  pub commands : accepted w.client.log ≡ []
-  pub unanswered : finals w.client.log ≡ []
-  pub no_hello : list_any is_placed_hello w.client.log ≡ false
-  pub no_mark : last_mark w.client.log ≡ None
-
--- the agent's Hello is on its way to the client
-pub record Waking (w : Queued) : Type 0 where
-  pub common : Common w.client.log w.agent.history w.client.accepted
-  pub state : w.client.state ≡ Opening
-  pub connected : IsConnected w.agent.state
-  pub history : w.agent.history ≡ Opened 0 ∷ []
-  pub pending : w.client.pending ≡ map pending_of (accepted w.client.log)
-  pub held : w.client.held ≡ map message_of (accepted w.client.log)
-  pub up : w.up ≡ hello_up w.agent.state
-  pub down : w.down ≡ hello_down ∷ []
-  pub unanswered : finals w.client.log ≡ []
-  pub no_hello : list_any is_placed_hello w.client.log ≡ false
-  pub no_mark : last_mark w.client.log ≡ None
-
--- The agent's Hello has come. The accepted commands are those that are done, those whose answers come, and those
--- that go up, in this order.
-pub record Awake (w : Queued) : Type 0 where
-  pub common : Common w.client.log w.agent.history w.client.accepted
-  pub state : w.client.state ≡ Live
-  pub connected : IsConnected w.agent.state
-  pub opens : OpensAt w.agent.history 1 0
-  pub opened : Contains (flat_map opened_by w.agent.history) 0
-  pub done : List Accepted
-  pub coming : List Coming
-  pub going : List Accepted
-  pub commands : accepted w.client.log ≡ done ++ (commands_of coming ++ going)
-  pub pending : w.client.pending ≡ map pending_of (commands_of coming ++ going)
-  pub held : w.client.held ≡ []
-  pub up : w.up ≡ hello_up w.agent.state ++ map message_of going
-  pub down : w.down ≡ map reply_of coming
-  pub answered : finals w.client.log ≡ map (λ (c : Accepted). c.number) done
-  pub answers : flat_map answer_of (from_hello w.client.log) ≡ map (λ (c : Accepted). c.number) done
-  pub executed : executed_on 0 w.agent.history ≡ map read (done ++ commands_of coming)
-  pub told : received w.client.log ++ map told_as coming ≡ sent 0 w.agent.history
-  pub hello : hello_position (from_hello w.client.log) ≡ Some 1
-  pub has_hello : list_any is_placed_hello w.client.log ≡ true
-  pub last : ℕ
-  pub last_is : last_mark w.client.log ≡ Some (Some last)
-  pub rises : Rises last coming (length w.agent.history)
-
-pub data Kept (w : Queued) : Type 0 where
-  sleeping : Sleeping w → Kept w
-  waking : Waking w → Kept w
-  awake : Awake w → Kept w
+pub chains_kept : (plan : Plan) (w : WorldValue) → IsSingle plan → length (played plan w).chains ≡ length w.chains
+chains_kept (opens at) w is = opened_kept at (slice_get w.chains at) w
+chains_kept (send at service name body) w is = on_kept (sent service name body) at (slice_get w.chains at) w
+chains_kept (deliver at hop true count) w is = both_kept (delivered_up count) at (slice_get w.chains at) w
+chains_kept (deliver at hop false count) w is = on_kept (delivered_down count) at (slice_get w.chains at) w
+chains_kept (turn at node true) w is = turned_kept at (slice_get w.chains at) w
+chains_kept (turn at node false) w is = on_kept turned_down at (slice_get w.chains at) w
+chains_kept (tick thread) w is = ticked_kept thread w
+chains_kept (close at) w is = on_kept closed at (slice_get w.chains at) w
+chains_kept (cut_plan at hop) w is = both_kept cut at (slice_get w.chains at) w
+chains_kept (rounds_plan count) w is = absurd is
+chains_kept (times count plan) w is = absurd is

@@ -1,18 +1,44 @@
-pub mod Frames
-pub mod Greetings
-pub mod Pieces
-pub mod Receiving
-pub mod Lanes
-pub mod Queues
-pub mod Repeats
-pub mod Playing
-pub mod Deliveries
-pub mod Rows
-pub mod LogRows
-pub mod HistoryRows
-pub mod Kept
-pub mod CommonRows
-pub mod Steps
+pub mod Parts
 pub mod Carried
-pub mod Taken
-pub mod Headline
+pub mod Queued
+pub mod Pieces
+pub mod Repeats
+pub mod Kept
+pub mod Connected
+mod Bytes
+mod Calls
+mod Clients
+mod Pasts
+mod Agents
+mod Flows
+mod Moves
+mod Steps
+mod Worlds
+mod Opening
+mod Playing
+mod Spoken
+mod Written
+mod Hearing
+mod Faithful
+mod Telling
+mod Stops
+mod Breaking
+mod Greeted
+mod Prefixes
+mod Serving
+mod Ending
+mod Replying
+mod Issuing
+mod Calling
+mod Talking
+mod Answering
+mod Leaving
+mod Places
+mod Lasting
+mod Closings
+mod Logged
+mod Unended
+mod Distinct
+mod Rightly
+pub mod Sizes
+pub mod Playable

@@ -1,282 +1,363 @@
--- Bytes that arrive in pieces.
-use Rattle.std.proofs.Common.{◌≡◌, ℕ, zero, suc, ◌+◌, ◌-◌, ◌<◌, ◌≤◌, true, false, List, [], ◌∷◌, ◌++◌, length, refl, sym, ◌∙◌, ap, subst, arith, append_assoc, inl, inr, ◌⊎◌}
-use Rattle.std.specs.Prelude.{◌↔◌, nat_le, nat_lt, sum_by}
-use Rattle.std.proofs.lemmas.Bool.{cases_Bool, cond-true, cond-false, leb-true, leb-false, le-leb, lt-leb, ltb-true, lt-ltb, and_parts, and_from, false≢true}
-use Rattle.std.proofs.lemmas.List.{length-append}
+-- All that is in flight arrives: as many pieces as there are bytes and messages are enough, and more change nothing.
+use Rattle.std.proofs.Common.{◌≡◌, ℕ, zero, suc, ◌+◌, ◌-◌, ◌<◌, ◌≤◌, ◌==◌, Bool, true, false, cond, List, [], ◌∷◌, length, drop, Option, Some, None, refl, sym, ap, ◌∙◌, subst, arith, inl, inr, ◌⊎◌, ne_eqb}
+use Rattle.std.specs.Prelude.{nat_le}
+use Rattle.std.proofs.lemmas.Bool.{false≢true, leb-false}
+use Rattle.std.proofs.lemmas.List.{length-drop}
 use Rattle.std.proofs.lemmas.List.Sums.{sum_by-cons}
-use Rattle.chain_world.specs.Marked.{Marked}
-use Rattle.chain_world.specs.LaneValue.{LaneValue}
-use Rattle.chain_world.specs.Lane.{full_inbox, most_piece, size_of, received, delivered, pieces, bytes_in_flight, all_delivered, is_carrying, IsWithin, OnePieceOrTwo, PiecesKeep, AllArrive, ArrivesWithItsLastByte}
+use Rattle.channel_core.specs.EndValue.{EndValue}
+use Rattle.channel_core.specs.declared.held.Outgoing.{Outgoing}
+use Rattle.client_node.specs.ClientValue.{ClientValue}
+use Rattle.agent_node.specs.AgentValue.{AgentValue}
+use Rattle.agent_node.specs.Agent.{channel_of}
+use Rattle.agent_node.specs.Channels.{end_in}
+use Rattle.chain_world.specs.Chain.{Both, agent_emptied, all_down, all_up, both, came_down, came_up, carried_from, carried_up, client_emptied, delivered_down, delivered_to, delivered_up, emptied, most_bytes, parts_delivered, pieces_down, pieces_up, queue_of, takes_down, takes_up}
+use Rattle.chain_world.specs.Hop.{sent_down, sent_up}
+use Rattle.chain_world.specs.Lane.{arriving, size_in, staying}
+use Rattle.chain_world.specs.declared.chain.Chain.{Chain}
+use Rattle.chain_world.specs.declared.hop.Hop.{Hop}
+use Rattle.chain_world.proofs.Carried.{none_sent}
+use Rattle.chain_world.proofs.Queued.{agent_emptied_twice, agent_has_none, none_sent_down}
 
--- ---- What so many bytes bring
+-- ---- A step again and again, of which each changes nothing or leaves fewer
 
--- a message whose frame ends within them, and one whose frame doesn't
-pub received_whole : (inbox : List Marked) (m : Marked) (ms : List Marked) (bytes : ℕ) → size_of m ≤ bytes
-    → received inbox (m ∷ ms) bytes ≡ received (inbox ++ m ∷ []) ms (bytes - size_of m)
-received_whole inbox m ms bytes le = cond-true (nat_le (size_of m) bytes) _ _ (le-leb (size_of m) bytes le)
+abbrev pub again : {S : Type 0} → (S → S) → ℕ → S → S
+again step zero s = s
+again step (suc n) s = again step n (step s)
 
-pub received_part : (inbox : List Marked) (m : Marked) (ms : List Marked) (bytes : ℕ) → bytes < size_of m
-    → received inbox (m ∷ ms) bytes ≡ record { inbox = inbox; flight = m ∷ ms; came = bytes }
-received_part inbox m ms bytes lt = cond-false (nat_le (size_of m) bytes) _ _ (lt-leb (size_of m) bytes lt)
+rests : {S : Type 0} → (step : S → S) (n : ℕ) (s : S) → step s ≡ s → again step n s ≡ s
+rests step zero s same = refl
+rests step (suc n) s same = ap (again step n) same ∙ rests step n s same
 
--- either of the two
-sizes : (m : Marked) (bytes : ℕ) → (size_of m ≤ bytes) ⊎ (bytes < size_of m)
-sizes m bytes =
-    elim (cases_Bool (nat_le (size_of m) bytes)) [ inl w ↦ inl (leb-true (size_of m) bytes w) | inr w ↦ inr (leb-false (size_of m) bytes w) ]
+pub record Fewer {S : Type 0} (step : S → S) (size : S → ℕ) (P : S → Type 0) (s : S) : Type 0 where
+  pub keeps : P (step s)
+  pub fewer : size (step s) < size s
 
--- some bytes, and then some more
-abbrev more_of : ℕ → LaneValue → LaneValue
-more_of count l = received l.inbox l.flight (l.came + count)
+abbrev pub Goes : {S : Type 0} → (S → S) → (S → ℕ) → (S → Type 0) → Type 0
+Goes {S} step size P = (s : S) → P s → (step s ≡ s) ⊎ Fewer step size P s
 
-received_twice : (inbox flight : List Marked) (a b : ℕ) → more_of b (received inbox flight a) ≡ received inbox flight (a + b)
-received_twice inbox [] a b = refl
-received_twice inbox (m ∷ ms) a b =
-    elim (sizes m a) [
-      | inl whole ↦
-          let both : size_of m ≤ a + b = omega arith in
-          let left : a - size_of m + b ≡ a + b - size_of m = omega arith in
-          ap (more_of b) (received_whole inbox m ms a whole)
-          ∙ (received_twice (inbox ++ m ∷ []) ms (a - size_of m) b
-          ∙ (ap (received (inbox ++ m ∷ []) ms) left ∙ sym (received_whole inbox m ms (a + b) both)))
-      | inr part ↦ ap (more_of b) (received_part inbox m ms a part)
-    ]
-
-received_order : (inbox flight : List Marked) (bytes : ℕ) → (received inbox flight bytes).inbox ++ (received inbox flight bytes).flight ≡ inbox ++ flight
-received_order inbox [] bytes = refl
-received_order inbox (m ∷ ms) bytes =
-    elim (sizes m bytes) [
-      | inl whole ↦
-          ap (λ (l : LaneValue). l.inbox ++ l.flight) (received_whole inbox m ms bytes whole)
-          ∙ (received_order (inbox ++ m ∷ []) ms (bytes - size_of m) ∙ append_assoc inbox (m ∷ []) ms)
-      | inr part ↦ ap (λ (l : LaneValue). l.inbox ++ l.flight) (received_part inbox m ms bytes part)
-    ]
-
-received_within : (inbox flight : List Marked) (bytes : ℕ) → IsWithin (received inbox flight bytes).flight (received inbox flight bytes).came
-received_within inbox [] bytes = refl
-received_within inbox (m ∷ ms) bytes =
-    elim (sizes m bytes) [
-      | inl whole ↦
-          subst (λ (l : LaneValue). IsWithin l.flight l.came) (sym (received_whole inbox m ms bytes whole))
-          (received_within (inbox ++ m ∷ []) ms (bytes - size_of m))
-      | inr part ↦ subst (λ (l : LaneValue). IsWithin l.flight l.came) (sym (received_part inbox m ms bytes part)) part
-    ]
-
--- how many bytes are left
-received_left : (inbox flight : List Marked) (bytes : ℕ) → bytes_in_flight (received inbox flight bytes) ≡ sum_by size_of flight - bytes
-received_left inbox [] bytes = omega arith
-received_left inbox (m ∷ ms) bytes =
-    elim (sizes m bytes) [
-      | inl whole ↦
-          let left : sum_by size_of ms - (bytes - size_of m) ≡ sum_by size_of (m ∷ ms) - bytes = omega (arith, sum_by-cons size_of m ms) in
-          ap bytes_in_flight (received_whole inbox m ms bytes whole) ∙ (received_left (inbox ++ m ∷ []) ms (bytes - size_of m) ∙ left)
-      | inr part ↦ ap bytes_in_flight (received_part inbox m ms bytes part)
-    ]
-
--- ---- One piece
-
-pub delivered_full : (count : ℕ) (l : LaneValue) → full_inbox ≤ length l.inbox → delivered count l ≡ l
-delivered_full count l full = cond-true (nat_le full_inbox (length l.inbox)) _ _ (le-leb full_inbox (length l.inbox) full)
-
-pub delivered_free : (count : ℕ) (l : LaneValue) → length l.inbox < full_inbox → delivered count l ≡ received l.inbox l.flight (l.came + count)
-delivered_free count l free = cond-false (nat_le full_inbox (length l.inbox)) _ _ (lt-leb full_inbox (length l.inbox) free)
-
--- the inbox is full, or it isn't
-room : (l : LaneValue) → (full_inbox ≤ length l.inbox) ⊎ (length l.inbox < full_inbox)
-room l =
-    elim (cases_Bool (nat_le full_inbox (length l.inbox))) [
-      | inl w ↦ inl (leb-true full_inbox (length l.inbox) w)
-      | inr w ↦ inr (leb-false full_inbox (length l.inbox) w)
-    ]
-
-pub one_piece_or_two : OnePieceOrTwo
-one_piece_or_two a b l free =
-    elim (room l) [
-      | inl full ↦
-          let same : length (delivered a l).inbox ≡ length l.inbox = ap (λ (k : LaneValue). length k.inbox) (delivered_full a l full) in
-          absurd (omega arith)
-      | inr before ↦
-          let sum : l.came + a + b ≡ l.came + (a + b) = omega arith in
-          delivered_free b (delivered a l) free
-          ∙ (ap (more_of b) (delivered_free a l before)
-          ∙ (received_twice l.inbox l.flight (l.came + a) b ∙ (ap (received l.inbox l.flight) sum ∙ sym (delivered_free (a + b) l before))))
-    ]
-
-pub pieces_keep : PiecesKeep
-pieces_keep count l =
-    elim (room l) [
-      | inl full ↦ record {
-        order = ap (λ (k : LaneValue). k.inbox ++ k.flight) (delivered_full count l full);
-        within = λ h. subst (λ (k : LaneValue). IsWithin k.flight k.came) (sym (delivered_full count l full)) h;
-      }
-      | inr free ↦ record {
-        order = ap (λ (k : LaneValue). k.inbox ++ k.flight) (delivered_free count l free) ∙ received_order l.inbox l.flight (l.came + count);
-        within = λ h. subst (λ (k : LaneValue). IsWithin k.flight k.came) (sym (delivered_free count l free)) (received_within l.inbox l.flight (l.came + count));
-      }
-    ]
-
--- ---- All pieces
-
--- the inbox is full, or nothing is in flight
-abbrev IsStill : LaneValue → Type 0
-IsStill l = (full_inbox ≤ length l.inbox) ⊎ ((l.flight ≡ []) × (l.came ≡ 0))
-
-still_stays : (count : ℕ) (l : LaneValue) → IsStill l → delivered count l ≡ l
-still_stays count l (inl full) = delivered_full count l full
-still_stays count l (inr empty) =
-    elim (room l) [
-      | inl full ↦ delivered_full count l full
-      | inr free ↦
-          delivered_free count l free
-          ∙ (ap (λ flight. received l.inbox flight (l.came + count)) empty.0
-          ∙ (ap (λ came. record { inbox = l.inbox; flight = []; came = came }) (sym empty.1)
-          ∙ ap (λ flight. record { inbox = l.inbox; flight = flight; came = l.came }) (sym empty.0)))
-    ]
-
-still_pieces : (n : ℕ) (l : LaneValue) → IsStill l → pieces n l ≡ l
-still_pieces zero l still = refl
-still_pieces (suc n) l still = ap (pieces n) (still_stays most_piece l still) ∙ still_pieces n l still
-
--- a piece that arrives leaves fewer bytes
-abbrev Moves : LaneValue → Type 0
-Moves l = (length l.inbox < full_inbox) × (bytes_in_flight (delivered most_piece l) < bytes_in_flight l)
-
-moves_or_still : (l : LaneValue) → IsWithin l.flight l.came → IsStill l ⊎ Moves l
-moves_or_still l within =
-    elim (room l) [
-      | inl full ↦ inl (inl full)
-      | inr free ↦ by_flight l.flight refl within free
+pub enough : {S : Type 0} → (step : S → S) (size : S → ℕ) (P : S → Type 0) → Goes step size P → (n m : ℕ) (s : S) → P s → size s ≤ n → size s ≤ m → again step n s ≡ again step m s
+enough step size P goes zero zero s holds few also = refl
+enough {S} step size P goes zero (suc m) s holds few also =
+    elim (goes s holds) as (λ _. s ≡ again step (suc m) s) [
+      | inl same ↦ sym (rests step (suc m) s same)
+      | inr f ↦ absurd (none few f.fewer)
     ]
   where
-    by_flight : (flight : List Marked) → l.flight ≡ flight → IsWithin flight l.came → length l.inbox < full_inbox → IsStill l ⊎ Moves l
-    by_flight [] is at free = inl (inr (is, at))
-    by_flight (m ∷ ms) is at free =
-        let left : bytes_in_flight (delivered most_piece l) ≡ sum_by size_of l.flight - (l.came + most_piece) =
-        ap bytes_in_flight (delivered_free most_piece l free) ∙ received_left l.inbox l.flight (l.came + most_piece) in
-        let sum : sum_by size_of l.flight ≡ sum_by size_of (m ∷ ms) = ap (sum_by size_of) is in
-        inr (free, omega (arith, sum_by-cons size_of m ms))
-
-piece_within : (l : LaneValue) → IsWithin l.flight l.came → IsWithin (delivered most_piece l).flight (delivered most_piece l).came
-piece_within l within = let k = pieces_keep most_piece l in k.within within
-
-none_left : (l : LaneValue) → IsWithin l.flight l.came → bytes_in_flight l ≤ 0 → IsStill l
-none_left l within none =
-    elim (moves_or_still l within) [ inl still ↦ still | inr moves ↦ let less = moves.1 in absurd (omega arith) ]
-
--- as many pieces as there are bytes are enough
-enough : (n k : ℕ) (l : LaneValue) → IsWithin l.flight l.came → bytes_in_flight l ≤ n → bytes_in_flight l ≤ k → pieces n l ≡ pieces k l
-enough zero k l within le other = sym (still_pieces k l (none_left l within le))
-enough (suc n) zero l within le other = still_pieces (suc n) l (none_left l within other)
-enough (suc n) (suc k) l within le other =
-    elim (moves_or_still l within) [
-      | inl still ↦ still_pieces (suc n) l still ∙ sym (still_pieces (suc k) l still)
-      | inr moves ↦ let less = moves.1 in enough n k (delivered most_piece l) (piece_within l within) (omega arith) (omega arith)
-    ]
-
--- one piece of all
-pub one_of_all : (l : LaneValue) → IsWithin l.flight l.came → all_delivered l ≡ all_delivered (delivered most_piece l)
-one_of_all l within =
-    elim (moves_or_still l within) [
-      | inl still ↦ ap all_delivered (sym (still_stays most_piece l still))
-      | inr moves ↦
-          let less = moves.1 in
-          let one_more : bytes_in_flight l ≡ suc (bytes_in_flight l - 1) = omega arith in
-          ap (λ n. pieces n l) one_more
-          ∙ enough (bytes_in_flight l - 1) (bytes_in_flight (delivered most_piece l)) (delivered most_piece l) (piece_within l within) (omega arith) (omega arith)
-    ]
-
-all_still : (n : ℕ) (l : LaneValue) → IsWithin l.flight l.came → bytes_in_flight l ≤ n → IsStill (pieces n l)
-all_still zero l within le = none_left l within le
-all_still (suc n) l within le =
-    elim (moves_or_still l within) [
-      | inl still ↦ subst IsStill (sym (still_pieces (suc n) l still)) still
-      | inr moves ↦ let less = moves.1 in all_still n (delivered most_piece l) (piece_within l within) (omega arith)
-    ]
-
-pub all_arrive : AllArrive
-all_arrive l within =
-    elim (all_still (bytes_in_flight l) l within (omega arith)) [ inl full ↦ inr full | inr empty ↦ inl empty.0 ]
-
--- ---- What the loop over all pieces keeps
-
-carrying : (l : LaneValue) → is_carrying l ≡ true → IsStill l → ⊥
-carrying l e (inl full) =
-    let both = and_parts (nat_lt 0 (length l.flight)) (nat_lt (length l.inbox) full_inbox) e in let free : length l.inbox < full_inbox = ltb-true (length l.inbox) full_inbox both.1 in omega arith
-carrying l e (inr empty) =
-    let both = and_parts (nat_lt 0 (length l.flight)) (nat_lt (length l.inbox) full_inbox) e in let some : 0 < length l.flight = ltb-true 0 (length l.flight) both.0 in omega (arith, ap length empty.0)
-
-pub fewer_left : (l : LaneValue) → IsWithin l.flight l.came → is_carrying l ≡ true → bytes_in_flight (delivered most_piece l) < bytes_in_flight l
-fewer_left l within e = elim (moves_or_still l within) [ inl still ↦ absurd (carrying l e still) | inr moves ↦ moves.1 ]
-
-not_carrying : (l : LaneValue) → IsWithin l.flight l.came → is_carrying l ≡ false → IsStill l
-not_carrying l within e =
-    elim (room l) [
-      | inl full ↦ inl full
-      | inr free ↦ by_flight l.flight refl within (lt-ltb (length l.inbox) full_inbox free)
+    none : {n m : ℕ} → n ≤ 0 → m < n → ⊥
+    none few less = omega (arith, few, less)
+enough {S} step size P goes (suc n) zero s holds few also =
+    elim (goes s holds) as (λ _. again step (suc n) s ≡ s) [
+      | inl same ↦ rests step (suc n) s same
+      | inr f ↦ absurd (none also f.fewer)
     ]
   where
-    by_flight : (flight : List Marked) → l.flight ≡ flight → IsWithin flight l.came → nat_lt (length l.inbox) full_inbox ≡ true → IsStill l
-    by_flight [] is at free = inr (is, at)
-    by_flight (m ∷ ms) is at free =
-        let some : nat_lt 0 (length l.flight) ≡ true = lt-ltb 0 (length l.flight) (omega (arith, ap length is)) in
-        absurd (false≢true (sym e ∙ and_from _ _ some free))
-
-pub none_carried : (l : LaneValue) → IsWithin l.flight l.came → is_carrying l ≡ false → all_delivered l ≡ l
-none_carried l within e = still_pieces (bytes_in_flight l) l (not_carrying l within e)
-
--- ---- Which messages have come
-
-received_grows : (inbox flight : List Marked) (bytes : ℕ) → length inbox ≤ length (received inbox flight bytes).inbox
-received_grows inbox [] bytes = omega arith
-received_grows inbox (m ∷ ms) bytes =
-    elim (sizes m bytes) [
-      | inl whole ↦
-          let more : length (inbox ++ m ∷ []) ≤ length (received (inbox ++ m ∷ []) ms (bytes - size_of m)).inbox = received_grows (inbox ++ m ∷ []) ms (bytes - size_of m) in
-          let same : length (received inbox (m ∷ ms) bytes).inbox ≡ length (received (inbox ++ m ∷ []) ms (bytes - size_of m)).inbox =
-          ap (λ (l : LaneValue). length l.inbox) (received_whole inbox m ms bytes whole) in
-          omega (arith, length-append inbox (m ∷ []))
-      | inr part ↦
-          let same : length (received inbox (m ∷ ms) bytes).inbox ≡ length inbox = ap (λ (l : LaneValue). length l.inbox) (received_part inbox m ms bytes part) in
-          omega arith
+    none : {n m : ℕ} → n ≤ 0 → m < n → ⊥
+    none few less = omega (arith, few, less)
+enough {S} step size P goes (suc n) (suc m) s holds few also =
+    elim (goes s holds) as (λ _. again step (suc n) s ≡ again step (suc m) s) [
+      | inl same ↦ rests step (suc n) s same ∙ sym (rests step (suc m) s same)
+      | inr f ↦ enough step size P goes n m (step s) f.keeps (less few f.fewer) (less also f.fewer)
     ]
+  where
+    less : {a b c : ℕ} → a ≤ suc b → c < a → c ≤ b
+    less few fewer = omega (arith, few, fewer)
 
--- a message in flight comes exactly where all bytes up to its end do
-last_byte : (inbox front rest : List Marked) (m : Marked) (bytes : ℕ)
-    → (sum_by size_of (front ++ m ∷ []) ≤ bytes) ↔ (length inbox + length front < length (received inbox (front ++ m ∷ rest) bytes).inbox)
-last_byte inbox [] rest m bytes =
-    elim (sizes m bytes) [
-      | inl whole ↦
-          let grows : length (inbox ++ m ∷ []) ≤ length (received (inbox ++ m ∷ []) rest (bytes - size_of m)).inbox = received_grows (inbox ++ m ∷ []) rest (bytes - size_of m) in
-          let same : length (received inbox (m ∷ rest) bytes).inbox ≡ length (received (inbox ++ m ∷ []) rest (bytes - size_of m)).inbox =
-          ap (λ (l : LaneValue). length l.inbox) (received_whole inbox m rest bytes whole) in
-          (λ le. omega (arith, length-append inbox (m ∷ [])), λ lt. omega (arith, sum_by-cons size_of m []))
-      | inr part ↦
-          let same : length (received inbox (m ∷ rest) bytes).inbox ≡ length inbox = ap (λ (l : LaneValue). length l.inbox) (received_part inbox m rest bytes part) in
-          (λ le. absurd (omega (arith, sum_by-cons size_of m [])), λ lt. absurd (omega arith))
-    ]
-last_byte inbox (x ∷ front) rest m bytes =
-    elim (sizes x bytes) [
-      | inl whole ↦
-          let r = last_byte (inbox ++ x ∷ []) front rest m (bytes - size_of x) in
-          let same : length (received inbox (x ∷ (front ++ m ∷ rest)) bytes).inbox ≡ length (received (inbox ++ x ∷ []) (front ++ m ∷ rest) (bytes - size_of x)).inbox =
-          ap (λ (l : LaneValue). length l.inbox) (received_whole inbox x (front ++ m ∷ rest) bytes whole) in (
-            λ le.
-                let fits : sum_by size_of (front ++ m ∷ []) ≤ bytes - size_of x = omega (arith, sum_by-cons size_of x (front ++ m ∷ [])) in
-                let more : length (inbox ++ x ∷ []) + length front < length (received (inbox ++ x ∷ []) (front ++ m ∷ rest) (bytes - size_of x)).inbox = r.0 fits in
-                omega (arith, length-append inbox (x ∷ [])),
-            λ lt.
-                let more : length (inbox ++ x ∷ []) + length front < length (received (inbox ++ x ∷ []) (front ++ m ∷ rest) (bytes - size_of x)).inbox = omega (arith, length-append inbox (x ∷ [])) in
-                let fits : sum_by size_of (front ++ m ∷ []) ≤ bytes - size_of x = r.1 more in
-                omega (arith, sum_by-cons size_of x (front ++ m ∷ [])),
-          )
-      | inr part ↦
-          let same : length (received inbox (x ∷ (front ++ m ∷ rest)) bytes).inbox ≡ length inbox =
-          ap (λ (l : LaneValue). length l.inbox) (received_part inbox x (front ++ m ∷ rest) bytes part) in
-          (λ le. absurd (omega (arith, sum_by-cons size_of x (front ++ m ∷ []))), λ lt. absurd (omega arith))
-    ]
+-- ---- What stays in flight is less
 
-pub arrives_with_its_last_byte : ArrivesWithItsLastByte
-arrives_with_its_last_byte count l front rest m free is =
-    let r = last_byte l.inbox front rest m (l.came + count) in
-    let same : length (delivered count l).inbox ≡ length (received l.inbox (front ++ m ∷ rest) (l.came + count)).inbox =
-    ap (λ (k : LaneValue). length k.inbox) (delivered_free count l free) ∙ ap (λ (ms : List Marked). length (received l.inbox ms (l.came + count)).inbox) is in
-    (λ le. let more : length l.inbox + length front < length (received l.inbox (front ++ m ∷ rest) (l.came + count)).inbox = r.0 le in omega arith, λ lt. r.1 (omega arith))
+size_more : (out : Outgoing) (outs : List Outgoing) → size_in (out ∷ outs) ≡ length out.bytes + 1 + size_in outs
+size_more out outs = sum_by-cons (λ o. length o.bytes + 1) out outs
+
+pub stays_within : (count : ℕ) (outs : List Outgoing) → size_in (staying count outs) ≤ size_in outs
+stays_within count [] = omega arith
+stays_within count (out ∷ outs) = by_none (count == 0) refl (stays_within (count - length out.bytes) outs)
+  where
+    by_size : (fits : Bool) → (count == 0) ≡ false → nat_le (length out.bytes) count ≡ fits → size_in (staying (count - length out.bytes) outs) ≤ size_in outs → size_in (staying count (out ∷ outs)) ≤ size_in (out ∷ outs)
+    by_size true some fits rest =
+        let is : staying count (out ∷ outs) ≡ staying (count - length out.bytes) outs = rw (some, fits) refl in
+        rw is (omega (arith, rest, size_more out outs))
+    by_size false some fits rest =
+        let is : staying count (out ∷ outs) ≡ record out { bytes = drop count out.bytes } ∷ outs = rw (some, fits) refl in
+        rw is (omega (arith, size_more out outs, size_more (record out { bytes = drop count out.bytes }) outs, length-drop count out.bytes))
+
+    by_none : (none : Bool) → (count == 0) ≡ none → size_in (staying (count - length out.bytes) outs) ≤ size_in outs → size_in (staying count (out ∷ outs)) ≤ size_in (out ∷ outs)
+    by_none true is rest = let same : staying count (out ∷ outs) ≡ out ∷ outs = rw is refl in rw same (omega arith)
+    by_none false is rest = by_size (nat_le (length out.bytes) count) is refl rest
+
+pub stays_fewer : (count : ℕ) (out : Outgoing) (outs : List Outgoing) → 0 < count → size_in (staying count (out ∷ outs)) < size_in (out ∷ outs)
+stays_fewer count out outs more = by_size (nat_le (length out.bytes) count) refl
+  where
+    some : (count == 0) ≡ false
+    some = ne_eqb count 0 (λ is. absurd (omega (arith, more, is)))
+
+    by_size : (fits : Bool) → nat_le (length out.bytes) count ≡ fits → size_in (staying count (out ∷ outs)) < size_in (out ∷ outs)
+    by_size true fits =
+        let is : staying count (out ∷ outs) ≡ staying (count - length out.bytes) outs = rw (some, fits) refl in
+        rw is (omega (arith, stays_within (count - length out.bytes) outs, size_more out outs))
+    by_size false fits =
+        let is : staying count (out ∷ outs) ≡ record out { bytes = drop count out.bytes } ∷ outs = rw (some, fits) refl in
+        rw is (omega (arith, more, leb-false (length out.bytes) count fits, size_more out outs, size_more (record out { bytes = drop count out.bytes }) outs, length-drop count out.bytes))
+
+-- ---- What is carried has nothing queued, and stays
+
+emptied_by : (spent : Bool) (e : EndValue ℕ) → emptied (emptied (record e { is_spent = spent })) ≡ emptied (record e { is_spent = spent })
+emptied_by true e = refl
+emptied_by false e = refl
+
+none_by : (spent : Bool) (e : EndValue ℕ) → queue_of (Some (emptied (record e { is_spent = spent }))) ≡ []
+none_by true e = refl
+none_by false e = refl
+
+client_twice : (o : Option (EndValue ℕ)) (c : ClientValue) → client_emptied (client_emptied (record c { channel = o })) ≡ client_emptied (record c { channel = o })
+client_twice None c = refl
+client_twice (Some e) c = ap (λ x. record c { channel = Some x }) (emptied_by e.is_spent e)
+
+client_none : (o : Option (EndValue ℕ)) (c : ClientValue) → queue_of (client_emptied (record c { channel = o })).channel ≡ []
+client_none None c = refl
+client_none (Some e) c = none_by e.is_spent e
+
+pub carried_twice : (chain : Chain) → carried_up (carried_up chain) ≡ carried_up chain
+carried_twice chain =
+    let c = client_emptied chain.client in
+    let hop = sent_up (queue_of chain.client.channel) chain.hop in
+    ap (λ x. record chain { client = x; hop = sent_up (queue_of c.channel) hop }) (client_twice chain.client.channel chain.client)
+    ∙ ap (λ q. record chain { client = c; hop = sent_up q hop }) (client_none chain.client.channel chain.client)
+    ∙ ap (λ h. record chain { client = c; hop = h }) (none_sent hop)
+
+down_by : (live : Bool) (up down outs : List Outgoing) → (sent_up outs (record { is_live = live; up = up; down = down })).down ≡ down
+down_by true up down outs = refl
+down_by false up down outs = refl
+
+down_kept : (outs : List Outgoing) (hop : Hop) → (sent_up outs hop).down ≡ hop.down
+down_kept outs hop = down_by hop.is_live hop.up hop.down outs
+
+up_by : (live : Bool) (up down outs : List Outgoing) → (sent_down outs (record { is_live = live; up = up; down = down })).up ≡ up
+up_by true up down outs = refl
+up_by false up down outs = refl
+
+up_kept : (outs : List Outgoing) (hop : Hop) → (sent_down outs hop).up ≡ hop.up
+up_kept outs hop = up_by hop.is_live hop.up hop.down outs
+
+-- ---- All pieces that go down
+
+abbrev pub IsCarried : Chain → Type 0
+IsCarried chain = carried_up chain ≡ chain
+
+abbrev pub down_size : Chain → ℕ
+down_size chain = size_in chain.hop.down
+
+down_taken : (count : ℕ) (chain : Chain) → takes_down chain ≡ true → delivered_down count chain ≡ carried_up (came_down count chain)
+down_taken count chain is = ap (λ b. cond b (carried_up (came_down count chain)) chain) is
+
+down_still : (count : ℕ) (chain : Chain) → takes_down chain ≡ false → delivered_down count chain ≡ chain
+down_still count chain is = ap (λ b. cond b (carried_up (came_down count chain)) chain) is
+
+-- where a piece arrives, the queue is carried then, and less is in flight
+pub down_fewer : (count : ℕ) (chain : Chain) (out : Outgoing) (outs : List Outgoing) → 0 < count → takes_down chain ≡ true → chain.hop.down ≡ out ∷ outs → Fewer (delivered_down count) down_size IsCarried chain
+down_fewer count chain out outs more takes is =
+    let step = down_taken count chain takes in
+    record {
+      keeps = subst IsCarried (sym step) (carried_twice (came_down count chain));
+      fewer =
+          let left : down_size (delivered_down count chain) ≡ size_in (staying count chain.hop.down) =
+          ap down_size step ∙ ap size_in (down_kept (queue_of (came_down count chain).client.channel) (came_down count chain).hop) in
+          let here : size_in (staying count (out ∷ outs)) < size_in (out ∷ outs) = stays_fewer count out outs more in
+          let less : size_in (staying count chain.hop.down) < size_in chain.hop.down = subst (λ xs. size_in (staying count xs) < size_in xs) (sym is) here in
+          rw left less;
+    }
+
+down_parts : (count : ℕ) (c : ClientValue) (live : Bool) (up : List Outgoing) (channel : Option ℕ) → came_down count (record { client = c; hop = record { is_live = live; up = up; down = [] }; channel = channel }) ≡ record { client = c; hop = record { is_live = live; up = up; down = [] }; channel = channel }
+down_parts count c live up channel = refl
+
+down_empty : (count : ℕ) (chain : Chain) → chain.hop.down ≡ [] → came_down count chain ≡ chain
+down_empty count chain is =
+    let chain_of : List Outgoing → Chain = λ xs. record chain { hop = record chain.hop { down = xs } } in
+    ap (λ xs. came_down count (chain_of xs)) is ∙ sym (ap chain_of is)
+
+down_goes : (count : ℕ) → 0 < count → Goes (delivered_down count) down_size IsCarried
+down_goes count more chain carried = by_flag (takes_down chain) refl
+  where
+    by_flight : (flight : List Outgoing) → chain.hop.down ≡ flight → takes_down chain ≡ true → (delivered_down count chain ≡ chain) ⊎ Fewer (delivered_down count) down_size IsCarried chain
+    by_flight [] is takes = inl (down_taken count chain takes ∙ ap carried_up (down_empty count chain is) ∙ carried)
+    by_flight (out ∷ outs) is takes = inr (down_fewer count chain out outs more takes is)
+
+    by_flag : (takes : Bool) → takes_down chain ≡ takes → (delivered_down count chain ≡ chain) ⊎ Fewer (delivered_down count) down_size IsCarried chain
+    by_flag true takes = by_flight chain.hop.down refl takes
+    by_flag false takes = inl (down_still count chain takes)
+
+pieces_again : (n : ℕ) (chain : Chain) → pieces_down n chain ≡ again (delivered_down most_bytes) n chain
+pieces_again zero chain = refl
+pieces_again (suc n) chain = pieces_again n (delivered_down most_bytes chain)
+
+below_zero : {n : ℕ} → n < 0 → ⊥
+below_zero less = omega (arith, less)
+
+-- one piece and then all
+pub record GoesDown (chain next : Chain) : Type 0 where
+  pub fewer : size_in next.hop.down < size_in chain.hop.down
+  pub all : all_down next ≡ all_down chain
+
+down_on : (chain : Chain) → takes_down chain ≡ true → (length chain.hop.down == 0) ≡ false → GoesDown chain (delivered_down most_bytes chain)
+down_on chain takes some = by_flight chain.hop.down refl
+  where
+    step : Chain → Chain
+    step = delivered_down most_bytes
+
+    by_fuel : (n : ℕ) → down_size chain ≡ n → Fewer step down_size IsCarried chain → all_down (step chain) ≡ all_down chain
+    by_fuel zero is f = absurd (below_zero (subst (λ n. down_size (step chain) < n) is f.fewer))
+    by_fuel (suc n) is f =
+        let more : 0 < most_bytes = omega arith in
+        let few : down_size (step chain) ≤ n = omega (arith, f.fewer, is) in
+        let self : down_size (step chain) ≤ down_size (step chain) = omega arith in
+        pieces_again (down_size (step chain)) (step chain)
+        ∙ enough step down_size IsCarried (down_goes most_bytes more) (down_size (step chain)) n (step chain) f.keeps self few
+        ∙ sym (ap (λ m. pieces_down m chain) is ∙ pieces_again n (step chain))
+
+    by_flight : (flight : List Outgoing) → chain.hop.down ≡ flight → GoesDown chain (step chain)
+    by_flight [] is = absurd (false≢true (sym some ∙ ap (λ xs. length xs == 0) is))
+    by_flight (out ∷ outs) is =
+        let more : 0 < most_bytes = omega arith in
+        let f = down_fewer most_bytes chain out outs more takes is in record { fewer = f.fewer; all = by_fuel (down_size chain) refl f }
+
+pub all_down_on : (chain next : Chain) → next ≡ delivered_down most_bytes chain → takes_down chain ≡ true → (length chain.hop.down == 0) ≡ false → GoesDown chain next
+all_down_on chain next is takes some = subst (GoesDown chain) (sym is) (down_on chain takes some)
+
+-- none where nothing may arrive, or nothing is in flight
+pub all_down_still : (chain : Chain) → takes_down chain ≡ false → all_down chain ≡ chain
+all_down_still chain none = pieces_again (down_size chain) chain ∙ rests (delivered_down most_bytes) (down_size chain) chain (down_still most_bytes chain none)
+
+not_empty : (out : Outgoing) (outs : List Outgoing) → (length (out ∷ outs) == 0) ≡ false
+not_empty out outs = ne_eqb (length (out ∷ outs)) 0 (λ same. absurd (omega (arith, same)))
+
+pub all_down_none : (chain : Chain) → (length chain.hop.down == 0) ≡ true → all_down chain ≡ chain
+all_down_none chain none = by_flight chain.hop.down refl
+  where
+    by_flight : (flight : List Outgoing) → chain.hop.down ≡ flight → all_down chain ≡ chain
+    by_flight [] is = ap (λ xs. pieces_down (size_in xs) chain) is
+    by_flight (out ∷ outs) is = absurd (false≢true (sym (not_empty out outs) ∙ (sym (ap (λ xs. length xs == 0) is) ∙ none)))
+
+-- ---- All pieces that go up
+
+abbrev pub up_size : Both → ℕ
+up_size b = size_in b.chain.hop.up
+
+abbrev pub piece_up : ℕ → Both → Both
+piece_up count b = delivered_up count b.chain b.agent
+
+-- the channel is this one, and what the agent queued for it is carried
+pub record IsCarriedDown (k : ℕ) (b : Both) : Type 0 where
+  pub channel : b.chain.channel ≡ Some k
+  pub same : carried_from (Some k) b.chain b.agent ≡ b
+
+pub carried_down_twice : (k : ℕ) (chain : Chain) (a : AgentValue) → chain.channel ≡ Some k → IsCarriedDown k (carried_from (Some k) chain a)
+carried_down_twice k chain a channel =
+    let hop = sent_down (queue_of (end_in (channel_of k a))) chain.hop in
+    let a' = agent_emptied k a in
+    record {
+      channel = channel;
+      same =
+          ap (λ x. both (record chain { hop = sent_down (queue_of (end_in (channel_of k a'))) hop }) x) (agent_emptied_twice k a)
+          ∙ ap (λ q. both (record chain { hop = sent_down q hop }) a') (agent_has_none k a)
+          ∙ ap (λ h. both (record chain { hop = h }) a') (none_sent_down hop);
+    }
+
+abbrev up_came : ℕ → ℕ → Both → Both
+up_came k count b =
+    both (record b.chain { hop = record b.chain.hop { up = staying count b.chain.hop.up } }) (parts_delivered k (arriving count b.chain.hop.up) b.agent)
+
+abbrev carried_both : ℕ → Both → Both
+carried_both k b = carried_from (Some k) b.chain b.agent
+
+up_taken : (k count : ℕ) (b : Both) → b.chain.channel ≡ Some k → takes_up k b.chain b.agent ≡ true → piece_up count b ≡ carried_both k (up_came k count b)
+up_taken k count b channel is =
+    ap (λ o. delivered_to o count b.chain b.agent) channel ∙ ap (λ t. cond t (came_up k count b.chain b.agent) b) is
+    ∙ ap (λ o. carried_from o (up_came k count b).chain (up_came k count b).agent) channel
+
+up_still : (k count : ℕ) (b : Both) → b.chain.channel ≡ Some k → takes_up k b.chain b.agent ≡ false → piece_up count b ≡ b
+up_still k count b channel is = ap (λ o. delivered_to o count b.chain b.agent) channel ∙ ap (λ t. cond t (came_up k count b.chain b.agent) b) is
+
+-- where a piece arrives, the queue is carried then, and less is in flight
+up_fewer : (k count : ℕ) (b : Both) (out : Outgoing) (outs : List Outgoing) → 0 < count → b.chain.channel ≡ Some k → takes_up k b.chain b.agent ≡ true → b.chain.hop.up ≡ out ∷ outs → Fewer (piece_up count) up_size (IsCarriedDown k) b
+up_fewer k count b out outs more channel takes is =
+    let step = up_taken k count b channel takes in
+    let came = up_came k count b in
+    record {
+      keeps = subst (IsCarriedDown k) (sym step) (carried_down_twice k came.chain came.agent channel);
+      fewer =
+          let left : up_size (piece_up count b) ≡ size_in (staying count b.chain.hop.up) =
+          ap up_size step ∙ ap size_in (up_kept (queue_of (end_in (channel_of k came.agent))) came.chain.hop) in
+          let here : size_in (staying count (out ∷ outs)) < size_in (out ∷ outs) = stays_fewer count out outs more in
+          let less : size_in (staying count b.chain.hop.up) < size_in b.chain.hop.up = subst (λ xs. size_in (staying count xs) < size_in xs) (sym is) here in
+          rw left less;
+    }
+
+up_empty : (k count : ℕ) (b : Both) → b.chain.hop.up ≡ [] → up_came k count b ≡ b
+up_empty k count b is =
+    let both_of : List Outgoing → Both = λ xs. both (record b.chain { hop = record b.chain.hop { up = xs } }) b.agent in
+    ap (λ xs. up_came k count (both_of xs)) is ∙ sym (ap both_of is)
+
+up_goes : (k count : ℕ) → 0 < count → Goes (piece_up count) up_size (IsCarriedDown k)
+up_goes k count more b carried = by_flag (takes_up k b.chain b.agent) refl
+  where
+    by_flight : (flight : List Outgoing) → b.chain.hop.up ≡ flight → takes_up k b.chain b.agent ≡ true → (piece_up count b ≡ b) ⊎ Fewer (piece_up count) up_size (IsCarriedDown k) b
+    by_flight [] is takes = inl (up_taken k count b carried.channel takes ∙ ap (carried_both k) (up_empty k count b is) ∙ carried.same)
+    by_flight (out ∷ outs) is takes = inr (up_fewer k count b out outs more carried.channel takes is)
+
+    by_flag : (takes : Bool) → takes_up k b.chain b.agent ≡ takes → (piece_up count b ≡ b) ⊎ Fewer (piece_up count) up_size (IsCarriedDown k) b
+    by_flag true takes = by_flight b.chain.hop.up refl takes
+    by_flag false takes = inl (up_still k count b carried.channel takes)
+
+ups_again : (n : ℕ) (b : Both) → pieces_up n b ≡ again (piece_up most_bytes) n b
+ups_again zero b = refl
+ups_again (suc n) b = ups_again n (piece_up most_bytes b)
+
+pub record GoesUp (k : ℕ) (chain next : Chain) (a after : AgentValue) : Type 0 where
+  pub fewer : size_in next.hop.up < size_in chain.hop.up
+  pub all : all_up next after ≡ all_up chain a
+  pub channel : next.channel ≡ Some k
+
+abbrev BothGoUp : ℕ → Both → Both → Type 0
+BothGoUp k b next = GoesUp k b.chain next.chain b.agent next.agent
+
+up_on : (k : ℕ) (b : Both) → b.chain.channel ≡ Some k → takes_up k b.chain b.agent ≡ true → (length b.chain.hop.up == 0) ≡ false → BothGoUp k b (piece_up most_bytes b)
+up_on k b channel takes some = by_flight b.chain.hop.up refl
+  where
+    step : Both → Both
+    step = piece_up most_bytes
+
+    by_fuel : (n : ℕ) → up_size b ≡ n → Fewer step up_size (IsCarriedDown k) b → all_up (step b).chain (step b).agent ≡ all_up b.chain b.agent
+    by_fuel zero is f = absurd (below_zero (subst (λ n. up_size (step b) < n) is f.fewer))
+    by_fuel (suc n) is f =
+        let more : 0 < most_bytes = omega arith in
+        let few : up_size (step b) ≤ n = omega (arith, f.fewer, is) in
+        let self : up_size (step b) ≤ up_size (step b) = omega arith in
+        ups_again (up_size (step b)) (step b)
+        ∙ enough step up_size (IsCarriedDown k) (up_goes k most_bytes more) (up_size (step b)) n (step b) f.keeps self few
+        ∙ sym (ap (λ m. pieces_up m b) is ∙ ups_again n (step b))
+
+    by_flight : (flight : List Outgoing) → b.chain.hop.up ≡ flight → BothGoUp k b (step b)
+    by_flight [] is = absurd (false≢true (sym some ∙ ap (λ xs. length xs == 0) is))
+    by_flight (out ∷ outs) is =
+        let more : 0 < most_bytes = omega arith in
+        let f = up_fewer k most_bytes b out outs more channel takes is in record { fewer = f.fewer; all = by_fuel (up_size b) refl f; channel = f.keeps.channel }
+
+pub all_up_on : (k : ℕ) (chain next : Chain) (a after : AgentValue) → both next after ≡ delivered_up most_bytes chain a → chain.channel ≡ Some k → takes_up k chain a ≡ true → (length chain.hop.up == 0) ≡ false
+    → GoesUp k chain next a after
+all_up_on k chain next a after is channel takes some = subst (BothGoUp k (both chain a)) (sym is) (up_on k (both chain a) channel takes some)
+
+pub all_up_still : (k : ℕ) (chain : Chain) (a : AgentValue) → chain.channel ≡ Some k → takes_up k chain a ≡ false → all_up chain a ≡ both chain a
+all_up_still k chain a channel none =
+    ups_again (size_in chain.hop.up) (both chain a) ∙ rests (piece_up most_bytes) (size_in chain.hop.up) (both chain a) (up_still k most_bytes (both chain a) channel none)
+
+pub all_up_none : (chain : Chain) (a : AgentValue) → (length chain.hop.up == 0) ≡ true → all_up chain a ≡ both chain a
+all_up_none chain a none = by_flight chain.hop.up refl
+  where
+    by_flight : (flight : List Outgoing) → chain.hop.up ≡ flight → all_up chain a ≡ both chain a
+    by_flight [] is = ap (λ xs. pieces_up (size_in xs) (both chain a)) is
+    by_flight (out ∷ outs) is = absurd (false≢true (sym (not_empty out outs) ∙ (sym (ap (λ xs. length xs == 0) is) ∙ none)))
+
+-- where there is no channel nothing arrives
+pub no_channel : (n : ℕ) (b : Both) → b.chain.channel ≡ None → pieces_up n b ≡ b
+no_channel n b none = ups_again n b ∙ rests (piece_up most_bytes) n b (ap (λ o. delivered_to o most_bytes b.chain b.agent) none)
+
+pub all_up_unopened : (chain : Chain) (a : AgentValue) → chain.channel ≡ None → all_up chain a ≡ both chain a
+all_up_unopened chain a none = no_channel (size_in chain.hop.up) (both chain a) none

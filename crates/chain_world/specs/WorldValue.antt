@@ -1,10 +1,12 @@
-use Rattle.chain_world.specs.LaneValue.{LaneValue}
-use Rattle.chain_world.specs.ClientValue.{ClientValue}
-use Rattle.chain_world.specs.AgentValue.{AgentValue}
+use Rattle.std.specs.Prelude.{ℕ, Bool, List}
+use Rattle.agent_node.specs.AgentValue.{AgentValue}
+use Rattle.target_hub.specs.declared.input.Input.{Input}
+use Rattle.chain_world.specs.declared.chain.Chain.{Chain}
 
--- a client, an agent, and the two directions of the hop between them
+-- a world: the agent, the number of the next channel on it, the chains, and the history of the target
 pub record WorldValue : Type 0 where
-  pub client : ClientValue
   pub agent : AgentValue
-  pub up : LaneValue
-  pub down : LaneValue
+  pub next : ℕ
+  pub chains : List Chain
+  pub history : List Input
+  pub is_spent : Bool  -- memory was wanting, and nothing is done any more

@@ -1,187 +1,121 @@
-//! One direction of a hop: messages go in, bytes arrive in pieces, and whole messages come out.
-ghost use Rattle.std.specs.Prelude.{◌≡◌, ◌<◌, ◌+◌, ◌∷◌, [], length, OnOk};
-ghost use Rattle.std.specs.Option.{IsSomeAnd};
+//! One direction of a hop: messages go in, and bytes come out in parts.
+ghost use Rattle.std.specs.Prelude.{◌≡◌, ◌++◌, ◌∷◌, [], ◌==◌, length, IfOk, OnOk};
+ghost use Rattle.channel_core.specs.Wire.{end_of_stream};
+ghost use Rattle.chain_world.specs.Lane.{arriving, next_part, staying};
 
-use crate::packet::Packet;
-use crate::received::Received;
-use crate::receiver::{read_part, read_rest};
+use channel_core::Outgoing;
 use std::alloc::{AllocError, Global};
 use std::collections::VecDeque;
 use std::marker::Model;
-use stream_escape::Unescape;
+use stream_escape::mark_eos;
+use tcf_outside::Octets;
 
-/// While so many messages aren't taken, no more bytes arrive.
-pub const INBOX_LIMIT: usize = 200;
-
-/// The most bytes of one piece.
-pub const PIECE_LIMIT: usize = 65_536;
-
-/// One direction of a hop. After want of memory nothing is promised of it but that it is safe to use.
-#[derive(Debug, Drop)]
+/// One direction of a hop. Contracts see what is in flight, the oldest message first, without what has arrived of it.
+#[derive(Drop)]
 pub struct Lane {
     alloc: Global,
-    inbox: VecDeque<Received>,
-    flight: VecDeque<Packet>,
+    flight: VecDeque<Outgoing>,
+    /// How many bytes of the first message in flight have arrived.
     came: usize,
-    unescape: Unescape,
 }
 
 impl Model for Lane {
-    ghost use Rattle.chain_world.specs.LaneValue.{LaneValue};
+    ghost use Rattle.std.specs.Prelude.{List};
+    ghost use Rattle.channel_core.specs.declared.held.Outgoing.{Outgoing};
 
-    ghost Value = { LaneValue };
+    ghost Value = { List Outgoing };
 
-    ghost use Rattle.chain_world.specs.Lane.{HasRead};
+    ghost use Rattle.chain_world.specs.Lane.{IsWithin, without_front};
 
-    ghost view = { λ l. record { inbox = l.inbox.items; flight = l.flight.items; came = l.came } };
+    ghost view = { λ l. without_front l.came l.flight.items };
 
-    ghost invariant = { λ l. HasRead l.flight.items l.came l.unescape };
+    ghost invariant = { λ l. IsWithin l.came l.flight.items };
 }
 
 impl Lane {
-    ghost use Rattle.chain_world.specs.Lane.{IsWithin, new_lane, queued_on, received, delivered, all_delivered, is_carrying, missing_in, part_come, rest_come, oldest_taken};
-
-    /// Makes a lane on which nothing is in flight and nothing has come.
-    pub fn new(alloc: Global) -> Self
-        ensures { result ≡ new_lane }
+    /// Nothing is in flight.
+    pub(crate) fn new(alloc: Global) -> Self
+        ensures { result ≡ [] }
     {
         Lane {
             alloc,
-            inbox: VecDeque::new(alloc),
             flight: VecDeque::new(alloc),
             came: 0,
-            unescape: Unescape::new(alloc),
         }
     }
 
-    /// Queues a message, which is in flight at once.
-    pub fn queue(&mut self, packet: Packet) -> Result<(), AllocError>
-        ensures { OnOk result (self.new ≡ queued_on (packet ∷ []) self.old) }
+    /// The message is in flight, behind what is.
+    pub(crate) fn queue(&mut self, out: Outgoing) -> Result<(), AllocError>
+        ensures { OnOk result (self.new ≡ self.old ++ out ∷ []) }
     {
-        self.flight.push_back(packet)?;
+        self.flight.push_back(out)?;
         Ok(())
     }
 
-    /// Queues these messages, in order.
-    pub(crate) fn queue_all(&mut self, packets: &mut VecDeque<Packet>) -> Result<(), AllocError>
-        ensures queued { OnOk result (self.new ≡ queued_on packets.old.items self.old) }
-        ensures moved { OnOk result (packets.new.items ≡ []) }
+    /// The end of the stream is in flight, behind what is.
+    pub(crate) fn queue_end(&mut self) -> Result<(), AllocError>
+        ensures { OnOk result (self.new ≡ self.old ++ end_of_stream ∷ []) }
     {
-        self.flight.append(packets)?;
-        Ok(())
+        let mut bytes = Octets::new(self.alloc);
+        mark_eos(&mut bytes)?;
+        self.queue(Outgoing { bytes, mark: None })
     }
 
-    /// How many messages have come whole and aren't taken.
-    pub fn waiting(&self) -> usize
-        ensures { result ≡ length self.now.inbox }
+    /// Whether nothing is in flight.
+    pub(crate) fn is_empty(&self) -> bool
+        ensures { result ≡ (length self.now == 0) }
     {
-        self.inbox.len()
+        self.flight.is_empty()
     }
 
-    /// The next bytes in flight arrive as one piece: so many, or as many as there are, and none where the inbox holds
-    /// 200 messages or more. Each message whose last byte arrives is in the inbox.
-    pub fn deliver(&mut self, count: usize) -> Result<(), AllocError>
-        ensures { OnOk result (self.new ≡ delivered count self.old) }
+    /// What is in flight is lost.
+    pub(crate) fn clear(&mut self)
+        ensures { self.new ≡ [] }
     {
-        if self.waiting() >= INBOX_LIMIT {
-            return Ok(());
-        }
-        self.receive(count)
+        self.flight.clear();
+        self.came = 0;
     }
 
-    /// Pieces of 65,536 bytes arrive until none is in flight or the inbox holds 200 messages.
-    #[tactic(auto, using(crate::proofs::Pieces::one_of_all, crate::proofs::Pieces::fewer_left, crate::proofs::Pieces::none_carried))]
-    pub fn deliver_all(&mut self) -> Result<(), AllocError>
-        ensures { OnOk result (self.new ≡ all_delivered self.old) }
+    /// The next so many bytes arrive, or as many as there are: one part for each message that they belong to.
+    #[tactic(auto, using(crate::proofs::Parts::next_part_is, crate::proofs::Parts::no_part_is))]
+    pub(crate) fn arrive(&mut self, count: usize) -> Result<Vec<Outgoing>, AllocError>
+        ensures parts { IfOk result (λ parts. parts.items ≡ arriving count self.old) }
+        ensures stays { OnOk result (self.new ≡ staying count self.old) }
     {
-        while self.is_carrying() {
-            self.deliver(PIECE_LIMIT)?;
-        }
-        Ok(())
-    }
-
-    /// Takes the oldest message out of the inbox.
-    pub(crate) fn take(&mut self) -> Option<Received>
-        ensures { (result, self.new) ≡ oldest_taken self.old.inbox self.old }
-    {
-        self.inbox.pop_front()
-    }
-
-    /// Whether bytes are in flight that may arrive.
-    fn is_carrying(&self) -> bool
-        ensures value { result ≡ is_carrying self.now }
-        ensures within { IsWithin self.now.flight self.now.came }
-    {
-        !self.flight.is_empty() && self.waiting() < INBOX_LIMIT
-    }
-
-    /// How many bytes of the first message in flight haven't come.
-    fn missing(&self) -> Option<usize>
-        ensures some { result ≡ missing_in self.now }
-        ensures within { IsWithin self.now.flight self.now.came }
-    {
-        let packet = self.flight.front()?;
-        Some(packet.bytes().len() - self.came)
-    }
-
-    /// So many bytes arrive, or as many as there are.
-    fn receive(&mut self, count: usize) -> Result<(), AllocError>
-        ensures { OnOk result (self.new ≡ received self.old.inbox self.old.flight (self.old.came + count)) }
-    {
+        let mut parts = Vec::new(self.alloc);
         let mut left = count;
-        while let Some(missing) = self.missing() {
-            if left < missing {
-                return self.receive_part(left);
-            }
-            self.receive_rest()?;
-            left -= missing;
+        while left > 0 {
+            let Some(part) = self.next_part(left)? else {
+                return Ok(parts);
+            };
+            left -= part.bytes.len();
+            parts.push(part)?;
         }
-        Ok(())
+        Ok(parts)
     }
 
-    /// So many bytes of the first message in flight arrive, which aren't the rest of it.
-    fn receive_part(&mut self, count: usize) -> Result<(), AllocError>
-        requires { IsSomeAnd (missing_in self.old) (λ missing. count < missing) }
-        ensures { OnOk result (self.new ≡ part_come count self.old) }
+    /// What comes first, in at most so many bytes.
+    fn next_part(&mut self, most: usize) -> Result<Option<Outgoing>, AllocError>
+        ensures { IfOk result (λ part. (part, self.new) ≡ next_part most self.old) }
     {
-        let Some(packet) = self.flight.front() else {
-            unreachable!()
+        let Some(first) = self.flight.front() else {
+            return Ok(None);
         };
-        match read_part(
-            self.alloc,
-            &mut self.unescape,
-            packet.bytes(),
-            self.came,
-            count,
-        ) {
-            Ok(()) => {
-                self.came += count;
-                Ok(())
-            }
-            Err(wanting) => {
-                *self = Lane::new(self.alloc);
-                Err(wanting)
-            }
-        }
-    }
-
-    /// The rest of the first message in flight arrives.
-    fn receive_rest(&mut self) -> Result<(), AllocError>
-        ensures { OnOk result (self.new ≡ rest_come self.old.flight self.old) }
-    {
-        let Some(packet) = self.flight.pop_front() else {
-            return Ok(());
+        let rest = first.bytes.len() - self.came;
+        let taken = rest.min(most);
+        let part = Outgoing {
+            bytes: Octets::from_slice(
+                self.alloc,
+                &first.bytes.as_slice()[self.came..self.came + taken],
+            )?,
+            mark: first.mark,
         };
-        match read_rest(self.alloc, &mut self.unescape, packet.bytes(), self.came) {
-            Ok(raw) => {
-                self.came = 0;
-                self.inbox.push_back(Received::new(raw, packet.mark()))?;
-                Ok(())
-            }
-            Err(wanting) => {
-                *self = Lane::new(self.alloc);
-                Err(wanting)
-            }
+        if taken == rest {
+            self.came = 0;
+            self.flight.pop_front();
+        } else {
+            self.came += taken;
         }
+        Ok(Some(part))
     }
 }

@@ -1,25 +1,32 @@
-//! The world: a client, an agent, and the hop between them, played step by step.
-ghost use Rattle.std.specs.Prelude.{◌≡◌, OnOk, All};
-ghost use Rattle.tcf_text.specs.Plan.{plan_of, plans_of};
-ghost use Rattle.chain_world.specs.World.{new_world, opened_from, delivered_from, delivered_to, up_arrived, down_arrived, taken_up, taken_down, round, rounds, repeated, IsSingle, IsPlayable, played, run};
+//! The world: one agent, and the chains of a schedule, played step by step.
+ghost use Rattle.std.specs.Prelude.{◌≡◌, ◌<◌, true, false, IfOk, IfSome, OnErr, OnOk, length, slice_get};
+ghost use Rattle.tcf_message.specs.Message.{HasNoZero};
+ghost use Rattle.std.specs.List.{AllByRecursion};
+ghost use Rattle.tcf_schedules.specs.Plan.{plan_of, plans_of};
+ghost use Rattle.chain_world.specs.Chain.{all_down, all_taken_down, all_up, is_opened, turned_down};
+ghost use Rattle.chain_world.specs.World.{IsNotRepeated, IsPlayable, IsSingle, agent_turned, all_carried, carried, closed_at, connected_at, cut_at, delivered_at, image_of, images_of, log_at, new_chains, new_world, on_chain, opened_at, opening, played, quiet_at, repeated, round_all, round_at, round_of, rounds, run, sent_at, tick_of, ticked_in, turned_at, up_taken, with_agent, with_input};
 
-use crate::agent::Agent;
-use crate::client::Client;
-use crate::end::EndState;
-use crate::history::Input;
-use crate::lane::Lane;
+use crate::chain::Chain;
+use agent_node::{AgentNode, Image};
 use std::alloc::{AllocError, Global};
 use std::marker::Model;
-use tcf_text::{LogLine, ScheduleStep};
+use target_hub::Input;
+use tcf_outside::Duplicate;
+use tcf_schedules::{NamedImage, Schedule, ScheduleStep};
+use tcf_text::LogLine;
+use tcf_values::ContextId;
 
-/// A client, an agent, and the hop between them. After want of memory nothing is promised of it but that it is safe
-/// to use.
-#[derive(Debug, Drop)]
+/// One agent and its chains. Contracts see them, the history of the target, and whether memory was wanting in a call: then
+/// the world is spent, and each later call answers want of memory again.
+#[derive(Drop)]
 pub struct World {
-    client: Client,
-    agent: Agent,
-    up: Lane,
-    down: Lane,
+    alloc: Global,
+    agent: AgentNode,
+    /// The number of the next channel.
+    next: u64,
+    chains: Vec<Chain>,
+    history: Vec<Input>,
+    spent: bool,
 }
 
 impl Model for World {
@@ -27,25 +34,57 @@ impl Model for World {
 
     ghost Value = { WorldValue };
 
-    ghost view = { λ w. record { client = w.client; agent = w.agent; up = w.up; down = w.down } };
+    ghost view = { λ w. record { agent = w.agent; next = w.next; chains = w.chains.items; history = w.history.items; is_spent = w.spent } };
 }
 
 impl World {
-    /// Makes a world in which nothing is connected, nothing is in flight, and the history is empty.
-    pub fn new(alloc: Global) -> Self
-        ensures { result ≡ new_world }
+    /// Makes the world that a schedule begins with: its images and its chains, in which nothing is opened.
+    #[tactic(auto, using(crate::proofs::Sizes::new_length))]
+    pub fn new(alloc: Global, schedule: &Schedule) -> Result<World, AllocError>
+        ensures begins { IfOk result (λ world. world ≡ new_world (images_of schedule.now.images) (length schedule.now.chains)) }
+        ensures chains { IfOk result (λ world. length world.chains ≡ length schedule.now.chains) }
     {
-        World {
-            client: Client::new(alloc),
-            agent: Agent::new(alloc),
-            up: Lane::new(alloc),
-            down: Lane::new(alloc),
-        }
+        Ok(World {
+            alloc,
+            agent: AgentNode::new(alloc, images_of(alloc, schedule.images.as_slice())?)?,
+            next: 0,
+            chains: new_chains(alloc, schedule.chains.len())?,
+            history: Vec::new(alloc),
+            spent: false,
+        })
     }
 
-    /// Plays one step. There is one chain, which has one hop, and each step is of them, whatever numbers it has.
+    /// Plays a step. The chain, the hop and the node that it names are there.
     pub fn play(&mut self, step: &ScheduleStep) -> Result<(), AllocError>
-        requires { IsPlayable (plan_of step.now) }
+        requires { IsPlayable (length self.old.chains) (plan_of step.now) }
+        ensures played { OnOk result (self.new ≡ played (plan_of step.now) self.old) }
+        ensures fresh { OnOk result (self.old.is_spent ≡ false) }
+        ensures spent { OnErr result (self.new.is_spent ≡ true) }
+    {
+        if self.spent {
+            return Err(AllocError);
+        }
+        let answer = self.try_play(step);
+        if answer.is_err() {
+            self.spent = true;
+        }
+        answer
+    }
+
+    /// Plays the steps, in order. There are as many chains as before.
+    pub fn play_all(&mut self, steps: &[ScheduleStep]) -> Result<(), AllocError>
+        requires { AllByRecursion (IsPlayable (length self.old.chains)) (plans_of steps.now) }
+        ensures played { OnOk result (self.new ≡ run (plans_of steps.now) self.old) }
+        ensures chains { OnOk result (length self.new.chains ≡ length self.old.chains) }
+    {
+        for step in steps {
+            self.play(step)?;
+        }
+        Ok(())
+    }
+
+    fn try_play(&mut self, step: &ScheduleStep) -> Result<(), AllocError>
+        requires { IsPlayable (length self.old.chains) (plan_of step.now) }
         ensures { OnOk result (self.new ≡ played (plan_of step.now) self.old) }
     {
         match step {
@@ -54,74 +93,11 @@ impl World {
         }
     }
 
-    /// Plays the steps in order.
-    pub fn play_all(&mut self, steps: &[ScheduleStep]) -> Result<(), AllocError>
-        requires { All IsPlayable (plans_of steps.now) }
-        ensures { OnOk result (self.new ≡ run (plans_of steps.now) self.old) }
-    {
-        for step in steps {
-            self.play(step)?;
-        }
-        Ok(())
-    }
-
-    /// The inputs of the target so far.
-    pub fn history(&self) -> &[Input]
-        ensures { result.now ≡ self.now.agent.history }
-    {
-        self.agent.history()
-    }
-
-    /// The client's log so far.
-    pub fn log(&self) -> &[LogLine]
-        ensures { result.now ≡ self.now.client.log }
-    {
-        self.client.log()
-    }
-
-    /// Connects the client to the agent. A second time nothing happens.
-    fn open(&mut self) -> Result<(), AllocError>
-        ensures { OnOk result (self.new ≡ opened_from self.old.client.state self.old) }
-    {
-        match self.client.state() {
-            EndState::Unopened => {
-                self.client.open(&mut self.up)?;
-                self.agent.open(&mut self.down)
-            }
-            EndState::Opening | EndState::Live => Ok(()),
-        }
-    }
-
-    /// Plays a step that isn't one repeated.
-    fn play_once(&mut self, step: &ScheduleStep) -> Result<(), AllocError>
-        requires single { IsSingle (plan_of step.now) }
-        requires playable { IsPlayable (plan_of step.now) }
-        ensures { OnOk result (self.new ≡ played (plan_of step.now) self.old) }
-    {
-        match step {
-            ScheduleStep::Opens { .. } => self.open(),
-            ScheduleStep::Send {
-                service,
-                name,
-                body,
-                ..
-            } => self.client.send(
-                service.as_slice(),
-                name.as_slice(),
-                body.as_slice(),
-                &mut self.up,
-            ),
-            ScheduleStep::Deliver { up, count, .. } => self.deliver(*up, *count),
-            ScheduleStep::Rounds { count } => self.rounds(*count),
-            ScheduleStep::Times { .. } => unreachable!(),
-        }
-    }
-
     /// Plays the step so many times.
-    #[tactic(auto, using(crate::proofs::Repeats::once_more))]
+    #[tactic(auto, using(crate::proofs::Repeats::once_more, crate::proofs::Kept::single_isnt_repeated, crate::proofs::Kept::chains_kept))]
     fn play_times(&mut self, count: u32, step: &ScheduleStep) -> Result<(), AllocError>
         requires single { IsSingle (plan_of step.now) }
-        requires playable { IsPlayable (plan_of step.now) }
+        requires playable { IsPlayable (length self.old.chains) (plan_of step.now) }
         ensures { OnOk result (self.new ≡ repeated count (played (plan_of step.now)) self.old) }
     {
         for counter in 0..count {
@@ -130,78 +106,332 @@ impl World {
         Ok(())
     }
 
-    /// A piece of so many bytes arrives at the agent or at the client, once they are connected.
-    fn deliver(&mut self, up: bool, count: u32) -> Result<(), AllocError>
-        ensures { OnOk result (self.new ≡ delivered_from self.old.client.state up count self.old) }
+    /// Plays a step that isn't one repeated.
+    fn play_once(&mut self, step: &ScheduleStep) -> Result<(), AllocError>
+        requires single { IsNotRepeated (plan_of step.now) }
+        requires playable { IsPlayable (length self.old.chains) (plan_of step.now) }
+        ensures { OnOk result (self.new ≡ played (plan_of step.now) self.old) }
     {
-        match self.client.state() {
-            EndState::Unopened => Ok(()),
-            EndState::Opening | EndState::Live => self.deliver_to(up, count as usize),
+        match step {
+            ScheduleStep::Opens { chain } => self.open(*chain),
+            ScheduleStep::Send {
+                chain,
+                service,
+                name,
+                body,
+            } => self.send(*chain, service.as_slice(), name.as_slice(), body.as_slice()),
+            ScheduleStep::Deliver {
+                chain,
+                up,
+                count,
+                ..
+            } => self.deliver(*chain, *up, *count as usize),
+            ScheduleStep::Turn { chain, up, .. } => self.turn(*chain, *up),
+            ScheduleStep::Tick { thread } => self.tick(*thread),
+            ScheduleStep::Close { chain } => self.close(*chain),
+            ScheduleStep::Cut { chain, .. } => {
+                self.cut(*chain);
+                Ok(())
+            }
+            ScheduleStep::Rounds { count } => self.rounds(*count),
+            ScheduleStep::Times { .. } => unreachable!(),
         }
     }
 
-    fn deliver_to(&mut self, up: bool, count: usize) -> Result<(), AllocError>
-        ensures { OnOk result (self.new ≡ delivered_to up count self.old) }
+    /// The client of the chain at this place connects. A second time nothing happens.
+    fn open(&mut self, at: usize) -> Result<(), AllocError>
+        ensures { OnOk result (self.new ≡ opened_at at self.old) }
+    {
+        match self.chains.get(at) {
+            Some(chain) if !chain.is_opened() => self.connect(at),
+            _ => Ok(()),
+        }
+    }
+
+    /// The client of an unopened chain connects, and the agent opens the next number.
+    #[tactic(auto, using(crate::proofs::Connected::connected_is))]
+    fn connect(&mut self, at: usize) -> Result<(), AllocError>
+        requires { IfSome (slice_get self.old.chains at) (λ chain. is_opened chain ≡ false) }
+        ensures { OnOk result (IfSome (slice_get self.old.chains at) (λ chain. self.new ≡ connected_at at chain self.old)) }
+    {
+        let Some(chain) = self.chains.get_mut(at) else {
+            return Ok(());
+        };
+        let k = self.next;
+        self.next = k.saturating_add(1);
+        let did = chain.open(k, &mut self.agent)?;
+        self.tell_opened(did, k)
+    }
+
+    /// The client of the chain sends a command.
+    fn send(
+        &mut self,
+        at: usize,
+        service: &[u8],
+        name: &[u8],
+        body: &[u8],
+    ) -> Result<(), AllocError>
+        requires service { HasNoZero service.now }
+        requires name { HasNoZero name.now }
+        ensures sent { OnOk result (self.new ≡ sent_at at service.now name.now body.now self.old) }
+    {
+        match self.chains.get_mut(at) {
+            Some(chain) => chain.send(service, name, body),
+            None => Ok(()),
+        }
+    }
+
+    /// The next bytes in flight on the chain's hop arrive as one piece: up at the agent, or down at the client.
+    fn deliver(&mut self, at: usize, up: bool, count: usize) -> Result<(), AllocError>
+        ensures { OnOk result (self.new ≡ delivered_at at up count self.old) }
+    {
+        match self.chains.get_mut(at) {
+            Some(chain) if up => chain.deliver_up(count, &mut self.agent),
+            Some(chain) => chain.deliver_down(count),
+            None => Ok(()),
+        }
+    }
+
+    /// The agent takes an entry that came up on the chain, or the client one that came down.
+    fn turn(&mut self, at: usize, up: bool) -> Result<(), AllocError>
+        ensures { OnOk result (self.new ≡ turned_at at up self.old) }
     {
         if up {
-            self.up.deliver(count)
+            self.turn_up(at)
         } else {
-            self.down.deliver(count)
+            self.turn_down(at)
         }
     }
 
-    #[tactic(auto, using(crate::proofs::Repeats::once_more))]
+    /// The agent takes an entry that came up on the chain, and what it told is in flight.
+    fn turn_up(&mut self, at: usize) -> Result<(), AllocError>
+        ensures { OnOk result (self.new ≡ agent_turned at (slice_get self.old.chains at) self.old) }
+    {
+        let Some(chain) = self.chains.get(at) else {
+            return Ok(());
+        };
+        let input = chain.turn_up(&mut self.agent)?;
+        self.tell(input)
+    }
+
+    /// The client of the chain takes an entry that came down.
+    fn turn_down(&mut self, at: usize) -> Result<(), AllocError>
+        ensures { OnOk result (self.new ≡ on_chain turned_down at self.old) }
+    {
+        match self.chains.get_mut(at) {
+            Some(chain) => chain.turn_down(),
+            None => Ok(()),
+        }
+    }
+
+    /// A thread executes one instruction, where it lives and runs.
+    fn tick(&mut self, thread: ContextId) -> Result<(), AllocError>
+        ensures { OnOk result (self.new ≡ ticked_in thread self.old) }
+    {
+        let did = self.agent.tick(thread)?;
+        self.tell_ticked(did, thread)
+    }
+
+    /// The client of the chain closes its channel.
+    fn close(&mut self, at: usize) -> Result<(), AllocError>
+        ensures { OnOk result (self.new ≡ closed_at at self.old) }
+    {
+        match self.chains.get_mut(at) {
+            Some(chain) => chain.close(),
+            None => Ok(()),
+        }
+    }
+
+    /// The chain's hop is cut.
+    fn cut(&mut self, at: usize)
+        ensures { self.new ≡ cut_at at self.old }
+    {
+        if let Some(chain) = self.chains.get_mut(at) {
+            chain.cut(&mut self.agent);
+        }
+    }
+
+    /// So many rounds.
+    #[tactic(auto, using(crate::proofs::Repeats::one_round))]
     fn rounds(&mut self, count: u32) -> Result<(), AllocError>
         ensures { OnOk result (self.new ≡ rounds count self.old) }
     {
         for counter in 0..count {
-            self.round()?;
+            self.round_all()?;
         }
         Ok(())
     }
 
-    /// All pieces go up, and the agent takes what has come; then the same down.
-    fn round(&mut self) -> Result<(), AllocError>
-        ensures { OnOk result (self.new ≡ round self.old) }
+    /// A round on each chain, in order.
+    #[tactic(auto, using(crate::proofs::Repeats::one_chain))]
+    fn round_all(&mut self) -> Result<(), AllocError>
+        ensures { OnOk result (self.new ≡ round_all (length self.old.chains) 0 self.old) }
     {
-        self.arrive_up()?;
-        self.take_up()?;
-        self.arrive_down()?;
-        self.take_down()
-    }
-
-    fn arrive_up(&mut self) -> Result<(), AllocError>
-        ensures { OnOk result (self.new ≡ up_arrived self.old) }
-    {
-        self.up.deliver_all()
-    }
-
-    fn arrive_down(&mut self) -> Result<(), AllocError>
-        ensures { OnOk result (self.new ≡ down_arrived self.old) }
-    {
-        self.down.deliver_all()
-    }
-
-    /// The agent takes all that is in its inbox.
-    fn take_up(&mut self) -> Result<(), AllocError>
-        ensures { OnOk result (self.new ≡ taken_up self.old) }
-    {
-        while let Some(received) = self.up.take() {
-            self.agent.take(&received, &mut self.down)?;
+        let count = self.chains.len();
+        for at in 0..count {
+            self.round(at)?;
         }
         Ok(())
     }
 
-    /// The client takes all that is in its inbox.
-    fn take_down(&mut self) -> Result<(), AllocError>
-        ensures { OnOk result (self.new ≡ taken_down self.old) }
+    /// All that is in flight on the chain arrives and is taken, if it is opened.
+    fn round(&mut self, at: usize) -> Result<(), AllocError>
+        ensures { OnOk result (self.new ≡ round_at at self.old) }
     {
-        while let Some(received) = self.down.take() {
-            self.client.take(&received, &mut self.up)?;
+        match self.chains.get(at) {
+            Some(chain) if chain.is_opened() => self.round_of(at),
+            _ => Ok(()),
+        }
+    }
+
+    /// All that is in flight on a chain arrives and is taken, first up and then down.
+    fn round_of(&mut self, at: usize) -> Result<(), AllocError>
+        ensures { OnOk result (self.new ≡ round_of at self.old) }
+    {
+        self.deliver_all_up(at)?;
+        self.take_all_up(at)?;
+        self.take_all_down(at)
+    }
+
+    /// All that is in flight up the chain arrives at the agent.
+    fn deliver_all_up(&mut self, at: usize) -> Result<(), AllocError>
+        ensures { OnOk result (self.new ≡ with_agent all_up at self.old) }
+    {
+        match self.chains.get_mut(at) {
+            Some(chain) => chain.deliver_all_up(&mut self.agent),
+            None => Ok(()),
+        }
+    }
+
+    /// All that is in flight down the chain arrives at the client, and is taken.
+    fn take_all_down(&mut self, at: usize) -> Result<(), AllocError>
+        ensures { OnOk result (self.new ≡ on_chain (λ chain. all_taken_down (all_down chain)) at self.old) }
+    {
+        match self.chains.get_mut(at) {
+            Some(chain) => {
+                chain.deliver_all_down()?;
+                chain.take_all_down()
+            }
+            None => Ok(()),
+        }
+    }
+
+    /// The agent takes all that waits in the inbox of the chain's channel.
+    #[tactic(auto, using(crate::proofs::Repeats::one_turn_up))]
+    fn take_all_up(&mut self, at: usize) -> Result<(), AllocError>
+        ensures { OnOk result (self.new ≡ up_taken at self.old) }
+    {
+        let waiting = match self.chains.get(at) {
+            Some(chain) => chain.waiting_up(&self.agent),
+            None => 0,
+        };
+        for counter in 0..waiting {
+            self.turn_up(at)?;
         }
         Ok(())
+    }
+
+    /// The opening is an input where the agent did it, and what it told is in flight.
+    fn tell_opened(&mut self, did: bool, k: u64) -> Result<(), AllocError>
+        ensures { OnOk result (self.new ≡ carried (with_input (opening did k) self.old)) }
+    {
+        if did {
+            self.history.push(Input::Opened(k))?;
+        }
+        self.carry_down()
+    }
+
+    /// The instruction is an input where the agent did it, and what it told is in flight.
+    fn tell_ticked(&mut self, did: bool, thread: ContextId) -> Result<(), AllocError>
+        ensures { OnOk result (self.new ≡ carried (with_input (tick_of did thread) self.old)) }
+    {
+        if did {
+            self.history.push(Input::Ticked(thread))?;
+        }
+        self.carry_down()
+    }
+
+    /// An input is the next of the history, if there is one, and what it told is in flight.
+    fn tell(&mut self, input: Option<Input>) -> Result<(), AllocError>
+        ensures { OnOk result (self.new ≡ carried (with_input input self.old)) }
+    {
+        if let Some(input) = input {
+            self.history.push(input)?;
+        }
+        self.carry_down()
+    }
+
+    /// What the agent queued for each chain is in flight.
+    #[tactic(auto, unfolding(crate::specs::World::carried))]
+    fn carry_down(&mut self) -> Result<(), AllocError>
+        ensures { OnOk result (self.new ≡ carried self.old) }
+    {
+        carry_all(&mut self.chains, &mut self.agent)
+    }
+
+    /// The inputs of the target so far.
+    pub fn history(&self) -> &[Input]
+        ensures { result.now ≡ self.now.history }
+    {
+        self.history.as_slice()
+    }
+
+    /// The log of the client of the chain at this place.
+    pub fn log(&self, chain: usize) -> &[LogLine]
+        requires { chain < length self.now.chains }
+        ensures { result.now ≡ log_at chain self.now }
+    {
+        self.chains[chain].client.log()
+    }
+
+    /// Whether no byte is in flight on the chain at this place, and no entry waits in an inbox.
+    pub fn quiet(&self, chain: usize) -> bool
+        requires { chain < length self.now.chains }
+        ensures { result ≡ quiet_at chain self.now }
+    {
+        self.chains[chain].is_quiet(&self.agent)
     }
 }
 
-#[cfg(test)]
-mod tests;
+/// The images of a schedule, as the target has them.
+fn images_of(alloc: Global, named: &[NamedImage]) -> Result<Vec<Image>, AllocError>
+    ensures { IfOk result (λ images. images.items ≡ images_of named.now) }
+{
+    let mut images = Vec::new(alloc);
+    for image in named {
+        images.push(image_of(image)?)?;
+    }
+    Ok(images)
+}
+
+/// An image of a schedule, as the target has it.
+fn image_of(named: &NamedImage) -> Result<Image, AllocError>
+    ensures { IfOk result (λ image. image ≡ image_of named.now) }
+{
+    Ok(Image {
+        name: named.name.copy()?,
+        bytes: named.bytes.copy()?,
+    })
+}
+
+/// So many chains, in which nothing is opened.
+fn new_chains(alloc: Global, count: usize) -> Result<Vec<Chain>, AllocError>
+    ensures { IfOk result (λ chains. chains.items ≡ new_chains count) }
+{
+    let mut chains = Vec::new(alloc);
+    for counter in 0..count {
+        chains.push(Chain::new(alloc))?;
+    }
+    Ok(chains)
+}
+
+/// What the agent queued for each of these chains is in flight.
+fn carry_all(chains: &mut Vec<Chain>, agent: &mut AgentNode) -> Result<(), AllocError>
+    ensures chains { OnOk result (chains.new.items ≡ (all_carried chains.old.items agent.old).chains) }
+    ensures agent { OnOk result (agent.new ≡ (all_carried chains.old.items agent.old).agent) }
+{
+    for chain in chains.iter_mut() {
+        chain.carry_down(agent)?;
+    }
+    Ok(())
+}

@@ -65,8 +65,9 @@ pub fn the_level_told_fits_the_inbox<T>()
 /// The law of what an end receives of a queue that can be read, whatever is called of the end, and in whatever pieces
 /// the queue's bytes come, each with the mark of its message, as far as they come. The messages that it received are, in
 /// order and with their marks, a front of those of the queue, flow control aside. Until it is closed or a last entry has
-/// come, they are all that have come wholly, and it was told the last level among these. The bytes never close it, but for
-/// the end of the stream, where that was queued and all messages were received.
+/// come, they are all that have come wholly, and it was told the last level among these. It never closes by a fault of the
+/// stream or of a message's grammar, and by the end of the stream only where that was queued and all messages were
+/// received.
 pub fn what_was_queued_is_received<T>()
     ensures order { WhereAQueueComes {T = T} ReceivesInOrder }
     ensures causes { WhereAQueueComes {T = T} EndsFairly }

@@ -5,8 +5,8 @@ use Rattle.tcf_outside.specs.Sink.{added}
 use Rattle.tcf_outside.specs.declared.files.HeldFile.{HeldFile}
 use Rattle.tcf_outside.specs.declared.files.FileRead.{FileRead}
 use Rattle.tcf_outside.specs.declared.files.FileRead.TheVariants.{Whole, Longer}
-use Rattle.tcf_text.specs.Refusal.{BadLine}
-use Rattle.tcf_text.specs.Schedule.{ScheduleValue, schedule_of}
+use Rattle.tcf_schedules.specs.Refusal.{BadLine}
+use Rattle.tcf_schedules.specs.Schedule.{ScheduleValue, schedule_of}
 use Rattle.tcf_app.specs.declared.exit.BadPlace.{BadPlace}
 use Rattle.tcf_app.specs.declared.exit.Exit.{Exit}
 use Rattle.tcf_app.specs.declared.exit.Exit.TheVariants.{Done, Usage, BadText, FileFault, BadStream, TooLong}

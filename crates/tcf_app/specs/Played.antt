@@ -1,12 +1,11 @@
 -- What is printed of a schedule that is played.
-use Rattle.std.specs.Prelude.{ℕ, List, [], ◌∷◌, ◌++◌, length, codes}
-use Rattle.std.specs.List.{flat_map}
+use Rattle.std.specs.Prelude.{ℕ, ◌+◌, List, [], ◌∷◌, ◌++◌, length, codes}
 use Rattle.std.specs.Fmt.{decimal}
-use Rattle.tcf_text.specs.declared.schedule.ChainHead.{ChainHead}
+use Rattle.tcf_schedules.specs.declared.schedule.ChainHead.{ChainHead}
 use Rattle.tcf_text.specs.Log.{log_text}
-use Rattle.tcf_text.specs.Schedule.{ScheduleValue}
+use Rattle.tcf_schedules.specs.Schedule.{ScheduleValue}
 use Rattle.chain_world.specs.WorldValue.{WorldValue}
-use Rattle.chain_world.specs.World.{new_world, run}
+use Rattle.chain_world.specs.World.{images_of, log_at, new_world, run}
 
 unfoldable pub chain_front : List ℕ
 chain_front = codes "chain "
@@ -24,12 +23,13 @@ history_line count = history_front ++ decimal count ++ 10 ∷ []
 
 -- what playing the schedule brings about
 abbrev pub world_of : ScheduleValue → WorldValue
-world_of schedule = run schedule.plans new_world
+world_of schedule = run schedule.plans (new_world (images_of schedule.images) (length schedule.chains))
 
--- each chain with its log
-abbrev pub chains_text : List ChainHead → WorldValue → List ℕ
-chains_text heads w = flat_map (λ head. chain_line head.name ++ log_text w.client.log) heads
+-- the chains from a place on, each with its log
+abbrev pub chains_text : ℕ → List ChainHead → WorldValue → List ℕ
+chains_text at [] w = []
+chains_text at (head ∷ heads) w = chain_line head.name ++ log_text (log_at at w) ++ chains_text (at + 1) heads w
 
 -- what is printed of a schedule: each chain with the log that playing gives, and the length of the history
 abbrev pub printed : ScheduleValue → List ℕ
-printed schedule = chains_text schedule.chains (world_of schedule) ++ history_line (length (world_of schedule).agent.history)
+printed schedule = chains_text 0 schedule.chains (world_of schedule) ++ history_line (length (world_of schedule).history)

@@ -5,10 +5,12 @@ use Rattle.tcf_outside.specs.Files.{content_of, read_of}
 use Rattle.tcf_outside.specs.Sink.{added}
 use Rattle.tcf_outside.specs.declared.files.HeldFile.{HeldFile}
 use Rattle.tcf_outside.specs.declared.files.FileRead.{FileRead}
-use Rattle.tcf_text.specs.declared.schedule.TextFault.{TextFault}
-use Rattle.tcf_text.specs.Schedule.{ScheduleValue, schedule_of}
-use Rattle.chain_world.specs.Ordered.{IsPrefixOf}
-use Rattle.chain_world.specs.Headline.{IsFaithful}
+use Rattle.tcf_schedules.specs.declared.schedule.TextFault.{TextFault}
+use Rattle.tcf_schedules.specs.Schedule.{ScheduleValue, schedule_of}
+use Rattle.target_hub.specs.Ordered.{IsPrefixOf}
+use Rattle.chain_world.specs.EndLaws.{EndsAllRightly}
+use Rattle.chain_world.specs.World.{images_of}
+use Rattle.chain_world.specs.WorldLaws.{IsFaithful}
 use Rattle.tcf_app.specs.declared.exit.BadPlace.{BadPlace}
 use Rattle.tcf_app.specs.declared.exit.Exit.{Exit}
 use Rattle.tcf_app.specs.declared.exit.Exit.TheVariants.{NoMemory}
@@ -35,14 +37,15 @@ pub record ReadsInOrder (order : Option OrderValue) (before after : Option (List
   pub told : after ≡ option_map (λ so_far. so_far ++ names) before
 
 -- The file says a schedule. Exactly its text was put: each chain with the log that playing the schedule gives, and
--- the length of the history. The log is true to that history.
+-- the length of the history. Each log is true to that history, and ends only as the steps say.
 pub record IsPlayed (name : List ℕ) (files : Option (List HeldFile)) (before after : Option (List ℕ)) : Type 0 where
   pub file : List ℕ
   pub held : IfSome files (λ fs. file ≡ content_of name fs)
   pub schedule : ScheduleValue
   pub says : schedule_of file ≡ Ok schedule
   pub put : after ≡ added (printed schedule) before
-  pub faithful : IsFaithful (world_of schedule)
+  pub faithful : IsFaithful (images_of schedule.images) (world_of schedule)
+  pub ends : EndsAllRightly schedule.plans (world_of schedule)
 
 -- The file is shown without a bad place, and exactly the lines of its messages were put.
 pub record IsPrinted (name : List ℕ) (files : Option (List HeldFile)) (before after : Option (List ℕ)) : Type 0 where

@@ -1,8 +1,8 @@
 -- The last lines of the runs that refuse something.
 use Rattle.std.specs.Prelude.{ℕ, List, [], ◌∷◌, ◌++◌, codes}
 use Rattle.std.specs.Fmt.{decimal}
-use Rattle.tcf_text.specs.declared.schedule.TextFault.{TextFault}
-use Rattle.tcf_text.specs.declared.schedule.TextFault.TheVariants.{Form, Late, Repeat, Unknown, Many}
+use Rattle.tcf_schedules.specs.declared.schedule.TextFault.{TextFault}
+use Rattle.tcf_schedules.specs.declared.schedule.TextFault.TheVariants.{Form, Late, Repeat, Unknown, Many}
 use Rattle.tcf_app.specs.declared.exit.BadPlace.{BadPlace}
 use Rattle.tcf_app.specs.declared.exit.StreamWhat.{StreamWhat}
 use Rattle.tcf_app.specs.declared.exit.StreamWhat.TheVariants.{Escape, Long, AfterEnd, Unended, Empty, Kind, Field, Token, Level, Trailing, Body}

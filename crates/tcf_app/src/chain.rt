@@ -1,8 +1,10 @@
 //! The run of `chain`: the schedule is played, and the log of each chain is printed.
-ghost use Rattle.std.specs.Prelude.{◌≡◌, ◌++◌, IfOk, OnOk};
+ghost use Rattle.std.specs.Prelude.{◌≡◌, ◌++◌, length, IfOk, OnOk};
+ghost use Rattle.std.specs.List.{AllByRecursion};
 ghost use Rattle.tcf_outside.specs.Faults.{Rose};
-ghost use Rattle.tcf_text.specs.Plan.{plans_of};
-ghost use Rattle.tcf_text.specs.Schedule.{meaning, schedule_of, AreSteps};
+ghost use Rattle.tcf_schedules.specs.Plan.{plans_of};
+ghost use Rattle.tcf_schedules.specs.Schedule.{meaning, schedule_of};
+ghost use Rattle.chain_world.specs.World.{IsPlayable};
 ghost use Rattle.tcf_app.specs.Ending.{Ends, played_ending};
 ghost use Rattle.tcf_app.specs.Played.{printed, chain_line, history_line, chains_text};
 
@@ -12,7 +14,8 @@ use crate::lines::bad_line;
 use chain_world::{World, read_is_playable};
 use std::alloc::{AllocError, Global};
 use tcf_outside::{Octets, Sink};
-use tcf_text::{ChainHead, Schedule, TextRefusal, read_schedule, write_log};
+use tcf_schedules::{ChainHead, Schedule, TextRefusal, read_schedule};
+use tcf_text::write_log;
 
 /// Appends the line before a chain's log.
 #[tactic(auto, unfolding(crate::specs::Played::chain_front))]
@@ -33,22 +36,24 @@ fn push_history(alloc: Global, out: &mut Octets, count: usize) -> Result<(), All
 
 /// Appends each chain with its log.
 fn push_chains(out: &mut Octets, heads: &[ChainHead], world: &World) -> Result<(), AllocError>
-    ensures { OnOk result (out.new ≡ out.old ++ chains_text heads.now world.now) }
+    requires { length heads.now ≡ length world.now.chains }
+    ensures { OnOk result (out.new ≡ out.old ++ chains_text 0 heads.now world.now) }
 {
+    let mut at = 0;
     for head in heads {
         push_chain(out, head.name.as_slice())?;
-        write_log(world.log(), out)?;
+        write_log(world.log(at), out)?;
+        at += 1;
     }
     Ok(())
 }
 
 /// The text of the schedule, played.
 fn text_of(alloc: Global, schedule: &Schedule) -> Result<Octets, AllocError>
-    requires { AreSteps (plans_of schedule.now.steps) }
+    requires { AllByRecursion (IsPlayable (length schedule.now.chains)) (plans_of schedule.now.steps) }
     ensures { IfOk result (λ text. text ≡ printed (meaning schedule.now)) }
 {
-    read_is_playable();
-    let mut world = World::new(alloc);
+    let mut world = World::new(alloc, schedule)?;
     world.play_all(schedule.steps.as_slice())?;
     let mut text = Octets::new(alloc);
     push_chains(&mut text, schedule.chains.as_slice(), &world)?;
@@ -62,6 +67,7 @@ pub(crate) fn play_file<S: Sink>(alloc: Global, file: &[u8], out: &mut S) -> Exi
     ensures fault { result ≡ Exit.SinkFault → Rose (S.faults out.old) (S.faults out.new) }
     ensures unharmed { (result ≡ Exit.SinkFault → ⊥) → S.faults out.new ≡ S.faults out.old }
 {
+    read_is_playable();
     match read_schedule(alloc, file) {
         Ok(schedule) => finish_made(out, text_of(alloc, &schedule), Exit::Done),
         Err(TextRefusal::Bad { line, what }) => {

@@ -2,7 +2,7 @@
 ghost use Rattle.std.specs.Prelude.{◌≡◌};
 ghost use Rattle.tcf_app.specs.Exit.{status_of};
 
-use tcf_text::TextFault;
+use tcf_schedules::TextFault;
 
 /// What is bad at a place of a stream of messages.
 #[derive(Clone, Copy, Debug, PartialEq, Eq)]

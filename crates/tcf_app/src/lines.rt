@@ -5,7 +5,7 @@ ghost use Rattle.tcf_app.specs.Texts.{fault_word, what_word, place_text, bad_lin
 use crate::exit::{BadPlace, StreamWhat};
 use std::alloc::{AllocError, Global};
 use tcf_outside::Octets;
-use tcf_text::TextFault;
+use tcf_schedules::TextFault;
 
 #[tactic(auto, unfolding(crate::specs::Texts::fault_word))]
 fn fault_word(what: TextFault) -> &'static [u8]

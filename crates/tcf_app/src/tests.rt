@@ -3,12 +3,11 @@ use super::*;
 use std::alloc::Global;
 use std::test::Fail;
 use tcf_outside::{MemoryFiles, MemorySink};
-use tcf_text::TextFault;
+use tcf_schedules::TextFault;
 
+mod chains;
+mod refusals;
 mod show;
-
-const HELLO: &str =
-    "[\"Locator\",\"RunControl\",\"Breakpoints\",\"Memory\",\"Registers\",\"Processes\",\"Trace\"]";
 
 /// The words of this text, which blanks separate.
 fn words_of(alloc: Global, text: &str) -> Result<Vec<String>, Fail> {
@@ -20,126 +19,22 @@ fn words_of(alloc: Global, text: &str) -> Result<Vec<String>, Fail> {
 }
 
 /// The exit and the text of `tcf chain f` where the file f has these bytes.
-fn play(rt: &HostRuntime, file: &[u8]) -> Result<(Exit, String), Fail> {
+fn play(rt: &HostRuntime, file: &[u8]) -> Result<(Exit, Vec<u8>), Fail> {
     let words = words_of(rt.alloc(), "chain f")?;
     let mut files = MemoryFiles::new(rt.alloc());
     files.hold("f", file)?;
     let mut out = MemorySink::new(rt.alloc());
     let exit = tcf(rt.alloc(), &words, &mut files, &mut out);
-    Ok((
-        exit,
-        String::from_utf8(Vec::from_slice(rt.alloc(), out.told())?)
-            .ok()
-            .ok_or("text")?,
-    ))
+    Ok((exit, Vec::from_slice(rt.alloc(), out.told())?))
 }
 
-#[test]
-fn schedules_are_played(rt: HostRuntime) -> Result<(), Fail> {
-    let hello = format!(in rt.alloc(); "hello 1 {HELLO}\n")?;
-    let alloc = rt.alloc();
-    let cases = [
-        // The worked run, and the same without the end of its last line.
-        (
-            "chain A 0\nopen A\nrounds 1\nsend A Locator sync\nrounds 1\n",
-            format!(in alloc; "chain A\n{hello}sent 1 Locator sync\nresult 1 2\nhistory 2\n")?,
-        ),
-        (
-            "chain A 0\nopen A\nrounds 1\nsend A Locator sync\nrounds 1",
-            format!(in alloc; "chain A\n{hello}sent 1 Locator sync\nresult 1 2\nhistory 2\n")?,
-        ),
-        // The same in pieces, of which the 18th ends between the two bytes that end the message.
-        (
-            "chain A 0\nopen A\nrounds 1\nsend A Locator sync\ntimes 19 deliver A 0 up 1\nrounds 1\n",
-            format!(in alloc; "chain A\n{hello}sent 1 Locator sync\nresult 1 2\nhistory 2\n")?,
-        ),
-        // A command before the channel is open is refused, one before the Hello waits for it.
-        (
-            "chain A 0\nsend A Locator sync\n",
-            format!(in alloc; "chain A\nrefused NotOpen\nhistory 0\n")?,
-        ),
-        (
-            "chain A 0\nopen A\nsend A Locator sync\nrounds 1\n",
-            format!(in alloc; "chain A\nsent 1 Locator sync\n{hello}history 1\n")?,
-        ),
-        (
-            "chain A 0\nopen A\nsend A Locator sync\nrounds 2\n",
-            format!(in alloc; "chain A\nsent 1 Locator sync\n{hello}result 1 2\nhistory 2\n")?,
-        ),
-        // The second opening does nothing.
-        (
-            "chain A 0\nopen A\nopen A\nrounds 1\nopen A\nrounds 1\n",
-            format!(in alloc; "chain A\n{hello}history 1\n")?,
-        ),
-        // Answers come in the order of the commands, at the positions in which they were executed.
-        (
-            "chain A 0\nopen A\nrounds 1\nsend A Locator sync\nsend A Locator sync\nrounds 1\n",
-            format!(in alloc;
-                "chain A\n{hello}sent 1 Locator sync\nsent 2 Locator sync\nresult 1 2\nresult 2 3\nhistory 3\n"
-            )?,
-        ),
-        // No line says anything.
-        ("", format!(in alloc; "history 0\n")?),
-        ("# nothing\n\n#\n", format!(in alloc; "history 0\n")?),
-        // Rounds need no chain.
-        ("rounds 3\n", format!(in alloc; "history 0\n")?),
-        // Skipped lines may stand anywhere, and 90 steps are allowed.
-        (
-            "\n#\nchain A 0\n#\nopen A\n\nrounds 89\n",
-            format!(in alloc; "chain A\n{hello}history 1\n")?,
-        ),
-    ];
-    for (file, want) in &cases {
-        let (exit, text) = play(&rt, file.as_bytes())?;
-        assert_eq!(rt; exit, Exit::Done, "of {file}");
-        assert_eq!(rt; text.as_str(), want.as_str(), "of {file}");
+/// The bytes of these texts, one behind the other.
+fn joined(alloc: Global, parts: &[&str]) -> Result<Vec<u8>, Fail> {
+    let mut bytes = Vec::new(alloc);
+    for part in parts {
+        bytes.extend_from_slice(part.as_bytes())?;
     }
-    Ok(())
-}
-
-#[test]
-fn the_first_bad_line_is_named(rt: HostRuntime) -> Result<(), Fail> {
-    for (file, line, what, text) in [
-        // The worked row, and each other reason. No line repeats a name yet.
-        ("open A", 1, TextFault::Unknown, "bad line 1: unknown\n"),
-        ("chain A 0 \n", 1, TextFault::Form, "bad line 1: form\n"),
-        (
-            "rounds 1\nchain A 0\n",
-            2,
-            TextFault::Late,
-            "bad line 2: late\n",
-        ),
-        (
-            "chain A 0\nopen A\nrounds 90\n",
-            3,
-            TextFault::Many,
-            "bad line 3: many\n",
-        ),
-        (
-            "chain A 0\ntimes 91 deliver A 0 up 1\n",
-            2,
-            TextFault::Many,
-            "bad line 2: many\n",
-        ),
-        // Lines that are skipped are counted, and the first bad line is named.
-        (
-            "# one\n\nchain A 0\nopen B\nopen  B\n",
-            4,
-            TextFault::Unknown,
-            "bad line 4: unknown\n",
-        ),
-        (
-            "chain A 0\nrounds 01\nopen B\n",
-            2,
-            TextFault::Form,
-            "bad line 2: form\n",
-        ),
-    ] {
-        let (exit, told) = play(&rt, file.as_bytes())?;
-        assert_eq!(rt; exit, Exit::BadText { line, what }, "of {file}");
-        assert_eq!(rt; told.as_str(), text, "of {file}");
-    }
-    Ok(())
+    Ok(bytes)
 }
 
 #[test]
@@ -168,18 +63,22 @@ fn other_words_are_told_the_forms(rt: HostRuntime) -> Result<(), Fail> {
 #[test]
 fn a_file_has_its_limit_and_its_faults(rt: HostRuntime) -> Result<(), Fail> {
     let words = words_of(rt.alloc(), "chain f")?;
-    for (length, fails, exit, text) in [
-        (16_777_216, false, Exit::Done, "history 0\n"),
-        (
-            16_777_217,
-            false,
-            Exit::TooLong { word: 2 },
-            "file too long: word 2\n",
-        ),
-        (0, true, Exit::FileFault, "file fault\n"),
+    let form = Exit::BadText {
+        line: 1,
+        what: TextFault::Form,
+    };
+    let long = Exit::TooLong { word: 2 };
+    // One line of the most bytes, skipped or of no form, one byte more, and a file that can't be read.
+    for (byte, length, fails, exit, text) in [
+        (b'#', 16_777_216, false, Exit::Done, "history 0\n"),
+        (b'x', 16_777_216, false, form, "bad line 1: form\n"),
+        (b' ', 16_777_216, false, form, "bad line 1: form\n"),
+        (b'#', 16_777_217, false, long, "file too long: word 2\n"),
+        (b'x', 16_777_217, false, long, "file too long: word 2\n"),
+        (b'#', 0, true, Exit::FileFault, "file fault\n"),
     ] {
         let mut files = MemoryFiles::new(rt.alloc());
-        files.hold("f", vec![in rt.alloc(); b'#'; length]?.as_slice())?;
+        files.hold("f", vec![in rt.alloc(); byte; length]?.as_slice())?;
         if fails {
             files.fail_at(0)?;
         }

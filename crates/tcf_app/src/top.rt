@@ -3,7 +3,7 @@ ghost use Rattle.std.specs.Prelude.{◌≡◌, ◌⊎◌, ℕ, None, Some, IfOk,
 ghost use Rattle.tcf_outside.specs.Faults.{Rose};
 ghost use Rattle.tcf_outside.specs.Files.{content_of, read_of, names_after, faults_after};
 ghost use Rattle.tcf_outside.specs.Sink.{added};
-ghost use Rattle.tcf_text.specs.declared.schedule.TextFault.{TextFault};
+ghost use Rattle.tcf_schedules.specs.declared.schedule.TextFault.{TextFault};
 ghost use Rattle.tcf_app.specs.declared.exit.StreamWhat.{StreamWhat};
 ghost use Rattle.tcf_app.specs.Exit.{IsGivenUp};
 ghost use Rattle.tcf_app.specs.Words.{order_value, order_of};
@@ -17,7 +17,7 @@ use crate::finish::finish;
 use crate::laws::one_outcome;
 use crate::order::{Order, read_words};
 use crate::show::show_file;
-use chain_world::every_schedule;
+use chain_world::every_file;
 use std::alloc::Global;
 use tcf_outside::{FileRead, Files, ReadRefusal, Sink};
 
@@ -152,6 +152,6 @@ pub fn tcf<F: Files, S: Sink>(alloc: Global, words: &[String], files: &mut F, ou
     ensures complete { IfSome (F.held files.old) (λ held. (Rose (F.faults files.old) (F.faults files.new) → ⊥) → (Rose (S.faults out.old) (S.faults out.new) → ⊥)
         → ExitsOver (order_of (map string_bytes words.now)) held result) }
 {
-    every_schedule();
+    every_file();
     run_words(alloc, words, files, out)
 }

@@ -1,8 +1,7 @@
 -- What a cut does to the parts of a text.
-use Rattle.std.proofs.Common.{◌≡◌, ℕ, ◌<◌, ◌==◌, List, [], ◌∷◌, ◌++◌, length, refl, ◌∙◌, ap, arith}
+use Rattle.std.proofs.Common.{◌≡◌, ℕ, ◌==◌, List, [], ◌∷◌, ◌++◌, refl, ◌∙◌, ap}
 use Rattle.std.specs.List.{slice_split, onto_first}
 use Rattle.std.proofs.lemmas.Bool.{eq-eqb, ne_eqb}
-use Rattle.std.proofs.lemmas.List.{length-append}
 use Rattle.std.proofs.lemmas.List.Splits.{slice_split-cons_yes, slice_split-cons_no}
 use Rattle.tcf_values.specs.Cut.{Lacks, IsCut}
 
@@ -22,7 +21,3 @@ pub split_lacks : (byte : ℕ) (text : List ℕ) → Lacks byte text → slice_s
 split_lacks byte [] lacks = refl
 split_lacks byte (b ∷ bs) lacks =
     slice_split-cons_no (λ x. x == byte) b bs (ne_eqb b byte lacks.0) ∙ ap (onto_first b) (split_lacks byte bs lacks.1)
-
--- a text that is cut has a shorter rest
-pub shorter_cut : (byte : ℕ) (text front rest : List ℕ) → IsCut byte text front rest → length rest < length text
-shorter_cut byte text front rest is = omega (arith, ap length is.1, length-append front (byte ∷ rest))

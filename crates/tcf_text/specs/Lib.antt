@@ -1,9 +1,4 @@
-pub mod Line
 pub mod Log
-pub mod Plan
-pub mod Refusal
-pub mod Said
-pub mod Schedule
 pub mod Shown
 pub mod Each
 pub mod Lines

@@ -3,4 +3,7 @@ use Rattle.tcf_app.specs.Played.{chains_text}
 use Rattle.tcf_app.proofs.chain.push_chains.Given as goal
 
 abbrev pub invariant-loop-head : goal.invariant-loop-head
-invariant-loop-head l = l.initial.out ++ chains_text l.heads l.world ≡ l.out ++ chains_text (drop l.head-index l.heads) l.world
+invariant-loop-head l = record {
+  place : l.at ≡ l.head-index;
+  text : l.initial.out ++ chains_text 0 l.heads l.world ≡ l.out ++ chains_text l.head-index (drop l.head-index l.heads) l.world;
+}

@@ -1,5 +1,5 @@
 use Rattle.std.proofs.Common.{refl}
-use Rattle.tcf_text.specs.Schedule.{schedule_of}
+use Rattle.tcf_schedules.specs.Schedule.{schedule_of}
 use Rattle.tcf_app.specs.Ending.{played_ending}
 use Rattle.tcf_app.proofs.top.run_file.Goals as goal
 

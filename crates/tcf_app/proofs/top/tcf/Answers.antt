@@ -17,7 +17,7 @@ pub returns-clause-file_fault_text : goal.returns-clause-file_fault_text
 returns-clause-file_fault_text g c = λ is. (file_fault_of _ _ _ _ _ _ _ c.run_words.ensures.runs is).1
 
 pub returns-clause-done : goal.returns-clause-done
-returns-clause-done g c = done_of c.every_schedule.ensures _ _ _ _ _ _ _ c.run_words.ensures.runs
+returns-clause-done g c = done_of c.every_file.ensures.faithful c.every_file.ensures.ends _ _ _ _ _ _ _ c.run_words.ensures.runs
 
 pub returns-clause-bad_text : goal.returns-clause-bad_text
 returns-clause-bad_text g c = bad_of _ _ _ _ _ _ _ c.run_words.ensures.runs

@@ -1,0 +1,23 @@
+use Rattle.std.proofs.Common.{ap, sym, ◌∙◌}
+use Rattle.agent_node.specs.Agent.{channel_of}
+use Rattle.agent_node.specs.Channels.{end_in}
+use Rattle.chain_world.specs.Chain.{queue_of}
+use Rattle.chain_world.specs.Hop.{sent_down}
+use Rattle.chain_world.proofs.Queued.{agent_goes_on, sent_down_on}
+use Rattle.chain_world.proofs.chain.carry_from_agent.Goals as goal
+
+pub loop-out-smaller : goal.loop-out-smaller
+loop-out-smaller c =
+    let goes = agent_goes_on c.args.k c.loop-out.agent c.take_out.new.self c.in-Some.out (sym c.in-Some.ensures.given) c.in-Some.ensures.after in
+    goes.fewer
+
+pub loop-out-preserved : goal.loop-out-preserved
+loop-out-preserved c =
+    let goes = agent_goes_on c.args.k c.loop-out.agent c.take_out.new.self c.in-Some.out (sym c.in-Some.ensures.given) c.in-Some.ensures.after in
+    let left = queue_of (end_in (channel_of c.args.k c.take_out.new.self)) in
+    record {
+      agent = goes.same ∙ c.loop-out.invariant.agent;
+      hop =
+          ap (sent_down left) c.in_ok-send_down.ensures ∙ sent_down_on c.in-Some.out left c.loop-out.hop
+          ∙ ap (λ outs. sent_down outs c.loop-out.hop) (sym goes.queue) ∙ c.loop-out.invariant.hop;
+    }

@@ -1,0 +1,9 @@
+use Rattle.chain_world.proofs.Playable.{file_faithful}
+use Rattle.chain_world.proofs.Rightly.{file_ends}
+use Rattle.chain_world.proofs.laws.every_file.Goals as goal
+
+pub returns-clause-faithful : goal.returns-clause-faithful
+returns-clause-faithful c = file_faithful c.every_schedule.ensures.faithful c.reads_what_is_said.ensures c.read_is_playable.ensures
+
+pub returns-clause-ends : goal.returns-clause-ends
+returns-clause-ends c = file_ends c.every_schedule.ensures.ends c.reads_what_is_said.ensures c.read_is_playable.ensures

@@ -1,0 +1,8 @@
+use Rattle.std.proofs.Common.{◌∙◌}
+use Rattle.chain_world.proofs.Repeats.{one_more_chain}
+use Rattle.chain_world.proofs.world.new_chains.Goals as goal
+
+pub loop-counter-preserved : goal.loop-counter-preserved
+loop-counter-preserved c =
+    one_more_chain c.loop-counter.chains.items c.push.new.self.items c.new.result c.args.count c.loop-counter.counter c.loop-counter-test.true c.in_ok-push.ensures.items c.new.ensures
+    ∙ c.loop-counter.invariant

@@ -1,0 +1,26 @@
+-- What the logs of a world's clients owe to the history of its target, after every schedule.
+use Rattle.std.specs.Prelude.{ℕ, ◌<◌, ◌^◌, false, List, option_to_list}
+use Rattle.std.specs.List.{AllByRecursion}
+use Rattle.target_contexts.specs.declared.process.Image.{Image}
+use Rattle.target_hub.specs.History.{IsLegal}
+use Rattle.target_hub.specs.Ordered.{Ordered}
+use Rattle.target_hub.specs.declared.input.Input.{Input}
+use Rattle.tcf_schedules.specs.Plan.{Plan}
+use Rattle.tcf_text.specs.Once.{Once}
+use Rattle.chain_world.specs.World.{IsPlayable, new_world, run}
+use Rattle.chain_world.specs.WorldValue.{WorldValue}
+use Rattle.chain_world.specs.declared.chain.Chain.{Chain}
+
+-- each command is answered once, and the log is what the history says, on the channel that the chain has, if it has one
+pub record ChainIsFaithful (images : List Image) (history : List Input) (chain : Chain) : Type 0 where
+  pub once : Once false chain.client.log
+  pub ordered : Ordered false chain.client.log images history (option_to_list chain.channel)
+
+pub record IsFaithful (images : List Image) (w : WorldValue) : Type 0 where
+  pub legal : IsLegal images w.history
+  pub chains : AllByRecursion (ChainIsFaithful images w.history) w.chains
+
+-- Whatever the steps of so many chains are.
+abbrev pub FaithfulAfterEverySchedule : Type 0
+FaithfulAfterEverySchedule = (images : List Image) (count : ℕ) (plans : List Plan) → count < 2 ^ 64 → AllByRecursion (IsPlayable count) plans →
+    IsFaithful images (run plans (new_world images count))

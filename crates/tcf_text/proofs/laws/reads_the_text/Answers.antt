@@ -1,5 +1,0 @@
-use Rattle.tcf_text.proofs.Values.{reads_the_text}
-use Rattle.tcf_text.proofs.laws.reads_the_text.Goals as goal
-
-pub returns : goal.returns
-returns c = reads_the_text

@@ -1,6 +1,0 @@
-use Rattle.std.proofs.Common.{◌≡◌, take}
-use Rattle.tcf_world.specs.World.{images_of}
-use Rattle.tcf_world.proofs.world.images_of.Given as goal
-
-abbrev pub invariant-loop-image : goal.invariant-loop-image
-invariant-loop-image l = l.images.items ≡ images_of (take l.image-index l.named)

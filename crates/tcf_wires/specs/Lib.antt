@@ -1,0 +1,4 @@
+pub mod Event
+pub mod Told
+pub mod Script
+pub mod Scripted

@@ -4,4 +4,5 @@ pub mod Legal
 pub mod Places
 pub mod ReadBack
 pub mod Within
+pub mod Decoded
 pub mod Readings

@@ -31,10 +31,11 @@ use Rattle.tcf_values.specs.declared.command.Command.TheVariants.{Sync, GetPeers
 use Rattle.tcf_values.specs.declared.values.BpProps.{BpProps}
 use Rattle.tcf_values.specs.declared.values.Location.{Location}
 use Rattle.command_tables.specs.Arguments.{blob_part, bp_part, flag_part, locations_part, props_part, text_part, texts_part, whole_part}
-use Rattle.command_tables.specs.Canonical.{IsReadable}
+use Rattle.command_tables.specs.Canonical.{AreBytes, IsReadable}
 use Rattle.command_tables.specs.Reading.{IsReading, bad_of, is_unended, reading_by, reading_in}
 use Rattle.command_tables.specs.ReadingLaws.{ReadingsAreLegal}
 use Rattle.command_tables.specs.Rows.{Row, arg, breakpoints_row, locator_row, made, memory_row, processes_row, registers_row, row_of, run_control_row, then_read, trace_row}
+use Rattle.command_tables.proofs.Decoded.{blob_within}
 use Rattle.command_tables.proofs.Legal.{bad_is_reading}
 use Rattle.command_tables.proofs.Within.{bp_within, list_within, location_within, part_has, whole_within}
 
@@ -83,6 +84,9 @@ locations : (name : CommandName) (next : List Location → Row) → ((xs : List 
 locations name next each =
     with_limit (AllByRecursion IsLocation) name locations_part next (part_has (AllByRecursion IsLocation) (list_in location_in) (list_within IsLocation location_in location_within)) each
 
+blob : (name : CommandName) (next : List ℕ → Row) → ((bytes : List ℕ) → AreBytes bytes → Reads name (next bytes)) → Reads name (arg blob_part next)
+blob name next each = with_limit AreBytes name blob_part next blob_within each
+
 -- ---- The rows
 
 locator_reads : (command : LocatorCommand) → Reads (service.Locator command) (locator_row command)
@@ -112,13 +116,13 @@ breakpoints_reads breakpoints.GetCapabilities = free _ text_part _ (λ id. named
 
 memory_reads : (command : MemoryCommand) → Reads (service.Memory command) (memory_row command)
 memory_reads memory.Get = free _ text_part _ (λ id. whole _ _ (λ addr addr_is. whole _ _ (λ word word_is. whole _ _ (λ size size_is. whole _ _ (λ mode mode_is. named_made _ (MemGet id addr word size mode) refl (addr_is, word_is, size_is, mode_is))))))
-memory_reads memory.Set = free _ text_part _ (λ id. whole _ _ (λ addr addr_is. whole _ _ (λ word word_is. whole _ _ (λ size size_is. whole _ _ (λ mode mode_is. free _ blob_part _ (λ bytes. named_made _ (MemSet id addr word size mode bytes) refl (addr_is, word_is, size_is, mode_is)))))))
+memory_reads memory.Set = free _ text_part _ (λ id. whole _ _ (λ addr addr_is. whole _ _ (λ word word_is. whole _ _ (λ size size_is. whole _ _ (λ mode mode_is. blob _ _ (λ bytes bytes_are. named_made _ (MemSet id addr word size mode bytes) refl (addr_is, word_is, size_is, mode_is, bytes_are)))))))
 
 registers_reads : (command : RegistersCommand) → Reads (service.Registers command) (registers_row command)
 registers_reads registers.Get = free _ text_part _ (λ id. named_made _ (RegGet id) refl tt)
-registers_reads registers.Set = free _ text_part _ (λ id. free _ blob_part _ (λ bytes. named_made _ (RegSet id bytes) refl tt))
+registers_reads registers.Set = free _ text_part _ (λ id. blob _ _ (λ bytes bytes_are. named_made _ (RegSet id bytes) refl bytes_are))
 registers_reads registers.Getm = locations _ _ (λ list list_is. named_made _ (RegGetm list) refl list_is)
-registers_reads registers.Setm = locations _ _ (λ list list_is. free _ blob_part _ (λ bytes. named_made _ (RegSetm list bytes) refl list_is))
+registers_reads registers.Setm = locations _ _ (λ list list_is. blob _ _ (λ bytes bytes_are. named_made _ (RegSetm list bytes) refl (list_is, bytes_are)))
 
 processes_reads : (command : ProcessesCommand) → Reads (service.Processes command) (processes_row command)
 processes_reads processes.GetContext = free _ text_part _ (λ id. named_made _ (ProcContext id) refl tt)

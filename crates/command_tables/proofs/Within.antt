@@ -128,7 +128,7 @@ part_within (b ∷ part) =
 
 -- ---- Parts
 
-or_else_within : {A E : Type 0} → (P : A → Type 0) (o : Option A) (e : E) → IfSome o P → IfOk (ok_or o e) P
+pub or_else_within : {A E : Type 0} → (P : A → Type 0) (o : Option A) (e : E) → IfSome o P → IfOk (ok_or o e) P
 or_else_within P None e some = tt
 or_else_within P (Some x) e some = some
 

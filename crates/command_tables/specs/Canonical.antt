@@ -1,5 +1,5 @@
 -- How the arguments of a command are written: the canonical value of each.
-use Rattle.std.specs.Prelude.{ℕ, ◌≡◌, true, List, [], ◌∷◌, map}
+use Rattle.std.specs.Prelude.{ℕ, ◌≡◌, ◌<◌, true, List, [], ◌∷◌, map}
 use Rattle.std.specs.List.{AllByRecursion}
 use Rattle.serde_json.specs.Data.{Data}
 use Rattle.serde_json.specs.Written.{compact_text}
@@ -54,6 +54,10 @@ texts_of values = map compact_text values
 abbrev pub body_of : Command → List ℕ
 body_of command = joined (texts_of (canonical command))
 
+-- each is below 256
+abbrev pub AreBytes : List ℕ → Type 0
+AreBytes bytes = AllByRecursion (λ byte. byte < 256) bytes
+
 -- the limits of what can be sent: exactly the commands that are read from some data
 abbrev pub IsReadable : Command → Type 0
 IsReadable Sync = Unit {0}
@@ -76,11 +80,11 @@ IsReadable (BpProperties id) = Unit {0}
 IsReadable (BpGetStatus id) = Unit {0}
 IsReadable (BpCapabilities id) = Unit {0}
 IsReadable (MemGet id addr word size mode) = IsWhole addr × IsWhole word × IsWhole size × IsWhole mode
-IsReadable (MemSet id addr word size mode bytes) = IsWhole addr × IsWhole word × IsWhole size × IsWhole mode
+IsReadable (MemSet id addr word size mode bytes) = IsWhole addr × IsWhole word × IsWhole size × IsWhole mode × AreBytes bytes
 IsReadable (RegGet id) = Unit {0}
-IsReadable (RegSet id bytes) = Unit {0}
+IsReadable (RegSet id bytes) = AreBytes bytes
 IsReadable (RegGetm list) = AllByRecursion IsLocation list
-IsReadable (RegSetm list bytes) = AllByRecursion IsLocation list
+IsReadable (RegSetm list bytes) = AllByRecursion IsLocation list × AreBytes bytes
 IsReadable (ProcContext id) = Unit {0}
 IsReadable (ProcChildren id attached) = Unit {0}
 IsReadable (ProcStart directory file args environment attach) = Unit {0}

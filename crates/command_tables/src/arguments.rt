@@ -6,6 +6,7 @@
 ghost use Rattle.std.specs.Prelude.{◌≡◌, ◌≢◌, ◌<◌, ◌^◌, ◌-◌, slice_get, None, Ok, Err, IfOk, IfErr};
 ghost use Rattle.serde_json.specs.View.{view};
 ghost use Rattle.json_args.specs.Kinds.{IsWhole, value_of};
+ghost use Rattle.command_tables.specs.Canonical.{AreBytes};
 ghost use Rattle.command_tables.specs.Arguments.{behind, first_as, part_as, text_part, whole_part, flag_part, texts_part, blob_part};
 
 use json_args::kinds::{bytes_in, flag_of, text_of, texts_of, whole_of};
@@ -122,9 +123,11 @@ impl<'a> Arguments<'a> {
 
     /// Takes bytes, decoded from the string in the value; `null` is no bytes. `Base64` comes where the string isn't
     /// padded standard base64.
+    #[tactic(auto, using(crate::proofs::Decoded::found_are_bytes))]
     pub fn blob(&mut self) -> Result<Bytes, ArgFault>
         requires { self.now.index < 2 ^ 64 - 1 }
         ensures ok { IfOk result (λ bytes. first_as blob_part self.old ≡ Ok bytes) }
+        ensures range { IfOk result AreBytes }
         ensures fault { IfErr result (λ fault. fault ≢ ArgFault.NoMemory → first_as blob_part self.old ≡ Err fault) }
         ensures missing { slice_get self.old.parts 0 ≡ None → result ≡ Err (ArgFault.Missing self.old.index) }
         ensures rest { self.new ≡ behind self.old }

@@ -37,7 +37,7 @@ use Rattle.tcf_values.specs.declared.errors.ErrorReport.{ErrorReport}
 use Rattle.tcf_values.specs.declared.values.RunState.{RunState}
 use Rattle.tcf_values.specs.declared.values.RunState.TheVariants.{Running, Suspended}
 
-json_nothing : json_of [] ≡ Some null
+pub json_nothing : json_of [] ≡ Some null
 unfolding json_of
 json_nothing = refl
 
@@ -89,11 +89,11 @@ more_than_none : (part rest : List ℕ) → (length (part ++ 0 ∷ rest) == 0) �
 more_than_none [] rest = ne_eqb _ 0 (λ is. absurd (omega arith))
 more_than_none (b ∷ bs) rest = ne_eqb _ 0 (λ is. absurd (omega arith))
 
-in_back : (row : Row) (parts : List (Option Data)) (answer : Answer) → answer_in row (map part_text parts) ≡ Some answer → in_parts row (data_of parts) ≡ Some answer
-in_back row parts answer is = ap (option_and_then (answer_in row)) (parts_again parts) ∙ is
+pub in_back : (row : Row) (parts : List (Option Data)) (found : Option Answer) → answer_in row (map part_text parts) ≡ found → in_parts row (data_of parts) ≡ found
+in_back row parts found is = ap (option_and_then (answer_in row)) (parts_again parts) ∙ is
 
-no_data_failed : (error : Data) (answer : Answer) → answer_in NoData (map part_text (Some error ∷ [])) ≡ Some answer → answer_of NoData (data_of (Some error ∷ [])) ≡ Some answer
-no_data_failed error answer is = cond-false _ _ _ (more_than_none (compact_text error) []) ∙ in_back NoData (Some error ∷ []) answer is
+pub no_data_failed : (error : Data) (found : Option Answer) → answer_in NoData (map part_text (Some error ∷ [])) ≡ found → answer_of NoData (data_of (Some error ∷ [])) ≡ found
+no_data_failed error found is = cond-false _ _ _ (more_than_none (compact_text error) []) ∙ in_back NoData (Some error ∷ []) found is
 
 failed_in : (row : Row) (report : ErrorReport) → PartsRead (failed_parts row (report_json report))
     → answer_in row (map part_text (failed_parts row (report_json report))) ≡ Some (Answer.Failed report)
@@ -159,7 +159,7 @@ state_back (ErrorThen kind) state has typed reads = absurd has
 state_back ErrorState state has typed reads = in_back ErrorState (None ∷ state_parts state) _ (state_again state typed reads)
 state_back BlobErrorNull state has typed reads = absurd has
 
-row_back : (row : Row) (answer : Answer) → IsOfRow row answer → PartsRead (answer_parts row answer) → IsTyped answer
+pub row_back : (row : Row) (answer : Answer) → IsOfRow row answer → PartsRead (answer_parts row answer) → IsTyped answer
     → answer_of row (data_of (answer_parts row answer)) ≡ Some answer
 row_back row (Answer.Failed report) within reads typed = failed_back row report reads
 row_back row Answer.Nothing within reads typed = bare_back row within

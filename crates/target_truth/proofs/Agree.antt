@@ -1,0 +1,132 @@
+-- When what could be known of one target could be known of another, or is touched by the changes that are told: process
+-- by process.
+use Rattle.std.proofs.Common.{◌≡◌, ℕ, ◌≤◌, ◌==◌, ◌&&◌, ◌⊎◌, true, false, List, Option, Some, None, inl, inr, refl, sym, ap, ◌∙◌, subst}
+use Rattle.std.specs.Prelude.{nat_le, option_and_then, option_map}
+use Rattle.std.specs.List.{AllByRecursion, list_any}
+use Rattle.std.proofs.lemmas.Bool.{and_parts, cases_Bool, cond-true, cond-false, eqb-true, eqb-false, leb-true}
+use Rattle.std.proofs.lemmas.Option.{none-some}
+use Rattle.breakpoints.specs.Rows.{props_of}
+use Rattle.breakpoints.specs.Status.{status_of}
+use Rattle.knowledge.specs.Changes.{Change, after_all}
+use Rattle.knowledge.specs.Facts.{Fact, IsPart, Knows, context_is, state_is, register_is, byte_is, properties_are, status_is}
+use Rattle.knowledge.specs.declared.state.StateFact.{StateFact}
+use Rattle.target_contexts.specs.Contexts.{process_data, thread_data, context_of as data_of}
+use Rattle.target_contexts.specs.Laws.{AgreeBut}
+use Rattle.target_contexts.specs.Named.{attached_in}
+use Rattle.target_contexts.specs.declared.process.Process.{Process}
+use Rattle.target_hub.specs.declared.target.Target.{Target}
+use Rattle.target_truth.specs.Holds.{data_in, process_in}
+use Rattle.target_truth.proofs.Changes.{IsSo, covered, is_bytes, touches}
+use Rattle.target_truth.proofs.Seen.{byte_seen, number_seen, seen, state_seen}
+use Rattle.tcf_values.specs.Ids.{context_of}
+use Rattle.tcf_values.specs.declared.ids.ContextId.{ContextId}
+use Rattle.tcf_values.specs.declared.ids.ContextId.TheVariants as contexts
+use Rattle.tcf_values.specs.declared.values.BpProps.{BpProps}
+use Rattle.tcf_values.specs.declared.values.BpStatus.{BpStatus}
+use Rattle.tcf_values.specs.declared.values.ContextData.{ContextData}
+
+-- one of the changes drops the fact, or tells it anew
+abbrev pub IsTouched : List Change → Fact → Type 0
+IsTouched changes fact = list_any (touches fact) changes ≡ true
+
+-- ---- one process, as it was and as it is
+
+pub record Accounts (number : ℕ) (was is : Option Process) (changes : List Change) : Type 0 where
+  pub process : (id : List ℕ) (x : ContextData) → context_of id ≡ Some (contexts.Process number) → option_map (process_data number) was ≡ Some x
+      → (option_map (process_data number) is ≡ Some x) ⊎ IsTouched changes (context_is id x)
+  pub thread : (id : List ℕ) (x : ContextData) → context_of id ≡ Some (contexts.Thread number 1) → option_map (thread_data number) was ≡ Some x
+      → (option_map (thread_data number) is ≡ Some x) ⊎ IsTouched changes (context_is id x)
+  pub state : (x : StateFact) → state_seen was ≡ Some x → (state_seen is ≡ Some x) ⊎ IsTouched changes (state_is number 1 x)
+  pub register : (index x : ℕ) → index ≤ 32 → number_seen index was ≡ Some x → (number_seen index is ≡ Some x) ⊎ IsTouched changes (register_is number 1 index x)
+  pub byte : (addr x : ℕ) → byte_seen addr x was ≡ true → (byte_seen addr x is ≡ true) ⊎ IsTouched changes (byte_is number addr x)
+
+-- a process that is as it was
+pub same_accounts : (number : ℕ) (process : Option Process) (changes : List Change) → Accounts number process process changes
+same_accounts number process changes = record {
+  process = λ id x named knows. inl knows;
+  thread = λ id x named knows. inl knows;
+  state = λ x knows. inl knows;
+  register = λ index x few knows. inl knows;
+  byte = λ addr x knows. inl knows;
+}
+
+-- ---- contexts, by what the ID names
+
+pub data_named : (id : List ℕ) (context : ContextId) (target : Target) → context_of id ≡ Some context → data_in id target ≡ data_of context target.contexts.processes
+data_named id context target named = ap (option_and_then (λ c. data_of c target.contexts.processes)) named
+
+context_by : (before now : Target) (changes : List Change) → ((p : ℕ) → Accounts p (process_in p before) (process_in p now) changes)
+    → (id : List ℕ) (x : ContextData) (found : Option ContextId) → context_of id ≡ found → option_and_then (λ c. data_of c before.contexts.processes) found ≡ Some x
+    → (option_and_then (λ c. data_of c now.contexts.processes) found ≡ Some x) ⊎ IsTouched changes (context_is id x)
+context_by before now changes each id x None named knows = absurd (none-some x knows)
+context_by before now changes each id x (Some (contexts.Process number)) named knows = (each number).process id x named knows
+context_by before now changes each id x (Some (contexts.Thread number thread)) named knows =
+    elim (cases_Bool (thread == 1)) [
+      | inl e ↦
+          let one : thread ≡ 1 = eqb-true thread 1 e in
+          let named_one : context_of id ≡ Some (contexts.Thread number 1) = named ∙ ap (λ t. Some (contexts.Thread number t)) one in
+          elim ((each number).thread id x named_one (sym (cond-true (thread == 1) _ _ e) ∙ knows)) [
+            | inl k ↦ inl (cond-true (thread == 1) _ _ e ∙ k)
+            | inr k ↦ inr k
+          ]
+      | inr e ↦ absurd (none-some x (sym (cond-false (thread == 1) _ _ e) ∙ knows))
+    ]
+
+-- ---- all facts
+
+pub led : (before now : Target) (changes : List Change) → AllByRecursion (IsSo now) changes → list_any is_bytes changes ≡ false
+    → ((p : ℕ) → Accounts p (process_in p before) (process_in p now) changes)
+    → ((id : List ℕ) (x : BpProps) → props_of id before.breakpoints ≡ Some x → (props_of id now.breakpoints ≡ Some x) ⊎ IsTouched changes (properties_are id x))
+    → ((id : List ℕ) (x : BpStatus) → status_of id (attached_in before.contexts.processes) before.breakpoints ≡ Some x
+    → (status_of id (attached_in now.contexts.processes) now.breakpoints ≡ Some x) ⊎ IsTouched changes (status_is id x))
+    → IsPart (after_all changes (seen before)) (seen now)
+led before now changes so none each properties statuses = covered before now changes so none by_kind
+  where
+    by_kind : (fact : Fact) → Knows (seen before) fact → Knows (seen now) fact ⊎ (list_any (touches fact) changes ≡ true)
+    by_kind (context_is id x) knows = context_by before now changes each id x (context_of id) refl knows
+    by_kind (state_is p t x) knows =
+        elim (cases_Bool (t == 1)) [
+          | inl e ↦
+              let one : t ≡ 1 = eqb-true t 1 e in
+              elim ((each p).state x (sym (cond-true (t == 1) _ _ e) ∙ knows)) [
+                | inl k ↦ inl (cond-true (t == 1) _ _ e ∙ k)
+                | inr k ↦ inr (subst (λ n. IsTouched changes (state_is p n x)) (sym one) k)
+              ]
+          | inr e ↦ absurd (none-some x (sym (cond-false (t == 1) _ _ e) ∙ knows))
+        ]
+    by_kind (register_is p t i x) knows =
+        elim (cases_Bool ((t == 1) && nat_le i 32)) [
+          | inl e ↦
+              let both = and_parts _ _ e in
+              let one : t ≡ 1 = eqb-true t 1 both.0 in
+              elim ((each p).register i x (leb-true i 32 both.1) (sym (cond-true ((t == 1) && nat_le i 32) _ _ e) ∙ knows)) [
+                | inl k ↦ inl (cond-true ((t == 1) && nat_le i 32) _ _ e ∙ k)
+                | inr k ↦ inr (subst (λ n. IsTouched changes (register_is p n i x)) (sym one) k)
+              ]
+          | inr e ↦ absurd (none-some x (sym (cond-false ((t == 1) && nat_le i 32) _ _ e) ∙ knows))
+        ]
+    by_kind (byte_is p addr x) knows = (each p).byte addr x knows
+    by_kind (properties_are id x) knows = properties id x knows
+    by_kind (status_is id x) knows = statuses id x knows
+
+-- ---- where one process may be another
+
+each_but : (number : ℕ) (before now : Target) (changes : List Change) → AgreeBut number before.contexts.processes now.contexts.processes
+    → Accounts number (process_in number before) (process_in number now) changes → (p : ℕ) → Accounts p (process_in p before) (process_in p now) changes
+each_but number before now changes others here p =
+    elim (cases_Bool (p == number)) [
+      | inl e ↦ subst (λ n. Accounts n (process_in n before) (process_in n now) changes) (sym (eqb-true p number e)) here
+      | inr e ↦ subst (λ o. Accounts p (process_in p before) o changes) (sym (others p (eqb-false p number e))) (same_accounts p (process_in p before) changes)
+    ]
+
+pub led_at : (number : ℕ) (before now : Target) (was is : Option Process) (changes : List Change) → AllByRecursion (IsSo now) changes → list_any is_bytes changes ≡ false
+    → AgreeBut number before.contexts.processes now.contexts.processes → now.breakpoints ≡ before.breakpoints
+    → process_in number before ≡ was → process_in number now ≡ is → Accounts number was is changes
+    → ((id : List ℕ) (x : BpStatus) → status_of id (attached_in before.contexts.processes) before.breakpoints ≡ Some x
+    → (status_of id (attached_in now.contexts.processes) now.breakpoints ≡ Some x) ⊎ IsTouched changes (status_is id x))
+    → IsPart (after_all changes (seen before)) (seen now)
+led_at number before now was is changes so none others breakpoints was_is is_is accounts statuses =
+    led before now changes so none
+    (each_but number before now changes others
+    (subst (λ o. Accounts number o (process_in number now) changes) (sym was_is) (subst (λ o. Accounts number was o changes) (sym is_is) accounts)))
+    (λ id x knows. inl (ap (props_of id) breakpoints ∙ knows)) statuses

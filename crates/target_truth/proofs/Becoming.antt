@@ -1,0 +1,103 @@
+-- One process becomes another, and all others stay as they are.
+use Rattle.std.proofs.Common.{◌≡◌, ℕ, ◌≤◌, nat_eq, length, Option, Some, refl, sym, ◌∙◌, ap, subst, inl, inr}
+use Rattle.std.proofs.lemmas.Bool.{cases_Bool, eqb-false, eqb-true}
+use Rattle.std.proofs.lemmas.List.{length-map}
+use Rattle.target_contexts.specs.Changes.{with_change, with_change_at}
+use Rattle.target_contexts.specs.Laws.{AgreeBut, ChangesOne}
+use Rattle.target_contexts.specs.Live.{IsOrderly, Rise, numbers_of, process_of}
+use Rattle.target_contexts.specs.Named.{is_attached}
+use Rattle.target_contexts.specs.TargetsValue.{TargetsValue}
+use Rattle.target_contexts.specs.declared.process.Process.{Process}
+use Rattle.target_hub.specs.declared.target.Target.{Target}
+use Rattle.target_truth.specs.Holds.{process_in}
+use Rattle.target_truth.proofs.First.{Stays, StaysAttached}
+use Rattle.target_truth.proofs.Live.{live_found}
+use Rattle.target_truth.proofs.Silent.{attached_same}
+
+-- ---- a change
+
+pub record Becomes (number : ℕ) (old new : TargetsValue) (process : Process) : Type 0 where
+  pub found : process_of number new.processes ≡ Some process
+  pub others : AgreeBut number old.processes new.processes
+  pub numbers : numbers_of new.processes ≡ numbers_of old.processes
+  pub next : new.next ≡ old.next
+
+pub changed : ChangesOne → (change : Process → Process) (number : ℕ) (targets : TargetsValue) (process : Process) → process_of number targets.processes ≡ Some process
+    → Becomes number targets (with_change change number targets) (change process)
+changed law change number targets process found =
+    let is = law targets.processes number (change process) (live_found number targets.processes process found) in
+    subst (λ (o : Option Process). Becomes number targets (with_change_at change number o targets) (change process)) (sym found)
+    (record { found = is.0; others = is.1; numbers = is.2; next = refl })
+
+pub twice : (number : ℕ) (one two three : TargetsValue) (process last : Process) → Becomes number one two process → Becomes number two three last → Becomes number one three last
+twice number one two three process last first second = record {
+  found = second.found;
+  others = λ other differ. second.others other differ ∙ first.others other differ;
+  numbers = second.numbers ∙ first.numbers;
+  next = second.next ∙ first.next;
+}
+
+-- the numbers stay in order
+pub orderly : (number : ℕ) (old new : TargetsValue) (process : Process) → Becomes number old new process → IsOrderly old.processes old.next → IsOrderly new.processes new.next
+orderly number old new process becomes was =
+    let counted : length new.processes ≡ length old.processes =
+    sym (length-map new.processes (λ (row : ℕ × Process). row.0)) ∙ ap length becomes.numbers ∙ length-map old.processes (λ (row : ℕ × Process). row.0) in
+    record {
+      few = subst (λ n. n ≤ 64) (sym counted) was.few;
+      rising = subst (λ n. Rise 0 (numbers_of new.processes) n) (sym becomes.next) (subst (λ ns. Rise 0 ns old.next) (sym becomes.numbers) was.rising);
+      bounded = subst (λ n. n ≤ 4294967296) (sym becomes.next) was.bounded;
+    }
+
+-- ---- the target with other processes
+
+abbrev pub with_contexts : TargetsValue → Target → Target
+with_contexts contexts target = record target { contexts = contexts }
+
+pub stays : (number : ℕ) (target : Target) (contexts : TargetsValue) (old new : Process) → process_in number target ≡ Some old → Becomes number target.contexts contexts new → new.name ≡ old.name
+    → Stays number target (with_contexts contexts target) old new
+stays number target contexts old new was becomes name = record {
+  differs = record { others = becomes.others; breakpoints = refl };
+  was = was;
+  is = becomes.found;
+  name = name;
+}
+
+-- a process that stays attached, or not
+attached_by : (number : ℕ) (target : Target) (contexts : TargetsValue) (old new : Process) → process_in number target ≡ Some old → Becomes number target.contexts contexts new → new.attached ≡ old.attached
+    → (n : ℕ) → is_attached (process_of n contexts.processes) ≡ is_attached (process_of n target.contexts.processes)
+attached_by number target contexts old new was becomes attached n =
+    elim (cases_Bool (nat_eq n number)) [
+      | inl e ↦
+          let same : n ≡ number = eqb-true n number e in
+          let at : process_of n contexts.processes ≡ Some new = ap (λ m. process_of m contexts.processes) same ∙ becomes.found in
+          let before : process_of n target.contexts.processes ≡ Some old = ap (λ m. process_of m target.contexts.processes) same ∙ was in
+          ap is_attached at ∙ attached ∙ sym (ap is_attached before)
+      | inr e ↦ ap is_attached (becomes.others n (eqb-false n number e))
+    ]
+
+pub stays_attached : (number : ℕ) (target : Target) (contexts : TargetsValue) (old new : Process) → process_in number target ≡ Some old → Becomes number target.contexts contexts new → new.name ≡ old.name
+    → new.attached ≡ old.attached → StaysAttached number target (with_contexts contexts target) old new
+stays_attached number target contexts old new was becomes name attached = record {
+  stays = stays number target contexts old new was becomes name;
+  attached = attached;
+  all = attached_same target.contexts.processes contexts.processes becomes.numbers (attached_by number target contexts old new was becomes attached);
+}
+
+-- the live process of a number is changed
+pub change_stays : ChangesOne → (change : Process → Process) (number : ℕ) (target : Target) (old : Process) → process_in number target ≡ Some old → (change old).name ≡ old.name → (change old).attached ≡ old.attached
+    → StaysAttached number target (with_contexts (with_change change number target.contexts) target) old (change old)
+change_stays law change number target old was name attached =
+    stays_attached number target (with_change change number target.contexts) old (change old) was (changed law change number target.contexts old was) name attached
+
+-- what stays as it is
+pub rests : (number : ℕ) (target : Target) (process : Process) → process_in number target ≡ Some process → StaysAttached number target target process process
+rests number target process there = record {
+  stays = record {
+    differs = record { others = λ other differ. refl; breakpoints = refl };
+    was = there;
+    is = there;
+    name = refl;
+  };
+  attached = refl;
+  all = refl;
+}

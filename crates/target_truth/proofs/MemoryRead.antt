@@ -1,0 +1,51 @@
+-- Bytes of memory that are answered: what is read of them is so.
+use Rattle.std.proofs.Common.{◌≡◌, ℕ, zero, suc, ℤ, ◌+◌, ◌-◌, ◌≤◌, true, true≢false, not, List, [], ◌∷◌, take, drop, slice_get, Option, Some, refl, sym, ◌∙◌, ap, subst, arith}
+use Rattle.std.proofs.lemmas.Bool.{and_from, and_parts, leb-true}
+use Rattle.std.specs.List.{AllByRecursion}
+use Rattle.std.specs.Prelude.{unsigned_abs, nat_le}
+use Rattle.data_services.specs.Bytes.{part_of}
+use Rattle.knowledge.specs.Changes.{bytes_read, has_byte, is_byte, is_still}
+use Rattle.knowledge.specs.Facts.{is_suspended}
+use Rattle.knowledge.specs.Rows.{are_of_range, range_read}
+use Rattle.target_contexts.specs.Named.{runs}
+use Rattle.target_contexts.specs.declared.process.Process.{Process}
+use Rattle.target_contexts.specs.declared.process.ThreadState.{ThreadState}
+use Rattle.target_contexts.specs.declared.process.ThreadState.TheVariants.{Running, Suspended}
+use Rattle.target_hub.specs.declared.target.Target.{Target}
+use Rattle.target_truth.specs.Holds.{process_in, state_fact}
+use Rattle.target_truth.proofs.Changes.{IsSo}
+use Rattle.target_truth.proofs.Lists.{all_if}
+use Rattle.target_truth.proofs.KeptBytes.{get_drop}
+use Rattle.target_truth.proofs.Seen.{byte_seen, seen, state_seen}
+
+taken : (count : ℕ) (xs : List ℕ) (k byte : ℕ) → is_byte byte (slice_get (take count xs) k) ≡ true → is_byte byte (slice_get xs k) ≡ true
+taken zero xs k byte is = absurd (true≢false (sym is))
+taken (suc count) [] k byte is = is
+taken (suc count) (x ∷ xs) zero byte is = is
+taken (suc count) (x ∷ xs) (suc k) byte is = taken count xs k byte is
+
+part_byte : (first count place byte : ℕ) (memory : List ℕ) → has_byte first (part_of first count memory) place byte ≡ true → is_byte byte (slice_get memory place) ≡ true
+part_byte first count place byte memory has =
+    let both = and_parts (nat_le first place) _ has in
+    let low : first ≤ place = leb-true first place both.0 in
+    let at : first + (place - first) ≡ place = omega (arith, low) in
+    sym (ap (λ k. is_byte byte (slice_get memory k)) at) ∙ (ap (is_byte byte) (sym (get_drop first (place - first) memory)) ∙ taken count (drop first memory) (place - first) byte both.1)
+
+-- ---- where the thread is suspended
+
+still_state : (state : ThreadState) → is_suspended (Some (state_fact state)) ≡ true → not (runs state) ≡ true
+still_state (Running left) still = still
+still_state (Suspended reason hits) still = refl
+
+bytes_so : (number : ℕ) (target : Target) (process : Process) (first count : ℕ) → process_in number target ≡ Some process
+    → is_still number (seen target) ≡ true → (place byte : ℕ) → has_byte first (part_of first count process.memory) place byte ≡ true → (seen target).bytes number place byte ≡ true
+bytes_so number target process first count there still place byte has =
+    let stopped : is_suspended (state_seen (Some process)) ≡ true = subst (λ (o : Option Process). is_suspended (state_seen o) ≡ true) there still in
+    ap (byte_seen place byte) there ∙ and_from _ _ (still_state process.state stopped) (part_byte first count place byte process.memory has)
+
+pub range_so : (number : ℕ) (target : Target) (process : Process) (addr size : ℤ) → process_in number target ≡ Some process
+    → AllByRecursion (IsSo target) (range_read number addr size (part_of (unsigned_abs addr) (unsigned_abs size) process.memory))
+range_so number target process addr size there =
+    let bytes = part_of (unsigned_abs addr) (unsigned_abs size) process.memory in
+    all_if (IsSo target) (are_of_range addr size bytes) (bytes_read number (unsigned_abs addr) bytes ∷ [])
+    (λ is. (bytes_so number target process (unsigned_abs addr) (unsigned_abs size) there, tt))

@@ -1,0 +1,103 @@
+-- Bytes that are put over parts of registers: what there is of each process then.
+use Rattle.std.proofs.Common.{◌≡◌, ℕ, nat_eq, Bool, true, false, cond, List, [], ◌∷◌, take, drop, Option, Some, None, option_map, refl, sym, ◌∙◌, ap, eqb-true}
+use Rattle.std.proofs.lemmas.Bool.{eqb-false}
+use Rattle.data_services.specs.Parts.{cpu_after, parts_named, with_bytes, with_parts, with_register_bytes}
+use Rattle.target_contexts.specs.Changes.{with_change, with_change_at}
+use Rattle.target_contexts.specs.Laws.{AgreeBut, ChangesOne}
+use Rattle.target_contexts.specs.Live.{numbers_of, process_of, with_process}
+use Rattle.target_contexts.specs.TargetsValue.{TargetsValue}
+use Rattle.target_contexts.specs.declared.process.Process.{Process}
+use Rattle.target_truth.proofs.Becoming.{Becomes}
+use Rattle.target_truth.proofs.Live.{live_found}
+
+-- ---- a change of one process
+
+changed_by : ChangesOne → (change : Process → Process) (n number : ℕ) (targets : TargetsValue) (found : Option Process) → process_of n targets.processes ≡ found → (same : Bool) → nat_eq n number ≡ same →
+    process_of number (with_change_at change n found targets).processes ≡ cond same (option_map change (process_of number targets.processes)) (process_of number targets.processes)
+changed_by law change n number targets None there true e =
+    let missing : process_of number targets.processes ≡ None = ap (λ (m : ℕ). process_of m targets.processes) (sym (eqb-true n number e)) ∙ there in
+    missing ∙ sym (ap (option_map change) missing)
+changed_by law change n number targets None there false e = refl
+changed_by law change n number targets (Some process) there true e =
+    let same : n ≡ number = eqb-true n number e in
+    let rows : List (ℕ × Process) = with_process n (change process) targets.processes in
+    ap (λ (m : ℕ). process_of m rows) (sym same)
+    ∙ (law targets.processes n (change process) (live_found n targets.processes process there)).0
+    ∙ sym (ap (option_map change) (ap (λ (m : ℕ). process_of m targets.processes) (sym same) ∙ there))
+changed_by law change n number targets (Some process) there false e =
+    (law targets.processes n (change process) (live_found n targets.processes process there)).1 number (λ same. eqb-false n number e (sym same))
+
+changed_process : ChangesOne → (change : Process → Process) (n number : ℕ) (targets : TargetsValue) →
+    process_of number (with_change change n targets).processes ≡ cond (nat_eq n number) (option_map change (process_of number targets.processes)) (process_of number targets.processes)
+changed_process law change n number targets = changed_by law change n number targets (process_of n targets.processes) refl (nat_eq n number) refl
+
+numbers_by : ChangesOne → (change : Process → Process) (n : ℕ) (targets : TargetsValue) (found : Option Process) → process_of n targets.processes ≡ found
+    → numbers_of (with_change_at change n found targets).processes ≡ numbers_of targets.processes
+numbers_by law change n targets None there = refl
+numbers_by law change n targets (Some process) there = (law targets.processes n (change process) (live_found n targets.processes process there)).2
+
+same_numbers : ChangesOne → (change : Process → Process) (n : ℕ) (targets : TargetsValue) → numbers_of (with_change change n targets).processes ≡ numbers_of targets.processes
+same_numbers law change n targets = numbers_by law change n targets (process_of n targets.processes) refl
+
+-- ---- bytes put over parts of registers
+
+-- the type of what is in a list
+abbrev pub item_of : {A : Type 0} → List A → Type 0
+item_of {A = A} list = A
+
+-- a part of a register, as locations name it
+abbrev pub Part : Type 0
+Part = item_of (parts_named [])
+
+abbrev pub with_cpu_after : ℕ → List Part → List ℕ → Process → Process
+with_cpu_after number parts bytes process = record process { cpu = cpu_after number parts bytes process.cpu }
+
+unchanged : (number : ℕ) (bytes : List ℕ) (found : Option Process) → found ≡ option_map (λ process. with_cpu_after number [] bytes process) found
+unchanged number bytes None = refl
+unchanged number bytes (Some process) = refl
+
+-- the part is first put over, or passed over, and then the others
+one_more : (number : ℕ) (part : Part) (parts : List Part) (bytes : List ℕ) (same : Bool) → nat_eq part.register.process number ≡ same → (found : Option Process) →
+    option_map (λ process. with_cpu_after number parts (drop part.size bytes) process) (cond same (option_map (with_bytes part (take part.size bytes)) found) found) ≡ option_map (λ process. with_cpu_after number (part ∷ parts) bytes process) found
+one_more number part parts bytes true e None = refl
+one_more number part parts bytes false e None = refl
+one_more number part parts bytes true e (Some process) = ap (λ (b : Bool). Some (record process { cpu = cpu_after number parts (drop part.size bytes) (cond b (with_register_bytes part (take part.size bytes) process.cpu) process.cpu) })) (sym e)
+one_more number part parts bytes false e (Some process) = ap (λ (b : Bool). Some (record process { cpu = cpu_after number parts (drop part.size bytes) (cond b (with_register_bytes part (take part.size bytes) process.cpu) process.cpu) })) (sym e)
+
+-- what is left in one process is what its own parts leave there
+pub process_after : ChangesOne → (number : ℕ) (parts : List Part) (bytes : List ℕ) (targets : TargetsValue) →
+    process_of number (with_parts parts bytes targets).processes ≡ option_map (λ process. with_cpu_after number parts bytes process) (process_of number targets.processes)
+process_after law number [] bytes targets = unchanged number bytes (process_of number targets.processes)
+process_after law number (part ∷ parts) bytes targets =
+    let change : Process → Process = with_bytes part (take part.size bytes) in
+    let n : ℕ = part.register.process in
+    process_after law number parts (drop part.size bytes) (with_change change n targets)
+    ∙ ap (λ (found : Option Process). option_map (λ process. with_cpu_after number parts (drop part.size bytes) process) found) (changed_process law change n number targets)
+    ∙ one_more number part parts bytes (nat_eq n number) refl (process_of number targets.processes)
+
+next_by : (change : Process → Process) (n : ℕ) (targets : TargetsValue) (found : Option Process) → (with_change_at change n found targets).next ≡ targets.next
+next_by change n targets None = refl
+next_by change n targets (Some process) = refl
+
+next_after : (parts : List Part) (bytes : List ℕ) (targets : TargetsValue) → (with_parts parts bytes targets).next ≡ targets.next
+next_after [] bytes targets = refl
+next_after (part ∷ parts) bytes targets =
+    let change : Process → Process = with_bytes part (take part.size bytes) in
+    let n : ℕ = part.register.process in
+    next_after parts (drop part.size bytes) (with_change change n targets) ∙ next_by change n targets (process_of n targets.processes)
+
+pub numbers_after : ChangesOne → (parts : List Part) (bytes : List ℕ) (targets : TargetsValue) → numbers_of (with_parts parts bytes targets).processes ≡ numbers_of targets.processes
+numbers_after law [] bytes targets = refl
+numbers_after law (part ∷ parts) bytes targets =
+    let change : Process → Process = with_bytes part (take part.size bytes) in
+    numbers_after law parts (drop part.size bytes) (with_change change part.register.process targets) ∙ same_numbers law change part.register.process targets
+
+-- where they leave the other processes as they are
+pub parts_become : ChangesOne → (number : ℕ) (parts : List Part) (bytes : List ℕ) (targets : TargetsValue) (process : Process) → process_of number targets.processes ≡ Some process
+    → AgreeBut number targets.processes (with_parts parts bytes targets).processes → Becomes number targets (with_parts parts bytes targets) (with_cpu_after number parts bytes process)
+parts_become law number parts bytes targets process found others = record {
+  found = process_after law number parts bytes targets ∙ ap (option_map (λ p. with_cpu_after number parts bytes p)) found;
+  others = others;
+  numbers = numbers_after law parts bytes targets;
+  next = next_after parts bytes targets;
+}

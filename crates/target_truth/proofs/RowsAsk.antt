@@ -1,0 +1,241 @@
+-- The commands that ask: what they answer is so.
+use Rattle.std.proofs.Common.{◌≡◌, ◌<◌, ◌^◌, ℕ, ℤ, ◌==◌, Bool, true, false, cond, List, [], ◌∷◌, bytes_eq, Option, Some, None, option_map, option_and_then, IfSome, refl, sym, ◌∙◌, ap, subst}
+use Rattle.std.specs.Prelude.{is_none, unsigned_abs}
+use Rattle.std.specs.List.{AllByRecursion, find}
+use Rattle.std.proofs.lemmas.Bool.{and_from, cond-true, cond_both}
+use Rattle.breakpoints.specs.Rows.{props_of}
+use Rattle.breakpoints.specs.Status.{instances_of}
+use Rattle.command_tables.specs.Canonical.{IsReadable}
+use Rattle.data_services.specs.Bytes.{part_of, word_bytes}
+use Rattle.data_services.specs.MemoryRows.{memory_bytes, memory_get_fault}
+use Rattle.data_services.specs.Named.{holder_of}
+use Rattle.data_services.specs.Parts.{bytes_of, number_in, parts_named}
+use Rattle.data_services.specs.RegisterRows.{register_bytes, register_get_fault, registers_get_fault}
+use Rattle.json_values.specs.Contexts.{IsContext}
+use Rattle.json_values.specs.Props.{is_bp}
+use Rattle.knowledge.specs.Learning.{Message}
+use Rattle.knowledge.specs.Rows.{memory_read, process_for, range_read, state_changes, state_of_thread, whole_read}
+use Rattle.reply_tables.specs.Written.{IsTypedState, answer_data}
+use Rattle.run_control.specs.Asking.{context_answer, context_fault, run_state, state_answer, state_fault}
+use Rattle.target_contexts.specs.Contexts.{context_of as data_of, process_data, thread_data}
+use Rattle.target_contexts.specs.Live.{process_of}
+use Rattle.target_contexts.specs.Named.{attached_in, number_for, process_at_number, runs, thread_for}
+use Rattle.target_contexts.specs.declared.process.Process.{Process}
+use Rattle.target_contexts.specs.declared.process.ThreadState.{ThreadState}
+use Rattle.target_contexts.specs.declared.process.ThreadState.TheVariants.{Running, Suspended}
+use Rattle.target_hub.specs.BreakpointsRows.{ask_fault, props_answer, status_answer}
+use Rattle.target_hub.specs.Execution.{exec_effect}
+use Rattle.target_hub.specs.Limits.{AreReadable}
+use Rattle.target_hub.specs.declared.target.Target.{Target}
+use Rattle.target_truth.specs.Holds.{data_in, process_in, state_fact}
+use Rattle.target_truth.specs.Taught.{answer_message}
+use Rattle.target_truth.proofs.Answering.{IsTrueAnswer, answer_by_fault, answered}
+use Rattle.target_truth.proofs.Changes.{IsSo, Moves}
+use Rattle.target_truth.proofs.Decoding.{blob_typed}
+use Rattle.target_truth.proofs.Holders.{held_found}
+use Rattle.target_truth.proofs.AnswerBytes.{part_bytes, parts_typed, word_typed}
+use Rattle.target_truth.proofs.MemoryRead.{range_so}
+use Rattle.target_truth.proofs.RegisterPartsRead.{parts_so}
+use Rattle.target_truth.proofs.RegistersRead.{whole_so, word_whole}
+use Rattle.target_truth.proofs.Seen.{number_seen, state_seen}
+use Rattle.target_truth.proofs.Faults.{check_passed}
+use Rattle.target_truth.proofs.Whole.{IsGood, Laws}
+use Rattle.target_truth.proofs.ContextLimits.{process_fits, thread_fits}
+use Rattle.target_truth.proofs.StatusLimits.{instances_fit}
+use Rattle.tcf_values.specs.Ids.{context_of, register_of}
+use Rattle.tcf_values.specs.declared.answer.Answer.TheVariants as answers
+use Rattle.tcf_values.specs.declared.command.Command.{Command}
+use Rattle.tcf_values.specs.declared.command.Command.TheVariants as commands
+use Rattle.tcf_values.specs.declared.ids.ContextId.{ContextId}
+use Rattle.tcf_values.specs.declared.ids.ContextId.TheVariants as ids
+use Rattle.tcf_values.specs.declared.ids.RegisterId.{RegisterId}
+use Rattle.tcf_values.specs.declared.values.BpProps.{BpProps}
+use Rattle.tcf_values.specs.declared.values.ContextData.{ContextData}
+use Rattle.tcf_values.specs.declared.values.Location.{Location}
+
+-- the answer to a command of a channel, as it is taken
+abbrev pub reply : ℕ → Command → Target → Message
+reply channel command target = answer_message command (answer_data command (exec_effect channel command target).answer)
+
+-- what is answered is so
+abbrev pub Answers : ℕ → Command → Target → Type 0
+Answers channel command target = Moves target target (reply channel command target)
+
+-- ---- contexts
+
+of_process : (told : Process → ContextData) (found : Option Process) → ((process : Process) → IsContext (told process)) → IfSome (option_map told found) IsContext
+of_process told None fits = tt
+of_process told (Some process) fits = fits process
+
+data_within : (rows : List (ℕ × Process)) (context : Option ContextId) → IfSome (option_and_then (λ c. data_of c rows) context) IsContext
+data_within rows None = tt
+data_within rows (Some (ids.Process number)) = of_process (process_data number) (process_of number rows) (process_fits number)
+data_within rows (Some (ids.Thread number thread)) =
+    cond_both (thread == 1) (option_map (λ process. thread_data number process) (process_of number rows)) None (λ found. IfSome found IsContext)
+    (λ is. of_process (thread_data number) (process_of number rows) (thread_fits number)) (λ isnt. tt)
+
+context_so : (id : List ℕ) (target : Target) (found : Option ContextData) → data_in id target ≡ found → IfSome found IsContext → is_none found ≡ false
+    → IsTrueAnswer target (commands.GetContext id) (context_answer found)
+context_so id target None is within some = absurd cc
+context_so id target (Some context) is within some = record { limits = (refl, within); typed = tt; so = (is, tt) }
+
+pub get_context : Laws → (channel : ℕ) (id : List ℕ) (target : Target) → IsGood target → Answers channel (commands.GetContext id) target
+unfolding exec_effect
+get_context laws channel id target good =
+    answered laws target (commands.GetContext id) _ (answer_by_fault target (commands.GetContext id) (context_fault id target.contexts.processes) _ (λ none.
+    context_so id target (data_in id target) refl (data_within target.contexts.processes (context_of id)) (check_passed _ _ _ none).0))
+
+-- ---- states
+
+thread_so : (target : Target) (number thread : ℕ) (process : Process) (state : ThreadState) → process_in number target ≡ Some process → (thread == 1) ≡ true → process.state ≡ state
+    → AllByRecursion (IsSo target) (state_changes (run_state process.cpu.pc state) number thread)
+thread_so target number thread process (Running left) there one is =
+    (cond-true (thread == 1) (state_seen (process_in number target)) None one ∙ ap state_seen there ∙ ap (λ (s : ThreadState). Some (state_fact s)) is, tt)
+thread_so target number thread process (Suspended reason hits) there one is = (
+  cond-true (thread == 1) (state_seen (process_in number target)) None one ∙ ap state_seen there ∙ ap (λ (s : ThreadState). Some (state_fact s)) is,
+  (cond-true _ _ _ (and_from _ _ one refl) ∙ ap (number_seen 32) there ∙ ap (λ (s : ThreadState). cond (runs s) None (Some process.cpu.pc)) is, tt),
+)
+
+pc_typed : (pc : ℕ) (state : ThreadState) → pc < 2 ^ 32 → IsTypedState (run_state pc state)
+pc_typed pc (Running left) small = tt
+pc_typed pc (Suspended reason hits) small = small
+
+found_state : (id : List ℕ) (target : Target) (number thread : ℕ) (found : Option Process) → IsGood target → context_of id ≡ Some (ids.Thread number thread) → (thread == 1) ≡ true
+    → process_in number target ≡ found → is_none found ≡ false → IsTrueAnswer target (commands.GetState id) (state_answer found)
+found_state id target number thread None good is one there some = absurd cc
+found_state id target number thread (Some process) good is one there some = record {
+  limits = tt;
+  typed = pc_typed process.cpu.pc process.state (good.whole number process there).cpu.pc;
+  so = subst (λ (context : Option ContextId). AllByRecursion (IsSo target) (state_of_thread context (run_state process.cpu.pc process.state))) (sym is)
+      (thread_so target number thread process process.state there one refl);
+}
+
+thread_state : (id : List ℕ) (target : Target) (number thread : ℕ) (test : Bool) → IsGood target → context_of id ≡ Some (ids.Thread number thread) → (thread == 1) ≡ test
+    → is_none (process_at_number (cond test (Some number) None) target.contexts.processes) ≡ false
+    → IsTrueAnswer target (commands.GetState id) (state_answer (process_at_number (cond test (Some number) None) target.contexts.processes))
+thread_state id target number thread false good is one some = absurd cc
+thread_state id target number thread true good is one some = found_state id target number thread (process_in number target) good is one refl some
+
+state_so : (id : List ℕ) (target : Target) (context : Option ContextId) → IsGood target → context_of id ≡ context
+    → is_none (process_at_number (option_and_then thread_for context) target.contexts.processes) ≡ false
+    → IsTrueAnswer target (commands.GetState id) (state_answer (process_at_number (option_and_then thread_for context) target.contexts.processes))
+state_so id target None good is some = absurd cc
+state_so id target (Some (ids.Process number)) good is some = absurd cc
+state_so id target (Some (ids.Thread number thread)) good is some = thread_state id target number thread (thread == 1) good is refl some
+
+pub get_state : Laws → (channel : ℕ) (id : List ℕ) (target : Target) → IsGood target → Answers channel (commands.GetState id) target
+unfolding exec_effect
+get_state laws channel id target good =
+    answered laws target (commands.GetState id) _ (answer_by_fault target (commands.GetState id) (state_fault id target.contexts.processes) _ (λ none.
+    state_so id target (context_of id) good refl (check_passed _ _ _ none).0))
+
+-- ---- breakpoints
+
+abbrev IsReadableBp : BpProps → Type 0
+IsReadableBp props = is_bp props ≡ true
+
+found_readable : (id : List ℕ) (rows : List (ℕ × BpProps)) → AreReadable rows → IfSome (props_of id rows) IsReadableBp
+found_readable id [] all = tt
+found_readable id (row ∷ rows) all =
+    cond_both (bytes_eq id row.1.id) (Some row) (find (λ r. bytes_eq id r.1.id) rows) (λ found. IfSome (option_map (λ (r : ℕ × BpProps). r.1) found) IsReadableBp)
+    (λ is. all.0) (λ isnt. found_readable id rows all.1)
+
+properties_so : (id : List ℕ) (target : Target) (found : Option BpProps) → props_of id target.breakpoints ≡ found → IfSome found IsReadableBp → is_none found ≡ false
+    → IsTrueAnswer target (commands.BpProperties id) (props_answer found)
+properties_so id target None is readable some = absurd cc
+properties_so id target (Some props) is readable some = record { limits = (refl, readable); typed = tt; so = (is, tt) }
+
+pub get_properties : Laws → (channel : ℕ) (id : List ℕ) (target : Target) → IsGood target → Answers channel (commands.BpProperties id) target
+unfolding exec_effect
+get_properties laws channel id target good =
+    answered laws target (commands.BpProperties id) _ (answer_by_fault target (commands.BpProperties id) (ask_fault (commands.BpProperties id) target) _ (λ none.
+    properties_so id target (props_of id target.breakpoints) refl (found_readable id target.breakpoints good.consistent.properties) (check_passed _ _ _ none).0))
+
+status_so : (id : List ℕ) (target : Target) (found : Option BpProps) → props_of id target.breakpoints ≡ found → is_none found ≡ false
+    → IsTrueAnswer target (commands.BpGetStatus id) (status_answer (option_map (λ props. record { instances = instances_of props (attached_in target.contexts.processes) }) found))
+status_so id target None is some = absurd cc
+status_so id target (Some props) is some = record {
+  limits = (refl, instances_fit props (attached_in target.contexts.processes));
+  typed = tt;
+  so = (ap (option_map (λ (p : BpProps). record { instances = instances_of p (attached_in target.contexts.processes) })) is, tt);
+}
+
+pub get_status : Laws → (channel : ℕ) (id : List ℕ) (target : Target) → IsGood target → Answers channel (commands.BpGetStatus id) target
+unfolding exec_effect
+get_status laws channel id target good =
+    answered laws target (commands.BpGetStatus id) _ (answer_by_fault target (commands.BpGetStatus id) (ask_fault (commands.BpGetStatus id) target) _ (λ none.
+    status_so id target (props_of id target.breakpoints) refl (check_passed _ _ _ none).0))
+
+-- ---- memory
+
+memory_found : Laws → (id : List ℕ) (addr word size mode : ℤ) (target : Target) (context : ContextId) (number : ℕ) (found : Option Process) → IsGood target → context_of id ≡ Some context
+    → process_for context ≡ number → process_in number target ≡ found → is_none found ≡ false → IsTrueAnswer target (commands.MemGet id addr word size mode) (answers.Blob (memory_bytes addr size found))
+memory_found laws id addr word size mode target context number None good is named there some = absurd cc
+memory_found laws id addr word size mode target context number (Some process) good is named there some =
+    let bytes = part_of (unsigned_abs addr) (unsigned_abs size) process.memory in
+    record {
+      limits = refl;
+      typed = blob_typed laws bytes (part_bytes (unsigned_abs addr) (unsigned_abs size) process.memory (good.whole number process there).memory.bytes);
+      so = subst (λ (c : Option ContextId). AllByRecursion (IsSo target) (memory_read c addr size bytes)) (sym is)
+          (subst (λ n. AllByRecursion (IsSo target) (range_read n addr size bytes)) (sym named) (range_so number target process addr size there));
+    }
+
+memory_thread : Laws → (id : List ℕ) (addr word size mode : ℤ) (target : Target) (number thread : ℕ) (test : Bool) → IsGood target → context_of id ≡ Some (ids.Thread number thread)
+    → is_none (process_at_number (cond test (Some number) None) target.contexts.processes) ≡ false
+    → IsTrueAnswer target (commands.MemGet id addr word size mode) (answers.Blob (memory_bytes addr size (process_at_number (cond test (Some number) None) target.contexts.processes)))
+memory_thread laws id addr word size mode target number thread false good is some = absurd cc
+memory_thread laws id addr word size mode target number thread true good is some =
+    memory_found laws id addr word size mode target (ids.Thread number thread) number (process_in number target) good is refl refl some
+
+memory_so : Laws → (id : List ℕ) (addr word size mode : ℤ) (target : Target) (context : Option ContextId) → IsGood target → context_of id ≡ context
+    → is_none (process_at_number (option_and_then number_for context) target.contexts.processes) ≡ false
+    → IsTrueAnswer target (commands.MemGet id addr word size mode) (answers.Blob (memory_bytes addr size (process_at_number (option_and_then number_for context) target.contexts.processes)))
+memory_so laws id addr word size mode target None good is some = absurd cc
+memory_so laws id addr word size mode target (Some (ids.Process number)) good is some =
+    memory_found laws id addr word size mode target (ids.Process number) number (process_in number target) good is refl refl some
+memory_so laws id addr word size mode target (Some (ids.Thread number thread)) good is some = memory_thread laws id addr word size mode target number thread (thread == 1) good is some
+
+pub get_memory : Laws → (channel : ℕ) (id : List ℕ) (addr word size mode : ℤ) (target : Target) → IsGood target
+    → Answers channel (commands.MemGet id addr word size mode) target
+unfolding exec_effect
+get_memory laws channel id addr word size mode target good =
+    let command = commands.MemGet id addr word size mode in
+    answered laws target command _ (answer_by_fault target command (memory_get_fault id addr size target.contexts.processes) _ (λ none.
+    memory_so laws id addr word size mode target (context_of id) good refl (check_passed _ _ _ none).0))
+
+-- ---- registers
+
+register_so : Laws → (id : List ℕ) (target : Target) → IsGood target → register_get_fault id target.contexts.processes ≡ None
+    → IsTrueAnswer target (commands.RegGet id) (answers.Blob (register_bytes (register_of id) (holder_of id target.contexts.processes)))
+register_so laws id target good none =
+    let some = check_passed _ _ _ none in
+    let found = held_found laws target id good some.0 (check_passed _ _ _ some.1).0 in
+    let register = found.0 in
+    let process = found.1 in
+    let number = number_in register.index process.cpu in
+    let bytes : register_bytes (register_of id) (holder_of id target.contexts.processes) ≡ word_bytes number =
+    ap (λ (o : Option RegisterId). register_bytes o (holder_of id target.contexts.processes)) found.2.holder.read ∙ ap (λ (o : Option Process). register_bytes (Some register) o) found.2.holder.holder in
+    subst (λ (xs : List ℕ). IsTrueAnswer target (commands.RegGet id) (answers.Blob xs)) (sym bytes) (record {
+      limits = refl;
+      typed = blob_typed laws (word_bytes number) (word_typed number);
+      so = subst (λ (xs : List ℕ). AllByRecursion (IsSo target) (whole_read id xs)) (word_whole number) (whole_so target id register process 0 4 found.2);
+    })
+
+pub get_register : Laws → (channel : ℕ) (id : List ℕ) (target : Target) → IsGood target → Answers channel (commands.RegGet id) target
+unfolding exec_effect
+get_register laws channel id target good =
+    answered laws target (commands.RegGet id) _ (answer_by_fault target (commands.RegGet id) (register_get_fault id target.contexts.processes) _ (register_so laws id target good))
+
+registers_so : Laws → (list : List Location) (target : Target) → IsGood target → registers_get_fault list target.contexts.processes ≡ None
+    → IsTrueAnswer target (commands.RegGetm list) (answers.Blob (bytes_of target.contexts.processes (parts_named list)))
+registers_so laws list target good none = record {
+  limits = refl;
+  typed = blob_typed laws (bytes_of target.contexts.processes (parts_named list)) (parts_typed target.contexts.processes list);
+  so = parts_so laws target list good (check_passed _ _ _ none).1;
+}
+
+pub get_registers : Laws → (channel : ℕ) (list : List Location) (target : Target) → IsGood target → IsReadable (commands.RegGetm list)
+    → Answers channel (commands.RegGetm list) target
+unfolding exec_effect
+get_registers laws channel list target good readable =
+    answered laws target (commands.RegGetm list) _ (answer_by_fault target (commands.RegGetm list) (registers_get_fault list target.contexts.processes) _ (registers_so laws list target good))

@@ -1,0 +1,4 @@
+pub mod Holds
+pub mod Taught
+pub mod Typed
+pub mod Laws

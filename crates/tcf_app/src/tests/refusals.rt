@@ -21,7 +21,7 @@ fn play_behind(rt: &HostRuntime, front: &[u8], lines: &str) -> Result<(Exit, Vec
 }
 
 static REASONS: [Refusal; 8] = [
-    // The worked row, and each reason once.
+    // Each reason once.
     ("open A", 1, TextFault::Unknown, "bad line 1: unknown\n"),
     ("chain A 0 \n", 1, TextFault::Form, "bad line 1: form\n"),
     (

@@ -11,7 +11,7 @@ type Case = (
 );
 
 static CASES: [Case; 22] = [
-    // The worked rows.
+    // A command, an empty file, flow control, and the faults of a stream.
     (
         &[
             0x43, 0, 3, 0, 0, 0x4C, 0x6F, 0x63, 0x61, 0x74, 0x6F, 0x72, 0, 0x73, 0x79, 0x6E, 0x63,

@@ -104,6 +104,31 @@ def ticks(count):
     return (opened(1) + resume + repeated(count - 6, "tick P1.1")).encode()
 
 
+def known(processes):
+    """A chain whose client knows so many suspended processes, with all registers of each, and 1,024 bytes of its memory."""
+    lines = opened(1)
+    for number in range(2, processes + 1):
+        lines += 'send A Processes start "" "loop" [] [] true\n'
+    lines += "rounds 1\n"
+    names = ["x%d" % index for index in range(32)] + ["pc"]
+    for number in range(1, processes + 1):
+        parts = ",".join('["P%d.1.%s",0,4]' % (number, name) for name in names)
+        lines += 'send A Registers getm [%s]\nsend A Memory get "P%d" 0 1 1024 0\nrounds 1\n' % (parts, number)
+    return lines
+
+
+def learns(processes, count):
+    """So many answers about the first of so many processes that are known."""
+    two = 'send A Registers getm [["P1.1.x1",0,4]]\nsend A Memory get "P1" 0 1 4 0\n'
+    return (known(processes) + (two * 50 + "rounds 1\n") * (count // 100)).encode()
+
+
+def forgets(processes, count):
+    """So many resumes of the first of so many processes that are known, and as many suspends."""
+    lines = 'send A RunControl resume "P1.1" 0 1\nsend A RunControl suspend "P1.1"\nrounds 1\n'
+    return (known(processes) + lines * count).encode()
+
+
 def busy():
     """The processor seconds of all runs so far."""
     used = resource.getrusage(resource.RUSAGE_CHILDREN)
@@ -177,6 +202,8 @@ def play_all(program, folder):
     growth(program, [(f"{count} chains hear", hears(count, 10_000)) for count in (1, 64)], folder)
     for way in ("up", "down"):
         growth(program, [(f"{way} in pieces of {piece}", pieces(way, piece)) for piece in (65_536, 100, 1)], folder)
+    growth(program, [(f"{count} known, 100000 answers", learns(count, 100_000)) for count in (1, 64)], folder)
+    growth(program, [(f"{count} known, 10000 resumes", forgets(count, 10_000)) for count in (1, 64)], folder)
     growth(program, [(f"{count} ticks", ticks(count)) for count in (250_000, 500_000, 1_000_000)], folder)
 
 

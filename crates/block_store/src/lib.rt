@@ -10,6 +10,3 @@ pub use laws::{
     a_dropped_range_is_gone, no_dropped_byte_is_read, the_added_is_covered, the_store_stays_small,
 };
 pub use store::BlockStore;
-
-#[cfg(test)]
-mod tests;

@@ -351,6 +351,3 @@ fn with_flag(props: &BpProps, enabled: bool) -> Result<BpProps, AllocError>
     made.enabled = enabled;
     Ok(made)
 }
-
-#[cfg(test)]
-mod tests;

@@ -7,7 +7,7 @@ use Rattle.channel_core.specs.EndValue.{EndValue}
 use Rattle.channel_core.specs.Sending.{last_token, most_pending, refusal_of}
 use Rattle.channel_core.specs.declared.sending.SendRefusal.{SendRefusal}
 use Rattle.channel_core.specs.declared.sending.SendRefusal.TheVariants.{Full, NotOpen, Spent, TooLong}
-use Rattle.client_node.specs.Runs.{Call, LogTellsPast, Past, bytes_end, closes, comes, commands_in, commands_on, gives, no_past, opens, past_of, remembered, sends, turns, unless_refused}
+use Rattle.client_node.specs.Runs.{Call, LogTellsPast, Past, asks, bytes_end, closes, comes, commands_in, commands_on, gives, no_past, opens, past_of, remembered, sends, turns, unless_refused}
 use Rattle.tcf_message.specs.Message.{most_body}
 use Rattle.tcf_text.specs.Lines.{Accepted}
 use Rattle.tcf_text.specs.Once.{numbers}
@@ -68,6 +68,7 @@ step_few bytes_end channel commands few counted = same_few commands [] refl few
 step_few turns channel commands few counted = same_few commands [] refl few
 step_few closes channel commands few counted = same_few commands [] refl few
 step_few gives channel commands few counted = same_few commands [] refl few
+step_few (asks what) channel commands few counted = same_few commands [] refl few
 
 few_from : LogTellsPast → (done calls : List Call) (p : Past) → p ≡ past_of done no_past → length p.commands < 2 ^ 64 → length (past_of calls p).commands < 2 ^ 64
 few_from law done [] p made few = few

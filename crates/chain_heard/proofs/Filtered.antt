@@ -7,7 +7,7 @@ use Rattle.client_node.specs.Runs.{tells}
 use Rattle.tcf_text.specs.Each.{Each}
 use Rattle.tcf_text.specs.Lines.{Accepted, bare_answer_of, from_hello, is_placed_hello, last_mark, later_or, mark_of}
 use Rattle.tcf_text.specs.declared.log.LogLine.{LogLine}
-use Rattle.tcf_text.specs.declared.log.LogLine.TheVariants.{Sent, Refused, Hello, Event, Progress, Final, Unknown, Closed, Ended}
+use Rattle.tcf_text.specs.declared.log.LogLine.TheVariants.{Sent, Refused, Hello, Event, Progress, Final, Unknown, Closed, Ended, Cached}
 use Rattle.target_hub.specs.Ordered.{ComesAfter, IsPlaced, hello_position}
 use Rattle.target_hub.specs.Received.{answer_of, told_of}
 use Rattle.target_hub.specs.declared.input.Input.{Input}
@@ -27,6 +27,7 @@ silent_told commands (Sent number service name body) silent = refl
 silent_told commands (Refused why) silent = refl
 silent_told commands (Closed number) silent = refl
 silent_told commands (Ended why) silent = refl
+silent_told commands (Cached what value) silent = refl
 silent_told commands x silent = absurd (true≢false silent)
 
 pub silent_answer : (commands : List Accepted) (x : LogLine) → tells x ≡ false → answer_of commands x ≡ []
@@ -34,6 +35,7 @@ silent_answer commands (Sent number service name body) silent = refl
 silent_answer commands (Refused why) silent = refl
 silent_answer commands (Closed number) silent = refl
 silent_answer commands (Ended why) silent = refl
+silent_answer commands (Cached what value) silent = refl
 silent_answer commands x silent = absurd (true≢false silent)
 
 pub silent_bare : (x : LogLine) → tells x ≡ false → bare_answer_of x ≡ []
@@ -41,6 +43,7 @@ silent_bare (Sent number service name body) silent = refl
 silent_bare (Refused why) silent = refl
 silent_bare (Closed number) silent = refl
 silent_bare (Ended why) silent = refl
+silent_bare (Cached what value) silent = refl
 silent_bare x silent = absurd (true≢false silent)
 
 -- ---- marks and Hellos
@@ -55,6 +58,7 @@ last_mark_told (Sent number service name body ∷ xs) = last_mark_told xs ∙ sy
 last_mark_told (Refused why ∷ xs) = last_mark_told xs ∙ sym (later_none (last_mark xs))
 last_mark_told (Closed number ∷ xs) = last_mark_told xs ∙ sym (later_none (last_mark xs))
 last_mark_told (Ended why ∷ xs) = last_mark_told xs ∙ sym (later_none (last_mark xs))
+last_mark_told (Cached what value ∷ xs) = last_mark_told xs ∙ sym (later_none (last_mark xs))
 last_mark_told (x ∷ xs) = ap (λ mark. later_or mark (mark_of x)) (last_mark_told xs)
 
 pub any_hello_told : (xs : List LogLine) → list_any is_placed_hello (filter tells xs) ≡ list_any is_placed_hello xs
@@ -63,6 +67,7 @@ any_hello_told (Sent number service name body ∷ xs) = any_hello_told xs
 any_hello_told (Refused why ∷ xs) = any_hello_told xs
 any_hello_told (Closed number ∷ xs) = any_hello_told xs
 any_hello_told (Ended why ∷ xs) = any_hello_told xs
+any_hello_told (Cached what value ∷ xs) = any_hello_told xs
 any_hello_told (x ∷ xs) = ap (λ b. is_placed_hello x || b) (any_hello_told xs)
 
 pub hello_position_told : (xs : List LogLine) → hello_position (filter tells xs) ≡ hello_position xs
@@ -104,6 +109,7 @@ from_hello_told (Sent number service name body ∷ xs) = skipped (list_any is_pl
 from_hello_told (Refused why ∷ xs) = skipped (list_any is_placed_hello xs) xs refl (from_hello_told xs)
 from_hello_told (Closed number ∷ xs) = skipped (list_any is_placed_hello xs) xs refl (from_hello_told xs)
 from_hello_told (Ended why ∷ xs) = skipped (list_any is_placed_hello xs) xs refl (from_hello_told xs)
+from_hello_told (Cached what value ∷ xs) = skipped (list_any is_placed_hello xs) xs refl (from_hello_told xs)
 from_hello_told (x ∷ xs) = on_telling x xs refl (from_hello_told xs)
 
 -- ---- the place of each line
@@ -113,6 +119,7 @@ silent_placed history before (Sent number service name body) silent = tt
 silent_placed history before (Refused why) silent = tt
 silent_placed history before (Closed number) silent = tt
 silent_placed history before (Ended why) silent = tt
+silent_placed history before (Cached what value) silent = tt
 silent_placed history before x silent = absurd (true≢false silent)
 
 placed_same : (history : List Input) (one other : List LogLine) → last_mark one ≡ last_mark other → list_any is_placed_hello one ≡ list_any is_placed_hello other

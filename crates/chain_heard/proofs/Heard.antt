@@ -12,7 +12,7 @@ use Rattle.target_hub.specs.declared.input.Input.{Input}
 use Rattle.target_hub.specs.declared.input.Input.TheVariants.{Opened}
 use Rattle.tcf_text.specs.Each.{Each}
 use Rattle.tcf_text.specs.Lines.{accepted, from_hello}
-use Rattle.tcf_text.specs.Once.{numbers}
+use Rattle.tcf_text.specs.Once.{Once, numbers}
 use Rattle.tcf_text.specs.declared.log.LogLine.{LogLine}
 use Rattle.tcf_text.specs.declared.log.LogLine.TheVariants as lines
 use Rattle.chain_heard.specs.Heard.{Heard, HeardAmongIsOrdered, HeardIsOrdered, NothingHeardIsOrdered}
@@ -148,8 +148,10 @@ by_front images history k position c p channels past heard silent (now ∷ front
     } in
     something_ordered c.log images history k position front rest channels hears silent
 
-pub heard_among : HeardAmongIsOrdered
-heard_among images history k position c p channels past once heard silent =
+-- what was taken is a front of what is told
+pub taken_front : (images : List Image) (history : List Input) (k position : ℕ) (c : ClientValue) (p : Past) → TellsPast c p → Once false c.log
+    → Heard images history k position p → Front p.commands (sent images k history) p.taken
+taken_front images history k position c p past once heard =
     let starts : Begins images history k position = begins images history k position heard.legal heard.opened in
     let numbered : numbers (accepted c.log) ≡ range_with_len 1 (length p.commands) = ap numbers past.commands ∙ past.counted in
     let facts : Facts p.commands (sent images k history) p.taken = record {
@@ -160,7 +162,11 @@ heard_among images history k position c p channels past once heard silent =
       readable = heard.readable;
       heard = heard.told;
     } in
-    let f : Front p.commands (sent images k history) p.taken = fronts p.taken p.commands (sent images k history) facts in
+    fronts p.taken p.commands (sent images k history) facts
+
+pub heard_among : HeardAmongIsOrdered
+heard_among images history k position c p channels past once heard silent =
+    let f : Front p.commands (sent images k history) p.taken = taken_front images history k position c p past once heard in
     by_front images history k position c p channels past heard silent f.front f.rest f.split (past.messages ∙ f.lines_are) (λ none. heard.greeted_first (f.silent none))
 
 pub heard_alone : HeardIsOrdered

@@ -8,3 +8,5 @@ pub mod Followed
 pub mod Heard
 pub mod Few
 pub mod Tokens
+pub mod Lessons
+pub mod Coherent

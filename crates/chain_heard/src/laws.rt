@@ -1,7 +1,10 @@
 //! The laws of what a client heard, whatever it was.
+ghost use Rattle.chain_heard.specs.Coherent.{HeardIsCoherent, NothingHeardIsCoherent};
 ghost use Rattle.chain_heard.specs.Heard.{CommandsAreFew, HeardAmongIsOrdered, HeardIsOrdered, NothingHeardIsOrdered, UnusedTokensChangeNothing};
 
+use cache_learning::what_is_kept_was_learned;
 use client_node::the_log_tells_what_was_taken;
+use target_truth::what_is_told_is_true;
 
 /// The law that the log of a client follows the history of the target, where its messages are, in order, a front of what
 /// the history tells its channel, and the commands that the channel executes are, in order, the first of its commands.
@@ -26,3 +29,14 @@ pub fn commands_are_few()
 pub fn unused_tokens_change_nothing()
     ensures { UnusedTokensChangeNothing }
 {}
+
+/// The law that what a client keeps is true: after each line of its log, of the target at the position of the last
+/// message, where its messages are, in order, a front of what the history tells its channel, and the commands that the
+/// channel executes are, in order, the first of its commands. One that took no message keeps nothing.
+pub fn what_was_heard_is_true()
+    ensures heard { HeardIsCoherent }
+    ensures nothing { NothingHeardIsCoherent }
+{
+    what_is_kept_was_learned();
+    what_is_told_is_true();
+}

@@ -5,5 +5,5 @@ pub mod laws;
 
 pub use laws::{
     commands_are_few, nothing_heard_is_ordered, unused_tokens_change_nothing,
-    what_was_heard_is_ordered,
+    what_was_heard_is_ordered, what_was_heard_is_true,
 };

@@ -19,7 +19,7 @@ use Rattle.client_node.specs.Lines.{event_line, final_line, hello_line, progress
 use Rattle.tcf_text.specs.declared.log.RefusedWhy.{RefusedWhy}
 use Rattle.client_node.specs.ClientValue.{ClientValue}
 use Rattle.client_node.specs.Ends.{HasNames, after_taking, after_turn, calls_on, draining_all, end_calls, end_calls_by, given_by, given_out, unknown_to}
-use Rattle.client_node.specs.Runs.{Call, bytes_end, called, closes, comes, gives, opens, run, sends, turns}
+use Rattle.client_node.specs.Runs.{Call, asks, bytes_end, called, closes, comes, gives, opens, run, sends, turns}
 use Rattle.tcf_message.specs.Message.{reading}
 use Rattle.tcf_text.specs.declared.log.LogLine.{LogLine}
 use Rattle.chain_world.specs.Chain.{client_emptied, parts_came, queue_of}
@@ -51,6 +51,7 @@ IsQuiet bytes_end = Unit {0}
 IsQuiet turns = Unit {0}
 IsQuiet closes = Unit {0}
 IsQuiet gives = ⊥
+IsQuiet (asks what) = Unit {0}
 
 answers_idle : (messages : List Unheld) → AreIdle {T = ℕ} (map (λ m. sending m None) messages)
 answers_idle [] = tt
@@ -84,6 +85,7 @@ quiet_on bytes_end e quiet = (tt, tt)
 quiet_on turns e quiet = (tt, turn_idle (next_taken e).0 (next_taken e).1.pending)
 quiet_on closes e quiet = closing_idle (is_closed e.state) e refl
 quiet_on gives e quiet = absurd quiet
+quiet_on (asks what) e quiet = tt
 
 quiet_by : (call : Call) (channel : Option (EndValue ℕ)) (log : List LogLine) (spent : Bool) → IsQuiet call → AreIdle (end_calls_by call (record { channel = channel; log = log; is_spent = spent }))
 quiet_by call None log spent quiet = tt
@@ -101,6 +103,7 @@ quiet_given bytes_end c quiet = refl
 quiet_given turns c quiet = refl
 quiet_given closes c quiet = refl
 quiet_given gives c quiet = absurd quiet
+quiet_given (asks what) c quiet = refl
 
 -- ---- All that its end queued is given out
 
@@ -233,6 +236,7 @@ called_on bytes_end e log spent = refl
 called_on turns e log spent = turned_opened (next_taken e) (client_of (Some e) log spent) refl
 called_on closes e log spent = closed_opened (is_closed e.state) (client_of (Some e) log spent) (closed_for Own (closed_own e) (client_of (Some e) log spent)) refl refl
 called_on gives e log spent = refl
+called_on (asks what) e log spent = refl
 
 pub opened_stays : (call : Call) (c : ClientValue) → is_some c.channel ≡ true → is_some (called call c).channel ≡ true
 opened_stays call c opened = by_channel c.channel c.log c.is_spent opened

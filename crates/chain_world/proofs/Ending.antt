@@ -18,10 +18,12 @@ use Rattle.tcf_text.specs.declared.log.EndWhy.{EndWhy}
 use Rattle.tcf_text.specs.declared.log.EndWhy.TheVariants as ends
 use Rattle.tcf_text.specs.declared.log.LogLine.{LogLine}
 use Rattle.tcf_text.specs.declared.log.LogLine.TheVariants as lines
+use Rattle.client_log.specs.Cached.{cached_value}
+use Rattle.client_log.specs.Lessons.{lessons}
 use Rattle.client_node.specs.Client.{closed_for, closed_lines, noted, refused_for, sent_or_refused, took, turned_by, with_channel}
 use Rattle.client_node.specs.ClientValue.{ClientValue}
 use Rattle.client_node.specs.Lines.{end_of, event_line, final_line, hello_line, progress_line, why_of}
-use Rattle.client_node.specs.Runs.{Call, Past, bytes_end, called, closes, comes, gives, opens, past_of, remembered, sends, taken_by, turns}
+use Rattle.client_node.specs.Runs.{Call, Past, asks, bytes_end, called, closes, comes, gives, opens, past_of, remembered, sends, taken_by, turns}
 
 -- the log ends for such a cause
 abbrev pub ends_for : (EndWhy → Bool) → LogLine → Bool
@@ -136,6 +138,7 @@ module _ (is_why : EndWhy → Bool) where
   call_adds closes None log spent missed = adds_none _ _ refl
   call_adds closes (Some e) log spent missed = closing_adds (is_closed e.state) e (client_of (Some e) log spent) missed
   call_adds gives channel log spent missed = adds_none _ _ refl
+  call_adds (asks what) channel log spent missed = record { more = lines.Cached what (cached_value what (lessons log)) ∷ []; log = refl; same = refl }
 
   -- where no such closing is taken, the log doesn't end so
   pub kept_log : (call : Call) (c : ClientValue) → MissesOwn call → list_any (closes_for is_why) (taken_by call c.channel) ≡ false → list_any (ends_for is_why) c.log ≡ false
@@ -157,6 +160,7 @@ module _ (is_why : EndWhy → Bool) where
   misses_all missed turns = tt
   misses_all missed closes = missed
   misses_all missed gives = tt
+  misses_all missed (asks what) = tt
 
   call_tells : is_why ends.Own ≡ false → (call : Call) (p : Past) → TellsEnds p.client.log p.taken → TellsEnds (remembered call p).client.log (remembered call p).taken
   call_tells missed call p tells =

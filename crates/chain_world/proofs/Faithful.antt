@@ -79,14 +79,17 @@ module _ (laws : Laws) (heard : HeardLaws) (images : List Image) where
   readable r reached = subst (λ x. AllByRecursion (λ past. SendsReadable past.calls) x.channels) reached.is (heard.pasts images reached.calls)
 
   -- before its opening a client took nothing
+  pub unopened_took : (chain : Chain) (calls : List ClientCall) → chain.client ≡ client_run calls new_client → chain.client.channel ≡ None → heard_in (past_of calls no_past) ≡ []
+  unopened_took chain calls is none =
+      let e = laws.ends calls in
+      let nothing : end_calls calls new_client ≡ [] = none_called (client_run calls new_client).channel (end_calls calls new_client) (ap (λ c. c.channel) (sym is) ∙ none) e.end in
+      ap (flat_map heard_of) (e.taken ∙ ap (λ xs. (end_after xs).past.taken) nothing)
+
   unopened_ordered : (r : AgentRun) (chain : Chain) (calls : List ClientCall) → Reached images r → chain.client ≡ client_run calls new_client → chain.client.channel ≡ None → Ordered false chain.client.log images r.history []
   unopened_ordered r chain calls reached is none =
-      let e = laws.ends calls in
       let p = past_of calls no_past in
-      let nothing : end_calls calls new_client ≡ [] = none_called (client_run calls new_client).channel (end_calls calls new_client) (ap (λ c. c.channel) (sym is) ∙ none) e.end in
-      let took : heard_in p ≡ [] = ap (flat_map heard_of) (e.taken ∙ ap (λ xs. (end_after xs).past.taken) nothing) in
       let tells : TellsPast chain.client p = subst (λ c. TellsPast c p) (sym is) (heard.tells calls) in
-      heard.nothing images r.history chain.client p [] tells took (λ j there. absurd (in_none j there))
+      heard.nothing images r.history chain.client p [] tells (unopened_took chain calls is none) (λ j there. absurd (in_none j there))
 
   refused_ordered : (r : AgentRun) (chain : Chain) (calls : List ClientCall) (k : ℕ) → Reached images r → chain.client ≡ client_run calls new_client → past_at k r.channels ≡ None
       → IsFront (arrived (end_calls calls new_client)) (bytes_of (end_of_stream ∷ [])) → Ordered false chain.client.log images r.history (k ∷ [])
@@ -99,16 +102,21 @@ module _ (laws : Laws) (heard : HeardLaws) (images : List Image) where
       heard.nothing images r.history chain.client p (k ∷ []) tells (nothing_heard heard calls (laws.ends calls) front)
       (λ j there. ap (λ n. executed_on n r.history) (in_one k j there) ∙ still)
 
+  -- on a channel that the agent opened it heard the target
+  pub opened_heard : (r : AgentRun) (chain : Chain) (c : Carries r.channels chain) (k : ℕ) (past : Past) → Reached images r → past_at k r.channels ≡ Some past
+      → Flows chain.hop (given_out c.calls new_client) (arrived (end_calls c.calls new_client)) (Some past) → Heard images r.history past.number past.position (past_of c.calls no_past)
+  opened_heard r chain c k past reached there flows =
+      let f = follows r reached in
+      heard_so heard images r.history c.calls past c.names (laws.ends c.calls) f.legal (at_all (FollowsHistory images r.history) k r.channels past f.channels there)
+      (at_all (λ x. SendsReadable x.calls) k r.channels past (readable r reached) there) flows.up_front flows.down_front
+
   opened_ordered : (r : AgentRun) (chain : Chain) (c : Carries r.channels chain) (k : ℕ) (past : Past) → Reached images r → past_at k r.channels ≡ Some past → Once false chain.client.log
       → Flows chain.hop (given_out c.calls new_client) (arrived (end_calls c.calls new_client)) (Some past) → Ordered false chain.client.log images r.history (k ∷ [])
   opened_ordered r chain c k past reached there once flows =
       let p = past_of c.calls no_past in
-      let f = follows r reached in
       let same : past.number ≡ k = eqb-true past.number k (at_number k r.channels past there) in
       let tells : TellsPast chain.client p = subst (λ x. TellsPast x p) (sym c.client) (heard.tells c.calls) in
-      let hears : Heard images r.history past.number past.position p =
-      heard_so heard images r.history c.calls past c.names (laws.ends c.calls) f.legal (at_all (FollowsHistory images r.history) k r.channels past f.channels there)
-      (at_all (λ x. SendsReadable x.calls) k r.channels past (readable r reached) there) flows.up_front flows.down_front in
+      let hears = opened_heard r chain c k past reached there flows in
       subst (λ n. Ordered false chain.client.log images r.history (n ∷ [])) same (heard.heard images r.history past.number past.position chain.client p tells once hears)
 
   chain_faithful : (r : AgentRun) (chain : Chain) → Reached images r → Carries r.channels chain → ChainIsFaithful images r.history chain

@@ -5,9 +5,9 @@ use Rattle.std.proofs.lemmas.List.{length-set}
 use Rattle.agent_node.specs.AgentValue.{AgentValue}
 use Rattle.agent_node.specs.Agent as agent
 use Rattle.target_hub.specs.declared.input.Input.{Input}
-use Rattle.tcf_schedules.specs.Plan.{Plan, close, cut as cut_plan, deliver, opens, rounds as rounds_plan, send, tick, times, turn}
+use Rattle.tcf_schedules.specs.Plan.{Plan, cached, close, cut as cut_plan, deliver, opens, rounds as rounds_plan, send, tick, times, turn}
 use Rattle.tcf_values.specs.declared.ids.ContextId.{ContextId}
-use Rattle.chain_world.specs.Chain.{Both, carried_down, closed, cut, delivered_down, delivered_up, is_opened, opened, sent, turned_down, turned_on}
+use Rattle.chain_world.specs.Chain.{Both, asked, carried_down, closed, cut, delivered_down, delivered_up, is_opened, opened, sent, turned_down, turned_on}
 use Rattle.chain_world.specs.World.{IsNotRepeated, IsSingle, agent_turned, all_carried, carried, connected_at, on_some, opened_from, opening, played, tick_of, with_both, with_input, with_some, after_next}
 use Rattle.chain_world.specs.WorldValue.{WorldValue}
 use Rattle.chain_world.specs.declared.chain.Chain.{Chain}
@@ -20,6 +20,7 @@ single_isnt_repeated (turn chain node up) is = tt
 single_isnt_repeated (tick thread) is = tt
 single_isnt_repeated (close chain) is = tt
 single_isnt_repeated (cut_plan chain hop) is = tt
+single_isnt_repeated (cached chain what) is = tt
 single_isnt_repeated (rounds_plan count) is = absurd is
 single_isnt_repeated (times count plan) is = absurd is
 
@@ -83,5 +84,6 @@ chains_kept (turn at node false) w is = on_kept turned_down at (slice_get w.chai
 chains_kept (tick thread) w is = ticked_kept thread w
 chains_kept (close at) w is = on_kept closed at (slice_get w.chains at) w
 chains_kept (cut_plan at hop) w is = both_kept cut at (slice_get w.chains at) w
+chains_kept (cached at what) w is = on_kept (asked what) at (slice_get w.chains at) w
 chains_kept (rounds_plan count) w is = absurd is
 chains_kept (times count plan) w is = absurd is

@@ -2,18 +2,19 @@
 use Rattle.std.proofs.Common.{◌≡◌, ℕ, zero, suc, ◌+◌, ◌<◌, Bool, true, false, cond, List, [], ◌∷◌, length, Option, Some, None, refl, sym, subst}
 use Rattle.std.specs.Prelude.{slice_get, ◌^◌}
 use Rattle.std.specs.List.{AllByRecursion}
+use Rattle.cached_lines.specs.declared.what.CachedWhat.{CachedWhat}
 use Rattle.channel_core.specs.EndValue.{EndValue}
 use Rattle.channel_core.specs.Taking.{next_taken}
 use Rattle.channel_core.specs.declared.held.Outgoing.{Outgoing}
 use Rattle.channel_core.specs.declared.states.Cause.{Cause}
 use Rattle.channel_core.specs.declared.taking.Taken.TheVariants as taken
-use Rattle.client_node.specs.Client.{came, closed as client_closed, ended as client_ended, new_client, opened as client_opened, sent as client_sent, turned as client_turned, waiting_on}
+use Rattle.client_node.specs.Client.{asked as client_asked, came, closed as client_closed, ended as client_ended, new_client, opened as client_opened, sent as client_sent, turned as client_turned, waiting_on}
 use Rattle.client_node.specs.ClientValue.{ClientValue}
 use Rattle.target_contexts.specs.declared.process.Image.{Image}
-use Rattle.tcf_schedules.specs.Plan.{Plan, close, cut as cut_plan, deliver, opens, rounds as rounds_plan, send, tick, times, turn}
+use Rattle.tcf_schedules.specs.Plan.{Plan, cached, close, cut as cut_plan, deliver, opens, rounds as rounds_plan, send, tick, times, turn}
 use Rattle.agent_node.specs.AgentValue.{AgentValue}
 use Rattle.agent_node.specs.Runs.{AgentRun}
-use Rattle.chain_world.specs.Chain.{Both, all_down, all_taken_down, all_up, came_down, carried_up, client_emptied, closed, cut, delivered_down, delivered_up, is_opened, most_bytes, opened, parts_came, pieces_down, sent, takes_down, turned_down, turns_down}
+use Rattle.chain_world.specs.Chain.{Both, all_down, all_taken_down, all_up, asked, came_down, carried_up, client_emptied, closed, cut, delivered_down, delivered_up, is_opened, most_bytes, opened, parts_came, pieces_down, sent, takes_down, turned_down, turns_down}
 use Rattle.chain_world.specs.Lane.{arriving, size_in}
 use Rattle.chain_world.specs.World.{IsPlayable, agent_turned, carried, connected_at, new_chains, new_world, on_some, opened_from, played, repeated, round_all, round_at, round_from, round_of, rounds, run, turned_at, turns_up, up_taken, waiting_in_chain, with_agent, with_input, with_some}
 use Rattle.chain_world.specs.WorldValue.{WorldValue}
@@ -36,6 +37,7 @@ pub record IsKept (IsRight : Cause → Type 0) (P : ClientValue → Type 0) : Ty
   pub turns : (c : ClientValue) → TakesOnly IsRight c → P c → P (client_turned c).1
   pub opens : (c : ClientValue) → P c → P (client_opened c)
   pub empties : (c : ClientValue) → P c → P (client_emptied c)
+  pub asks : (what : CachedWhat) (c : ClientValue) → P c → P (client_asked what c)
 
 -- a step of the schedule that is one of these keeps it too, where it is of this place
 abbrev pub Allows : (ClientValue → Type 0) → ℕ → Plan → Type 0
@@ -195,6 +197,7 @@ module _ (laws : Laws) (images : List Image) (IsRight : Cause → Type 0) (takes
         chain_lasts closed other (λ r c same reached carries here. kept.empties (client_closed c.client) (allowed same c.client here)) w s now
     played_lasts chains (cut_plan other hop) playable allowed w s now =
         both_last cut other (λ c a same here. cut_client P c a here (allowed same c.client here)) w now
+    played_lasts chains (cached other what) playable allowed w s now = chain_lasts (asked what) other (λ r c same reached carries here. kept.asks what c.client here) w s now
     played_lasts chains (rounds_plan size) playable allowed w s now = rounds_last size w s now
     played_lasts chains (times size plan) playable allowed w s now =
         repeated_last size (played plan) (played_stands laws images count few chains plan playable.1) (played_lasts chains plan playable.1 allowed) w s now

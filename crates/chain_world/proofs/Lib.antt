@@ -1,6 +1,7 @@
 pub mod Parts
 pub mod Carried
 pub mod Queued
+mod Resting
 pub mod Pieces
 pub mod Repeats
 pub mod Kept
@@ -9,6 +10,7 @@ mod Bytes
 mod Calls
 mod Clients
 mod Pasts
+mod Emptying
 mod Agents
 mod Flows
 mod Moves
@@ -20,6 +22,8 @@ mod Spoken
 mod Written
 mod Hearing
 mod Faithful
+mod Coherent
+mod Typed
 mod Telling
 mod Stops
 mod Breaking

@@ -12,8 +12,8 @@ use Rattle.channel_core.specs.declared.taking.Taken.TheVariants as taken
 use Rattle.client_node.specs.Client.{closed as client_closed, turned as client_turned}
 use Rattle.client_node.specs.ClientValue.{ClientValue}
 use Rattle.client_node.specs.Lines.{end_of}
-use Rattle.client_node.specs.Runs.{closes, sends, taken_on, turns}
-use Rattle.tcf_schedules.specs.Plan.{Plan, close, cut, deliver, opens, rounds, send, tick, times, turn}
+use Rattle.client_node.specs.Runs.{asks, closes, sends, taken_on, turns}
+use Rattle.tcf_schedules.specs.Plan.{Plan, cached, close, cut, deliver, opens, rounds, send, tick, times, turn}
 use Rattle.tcf_text.specs.declared.log.EndWhy.{EndWhy}
 use Rattle.tcf_text.specs.declared.log.EndWhy.TheVariants as ends
 use Rattle.chain_world.specs.EndLaws.{IsLeft, closes_at}
@@ -54,6 +54,7 @@ ends_not_kept is_why misses = record {
   turns = λ c takes now. ends_not_turned is_why c (λ e there cause what. misses cause (takes e there cause what).1) now;
   opens = λ c now. now;
   empties = λ c now. now;
+  asks = λ what c now. kept_log is_why (asks what) c tt refl now;
 }
 
 closed_not : (is_why : EndWhy → Bool) → is_why ends.Own ≡ false → (c : ClientValue) → EndsNot is_why c → EndsNot is_why (client_closed c)
@@ -86,6 +87,7 @@ faults_allowed at (turn chain node up) = tt
 faults_allowed at (tick thread) = tt
 faults_allowed at (close chain) = λ same c now. closed_not is_fault refl c now
 faults_allowed at (cut chain hop) = λ same c now. now
+faults_allowed at (cached chain what) = tt
 faults_allowed at (rounds count) = tt
 faults_allowed at (times count plan) = faults_allowed at plan
 
@@ -123,6 +125,7 @@ own_allowed at (turn chain node up) none = tt
 own_allowed at (tick thread) none = tt
 own_allowed at (close chain) none = λ same c now. absurd (not_here chain at none same)
 own_allowed at (cut chain hop) none = λ same c now. now
+own_allowed at (cached chain what) none = tt
 own_allowed at (rounds count) none = tt
 own_allowed at (times count plan) none = own_allowed at plan none
 

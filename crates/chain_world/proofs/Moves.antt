@@ -2,18 +2,19 @@
 use Rattle.std.proofs.Common.{◌≡◌, ℕ, zero, suc, Bool, true, false, ◌&&◌, cond, nat_lt, List, [], ◌∷◌, ◌++◌, Option, Some, None, refl, sym, ap, ◌∙◌, subst, append-nil}
 use Rattle.std.specs.Prelude.{is_some, option_map}
 use Rattle.std.specs.List.{AllByRecursion}
+use Rattle.cached_lines.specs.declared.what.CachedWhat.{CachedWhat}
 use Rattle.channel_core.specs.Arrivals.{Marked, arrived, bytes_of}
 use Rattle.channel_core.specs.EndValue.{EndValue}
 use Rattle.channel_core.specs.declared.held.Outgoing.{Outgoing}
 use Rattle.client_node.specs.Client.{client_services, new_client}
 use Rattle.client_node.specs.ClientValue.{ClientValue}
 use Rattle.client_node.specs.Ends.{HasNames, IsEndAfter, end_calls, given_out}
-use Rattle.client_node.specs.Runs.{Call as ClientCall, bytes_end as client_bytes_end, called, closes, comes, gives, opens, run, sends, turns}
+use Rattle.client_node.specs.Runs.{Call as ClientCall, asks, bytes_end as client_bytes_end, called, closes, comes, gives, opens, run, sends, turns}
 use Rattle.target_contexts.specs.declared.process.Image.{Image}
 use Rattle.tcf_message.specs.Message.{HasNoZero}
 use Rattle.tcf_text.specs.declared.log.LogLine.{LogLine}
 use Rattle.agent_node.specs.Runs.{Past}
-use Rattle.chain_world.specs.Chain.{all_down, all_taken_down, came_down, carried_up, closed, delivered_down, most_bytes, most_waiting, pieces_down, queue_of, sent, takes_down, turned_down, turns_down}
+use Rattle.chain_world.specs.Chain.{all_down, all_taken_down, asked, came_down, carried_up, closed, delivered_down, most_bytes, most_waiting, pieces_down, queue_of, sent, takes_down, turned_down, turns_down}
 use Rattle.client_node.specs.Client.{waiting_on}
 use Rattle.chain_world.specs.Hop.{sent_up}
 use Rattle.chain_world.specs.Lane.{arriving, size_in, staying}
@@ -94,6 +95,7 @@ IsLater client_bytes_end = Unit {0}
 IsLater turns = Unit {0}
 IsLater closes = Unit {0}
 IsLater gives = Unit {0}
+IsLater (asks what) = Unit {0}
 
 none_later : (call : ClientCall) (log : List LogLine) (spent : Bool) → IsLater call → (called call (record { channel = None; log = log; is_spent = spent })).channel ≡ None
 none_later opens log spent later = absurd later
@@ -103,6 +105,7 @@ none_later client_bytes_end log spent later = refl
 none_later turns log spent later = refl
 none_later closes log spent later = refl
 none_later gives log spent later = refl
+none_later (asks what) log spent later = refl
 
 still_none : (call : ClientCall) (c : ClientValue) → IsLater call → c.channel ≡ None → (called call c).channel ≡ None
 still_none call c later none =
@@ -116,6 +119,10 @@ quiet_carries pasts chain call quiet named later c =
     grown pasts chain (record chain { client = called call chain.client }) (call ∷ []) [] [] refl (named, tt) refl
     (λ opened. (quiet_given call chain.client quiet, quiet_arrived call chain.client quiet)) (flows_same chain.hop)
     (λ u. record { dead = u.dead; unopened = still_none call chain.client later u.unopened }) c
+
+-- the client asks its cache
+pub asked_carries : (pasts : List Past) (what : CachedWhat) (chain : Chain) → Carries pasts chain → Carries pasts (asked what chain)
+asked_carries pasts what chain c = quiet_carries pasts chain (asks what) tt tt tt c
 
 pub and_first : (a b : Bool) → (a && b) ≡ true → a ≡ true
 and_first true b is = refl

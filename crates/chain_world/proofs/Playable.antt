@@ -3,7 +3,7 @@
 use Rattle.std.proofs.Common.{ℕ, zero, suc, ◌+◌, ◌≤◌, true, false, List, [], ◌∷◌, length, sym, subst, arith}
 use Rattle.std.specs.List.{AllByRecursion}
 use Rattle.tcf_schedules.specs.Line.{IsHead, LineHead, image, chain}
-use Rattle.tcf_schedules.specs.Plan.{IsSingle as IsSingleStep, IsStep, Plan, adds_at, close, cut, deliver, opens, rounds, send, tick, times, turn}
+use Rattle.tcf_schedules.specs.Plan.{IsSingle as IsSingleStep, IsStep, Plan, adds_at, cached, close, cut, deliver, opens, rounds, send, tick, times, turn}
 use Rattle.tcf_schedules.specs.Schedule.{ReadsWhatIsSaid, ReadsWithin, chains_in}
 use Rattle.tcf_schedules.specs.declared.schedule.ChainHead.{ChainHead}
 use Rattle.chain_world.specs.Playing.{HoldsOfEveryFile, ReadIsPlayable}
@@ -31,6 +31,7 @@ single (turn at node up) ok = tt
 single (tick thread) ok = tt
 single (close at) ok = tt
 single (cut at hop) ok = tt
+single (cached at what) ok = tt
 single (rounds count) ok = ok
 single (times count plan) ok = ok
 
@@ -56,6 +57,7 @@ step chains (cut at hop) all ok =
     let bound : hop ≤ adds_at chains at = ok.1 in
     let none : adds_at chains at ≤ 0 = none_at chains at all in
     (ok.0, omega arith)
+step chains (cached at what) all ok = ok
 step chains (rounds count) all ok = tt
 step chains (times count plan) all ok = (single plan ok.2, step chains plan all ok.3)
 

@@ -3,14 +3,14 @@ use Rattle.std.proofs.Common.{◌≡◌, ℕ, zero, suc, ◌+◌, ◌<◌, Bool,
 use Rattle.std.specs.Prelude.{slice_get, ◌^◌}
 use Rattle.std.specs.List.{AllByRecursion}
 use Rattle.target_contexts.specs.declared.process.Image.{Image}
-use Rattle.tcf_schedules.specs.Plan.{Plan, close, cut as cut_plan, deliver, opens, rounds as rounds_plan, send, tick, times, turn}
+use Rattle.tcf_schedules.specs.Plan.{Plan, cached, close, cut as cut_plan, deliver, opens, rounds as rounds_plan, send, tick, times, turn}
 use Rattle.agent_node.specs.Runs.{no_calls}
-use Rattle.chain_world.specs.Chain.{all_down, all_taken_down, all_up, closed, cut, delivered_down, delivered_up, is_opened, sent, turned_down}
+use Rattle.chain_world.specs.Chain.{all_down, all_taken_down, all_up, asked, closed, cut, delivered_down, delivered_up, is_opened, sent, turned_down}
 use Rattle.chain_world.specs.World.{IsPlayable, agent_turned, new_chains, new_world, played, repeated, round_all, round_at, round_from, round_of, rounds, run, turned_at, turns_up, up_taken, waiting_in_chain, with_agent}
 use Rattle.chain_world.specs.WorldValue.{WorldValue}
 use Rattle.chain_world.specs.declared.chain.Chain.{Chain}
 use Rattle.chain_world.proofs.Agents.{Laws}
-use Rattle.chain_world.proofs.Moves.{Carries, all_carries, closed_carries, delivered_carries, sent_carries, turned_carries}
+use Rattle.chain_world.proofs.Moves.{Carries, all_carries, asked_carries, closed_carries, delivered_carries, sent_carries, turned_carries}
 use Rattle.chain_world.proofs.Opening.{opened_stands}
 use Rattle.chain_world.proofs.Steps.{all_channel, all_up_move, cut_move, deliver_move, delivered_channel}
 use Rattle.chain_world.proofs.Worlds.{Differ, IsApart, IsBelow, Stands, carried_stands, channels_of, on_chain_stands, tick_stands, turn_stands, unopened, with_agent_stands}
@@ -78,6 +78,7 @@ module _ (laws : Laws) (images : List Image) (count : ℕ) (few : count < 2 ^ 64
   played_stands chains (tick thread) playable w s = tick_stands laws images count thread w s
   played_stands chains (close at) playable w s = on_chain_stands laws images count closed (closed_carries laws images) (λ c. refl) at w s
   played_stands chains (cut_plan at hop) playable w s = with_agent_stands laws images count cut (cut_move laws images) at w s
+  played_stands chains (cached at what) playable w s = on_chain_stands laws images count (asked what) (λ pasts c. asked_carries pasts what c) (λ c. refl) at w s
   played_stands chains (rounds_plan size) playable w s = rounds_stands size w s
   played_stands chains (times size plan) playable w s = repeated_stands size (played plan) (played_stands chains plan playable.1) w s
 

@@ -4,7 +4,7 @@ use Rattle.std.specs.Prelude.{if◌then◌else◌, slice_get}
 use Rattle.std.specs.List.{AllByRecursion}
 use Rattle.std.proofs.lemmas.List.{drop_more, get_or-map, length-map}
 use Rattle.std.proofs.lemmas.List.Elements.{All-from_recursion}
-use Rattle.tcf_schedules.specs.Plan.{Plan, plan_of, plans_of, close, cut as cut_plan, deliver, opens, rounds as rounds_plan, send, tick, times, turn}
+use Rattle.tcf_schedules.specs.Plan.{Plan, plan_of, plans_of, cached, close, cut as cut_plan, deliver, opens, rounds as rounds_plan, send, tick, times, turn}
 use Rattle.tcf_schedules.specs.declared.schedule.ScheduleStep.{ScheduleStep}
 use Rattle.chain_world.specs.Chain.{all_down, all_taken_down, all_up, is_opened}
 use Rattle.chain_world.specs.World.{IsPlayable, new_chains, played, repeated, round_all, round_at, round_from, round_of, rounds, run, turned_at, turns_up, up_taken, waiting_in_chain, with_agent}
@@ -52,6 +52,7 @@ played_kept (turn at node up) w = chains_kept (turn at node up) w tt
 played_kept (tick thread) w = chains_kept (tick thread) w tt
 played_kept (close at) w = chains_kept (close at) w tt
 played_kept (cut_plan at hop) w = chains_kept (cut_plan at hop) w tt
+played_kept (cached at what) w = chains_kept (cached at what) w tt
 played_kept (rounds_plan count) w = rounds_kept count w
 played_kept (times count plan) w = repeated_kept count (played plan) w (played_kept plan)
 

@@ -17,10 +17,10 @@ use Rattle.channel_core.specs.declared.taking.Taken.TheVariants as taken
 use Rattle.client_node.specs.Client.{closed as client_closed, closed_for, noted, not_recognised, refused_for, sent as client_sent, sent_or_refused, took, turned as client_turned, turned_by, with_channel}
 use Rattle.client_node.specs.ClientValue.{ClientValue}
 use Rattle.client_node.specs.Lines.{end_of, event_line, final_line, hello_line, progress_line, why_of}
-use Rattle.client_node.specs.Runs.{closes, sends}
+use Rattle.client_node.specs.Runs.{asks, closes, sends}
 use Rattle.tcf_message.specs.Message.{MessageValue, command, event, final, flow, not_known, progress, reading}
 use Rattle.tcf_message.specs.declared.message.MessageFault.{MessageFault}
-use Rattle.tcf_schedules.specs.Plan.{Plan, close, cut, deliver, opens, rounds, send, tick, times, turn}
+use Rattle.tcf_schedules.specs.Plan.{Plan, cached, close, cut, deliver, opens, rounds, send, tick, times, turn}
 use Rattle.tcf_text.specs.declared.log.EndWhy.{EndWhy}
 use Rattle.tcf_text.specs.declared.log.EndWhy.TheVariants as ends
 use Rattle.tcf_text.specs.declared.log.LogLine.{LogLine}
@@ -151,6 +151,7 @@ unended_kept = record {
   turns = λ c takes u. record { log = ends_not_turned is_ended c (turned_so c takes u) u.log; free = turns_free c.channel c.log c.is_spent u.free };
   opens = λ c u. record { log = u.log; free = refl };
   empties = λ c u. record { log = u.log; free = emptied_free c.channel u.free };
+  asks = λ what c u. record { log = kept_log is_ended (asks what) c tt refl u.log; free = u.free };
 }
 
 closed_unended : (c : ClientValue) → IsUnended c → IsUnended (client_closed c)
@@ -166,6 +167,7 @@ unended_allowed at (turn chain node up) none = tt
 unended_allowed at (tick thread) none = tt
 unended_allowed at (close chain) none = λ same c u. closed_unended c u
 unended_allowed at (cut chain hop) none = λ same c u. absurd (not_here chain at none same)
+unended_allowed at (cached chain what) none = tt
 unended_allowed at (rounds count) none = tt
 unended_allowed at (times count plan) none = unended_allowed at plan none
 

@@ -23,7 +23,7 @@ use Rattle.channel_core.specs.declared.taking.Judged.{Judged}
 use Rattle.channel_core.specs.declared.taking.Judged.TheVariants as judgements
 use Rattle.channel_core.specs.declared.taking.Taken.{Taken}
 use Rattle.client_node.specs.Ends.{HasNames}
-use Rattle.client_node.specs.Runs.{Call, Past, bytes_end, closes, comes, commands_in as accepted_by, commands_on, gives, opens, past_of, remembered, sends, turns, unless_refused}
+use Rattle.client_node.specs.Runs.{Call, Past, asks as asks_cache, bytes_end, closes, comes, commands_in as accepted_by, commands_on, gives, opens, past_of, remembered, sends, turns, unless_refused}
 use Rattle.tcf_text.specs.Lines.{Accepted}
 use Rattle.tcf_text.specs.Once.{numbers}
 use Rattle.agent_node.specs.AgentLaws.{asked, asked_by, asked_in}
@@ -63,6 +63,7 @@ call_named bytes_end channel names = tt
 call_named turns channel names = tt
 call_named closes channel names = tt
 call_named gives channel names = tt
+call_named (asks_cache what) channel names = tt
 
 pub all_named : (calls : List Call) (p : Past) → AllByRecursion HasNames calls → AllByRecursion IsNamed p.commands → AllByRecursion IsNamed (past_of calls p).commands
 all_named [] p names each = each

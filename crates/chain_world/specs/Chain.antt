@@ -4,7 +4,8 @@ use Rattle.channel_core.specs.EndValue.{EndValue, unless_spent}
 use Rattle.channel_core.specs.Wire.{end_of_stream}
 use Rattle.channel_core.specs.declared.held.Outgoing.{Outgoing}
 use Rattle.client_node.specs.ClientValue.{ClientValue}
-use Rattle.client_node.specs.Client.{came, closed as client_closed, ended as client_ended, new_client, opened as client_opened, sent as client_sent, turned as client_turned, waiting_on}
+use Rattle.cached_lines.specs.declared.what.CachedWhat.{CachedWhat}
+use Rattle.client_node.specs.Client.{asked as client_asked, came, closed as client_closed, ended as client_ended, new_client, opened as client_opened, sent as client_sent, turned as client_turned, waiting_on}
 use Rattle.agent_node.specs.AgentValue.{AgentValue}
 use Rattle.agent_node.specs.Agent.{channel_of, delivered as agent_delivered, ended as agent_ended, opened as agent_opened, turned as agent_turned, waiting_at}
 use Rattle.agent_node.specs.Channels.{changed, end_in}
@@ -62,6 +63,10 @@ sent service name body chain = carried_up (record chain { client = client_sent s
 
 abbrev pub closed : Chain → Chain
 closed chain = carried_up (record chain { client = client_closed chain.client })
+
+-- it asks its cache, and sends nothing
+abbrev pub asked : CachedWhat → Chain → Chain
+asked what chain = record chain { client = client_asked what chain.client }
 
 abbrev pub turned_down : Chain → Chain
 turned_down chain = carried_up (record chain { client = (client_turned chain.client).1 })

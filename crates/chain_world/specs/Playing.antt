@@ -4,7 +4,7 @@ use Rattle.std.specs.List.{AllByRecursion}
 use Rattle.tcf_schedules.specs.Schedule.{ScheduleValue, schedule_of}
 use Rattle.chain_world.specs.EndLaws.{EndsAllRightly}
 use Rattle.chain_world.specs.World.{IsPlayable, images_of, new_world, run}
-use Rattle.chain_world.specs.WorldLaws.{IsFaithful}
+use Rattle.chain_world.specs.WorldLaws.{AreCoherent, IsFaithful}
 
 -- each step of the schedule that a file says names a chain, a hop and a node that are there
 abbrev pub ReadIsPlayable : Type 0
@@ -17,3 +17,7 @@ HoldsOfEveryFile = (file : List ℕ) (s : ScheduleValue) → schedule_of file �
 -- and its ends close only as the steps say
 abbrev pub EndsOfEveryFile : Type 0
 EndsOfEveryFile = (file : List ℕ) (s : ScheduleValue) → schedule_of file ≡ Ok s → EndsAllRightly s.plans (run s.plans (new_world (images_of s.images) (length s.chains)))
+
+-- and what the clients keep is true
+abbrev pub CoherentOfEveryFile : Type 0
+CoherentOfEveryFile = (file : List ℕ) (s : ScheduleValue) → schedule_of file ≡ Ok s → AreCoherent (images_of s.images) (run s.plans (new_world (images_of s.images) (length s.chains)))

@@ -5,11 +5,13 @@ use Rattle.agent_node.specs.Agent.{new_agent, ticked}
 use Rattle.target_contexts.specs.declared.process.Image.{Image}
 use Rattle.target_hub.specs.declared.input.Input.{Input}
 use Rattle.target_hub.specs.declared.input.Input.TheVariants.{Opened, Ticked}
+use Rattle.cached_lines.specs.Asked.{IsAsked}
+use Rattle.cached_lines.specs.declared.what.CachedWhat.{CachedWhat}
 use Rattle.tcf_values.specs.declared.ids.ContextId.{ContextId}
-use Rattle.chain_world.specs.Chain.{Both, all_down, all_taken_down, all_up, carried_down, closed, cut, delivered_down, delivered_up, is_opened, is_quiet, new_chain, opened, sent, turned_down, turned_on, waiting_up}
+use Rattle.chain_world.specs.Chain.{Both, all_down, all_taken_down, all_up, asked, carried_down, closed, cut, delivered_down, delivered_up, is_opened, is_quiet, new_chain, opened, sent, turned_down, turned_on, waiting_up}
 use Rattle.agent_node.specs.Agent as agent
 use Rattle.tcf_message.specs.Message.{HasNoZero}
-use Rattle.tcf_schedules.specs.Plan.{Plan, close, cut as cut_plan, deliver, opens, rounds as rounds_plan, send, tick, times, turn}
+use Rattle.tcf_schedules.specs.Plan.{Plan, cached, close, cut as cut_plan, deliver, opens, rounds as rounds_plan, send, tick, times, turn}
 use Rattle.tcf_schedules.specs.declared.schedule.NamedImage.{NamedImage}
 use Rattle.tcf_text.specs.declared.log.LogLine.{LogLine}
 use Rattle.chain_world.specs.WorldValue.{WorldValue}
@@ -122,6 +124,9 @@ ticked_in thread w = let next = ticked thread w.agent in carried (with_input (ti
 abbrev pub closed_at : ℕ → WorldValue → WorldValue
 closed_at at w = on_chain closed at w
 
+abbrev pub asked_at : ℕ → CachedWhat → WorldValue → WorldValue
+asked_at at what w = on_chain (asked what) at w
+
 abbrev pub cut_at : ℕ → WorldValue → WorldValue
 cut_at at w = with_agent cut at w
 
@@ -171,6 +176,7 @@ played (turn at node up) w = turned_at at up w
 played (tick thread) w = ticked_in thread w
 played (close at) w = closed_at at w
 played (cut_plan at hop) w = cut_at at w
+played (cached at what) w = asked_at at what w
 played (rounds_plan count) w = rounds count w
 played (times count plan) w = repeated count (played plan) w
 
@@ -183,7 +189,7 @@ IsSingle (rounds_plan count) = ⊥
 IsSingle (times count plan) = ⊥
 IsSingle plan = Unit {0}
 
--- the chain, the hop and the node are there
+-- the chain, the hop and the node are there, and what is asked has a form
 abbrev pub IsPlayable : ℕ → Plan → Type 0
 IsPlayable chains (opens at) = at < chains
 IsPlayable chains (send at service name body) = (at < chains) × HasNoZero service × HasNoZero name
@@ -193,6 +199,7 @@ IsPlayable chains (turn at node false) = (at < chains) × (node ≡ 0)
 IsPlayable chains (tick thread) = Unit {0}
 IsPlayable chains (close at) = at < chains
 IsPlayable chains (cut_plan at hop) = (at < chains) × (hop ≡ 0)
+IsPlayable chains (cached at what) = (at < chains) × IsAsked what
 IsPlayable chains (rounds_plan count) = Unit {0}
 IsPlayable chains (times count plan) = IsSingle plan × IsPlayable chains plan
 

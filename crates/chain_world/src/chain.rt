@@ -1,13 +1,15 @@
 //! A chain without value-adds: a client, its hop to the agent, and the number of its channel there.
 ghost use Rattle.std.specs.Prelude.{◌≡◌, false, IfOk, OnOk};
+ghost use Rattle.cached_lines.specs.Asked.{IsAsked};
 ghost use Rattle.tcf_message.specs.Message.{HasNoZero};
 ghost use Rattle.agent_node.specs.Agent.{channel_of, opened as agent_opened};
 ghost use Rattle.agent_node.specs.Channels.{end_in};
-ghost use Rattle.chain_world.specs.Chain.{agent_emptied, all_down, all_taken_down, all_up, both, carried_down, carried_up, client_emptied, closed, cut, delivered_down, delivered_up, is_opened, is_quiet, new_chain, opened, parts_came, parts_delivered, queue_of, sent, takes_down, takes_up, turned_down, turned_on, waiting_up};
+ghost use Rattle.chain_world.specs.Chain.{agent_emptied, all_down, all_taken_down, all_up, asked, both, carried_down, carried_up, client_emptied, closed, cut, delivered_down, delivered_up, is_opened, is_quiet, new_chain, opened, parts_came, parts_delivered, queue_of, sent, takes_down, takes_up, turned_down, turned_on, waiting_up};
 ghost use Rattle.chain_world.specs.Hop.{sent_down, sent_up};
 
 use crate::hop::Hop;
 use agent_node::{AgentNode, Turned};
+use cached_lines::CachedWhat;
 use channel_core::Outgoing;
 use client_node::ClientNode;
 use std::alloc::{AllocError, Global};
@@ -29,14 +31,14 @@ pub struct Chain {
 
 impl Chain {
     /// A chain in which nothing is opened.
-    pub(crate) fn new(alloc: Global) -> Self
-        ensures { result ≡ new_chain }
+    pub(crate) fn new(alloc: Global) -> Result<Chain, AllocError>
+        ensures { IfOk result (λ chain. chain ≡ new_chain) }
     {
-        Chain {
-            client: ClientNode::new(alloc),
+        Ok(Chain {
+            client: ClientNode::new(alloc)?,
             hop: Hop::new(alloc),
             channel: None,
-        }
+        })
     }
 
     /// Whether the client connected.
@@ -78,6 +80,14 @@ impl Chain {
     {
         self.client.send(service, name, body)?;
         self.carry_up()
+    }
+
+    /// The client asks its cache.
+    pub(crate) fn ask(&mut self, what: &CachedWhat) -> Result<(), AllocError>
+        requires { IsAsked what.now }
+        ensures { OnOk result (self.new ≡ asked what.now self.old) }
+    {
+        self.client.cached(what)
     }
 
     /// The client closes its channel.

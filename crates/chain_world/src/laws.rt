@@ -1,7 +1,7 @@
 //! The laws of whole chains, over every schedule.
 ghost use Rattle.chain_world.specs.EndLaws.{EndsRightlyAfterEverySchedule};
-ghost use Rattle.chain_world.specs.Playing.{EndsOfEveryFile, HoldsOfEveryFile, ReadIsPlayable};
-ghost use Rattle.chain_world.specs.WorldLaws.{FaithfulAfterEverySchedule};
+ghost use Rattle.chain_world.specs.Playing.{CoherentOfEveryFile, EndsOfEveryFile, HoldsOfEveryFile, ReadIsPlayable};
+ghost use Rattle.chain_world.specs.WorldLaws.{CoherentAfterEverySchedule, FaithfulAfterEverySchedule};
 
 use tcf_schedules::laws::{reads_what_is_said, what_is_read_is_within};
 
@@ -9,10 +9,12 @@ use tcf_schedules::laws::{reads_what_is_said, what_is_read_is_within};
 /// answers each command once and follows the history, on the channel that its chain has. And that ends close only so: a log
 /// ends by its own closing or by the loss of the connection only where a step closes the chain or cuts it, by the end of
 /// the other side's stream only where the agent refused the channel, and never by a fault of the other side; and an end of
-/// the agent closes only since the client ended its stream or since the connection was lost.
+/// the agent closes only since the client ended its stream or since the connection was lost. And that what each client
+/// keeps is true: after each line of its log, of the target at the position of the last message.
 pub fn every_schedule()
     ensures faithful { FaithfulAfterEverySchedule }
     ensures ends { EndsRightlyAfterEverySchedule }
+    ensures coherent { CoherentAfterEverySchedule }
 {
     tcf_message::read_back();
     tcf_message::one_spelling();
@@ -35,6 +37,7 @@ pub fn every_schedule()
     client_node::a_clients_end_is_a_run();
     client_node::the_log_tells_what_was_taken();
     client_node::each_command_is_answered_once();
+    client_node::the_cache_keeps_what_the_log_says();
     command_tables::readings_are_legal();
     target_hub::what_is_told_can_be_sent();
     target_hub::every_history_is_bounded();
@@ -44,6 +47,7 @@ pub fn every_schedule()
     chain_heard::unused_tokens_change_nothing();
     chain_heard::nothing_heard_is_ordered();
     chain_heard::what_was_heard_is_ordered();
+    chain_heard::what_was_heard_is_true();
 }
 
 /// The law that each step of a schedule that is read can be played.
@@ -54,11 +58,12 @@ pub fn read_is_playable()
     what_is_read_is_within();
 }
 
-/// The law that the world is faithful that playing the schedule of a file brings about, and that its ends close only as
-/// the schedule's steps say.
+/// The law that the world is faithful that playing the schedule of a file brings about, that its ends close only as the
+/// schedule's steps say, and that what its clients keep is true.
 pub fn every_file()
     ensures faithful { HoldsOfEveryFile }
     ensures ends { EndsOfEveryFile }
+    ensures coherent { CoherentOfEveryFile }
 {
     every_schedule();
     reads_what_is_said();

@@ -1,13 +1,15 @@
 //! The world: one agent, and the chains of a schedule, played step by step.
 ghost use Rattle.std.specs.Prelude.{◌≡◌, ◌<◌, true, false, IfOk, IfSome, OnErr, OnOk, length, slice_get};
+ghost use Rattle.cached_lines.specs.Asked.{IsAsked};
 ghost use Rattle.tcf_message.specs.Message.{HasNoZero};
 ghost use Rattle.std.specs.List.{AllByRecursion};
 ghost use Rattle.tcf_schedules.specs.Plan.{plan_of, plans_of};
 ghost use Rattle.chain_world.specs.Chain.{all_down, all_taken_down, all_up, is_opened, turned_down};
-ghost use Rattle.chain_world.specs.World.{IsNotRepeated, IsPlayable, IsSingle, agent_turned, all_carried, carried, closed_at, connected_at, cut_at, delivered_at, image_of, images_of, log_at, new_chains, new_world, on_chain, opened_at, opening, played, quiet_at, repeated, round_all, round_at, round_of, rounds, run, sent_at, tick_of, ticked_in, turned_at, up_taken, with_agent, with_input};
+ghost use Rattle.chain_world.specs.World.{IsNotRepeated, IsPlayable, IsSingle, agent_turned, all_carried, asked_at, carried, closed_at, connected_at, cut_at, delivered_at, image_of, images_of, log_at, new_chains, new_world, on_chain, opened_at, opening, played, quiet_at, repeated, round_all, round_at, round_of, rounds, run, sent_at, tick_of, ticked_in, turned_at, up_taken, with_agent, with_input};
 
 use crate::chain::Chain;
 use agent_node::{AgentNode, Image};
+use cached_lines::CachedWhat;
 use std::alloc::{AllocError, Global};
 use std::marker::Model;
 use target_hub::Input;
@@ -54,7 +56,7 @@ impl World {
         })
     }
 
-    /// Plays a step. The chain, the hop and the node that it names are there.
+    /// Plays a step. The chain, the hop and the node that it names are there, and what it asks has a form.
     pub fn play(&mut self, step: &ScheduleStep) -> Result<(), AllocError>
         requires { IsPlayable (length self.old.chains) (plan_of step.now) }
         ensures played { OnOk result (self.new ≡ played (plan_of step.now) self.old) }
@@ -133,6 +135,7 @@ impl World {
                 self.cut(*chain);
                 Ok(())
             }
+            ScheduleStep::Cached { chain, what } => self.ask(*chain, what),
             ScheduleStep::Rounds { count } => self.rounds(*count),
             ScheduleStep::Times { .. } => unreachable!(),
         }
@@ -238,6 +241,17 @@ impl World {
     {
         match self.chains.get_mut(at) {
             Some(chain) => chain.close(),
+            None => Ok(()),
+        }
+    }
+
+    /// The client of the chain asks its cache.
+    fn ask(&mut self, at: usize, what: &CachedWhat) -> Result<(), AllocError>
+        requires { IsAsked what.now }
+        ensures { OnOk result (self.new ≡ asked_at at what.now self.old) }
+    {
+        match self.chains.get_mut(at) {
+            Some(chain) => chain.ask(what),
             None => Ok(()),
         }
     }
@@ -420,7 +434,7 @@ fn new_chains(alloc: Global, count: usize) -> Result<Vec<Chain>, AllocError>
 {
     let mut chains = Vec::new(alloc);
     for counter in 0..count {
-        chains.push(Chain::new(alloc))?;
+        chains.push(Chain::new(alloc)?)?;
     }
     Ok(chains)
 }

@@ -25,6 +25,3 @@ pub use laws::{
 pub use sending::{Refused, SendRefusal};
 pub use states::{Cause, EndState, Reason};
 pub use taking::{Judged, Taken};
-
-#[cfg(test)]
-mod tests;

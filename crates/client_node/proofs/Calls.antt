@@ -1,10 +1,11 @@
 -- Each call of a client keeps what holds of it.
 use Rattle.std.proofs.Common.{◌≡◌, ℕ, ◌+◌, Bool, false, List, [], ◌∷◌, ◌++◌, length, Option, Some, None, Result, Ok, refl, ap, sym, subst}
 use Rattle.std.specs.List.{last_or}
+use Rattle.cached_lines.specs.declared.what.CachedWhat.{CachedWhat}
 use Rattle.tcf_message.specs.Message.{MessageValue, command, event, final, not_known, progress, reading}
 use Rattle.tcf_message.specs.declared.message.MessageFault.{MessageFault}
 use Rattle.tcf_text.specs.Lines.{accepted_by, final_of}
-use Rattle.tcf_text.specs.Once.{AnswersPending, IsNoClosed, IsPending, Once, is_end}
+use Rattle.tcf_text.specs.Once.{AnswersPending, CanStandAfterEnd, IsNoClosed, IsPending, Once, is_end}
 use Rattle.tcf_text.specs.declared.log.LogLine.{LogLine}
 use Rattle.tcf_text.specs.declared.log.LogLine.TheVariants as lines
 use Rattle.tcf_text.specs.declared.log.RefusedWhy.{RefusedWhy}
@@ -17,14 +18,16 @@ use Rattle.channel_core.specs.declared.states.Cause.{Cause}
 use Rattle.channel_core.specs.declared.states.Cause.TheVariants.{Own}
 use Rattle.channel_core.specs.declared.taking.Taken.{Taken}
 use Rattle.channel_core.specs.declared.taking.Taken.TheVariants as taken
-use Rattle.client_node.specs.Client.{closed_for, closed_lines, new_client, not_recognised, noted, refused_for, sent_or_refused, took, turned_by}
+use Rattle.client_log.specs.Cached.{cached_value}
+use Rattle.client_log.specs.Lessons.{lessons}
+use Rattle.client_node.specs.Client.{closed_for, closed_lines, new_client, not_recognised, noted, refused_for, sent_or_refused, took, turned_by, with_line}
 use Rattle.client_node.specs.ClientValue.{ClientValue}
 use Rattle.client_node.specs.Lines.{end_of, event_line, final_line, hello_line, progress_line, why_of}
-use Rattle.client_node.specs.Runs.{Call, FitsMessage, IsAnswerTo, OnceAfterAnyCalls, bytes_end, called, closes, comes, gives, opens, run, sends, turns}
+use Rattle.client_node.specs.Runs.{Call, FitsMessage, IsAnswerTo, OnceAfterAnyCalls, asks, bytes_end, called, closes, comes, gives, opens, run, sends, turns}
 use Rattle.client_node.proofs.Ends.{IsEnded, IsOpen, commanded_open, delivered_ended, delivered_open, ended_ended, ended_open, given_ended, given_open, nothing_taken, queued_open, refused_then}
 use Rattle.client_node.proofs.Lists.{last_push}
 use Rattle.client_node.proofs.Pending.{is_there, rises_without}
-use Rattle.client_node.proofs.Standing.{IsAnswer, IsPlain, Over, Standing, answered_push, behind_all, closing, in_order, once_of, plain_push, refused_push, sent_push, standing_at_first}
+use Rattle.client_node.proofs.Standing.{IsAnswer, IsPlain, Over, Standing, answered_push, behind_all, closing, in_order, once_of, over_push, plain_push, sent_push, standing_at_first}
 use Rattle.client_node.proofs.Taken.{Closes, Finishes, Leaves, Outcome, next_gives}
 
 -- ---- what holds of a client
@@ -58,8 +61,14 @@ more last rows log x old plain unclosed =
 quiet : (log : List LogLine) (x : LogLine) → accepted_by x ≡ [] → final_of x ≡ [] → is_end x ≡ false → AnswersPending log x → IsPlain log x
 quiet log x accepts finishes ends answers = record { accepts = accepts; finishes = finishes; ends = ends; answers = answers }
 
+refused_line : (log : List LogLine) (why : RefusedWhy) → IsPlain log (lines.Refused why)
+refused_line log why = quiet log (lines.Refused why) refl refl refl tt
+
+cached_line : (log : List LogLine) (what : CachedWhat) (value : Option (List ℕ)) → IsPlain log (lines.Cached what value)
+cached_line log what value = quiet log (lines.Cached what value) refl refl refl tt
+
 refused_more : (last : ℕ) (rows : List (ℕ × ℕ)) (log : List LogLine) (why : RefusedWhy) → GoesOnWith last rows log → GoesOnWith last rows (log ++ lines.Refused why ∷ [])
-refused_more last rows log why old = more last rows log (lines.Refused why) old (quiet log (lines.Refused why) refl refl refl tt) tt
+refused_more last rows log why old = more last rows log (lines.Refused why) old (refused_line log why) tt
 
 -- ---- opening and sending
 
@@ -89,7 +98,21 @@ sends_kept None log spent service name body old = refused_more 0 [] log refused.
 sends_kept (Some e) log spent service name body (under_way last rows open_end old) =
     sent_kept last rows e log spent service name body (refusal_of (length service + length name + length body) e) open_end old
 sends_kept (Some e) log spent service name body (over ended old) =
-    rw (refused_then (length service + length name + length body) e ended) (over ended (refused_push log old))
+    rw (refused_then (length service + length name + length body) e ended)
+    (over ended (over_push log (lines.Refused refused.NotOpen) old (refused_line log refused.NotOpen) refl tt))
+
+-- ---- asking the cache
+
+noted_kept : (channel : Option (EndValue ℕ)) (log : List LogLine) (spent : Bool) (x : LogLine) → IsPlain log x → CanStandAfterEnd x → IsNoClosed (Some x) → Stands channel log
+    → Holds (with_line x (client channel log spent))
+noted_kept None log spent x plain after unclosed old = more 0 [] log x old plain unclosed
+noted_kept (Some e) log spent x plain after unclosed (under_way last rows open_end old) = under_way last rows open_end (more last rows log x old plain unclosed)
+noted_kept (Some e) log spent x plain after unclosed (over ended old) = over ended (over_push log x old plain after unclosed)
+
+asks_kept : (channel : Option (EndValue ℕ)) (log : List LogLine) (spent : Bool) (what : CachedWhat) → Stands channel log → Holds (called (asks what) (client channel log spent))
+asks_kept channel log spent what old =
+    let value = cached_value what (lessons log) in
+    noted_kept channel log spent (lines.Cached what value) (cached_line log what value) tt tt old
 
 -- ---- what comes, and what goes out
 
@@ -206,6 +229,7 @@ call_kept bytes_end c old = bytes_end_kept c.channel c.log c.is_spent old
 call_kept turns c old = turns_kept c.channel c.log c.is_spent old
 call_kept closes c old = closes_kept c.channel c.log c.is_spent old
 call_kept gives c old = gives_kept c.channel c.log c.is_spent old
+call_kept (asks what) c old = asks_kept c.channel c.log c.is_spent what old
 
 pub run_kept : (calls : List Call) (c : ClientValue) → Holds c → Holds (run calls c)
 run_kept [] c old = old

@@ -33,7 +33,7 @@ use Rattle.client_node.specs.Client.{client_services, closed_for, new_client, no
 use Rattle.client_node.specs.ClientValue.{ClientValue}
 use Rattle.client_node.specs.Ends.{CommandsNames, EndIsRunAfterAnyCalls, HasNames, IsEndAfter, SendsUnknown, after_taking, after_turn, answering, answers_to, calls_from, calls_on, draining_all, end_after, end_calls, end_calls_by, given_by, given_out, issued_as, sent_by, unknown_to}
 use Rattle.client_node.specs.Lines.{event_line, final_line, hello_line, progress_line, why_of}
-use Rattle.client_node.specs.Runs.{Call, Past, bytes_end, called, closes, comes, commands_in, gives, no_past, opens, past_of, remembered, run, sends, taken_by, turns, unless_refused}
+use Rattle.client_node.specs.Runs.{Call, Past, asks, bytes_end, called, closes, comes, commands_in, gives, no_past, opens, past_of, remembered, run, sends, taken_by, turns, unless_refused}
 
 -- ---- what calls of an end add to its past
 
@@ -227,6 +227,7 @@ call_steps (sends service name body) r log spent unspent =
         given_is = sym (append-nil r.past.given);
       };
     }
+call_steps (asks what) r log spent unspent = record { channel_is = refl; adds = adds_none r r refl refl refl }
 call_steps (comes piece mark) r log spent unspent = record { channel_is = refl; adds = adds_none r (after_calls (calls_on (comes piece mark) r.end) r) refl refl refl }
 call_steps bytes_end r log spent unspent =
     record { channel_is = ap (λ e. Some e) (sym (if_false r.end.is_spent r.end _ unspent)); adds = adds_none r (after_calls (calls_on bytes_end r.end) r) refl refl refl }
@@ -283,6 +284,7 @@ goes_first bytes_end before log spent none = stays before None none
 goes_first turns before log spent none = stays before None none
 goes_first closes before log spent none = stays before None none
 goes_first gives before log spent none = stays before None none
+goes_first (asks what) before log spent none = stays before None none
 
 goes_on : (call : Call) (before : List (EndCall ℕ)) (e : EndValue ℕ) (log : List LogLine) (spent : Bool) → (end_after before).end.is_spent ≡ false → e ≡ (end_after before).end
     → GoesFor before call (client (Some e) log spent)
@@ -345,6 +347,7 @@ call_fits readable bytes_end e any = (tt, tt)
 call_fits readable turns e any = (tt, turning_are SendsUnknown (next_taken e).0 (next_taken e).1.pending tt (λ raw. answering_fits readable raw (reading raw) refl))
 call_fits readable closes e any = closing_are SendsUnknown (is_closed e.state) e.pending tt tt
 call_fits readable gives e any = (tt, tt)
+call_fits readable (asks what) e any = tt
 
 any_calls : (calls : List Call) → AllByRecursion (λ call. Unit {0}) calls
 any_calls [] = tt
@@ -362,6 +365,7 @@ call_names bytes_end e names = (tt, tt)
 call_names turns e names = (tt, turning_are CommandsNames (next_taken e).0 (next_taken e).1.pending tt (λ raw. answering_names (reading raw)))
 call_names closes e names = closing_are CommandsNames (is_closed e.state) e.pending tt tt
 call_names gives e names = (tt, tt)
+call_names (asks what) e names = tt
 
 -- ---- what is sent are the answers to what was taken
 
@@ -394,6 +398,7 @@ call_sends bytes_end e = refl
 call_sends turns e = turning_sends (next_taken e).0 (next_taken e).1.pending
 call_sends closes e = closing_sends (is_closed e.state) e.pending
 call_sends gives e = refl
+call_sends (asks what) e = refl
 
 from_sends : (call : Call) (channel : Option (EndValue ℕ)) → flat_map sent_by (calls_from call channel) ≡ flat_map answers_to (taken_by call channel)
 from_sends turns None = refl

@@ -6,3 +6,4 @@ pub mod Taken
 pub mod Calls
 pub mod Told
 pub mod Following
+pub mod Shown

@@ -6,11 +6,10 @@ use Rattle.std.proofs.lemmas.List.{append_assoc, map-append}
 use Rattle.std.proofs.lemmas.List.Elements.{Contains-append_left, Contains-push, Contains-push_cases}
 use Rattle.tcf_text.specs.Each.{Each}
 use Rattle.tcf_text.specs.Lines.{Accepted, accepted, accepted_by, final_of, finals}
-use Rattle.tcf_text.specs.Once.{AllAnswered, AnswersPending, ClosesBeforeEnd, EndsAll, GoesOnFrom, IsNoClosed, IsPending, NothingAfterEnd, Once, is_end, numbers}
+use Rattle.tcf_text.specs.Once.{AllAnswered, AnswersPending, CanStandAfterEnd, ClosesBeforeEnd, EndsAll, GoesOnFrom, IsNoClosed, IsPending, NothingAfterEnd, Once, is_end, numbers}
 use Rattle.tcf_text.specs.declared.log.EndWhy.{EndWhy}
 use Rattle.tcf_text.specs.declared.log.LogLine.{LogLine}
-use Rattle.tcf_text.specs.declared.log.LogLine.TheVariants.{Closed, Ended, Refused, Sent}
-use Rattle.tcf_text.specs.declared.log.RefusedWhy.TheVariants.{NotOpen}
+use Rattle.tcf_text.specs.declared.log.LogLine.TheVariants.{Closed, Ended, Sent}
 use Rattle.client_node.proofs.Lists.{any_push, each_nothing, each_push, flat_push, flat_same, last_push, none_in, range_push}
 use Rattle.client_node.proofs.Pending.{Rises, apart, below, is_there, numbers_cases, numbers_kept, numbers_of, rises_push}
 
@@ -258,19 +257,19 @@ closing (row ∷ rows) low last log why standing behind =
     let rest : List LogLine = map (λ (r : ℕ × ℕ). Closed r.1) rows ++ Ended why ∷ [] in
     subst Over (append_assoc log (x ∷ []) rest) (closing rows row.1 last (log ++ x ∷ []) why next ahead)
 
--- a command that is refused then
-pub refused_push : (log : List LogLine) → Over log → Over (log ++ Refused NotOpen ∷ [])
-refused_push log over =
-    let x : LogLine = Refused NotOpen in
+-- one more line, where it can stand after the end
+pub over_push : (log : List LogLine) (x : LogLine) → Over log → IsPlain log x → CanStandAfterEnd x → IsNoClosed (Some x) → Over (log ++ x ∷ [])
+over_push log x over plain after unclosed =
     let before : Lawful log = record {
       answers = over.once.answers;
       all_at_end = over.once.all_at_end;
       nothing_after = over.once.nothing_after;
       closed_in_order = over.once.closed_in_order;
     } in
-    let lawful : Lawful (log ++ x ∷ []) = lawful_push log x before tt tt (λ ended. refl) (in_order log x over.once.closed_then_end) in
+    let lawful : Lawful (log ++ x ∷ []) =
+    lawful_push log x before plain.answers (no_end log x plain.ends) (λ ended. after) (in_order log x over.once.closed_then_end) in
     record {
-      once = once_of (log ++ x ∷ []) lawful (rw (last_push None log x) tt);
+      once = once_of (log ++ x ∷ []) lawful (rw (last_push None log x) unclosed);
       last = over.last;
-      numbered = ap numbers (same_accepted log x refl) ∙ over.numbered;
+      numbered = ap numbers (same_accepted log x plain.accepts) ∙ over.numbered;
     }

@@ -24,10 +24,12 @@ use Rattle.channel_core.specs.declared.states.Cause.{Cause}
 use Rattle.channel_core.specs.declared.states.Cause.TheVariants.{Own}
 use Rattle.channel_core.specs.declared.taking.Taken.{Taken}
 use Rattle.channel_core.specs.declared.taking.Taken.TheVariants as taken
+use Rattle.client_log.specs.Cached.{cached_value}
+use Rattle.client_log.specs.Lessons.{lessons}
 use Rattle.client_node.specs.Client.{closed_for, closed_lines, new_client, noted, refused_for, sent_or_refused, took, turned_by}
 use Rattle.client_node.specs.ClientValue.{ClientValue}
 use Rattle.client_node.specs.Lines.{end_of, event_line, final_line, hello_line, progress_line, why_of}
-use Rattle.client_node.specs.Runs.{Call, FitsMessage, LogTellsPast, Past, bytes_end, called, closes, comes, commands_in, gives, line_of, no_past, opens, past_of, remembered, run, sends, taken_by, taken_on, tells, turns, unless_refused}
+use Rattle.client_node.specs.Runs.{Call, FitsMessage, LogTellsPast, Past, asks, bytes_end, called, closes, comes, commands_in, gives, line_of, no_past, opens, past_of, remembered, run, sends, taken_by, taken_on, tells, turns, unless_refused}
 use Rattle.client_node.proofs.Calls.{Holds, Stands, call_kept, new_holds, over, under_way}
 use Rattle.client_node.proofs.Ends.{nothing_taken}
 use Rattle.client_node.proofs.Taken.{Outcome, next_gives}
@@ -172,6 +174,7 @@ call_adds bytes_end c = adds_none c.log
 call_adds turns c = turns_adds c.channel c.log c.is_spent
 call_adds closes c = closes_adds c.channel c.log c.is_spent
 call_adds gives c = adds_none c.log
+call_adds (asks what) c = adds_lines c.log (lines.Cached what (cached_value what (lessons c.log)) ∷ [])
 
 -- ---- what was taken fits its messages
 

@@ -1,6 +1,7 @@
 -- What a client does: it numbers the commands that are accepted from 1, as their tokens are, and its log says what was
 -- sent, refused and taken.
 use Rattle.std.specs.Prelude.{ℕ, ◌+◌, Bool, true, false, if◌then◌else◌, List, [], ◌∷◌, ◌++◌, length, map, codes, drop, slice_get, Option, Some, None, option_map, Result, Ok}
+use Rattle.cached_lines.specs.declared.what.CachedWhat.{CachedWhat}
 use Rattle.channel_core.specs.Beginning.{new_end}
 use Rattle.channel_core.specs.Closing.{closed_own, is_closed}
 use Rattle.channel_core.specs.EndValue.{EndValue, unless_spent}
@@ -13,6 +14,8 @@ use Rattle.channel_core.specs.declared.states.Cause.{Cause}
 use Rattle.channel_core.specs.declared.states.Cause.TheVariants.{Own}
 use Rattle.channel_core.specs.declared.taking.Taken.{Taken}
 use Rattle.channel_core.specs.declared.taking.Taken.TheVariants as taken
+use Rattle.client_log.specs.Cached.{cached_value}
+use Rattle.client_log.specs.Lessons.{lessons}
 use Rattle.tcf_message.specs.Message.{MessageValue, command, not_known, reading}
 use Rattle.tcf_message.specs.declared.message.MessageFault.{MessageFault}
 use Rattle.tcf_text.specs.declared.log.LogLine.{LogLine}
@@ -68,6 +71,11 @@ sent_by (Some e) service name body c =
 
 abbrev pub sent : List ℕ → List ℕ → List ℕ → ClientValue → ClientValue
 sent service name body c = sent_by c.channel service name body c
+
+-- ---- asking the cache: it keeps what the lines of the log teach
+
+abbrev pub asked : CachedWhat → ClientValue → ClientValue
+asked what c = with_line (lines.Cached what (cached_value what (lessons c.log))) c
 
 -- ---- what comes
 

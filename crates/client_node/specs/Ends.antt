@@ -15,7 +15,7 @@ use Rattle.tcf_message.specs.declared.message.MessageFault.{MessageFault}
 use Rattle.tcf_text.specs.Lines.{Accepted}
 use Rattle.client_node.specs.Client.{client_services, given, new_client}
 use Rattle.client_node.specs.ClientValue.{ClientValue}
-use Rattle.client_node.specs.Runs.{Call, bytes_end, called, closes, comes, gives, no_past, opens, past_of, run, sends, turns}
+use Rattle.client_node.specs.Runs.{Call, asks, bytes_end, called, closes, comes, gives, no_past, opens, past_of, run, sends, turns}
 
 -- ---- the calls of its end that one call of a client makes
 
@@ -52,6 +52,7 @@ calls_on bytes_end e = ending ∷ []
 calls_on turns e = taking ∷ after_turn (next_taken e).0 (next_taken e).1.pending
 calls_on closes e = if is_closed e.state then [] else closing ∷ draining_all e.pending
 calls_on gives e = putting_out ∷ []
+calls_on (asks what) e = []
 
 -- before the opening there is no end
 abbrev pub calls_from : Call → Option (EndValue ℕ) → List (EndCall ℕ)

@@ -1,6 +1,7 @@
 -- A client over any calls, and what holds of it then.
 use Rattle.std.specs.Prelude.{ℕ, ◌≡◌, ◌+◌, true, false, Bool, ◌&&◌, List, [], ◌∷◌, ◌++◌, length, bytes_eq, decimal, filter, filter_map, option_to_list, is_some, Option, Some, None, Result, Ok}
 use Rattle.std.specs.List.{AllByRecursion, range_with_len}
+use Rattle.cached_lines.specs.declared.what.CachedWhat.{CachedWhat}
 use Rattle.channel_core.specs.EndValue.{EndValue}
 use Rattle.channel_core.specs.Sending.{refusal_of}
 use Rattle.channel_core.specs.Taking.{next_taken}
@@ -10,10 +11,12 @@ use Rattle.channel_core.specs.declared.taking.Taken.{Taken}
 use Rattle.channel_core.specs.declared.taking.Taken.TheVariants as taken
 use Rattle.tcf_message.specs.Message.{MessageValue, command, event, final, not_known, progress, reading}
 use Rattle.tcf_message.specs.declared.message.MessageFault.{MessageFault}
+use Rattle.client_log.specs.Shown.{ShowsKept}
+use Rattle.tcf_text.specs.Each.{Each}
 use Rattle.tcf_text.specs.Lines.{Accepted, accepted, mark_of}
 use Rattle.tcf_text.specs.Once.{Once, numbers}
 use Rattle.tcf_text.specs.declared.log.LogLine.{LogLine}
-use Rattle.client_node.specs.Client.{after_giving, came, closed, ended, new_client, opened, sent, turned}
+use Rattle.client_node.specs.Client.{after_giving, asked, came, closed, ended, new_client, opened, sent, turned}
 use Rattle.client_node.specs.ClientValue.{ClientValue}
 use Rattle.client_node.specs.Lines.{event_line, final_line, hello_line, progress_line}
 
@@ -26,6 +29,7 @@ pub data Call : Type 0 where
   turns : Call
   closes : Call
   gives : Call
+  asks : CachedWhat → Call
 
 -- a client is opened once
 abbrev pub opened_from : Option (EndValue ℕ) → ClientValue → ClientValue
@@ -40,6 +44,7 @@ called bytes_end c = ended c
 called turns c = (turned c).1
 called closes c = closed c
 called gives c = after_giving c
+called (asks what) c = asked what c
 
 abbrev pub run : List Call → ClientValue → ClientValue
 run [] c = c
@@ -49,6 +54,10 @@ run (call ∷ calls) c = run calls (called call c)
 -- exactly one once the channel has ended.
 abbrev pub OnceAfterAnyCalls : Type 0
 OnceAfterAnyCalls = (calls : List Call) → Once false (run calls new_client).log
+
+-- Whatever the calls: each line that asks the cache shows what is kept of the messages that the lines before it say.
+abbrev pub ShownAfterAnyCalls : Type 0
+ShownAfterAnyCalls = (calls : List Call) → Each ShowsKept (run calls new_client).log
 
 -- ---- a client with its past
 

@@ -1,5 +1,6 @@
 //! The client.
 ghost use Rattle.std.specs.Prelude.{◌≡◌, ◌+◌, ◌++◌, ◌∷◌, [], true, false, None, Some, IfOk, IfSome, IsSome, OnErr, OnOk, length, map, option_map};
+ghost use Rattle.cached_lines.specs.Asked.{IsAsked};
 ghost use Rattle.channel_core.specs.EndValue.{EndValue, unless_spent};
 ghost use Rattle.channel_core.specs.Receiving.{waiting_in};
 ghost use Rattle.channel_core.specs.Closing.{is_closed};
@@ -7,10 +8,12 @@ ghost use Rattle.tcf_message.specs.Message.{HasNoZero, reading};
 ghost use Rattle.channel_core.specs.Taking.{closes};
 ghost use Rattle.tcf_text.specs.declared.log.LogLine.TheVariants.{Closed};
 ghost use Rattle.client_node.specs.Usable.{IsUsable};
-ghost use Rattle.client_node.specs.Client.{after_giving, came, client_services, closed, closed_for, closed_lines, ended, given, new_client, not_recognised, noted, opened, pending_on, refused_for, sent, sent_or_refused, took, turned, turned_by, waiting_on, with_channel, with_line};
+ghost use Rattle.client_node.specs.Client.{after_giving, asked, came, client_services, closed, closed_for, closed_lines, ended, given, new_client, not_recognised, noted, opened, pending_on, refused_for, sent, sent_or_refused, took, turned, turned_by, waiting_on, with_channel, with_line};
 
 use crate::lines::{end_of, event_line, final_line, hello_line, progress_line, sent_line, why_of};
+use cached_lines::CachedWhat;
 use channel_core::{Cause, End, EndState, Incoming, Outgoing, Refused, Taken};
+use client_log::ClientLog;
 use std::alloc::{AllocError, Global};
 use std::marker::Model;
 use tcf_message::{Message, read};
@@ -23,7 +26,7 @@ use tcf_text::{LogLine, RefusedWhy};
 pub struct ClientNode {
     alloc: Global,
     channel: Option<End<u64>>,
-    log: Vec<LogLine>,
+    log: ClientLog,
     spent: bool,
 }
 
@@ -35,22 +38,22 @@ impl Model for ClientNode {
     ghost use Rattle.std.specs.Prelude.{◌≡◌, false};
     ghost use Rattle.client_node.specs.Usable.{IsUsable};
 
-    ghost view = { λ c. record { channel = c.channel; log = c.log.items; is_spent = c.spent } };
+    ghost view = { λ c. record { channel = c.channel; log = c.log; is_spent = c.spent } };
 
     ghost invariant = { λ c. c.spent ≡ false → IsUsable c.channel };
 }
 
 impl ClientNode {
-    /// Makes a client that isn't opened.
-    pub fn new(alloc: Global) -> Self
-        ensures { result ≡ new_client }
+    /// Makes a client that isn't opened, and whose cache knows nothing.
+    pub fn new(alloc: Global) -> Result<ClientNode, AllocError>
+        ensures { IfOk result (λ client. client ≡ new_client) }
     {
-        ClientNode {
+        Ok(ClientNode {
             alloc,
             channel: None,
-            log: Vec::new(alloc),
+            log: ClientLog::new(alloc)?,
             spent: false,
-        }
+        })
     }
 
     /// Opens the channel: the client's Hello is to be sent.
@@ -107,6 +110,19 @@ impl ClientNode {
                 None => Err(AllocError),
             },
         }
+    }
+
+    /// Asks the cache of what the log tells, and puts a line into the log that says what it has.
+    pub fn cached(&mut self, what: &CachedWhat) -> Result<(), AllocError>
+        requires { IsAsked what.now }
+        ensures asked { OnOk result (self.new ≡ asked what.now self.old) }
+        ensures fresh { OnOk result (self.old.is_spent ≡ false) }
+        ensures spent { OnErr result (self.new.is_spent ≡ true) }
+    {
+        self.begin()?;
+        self.log.ask(what)?;
+        self.spent = false;
+        Ok(())
     }
 
     /// Takes the oldest entry of the inbox, with a line in the log: answers whether there was one. A command of the other
@@ -276,7 +292,7 @@ impl ClientNode {
     pub fn log(&self) -> &[LogLine]
         ensures { result.now ≡ self.now.log }
     {
-        self.log.as_slice()
+        self.log.lines()
     }
 
     /// How many entries stand in the inbox; none before the opening and on a closed channel.
@@ -335,10 +351,10 @@ impl ClientNode {
 }
 
 /// Writes a line `closed` for each command that is pending at a closed end, in order of issue.
-fn drain(end: &mut End<u64>, log: &mut Vec<LogLine>) -> Result<(), AllocError>
+fn drain(end: &mut End<u64>, log: &mut ClientLog) -> Result<(), AllocError>
     requires closed { is_closed end.old.state ≡ true }
     requires usable { end.old.is_spent ≡ false }
-    ensures lines { OnOk result (log.new.items ≡ log.old.items ++ map (λ row. Closed row.1) end.old.pending) }
+    ensures lines { OnOk result (log.new ≡ log.old ++ map (λ row. Closed row.1) end.old.pending) }
     ensures drained { OnOk result (end.new ≡ record end.old { pending = [] }) }
 {
     while let Some(number) = end.drain() {

@@ -1,6 +1,6 @@
 //! The laws of a client, over any calls and whatever bytes come.
 ghost use Rattle.client_node.specs.Ends.{EndIsRunAfterAnyCalls};
-ghost use Rattle.client_node.specs.Runs.{LogTellsPast, OnceAfterAnyCalls};
+ghost use Rattle.client_node.specs.Runs.{LogTellsPast, OnceAfterAnyCalls, ShownAfterAnyCalls};
 
 use channel_core::calls_with_memory_spend_nothing;
 use tcf_message::read_back;
@@ -27,3 +27,9 @@ pub fn a_clients_end_is_a_run()
     calls_with_memory_spend_nothing::<u64>();
     read_back();
 }
+
+/// The law that each line of the log that asks the cache shows what is kept of the messages that the lines before it
+/// say, whatever the calls.
+pub fn the_cache_keeps_what_the_log_says()
+    ensures { ShownAfterAnyCalls }
+{}

@@ -1,5 +1,6 @@
 //! What no clause says: that calls succeed where there is memory, and that the definitions are the protocol's rules.
 use crate::ClientNode;
+use cached_lines::CachedWhat;
 use std::process::Abort;
 use std::test::Fail;
 use tcf_outside::Octets;
@@ -11,8 +12,12 @@ const HELLO: &[u8] = b"E\0Locator\0Hello\0[\"Locator\"]\0\x03\x01";
 /// C 1 Locator sync
 const COMMAND: &[u8] = b"C\x001\0Locator\0sync\0\x03\x01";
 
+/// E RunControl contextSuspended "P1.1" 4 "Breakpoint" {"BPs":["b1"]}
+const SUSPENDED: &[u8] =
+    b"E\0RunControl\0contextSuspended\0\"P1.1\"\x004\0\"Breakpoint\"\0{\"BPs\":[\"b1\"]}\0\x03\x01";
+
 fn opened_client(rt: &impl AllocGlobal) -> Result<ClientNode, Fail> {
-    let mut client = ClientNode::new(rt.alloc());
+    let mut client = ClientNode::new(rt.alloc())?;
     client.opened()?;
     Ok(client)
 }
@@ -32,6 +37,20 @@ fn close(client: &mut ClientNode) -> Result<(), Fail> {
 fn take(client: &mut ClientNode, piece: &[u8], mark: Option<u64>) -> Result<bool, Fail> {
     client.deliver(piece, mark)?;
     Ok(client.turn()?)
+}
+
+/// Asks whether the thread 1 of the process 1 runs.
+fn ask_state(rt: &impl AllocGlobal, client: &mut ClientNode) -> Result<(), Fail> {
+    let id = Octets::from_slice(rt.alloc(), b"P1.1")?;
+    client.cached(&CachedWhat::State { id })?;
+    Ok(())
+}
+
+/// Asks where it is.
+fn ask_pc(rt: &impl AllocGlobal, client: &mut ClientNode) -> Result<(), Fail> {
+    let id = Octets::from_slice(rt.alloc(), b"P1.1.pc")?;
+    client.cached(&CachedWhat::Register { id })?;
+    Ok(())
 }
 
 /// What is to be sent next is this.
@@ -121,12 +140,53 @@ fn a_command_of_the_other_side_is_not_recognised(rt: HostRuntime) -> Result<(), 
 }
 
 #[test]
-fn nothing_is_sent_before_the_opening(rt: HostRuntime) -> Result<(), Fail> {
-    let mut client = ClientNode::new(rt.alloc());
+fn nothing_is_sent_or_known_before_the_opening(rt: HostRuntime) -> Result<(), Fail> {
+    let mut client = ClientNode::new(rt.alloc())?;
     send(&mut client)?;
     assert!(rt; !take(&mut client, HELLO, None)?);
     close(&mut client)?;
     assert_sent(&rt, &mut client, b"");
     assert_eq!(rt; client.state(), None);
-    assert_log(&rt, &client, b"refused NotOpen\n")
+    ask_pc(&rt, &mut client)?;
+    assert_log(
+        &rt,
+        &client,
+        b"refused NotOpen\ncached register P1.1.pc none\n",
+    )
+}
+
+/// The other side says where its thread is, and says Hello once more.
+fn be_greeted_again(rt: &(impl Abort + AllocGlobal), client: &mut ClientNode) -> Result<(), Fail> {
+    assert!(rt; take(client, HELLO, Some(1))?);
+    ask_state(rt, client)?;
+    assert!(rt; take(client, SUSPENDED, Some(2))?);
+    ask_state(rt, client)?;
+    assert!(rt; take(client, HELLO, Some(3))?);
+    ask_state(rt, client)?;
+    Ok(())
+}
+
+#[test]
+fn the_cache_has_what_was_told_since_the_last_hello(rt: HostRuntime) -> Result<(), Fail> {
+    let mut client = opened_client(&rt)?;
+    be_greeted_again(&rt, &mut client)?;
+    assert_log(
+        &rt,
+        &client,
+        b"hello 1 [\"Locator\"]\ncached state P1.1 none\nevent 2 RunControl contextSuspended \"P1.1\" 4 \"Breakpoint\" {\"BPs\":[\"b1\"]}\ncached state P1.1 suspended 4 \"Breakpoint\" {\"BPs\":[\"b1\"]}\nhello 3 [\"Locator\"]\ncached state P1.1 none\n",
+    )
+}
+
+#[test]
+fn the_cache_is_asked_after_the_end_too(rt: HostRuntime) -> Result<(), Fail> {
+    let mut client = opened_client(&rt)?;
+    assert!(rt; take(&mut client, HELLO, None)?);
+    assert!(rt; take(&mut client, SUSPENDED, None)?);
+    close(&mut client)?;
+    ask_pc(&rt, &mut client)?;
+    assert_log(
+        &rt,
+        &client,
+        b"hello - [\"Locator\"]\nevent - RunControl contextSuspended \"P1.1\" 4 \"Breakpoint\" {\"BPs\":[\"b1\"]}\nend own\ncached register P1.1.pc 4\n",
+    )
 }

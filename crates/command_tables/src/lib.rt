@@ -11,6 +11,3 @@ pub use laws::readings_are_legal;
 pub use reading::{Reading, read_command};
 pub use rows::arguments_are_in_place;
 pub use writing::{WrittenCommand, write_command};
-
-#[cfg(test)]
-mod tests;

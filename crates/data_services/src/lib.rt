@@ -16,6 +16,3 @@ pub use laws::{
     what_is_set_is_got,
 };
 pub use lengths::what_is_short_stays;
-
-#[cfg(test)]
-mod tests;

@@ -9,6 +9,3 @@ pub mod readers;
 pub use fault::ArgFault;
 pub use parts::{Args, add_part, parts_are_unique, split};
 pub use readers::{blob, flag, text, texts, value, whole};
-
-#[cfg(test)]
-mod tests;

@@ -1,7 +1,8 @@
 //! What RunControl tells of a process or a thread.
-ghost use Rattle.std.specs.Prelude.{◌≡◌, ◌<◌, IfOk, IfSome, codes};
+ghost use Rattle.std.specs.Prelude.{◌≡◌, ◌<◌, false, IfOk, IfSome, codes};
 ghost use Rattle.serde_json.specs.Data.{string, boolean, member, no_members};
 ghost use Rattle.serde_json.specs.View.{view, members_view};
+ghost use Rattle.serde_json.specs.Written.{has_float};
 ghost use Rattle.json_values.specs.Words.{word_json};
 ghost use Rattle.json_values.specs.Contexts.{context_json, context_in, powers_in, IsContext, ArePowers};
 ghost use Rattle.json_values.specs.ContextLaws.{context_back, context_plain, context_shallow};
@@ -26,7 +27,6 @@ pub struct Powers {
 
 /// The members that each context has.
 fn fixed_members(alloc: Global, context: &ContextData) -> Result<Map<String, Value>, AllocError>
-    requires { IsContext context.now }
     ensures { IfOk result (λ members. members_view members.entries ≡
         member (codes "CanCount") (word_json context.now.can_count)
         (member (codes "CanResume") (word_json context.now.can_resume)
@@ -37,9 +37,11 @@ fn fixed_members(alloc: Global, context: &ContextData) -> Result<Map<String, Val
         (member (codes "IsContainer") (boolean context.now.container)
         (member (codes "ProcessID") (string context.now.process) no_members)))))))) }
 {
+    let can_count = context.can_count;
+    let can_resume = context.can_resume;
     let mut members = Map::new(alloc);
-    put_member(alloc, &mut members, "CanCount", &context.can_count)?;
-    put_member(alloc, &mut members, "CanResume", &context.can_resume)?;
+    put_member(alloc, &mut members, "CanCount", &can_count)?;
+    put_member(alloc, &mut members, "CanResume", &can_resume)?;
     put_member(alloc, &mut members, "CanSuspend", &context.can_suspend)?;
     put_member(alloc, &mut members, "CanTerminate", &context.can_terminate)?;
     put_member(alloc, &mut members, "HasState", &context.has_state)?;
@@ -82,6 +84,18 @@ fn powers_of(alloc: Global, value: &Value) -> Result<Option<Powers>, AllocError>
     }))
 }
 
+/// The object of a context. Both its numbers are of 32 bits, so it is within the limits of its kind.
+#[tactic(auto, using(crate::proofs::Objects::optional_members, crate::specs::ContextLaws::context_plain))]
+pub fn context_value(alloc: Global, context: &ContextData) -> Result<Value, AllocError>
+    ensures value { IfOk result (λ value. view value ≡ context_json context.now) }
+    ensures plain { has_float (context_json context.now) ≡ false }
+{
+    let mut members = fixed_members(alloc, context)?;
+    put_some(alloc, &mut members, "Name", &context.name)?;
+    put_some(alloc, &mut members, "ParentID", &context.parent)?;
+    Ok(Value::Object(members))
+}
+
 impl Json for ContextData {
     ghost json = { context_json };
 
@@ -91,12 +105,8 @@ impl Json for ContextData {
 
     ghost nesting = { 1 };
 
-    #[tactic(auto, using(crate::proofs::Objects::optional_members))]
     fn to_value(&self, alloc: Global) -> Result<Value, AllocError> {
-        let mut members = fixed_members(alloc, self)?;
-        put_some(alloc, &mut members, "Name", &self.name)?;
-        put_some(alloc, &mut members, "ParentID", &self.parent)?;
-        Ok(Value::Object(members))
+        context_value(alloc, self)
     }
 
     fn from_value(alloc: Global, value: &Value) -> Result<Option<Self>, AllocError> {

@@ -21,10 +21,10 @@ pub mod words;
 
 pub use blobs::{blob_of, blob_value};
 pub use canonical::Json;
+pub use contexts::context_value;
 pub use fields::{default_member, is_object};
 pub use part::{kind, put, put_blob, put_empty, put_json, texts_lack_zero};
 pub use peers::{peers_of, peers_value};
+pub use props::bp_value;
 pub use states::{hits_of, hits_value};
-
-#[cfg(test)]
-mod tests;
+pub use statuses::status_value;

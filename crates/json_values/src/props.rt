@@ -1,6 +1,8 @@
 //! The properties of breakpoints, and their limits.
-ghost use Rattle.std.specs.Prelude.{◌≡◌, true, false, option_map, option_and_then, unwrap_or, nat_le, IfSome};
+ghost use Rattle.std.specs.Prelude.{◌≡◌, true, false, option_map, option_and_then, unwrap_or, nat_le, IfOk, IfSome};
 ghost use Rattle.std.specs.List.{list_all};
+ghost use Rattle.serde_json.specs.View.{view};
+ghost use Rattle.serde_json.specs.Written.{has_float};
 ghost use Rattle.json_values.specs.Props.{BpRoundTrip, bp_json, bp_in, is_bp, is_short, is_location, are_contexts, bp_from};
 ghost use Rattle.json_values.specs.PropsLaws.{bp_back, bp_plain, bp_shallow};
 
@@ -85,6 +87,20 @@ fn props_of(
     }
 }
 
+/// The object of properties, whether or not they are within their limits.
+#[tactic(auto, using(crate::specs::PropsLaws::bp_plain))]
+pub fn bp_value(alloc: Global, props: &BpProps) -> Result<Value, AllocError>
+    ensures value { IfOk result (λ value. view value ≡ bp_json props.now) }
+    ensures plain { has_float (bp_json props.now) ≡ false }
+{
+    let mut map = Map::new(alloc);
+    put_some(alloc, &mut map, "ContextIds", &props.contexts)?;
+    put_member(alloc, &mut map, "Enabled", &props.enabled)?;
+    put_member(alloc, &mut map, "ID", &props.id)?;
+    put_some(alloc, &mut map, "Location", &props.location)?;
+    Ok(Value::Object(map))
+}
+
 impl Json for BpProps {
     ghost json = { bp_json };
 
@@ -95,12 +111,7 @@ impl Json for BpProps {
     ghost nesting = { 2 };
 
     fn to_value(&self, alloc: Global) -> Result<Value, AllocError> {
-        let mut map = Map::new(alloc);
-        put_some(alloc, &mut map, "ContextIds", &self.contexts)?;
-        put_member(alloc, &mut map, "Enabled", &self.enabled)?;
-        put_member(alloc, &mut map, "ID", &self.id)?;
-        put_some(alloc, &mut map, "Location", &self.location)?;
-        Ok(Value::Object(map))
+        bp_value(alloc, self)
     }
 
     fn from_value(alloc: Global, value: &Value) -> Result<Option<Self>, AllocError> {

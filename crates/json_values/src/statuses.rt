@@ -1,6 +1,7 @@
 //! The status of a breakpoint: its instances.
-ghost use Rattle.std.specs.Prelude.{◌≡◌, IfOk, IfSome};
+ghost use Rattle.std.specs.Prelude.{◌≡◌, false, map, IfOk, IfSome};
 ghost use Rattle.serde_json.specs.View.{view};
+ghost use Rattle.serde_json.specs.Written.{has_float};
 ghost use Rattle.json_values.specs.Statuses.{instance_json, instance_in, place_in, IsPlace, IsInstance, status_json, status_in, IsStatus};
 ghost use Rattle.json_values.specs.ReplyLaws.{instance_back, instance_plain, instance_shallow, status_back, status_plain, status_shallow};
 
@@ -25,6 +26,42 @@ fn place_of(alloc: Global, value: &Value) -> Result<Option<Place>, AllocError>
     }
 }
 
+/// The object of an instance, whose address is of 32 bits.
+fn instance_value(alloc: Global, instance: &Instance) -> Result<Value, AllocError>
+    ensures { IfOk result (λ value. view value ≡ instance_json instance.now) }
+{
+    let context = instance.context.as_str();
+    match &instance.place {
+        Place::Address(address) => {
+            json!(in alloc; {"Address": *address, "LocationContext": context})
+        }
+        Place::Error(error) => {
+            json!(in alloc; {"Error": error.as_str(), "LocationContext": context})
+        }
+    }
+}
+
+/// The objects of instances.
+fn instance_values(alloc: Global, instances: &[Instance]) -> Result<Vec<Value>, AllocError>
+    ensures { IfOk result (λ values. map view values.items ≡ map instance_json instances.now) }
+{
+    let mut values = Vec::new(alloc);
+    for instance in instances {
+        serde_json::push(&mut values, instance_value(alloc, instance)?)?;
+    }
+    Ok(values)
+}
+
+/// The object of a status. Each address in it is of 32 bits, so it is within the limits of its kind.
+#[tactic(auto, using(crate::specs::ReplyLaws::status_plain))]
+pub fn status_value(alloc: Global, status: &BpStatus) -> Result<Value, AllocError>
+    ensures value { IfOk result (λ value. view value ≡ status_json status.now) }
+    ensures plain { has_float (status_json status.now) ≡ false }
+{
+    let instances = Value::Array(instance_values(alloc, status.instances.as_slice())?);
+    json!(in alloc; {"Instances": instances})
+}
+
 impl Json for Instance {
     ghost json = { instance_json };
 
@@ -35,15 +72,7 @@ impl Json for Instance {
     ghost nesting = { 1 };
 
     fn to_value(&self, alloc: Global) -> Result<Value, AllocError> {
-        let context = self.context.as_str();
-        match &self.place {
-            Place::Address(address) => {
-                json!(in alloc; {"Address": *address, "LocationContext": context})
-            }
-            Place::Error(error) => {
-                json!(in alloc; {"Error": error.as_str(), "LocationContext": context})
-            }
-        }
+        instance_value(alloc, self)
     }
 
     fn from_value(alloc: Global, value: &Value) -> Result<Option<Self>, AllocError> {
@@ -79,8 +108,7 @@ impl Json for BpStatus {
     ghost nesting = { 3 };
 
     fn to_value(&self, alloc: Global) -> Result<Value, AllocError> {
-        let instances = self.instances.to_value(alloc)?;
-        json!(in alloc; {"Instances": instances})
+        status_value(alloc, self)
     }
 
     fn from_value(alloc: Global, value: &Value) -> Result<Option<Self>, AllocError> {

@@ -10,11 +10,8 @@ use Rattle.block_store.specs.declared.block.Block.{Block}
 use Rattle.knowledge.specs.Changes.{Change, all_gone, context_told, context_gone, state_told, state_gone, register_read, register_gone, thread_registers_gone, registers_gone, bytes_read, bytes_gone, range_gone, properties_told, properties_gone, status_told, status_gone, statuses_gone, after, after_all, has_byte, is_byte, is_still, is_within}
 use Rattle.knowledge.specs.Facts.{Facts, is_suspended}
 use Rattle.knowledge.specs.KnowledgeValue.{blocks_after, blocks_after_all, has_block_byte}
-use Rattle.knowledge.specs.Laws.{ReadIsKnown}
-
--- each byte of the blocks is one of these facts
-abbrev pub AreKnown : List Block → Facts → Type 0
-AreKnown blocks known = (process place byte : ℕ) → has_block_byte blocks process place byte ≡ true → known.bytes process place byte ≡ true
+use Rattle.knowledge.specs.Laws.{AreKnown, BlocksAreLearned, ReadIsKnown}
+use Rattle.knowledge.specs.Learning.{changes_of}
 
 -- the block is of the process, and has the byte
 abbrev holds : ℕ → ℕ → ℕ → Block → Bool
@@ -159,6 +156,9 @@ pub known_after_all : (changes : List Change) (blocks : List Block) (known : Fac
 known_after_all [] blocks known before = before
 known_after_all (change ∷ changes) blocks known before =
     known_after_all changes (blocks_after change known blocks) (after change known) (known_after change blocks known before)
+
+pub learned_blocks : BlocksAreLearned
+learned_blocks message known blocks before = known_after_all (changes_of message) blocks known before
 
 -- ---- a range that is read
 

@@ -5,8 +5,9 @@ use Rattle.block_store.specs.declared.block.Block.{Block}
 use Rattle.knowledge.specs.Changes.{after_all}
 use Rattle.knowledge.specs.Facts.{AreSame, Facts, nothing}
 use Rattle.knowledge.specs.KnowledgeValue.{IsAfter, IsCacheOf, KnowledgeValue, blocks_after_all, empty, facts_of, has_block_byte}
+use Rattle.knowledge.specs.Laws.{AreKnown}
 use Rattle.knowledge.specs.Learning.{Message, bad_event_taken, changes_of, learn, learn_all, learned}
-use Rattle.knowledge.proofs.Blocks.{AreKnown, known_after_all}
+use Rattle.knowledge.proofs.Blocks.{known_after_all}
 use Rattle.knowledge.proofs.Same.{after_all_same, blocks_all_same, same_then}
 
 learn_all-append : (messages : List Message) (message : Message) (known : Facts) → learn_all (messages ++ message ∷ []) known ≡ learn message (learn_all messages known)

@@ -9,6 +9,8 @@ use Rattle.tcf_values.specs.declared.values.ContextData.{ContextData}
 use Rattle.knowledge.specs.Changes.{Change, all_gone, context_told, context_gone, state_told, state_gone, register_read, register_gone, thread_registers_gone, registers_gone, bytes_read, bytes_gone, range_gone, properties_told, properties_gone, status_told, status_gone, statuses_gone, after, after_all, at_register, at_text, at_thread}
 use Rattle.knowledge.specs.Facts.{AreSame, Facts, is_suspended, nothing}
 use Rattle.knowledge.specs.KnowledgeValue.{blocks_after, blocks_after_all}
+use Rattle.knowledge.specs.Laws.{BlocksStaySame, FactsStaySame}
+use Rattle.knowledge.specs.Learning.{changes_of}
 use Rattle.knowledge.specs.declared.state.StateFact.{StateFact}
 
 pub same_refl : (known : Facts) → AreSame known known
@@ -154,3 +156,11 @@ pub blocks_all-append : (xs ys : List Change) (known : Facts) (blocks : List Blo
     → blocks_after_all (xs ++ ys) known blocks ≡ blocks_after_all ys (after_all xs known) (blocks_after_all xs known blocks)
 blocks_all-append [] ys known blocks = refl
 blocks_all-append (x ∷ xs) ys known blocks = blocks_all-append xs ys (after x known) (blocks_after x known blocks)
+
+-- ---- a message
+
+pub facts_stay_same : FactsStaySame
+facts_stay_same message known other same = after_all_same (changes_of message) known other same
+
+pub blocks_stay_same : BlocksStaySame
+blocks_stay_same message known other blocks same = blocks_all_same (changes_of message) known other blocks same

@@ -2,9 +2,9 @@
 use Rattle.std.specs.Prelude.{ℕ, ◌≡◌, ◌+◌, ◌<◌, true, List, slice_get, Some}
 use Rattle.block_store.specs.Store.{covered}
 use Rattle.block_store.specs.declared.block.Block.{Block}
-use Rattle.knowledge.specs.Facts.{Facts, IsGrounded, IsPart}
-use Rattle.knowledge.specs.KnowledgeValue.{has_block_byte}
-use Rattle.knowledge.specs.Learning.{Message, learn}
+use Rattle.knowledge.specs.Facts.{AreSame, Facts, IsGrounded, IsPart}
+use Rattle.knowledge.specs.KnowledgeValue.{blocks_after_all, has_block_byte}
+use Rattle.knowledge.specs.Learning.{Message, changes_of, learn}
 
 -- who knows a part of what another knows still does when both take a message, where it knows registers of no thread
 -- but those that it knows as suspended. Without that it isn't so: of an answer with a register's new value, who knows the
@@ -16,3 +16,25 @@ IsMonotone = (message : Message) (some more : Facts) → IsGrounded some → IsP
 abbrev pub ReadIsKnown : Type 0
 ReadIsKnown = (process addr size : ℕ) (blocks : List Block) (bytes : List ℕ) (k byte : ℕ) →
     covered process addr size blocks ≡ Some bytes → slice_get bytes k ≡ Some byte → has_block_byte blocks process (addr + k) byte ≡ true
+
+-- each byte of the blocks is one that is known
+abbrev pub AreKnown : List Block → Facts → Type 0
+AreKnown blocks known = (process place byte : ℕ) → has_block_byte blocks process place byte ≡ true → known.bytes process place byte ≡ true
+
+-- the blocks after a message, where this is known and these blocks are kept before it
+abbrev pub blocks_with : Message → Facts → List Block → List Block
+blocks_with message known blocks = blocks_after_all (changes_of message) known blocks
+
+-- where each byte of the blocks is one that is known, it is so after a message too
+abbrev pub BlocksAreLearned : Type 0
+BlocksAreLearned = (message : Message) (known : Facts) (blocks : List Block) → AreKnown blocks known →
+    AreKnown (blocks_with message known blocks) (learn message known)
+
+-- where the same is known but for bytes, a message leaves it so
+abbrev pub FactsStaySame : Type 0
+FactsStaySame = (message : Message) (known other : Facts) → AreSame known other → AreSame (learn message known) (learn message other)
+
+-- and it makes the same of the blocks
+abbrev pub BlocksStaySame : Type 0
+BlocksStaySame = (message : Message) (known other : Facts) (blocks : List Block) → AreSame known other →
+    blocks_with message known blocks ≡ blocks_with message other blocks

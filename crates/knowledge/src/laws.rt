@@ -1,5 +1,5 @@
 //! The laws of what is known.
-ghost use Rattle.knowledge.specs.Laws.{IsMonotone, ReadIsKnown};
+ghost use Rattle.knowledge.specs.Laws.{BlocksAreLearned, BlocksStaySame, FactsStaySame, IsMonotone, ReadIsKnown};
 
 /// The law that who knows a part of what another knows still does when both take a message.
 pub fn learning_is_monotone()
@@ -9,4 +9,16 @@ pub fn learning_is_monotone()
 /// The law that each byte of a range that is read is one that is known.
 pub fn what_is_read_is_known()
     ensures { ReadIsKnown }
+{}
+
+/// The law that each byte of the blocks after a message is one that is known after it, where it was so before.
+pub fn blocks_are_learned()
+    ensures { BlocksAreLearned }
+{}
+
+/// The law that who know the same but for bytes still do when both take a message, and that it makes the same of their
+/// blocks.
+pub fn the_same_learn_the_same()
+    ensures facts { FactsStaySame }
+    ensures blocks { BlocksStaySame }
 {}

@@ -10,8 +10,7 @@ mod text_map;
 mod thread_map;
 
 pub use knowledge::Knowledge;
-pub use laws::{learning_is_monotone, what_is_read_is_known};
+pub use laws::{
+    blocks_are_learned, learning_is_monotone, the_same_learn_the_same, what_is_read_is_known,
+};
 pub use state::StateFact;
-
-#[cfg(test)]
-mod tests;

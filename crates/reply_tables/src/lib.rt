@@ -22,6 +22,3 @@ pub use refusals::write_refusal;
 pub use replies::{ReadAnswer, ReadEvent, WrittenEvent};
 pub use rows::{Kind, Row};
 pub use writing::write_answer;
-
-#[cfg(test)]
-mod tests;

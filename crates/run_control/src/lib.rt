@@ -24,6 +24,3 @@ pub use lengths::the_processes_stay_short;
 pub use tcf_values::{Effect, Events, Numbers};
 pub use telling::attached;
 pub use ticking::step;
-
-#[cfg(test)]
-mod tests;

@@ -14,6 +14,3 @@ pub use laws::{
 };
 pub use stream::{Item, MESSAGE_LIMIT, StreamFault};
 pub use unescape::Unescape;
-
-#[cfg(test)]
-mod tests;

@@ -24,6 +24,3 @@ pub use sendable::{every_history_is_bounded, what_is_told_can_be_sent};
 pub use target::Target;
 pub use target_contexts::Image;
 pub use tcf_values::{Events, Numbers};
-
-#[cfg(test)]
-mod tests;

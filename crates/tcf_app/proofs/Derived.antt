@@ -7,7 +7,7 @@ use Rattle.tcf_outside.specs.declared.files.HeldFile.{HeldFile}
 use Rattle.tcf_outside.specs.declared.files.FileRead.{FileRead}
 use Rattle.tcf_schedules.specs.declared.schedule.TextFault.{TextFault}
 use Rattle.tcf_schedules.specs.Refusal.{BadLine}
-use Rattle.chain_world.specs.Playing.{EndsOfEveryFile, HoldsOfEveryFile}
+use Rattle.chain_world.specs.Playing.{CoherentOfEveryFile, EndsOfEveryFile, HoldsOfEveryFile}
 use Rattle.tcf_app.specs.declared.exit.BadPlace.{BadPlace}
 use Rattle.tcf_app.specs.declared.exit.StreamWhat.{StreamWhat}
 use Rattle.tcf_app.specs.declared.exit.Exit.{Exit}
@@ -90,25 +90,41 @@ file_fault_of order files n m exit before after r is =
 
 -- ---- Done
 
-done_by : HoldsOfEveryFile → EndsOfEveryFile → (order : Option OrderValue) (files : Option (List HeldFile)) (heard : Option FileRead) (ending : Ending) (exit : Exit) (before after : Option (List ℕ))
+-- what holds of the world that a file brings about
+pub record FileLaws : Type 0 where
+  pub faithful : HoldsOfEveryFile
+  pub ends : EndsOfEveryFile
+  pub coherent : CoherentOfEveryFile
+
+done_by : FileLaws → (order : Option OrderValue) (files : Option (List HeldFile)) (heard : Option FileRead) (ending : Ending) (exit : Exit) (before after : Option (List ℕ))
     → exit ≡ Done → exit ≡ ending.exit → after ≡ added ending.text before → Kind order files heard ending → IsDone order files before after
-done_by law ends order files heard ending exit before after is own put (usage o e) = let q = exits Done Usage exit ending _ is own e in cc
-done_by law ends order files heard ending exit before after is own put (failed h e) = let q = exits Done FileFault exit ending _ is own e in cc
-done_by law ends order files heard ending exit before after is own put (long what o h e) = let q = exits Done (TooLong 2) exit ending _ is own e in cc
-done_by law ends order files heard ending exit before after is own put (played name file schedule o h s e) =
+done_by laws order files heard ending exit before after is own put (usage o e) = let q = exits Done Usage exit ending _ is own e in cc
+done_by laws order files heard ending exit before after is own put (failed h e) = let q = exits Done FileFault exit ending _ is own e in cc
+done_by laws order files heard ending exit before after is own put (long what o h e) = let q = exits Done (TooLong 2) exit ending _ is own e in cc
+done_by laws order files heard ending exit before after is own put (played name file schedule o h s e) =
     let P : Option OrderValue → Type 0 = λ x. IsDone x files before after in
-    subst P (sym o) (record { file = file; held = h; schedule = schedule; says = s; put = text_put ending Done _ before after e put; faithful = law file schedule s; ends = ends file schedule s })
-done_by law ends order files heard ending exit before after is own put (bad_line name file line o h s e) = let q = exits Done (BadText line.line line.what) exit ending _ is own e in cc
-done_by law ends order files heard ending exit before after is own put (shown name file text o h s e) =
+    subst P (sym o)
+    (record {
+      file = file;
+      held = h;
+      schedule = schedule;
+      says = s;
+      put = text_put ending Done _ before after e put;
+      faithful = laws.faithful file schedule s;
+      ends = laws.ends file schedule s;
+      coherent = laws.coherent file schedule s;
+    })
+done_by laws order files heard ending exit before after is own put (bad_line name file line o h s e) = let q = exits Done (BadText line.line line.what) exit ending _ is own e in cc
+done_by laws order files heard ending exit before after is own put (shown name file text o h s e) =
     let P : Option OrderValue → Type 0 = λ x. IsDone x files before after in
     subst P (sym o) (record { file = file; held = h; text = text; shown = s; put = text_put ending Done _ before after e put })
-done_by law ends order files heard ending exit before after is own put (bad_stream name file text bad o h s e) = let q = exits Done (BadStream bad.offset bad.what) exit ending _ is own e in cc
+done_by laws order files heard ending exit before after is own put (bad_stream name file text bad o h s e) = let q = exits Done (BadStream bad.offset bad.what) exit ending _ is own e in cc
 
-pub done_of : HoldsOfEveryFile → EndsOfEveryFile → (order : Option OrderValue) (files : Option (List HeldFile)) (n m : ℕ) (exit : Exit) (before after : Option (List ℕ))
+pub done_of : FileLaws → (order : Option OrderValue) (files : Option (List HeldFile)) (n m : ℕ) (exit : Exit) (before after : Option (List ℕ))
     → Runs order files n m exit before after → exit ≡ Done → IsDone order files before after
-done_of law ends order files n m exit before after r is =
+done_of laws order files n m exit before after r is =
     let d = ended order files n m exit before after (λ h. cc) (λ h. cc) r in
-    done_by law ends order files d.heard d.ending exit before after is d.own d.put d.kind
+    done_by laws order files d.heard d.ending exit before after is d.own d.put d.kind
 
 -- ---- BadText
 

@@ -10,7 +10,7 @@ use Rattle.tcf_schedules.specs.Schedule.{ScheduleValue, schedule_of}
 use Rattle.target_hub.specs.Ordered.{IsPrefixOf}
 use Rattle.chain_world.specs.EndLaws.{EndsAllRightly}
 use Rattle.chain_world.specs.World.{images_of}
-use Rattle.chain_world.specs.WorldLaws.{IsFaithful}
+use Rattle.chain_world.specs.WorldLaws.{AreCoherent, IsFaithful}
 use Rattle.tcf_app.specs.declared.exit.BadPlace.{BadPlace}
 use Rattle.tcf_app.specs.declared.exit.Exit.{Exit}
 use Rattle.tcf_app.specs.declared.exit.Exit.TheVariants.{NoMemory}
@@ -37,7 +37,8 @@ pub record ReadsInOrder (order : Option OrderValue) (before after : Option (List
   pub told : after ≡ option_map (λ so_far. so_far ++ names) before
 
 -- The file says a schedule. Exactly its text was put: each chain with the log that playing the schedule gives, and
--- the length of the history. Each log is true to that history, and ends only as the steps say.
+-- the length of the history. Each log is true to that history, and ends only as the steps say; what each client keeps,
+-- and shows where its cache is asked, is true of the target at the position of its last message.
 pub record IsPlayed (name : List ℕ) (files : Option (List HeldFile)) (before after : Option (List ℕ)) : Type 0 where
   pub file : List ℕ
   pub held : IfSome files (λ fs. file ≡ content_of name fs)
@@ -46,6 +47,7 @@ pub record IsPlayed (name : List ℕ) (files : Option (List HeldFile)) (before a
   pub put : after ≡ added (printed schedule) before
   pub faithful : IsFaithful (images_of schedule.images) (world_of schedule)
   pub ends : EndsAllRightly schedule.plans (world_of schedule)
+  pub coherent : AreCoherent (images_of schedule.images) (world_of schedule)
 
 -- The file is shown without a bad place, and exactly the lines of its messages were put.
 pub record IsPrinted (name : List ℕ) (files : Option (List HeldFile)) (before after : Option (List ℕ)) : Type 0 where

@@ -12,6 +12,3 @@ pub use laws::{decimal_token, faults, one_spelling, read_back};
 pub use message::{BODY_LIMIT, Message, MessageFault, TOKEN_LIMIT};
 pub use reading::read;
 pub use writing::write;
-
-#[cfg(test)]
-mod tests;

@@ -5,7 +5,8 @@ use Rattle.std.proofs.lemmas.Bool.{eq-eqb, ne_eqb}
 use Rattle.std.proofs.lemmas.List.{length-append}
 use Rattle.std.proofs.lemmas.List.Splits.{slice_split-cons_yes, slice_split-cons_no}
 use Rattle.tcf_values.specs.Cut.{Lacks, IsCut}
-use Rattle.tcf_schedules.specs.Words.{words_of, is_word}
+use Rattle.line_words.specs.Words.{is_word}
+use Rattle.tcf_schedules.specs.Words.{words_of}
 
 split_front : (byte : ℕ) (front rest : List ℕ) → Lacks byte front
     → slice_split (λ b. b == byte) (front ++ byte ∷ rest) ≡ front ∷ slice_split (λ b. b == byte) rest

@@ -7,5 +7,6 @@ pub mod Names
 pub mod Parts
 pub mod Places
 pub mod Schedules
+pub mod Scripts
 pub mod Steps
 pub mod Values

@@ -11,7 +11,7 @@ use Rattle.tcf_schedules.specs.declared.schedule.TextFault.{TextFault}
 use Rattle.tcf_schedules.specs.declared.schedule.TextFault.TheVariants.{Form, Late, Repeat, Unknown, Many}
 use Rattle.tcf_schedules.specs.Plan.{Plan, step_size, step_count, AreSteps}
 use Rattle.tcf_schedules.specs.Refusal.{BadLine}
-use Rattle.tcf_schedules.specs.Line.{PlainStep, opens, sends, delivers, turns, ticks, closes, cuts, LineStep, once, rounds, times, LineHead, image, chain, LineValue, head, step, IsHead, IsLineStep, image_word, chain_word, open_word, send_word, deliver_word, turn_word, tick_word, close_word, cut_word, rounds_word, times_word, plain_spelling, step_spelling, head_spelling, spelling, Says}
+use Rattle.tcf_schedules.specs.Line.{PlainStep, opens, sends, delivers, turns, ticks, closes, cuts, asks, LineStep, once, rounds, times, LineHead, image, chain, LineValue, head, step, IsHead, IsLineStep, image_word, chain_word, open_word, send_word, deliver_word, turn_word, tick_word, close_word, cut_word, cached_word, rounds_word, times_word, plain_spelling, step_spelling, head_spelling, spelling, Says}
 use Rattle.tcf_schedules.specs.Reading.{value_of, ReadsTheText}
 use Rattle.tcf_schedules.specs.Schedule.{lines_of, is_skipped, ScheduleValue, nothing, image_of, head_of, plan_in, has_step, is_image, is_chain, and_image, and_chain, and_plan, with_plan, after_head, after_value, after_said, after_line, at_line, going_on, after_lines, schedule_of, kept_lines, images_in, chains_in, AreDistinct, Accepts, ReadsWhatIsSaid}
 use Rattle.tcf_schedules.proofs.Names.{IsNew, distinct_push, distinct_front, new_of, none_of}
@@ -73,7 +73,7 @@ pub kept_more : (line : List ℕ) (lines : List (List ℕ)) → is_skipped line 
 kept_more line lines kept = cond-true (not (is_skipped line)) _ _ (ap not kept)
 
 plain_kept : (x : PlainStep) → is_skipped (plain_spelling x) ≡ false
-unfolding open_word send_word deliver_word turn_word tick_word close_word cut_word
+unfolding open_word send_word deliver_word turn_word tick_word close_word cut_word cached_word
 plain_kept (opens name) = refl
 plain_kept (sends name service command args) = refl
 plain_kept (delivers name hop up count) = refl
@@ -81,6 +81,7 @@ plain_kept (turns name node up) = refl
 plain_kept (ticks thread) = refl
 plain_kept (closes name) = refl
 plain_kept (cuts name hop) = refl
+plain_kept (asks name what) = refl
 
 step_kept : (x : LineStep) → is_skipped (step_spelling x) ≡ false
 unfolding rounds_word times_word

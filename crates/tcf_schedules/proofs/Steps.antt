@@ -7,10 +7,11 @@ use Rattle.std.proofs.lemmas.List.Quantifiers.{position-Some}
 use Rattle.tcf_message.specs.Message.{HasNoZero, is_zero}
 use Rattle.tcf_values.specs.NumberLaws.{number_found}
 use Rattle.tcf_values.specs.OptionLaws.{some_same, and_then_found, map_found}
+use Rattle.line_words.specs.Words.{is_inside, is_word}
 use Rattle.tcf_schedules.specs.declared.schedule.ChainHead.{ChainHead}
-use Rattle.tcf_schedules.specs.Plan.{Plan, opens as plan_opens, send as plan_send, deliver as plan_deliver, turn as plan_turn, tick as plan_tick, close as plan_close, cut as plan_cut, rounds as plan_rounds, times as plan_times, adds_at, IsChain, IsHop, IsTurn, IsSingle, IsStep}
-use Rattle.tcf_schedules.specs.Words.{is_inside, is_word, data_of}
-use Rattle.tcf_schedules.specs.Line.{PlainStep, opens, sends, delivers, turns, ticks, closes, cuts, LineStep, once, rounds, times, IsPlainStep, IsLineStep}
+use Rattle.tcf_schedules.specs.Plan.{Plan, opens as plan_opens, send as plan_send, deliver as plan_deliver, turn as plan_turn, tick as plan_tick, close as plan_close, cut as plan_cut, cached as plan_cached, rounds as plan_rounds, times as plan_times, adds_at, IsChain, IsHop, IsTurn, IsSingle, IsStep}
+use Rattle.tcf_schedules.specs.Words.{data_of}
+use Rattle.tcf_schedules.specs.Line.{PlainStep, opens, sends, delivers, turns, ticks, closes, cuts, asks, LineStep, once, rounds, times, IsPlainStep, IsLineStep}
 use Rattle.tcf_schedules.specs.Schedule.{chain_of, hop_of, node_of, hop_in, node_in, plain_plan, plan_in}
 
 -- ---- Places
@@ -46,7 +47,7 @@ no_zero (b ∷ bs) all =
     let parts = and_parts (is_inside b) (list_all is_inside bs) all in
     ap (λ t. t || list_any is_zero bs) (inside_nonzero b parts.0) ∙ no_zero bs parts.1
 
-word_no_zero : (word : List ℕ) → is_word word ≡ true → HasNoZero word
+pub word_no_zero : (word : List ℕ) → is_word word ≡ true → HasNoZero word
 word_no_zero word is = no_zero word (and_parts _ _ is).1
 
 -- ---- Steps
@@ -71,6 +72,9 @@ plain_is chains (closes name) plan good e =
 plain_is chains (cuts name hop) plan good e =
     let m = map_found (λ (at : ℕ × ℕ). plan_cut at.0 at.1) (hop_in chains name hop) plan e in
     subst (λ p. IsStep chains p × IsSingle p) m.2 (hop_is chains name hop m.0 m.1, tt)
+plain_is chains (asks name what) plan good e =
+    let m = map_found (λ place. plan_cached place what) (chain_of chains name) plan e in
+    subst (λ p. IsStep chains p × IsSingle p) m.2 ((chain_is chains name m.0 m.1, good.1), tt)
 
 step_is : (chains : List ChainHead) (x : LineStep) (plan : Plan) → IsLineStep x → plan_in chains x ≡ Some plan → IsStep chains plan
 step_is chains (once x) plan good e = (plain_is chains x plan good e).0
@@ -83,7 +87,7 @@ step_is chains (times count x) plan good e =
 nil_cons : {A : Type 0} (x : A) (xs : List A) → [] ≡ x ∷ xs → ⊥
 nil_cons x xs e = cc
 
-cons_parts : {A : Type 0} (x y : A) (xs ys : List A) → x ∷ xs ≡ y ∷ ys → (x ≡ y) × (xs ≡ ys)
+pub cons_parts : {A : Type 0} (x y : A) (xs ys : List A) → x ∷ xs ≡ y ∷ ys → (x ≡ y) × (xs ≡ ys)
 cons_parts x y xs ys e = (cc, cc)
 
 -- the steps of some lines

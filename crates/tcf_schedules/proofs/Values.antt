@@ -1,6 +1,6 @@
 -- What a line says is read.
-use Rattle.std.proofs.Common.{◌≡◌, ℕ, Bool, true, List, ◌∷◌, ◌++◌, refl, sym, ◌∙◌, ap, inl, inr, subst, lit<, arith}
-use Rattle.std.specs.Prelude.{Option, Some, option_map, option_and_then, bytes_eq, decimal}
+use Rattle.std.proofs.Common.{◌≡◌, ℕ, Bool, List, refl, sym, ◌∙◌, ap, inl, inr, subst, lit<, arith}
+use Rattle.std.specs.Prelude.{Some, option_map, option_and_then, bytes_eq, decimal}
 use Rattle.tcf_values.specs.Cut.{cut_of}
 use Rattle.tcf_values.specs.Ids.{ContextRoundTrip}
 use Rattle.tcf_values.specs.Number.{number_of}
@@ -8,11 +8,16 @@ use Rattle.tcf_values.specs.Spelling.{context_spelling}
 use Rattle.tcf_values.specs.CutLaws.{cut_found}
 use Rattle.tcf_values.specs.OptionLaws.{and_then_found, map_found}
 use Rattle.tcf_values.specs.declared.ids.ContextId.{ContextId}
+use Rattle.line_words.specs.Words.{spaced, is_word, both, word_of}
+use Rattle.line_words.specs.Exact.{IsExact, both_exact, guarded, two_ways, made, Passes, itself, word_exact, word_words, InRange, number_exact, number_words}
+use Rattle.cached_lines.specs.declared.what.CachedWhat.{CachedWhat}
+use Rattle.cached_lines.specs.Asked.{IsAsked, cached_spelling}
+use Rattle.cached_lines.specs.Reading.{cached_of, CachedRoundTrip}
 use Rattle.tcf_schedules.specs.Plan.{IsThread}
-use Rattle.tcf_schedules.specs.Words.{spaced, is_word, is_name, is_numeral, is_hex_word}
-use Rattle.tcf_schedules.specs.Line.{PlainStep, opens, sends, delivers, turns, ticks, closes, cuts, LineStep, once, rounds, times, LineHead, image, chain, LineValue, head, step, IsPlainStep, IsLineStep, IsHead, IsLine, image_word, chain_word, open_word, send_word, deliver_word, turn_word, tick_word, close_word, cut_word, rounds_word, times_word, direction_word, plain_spelling, step_spelling, head_spelling, spelling, Says}
-use Rattle.tcf_schedules.specs.Reading.{both, name_of, word_of, numeral_of, hex_of, direction_of, thread_of, command_of, sending_of, sending, delivery_of, delivering, turning_of, turning, cutting_of, cutting, imaging_of, imaging, chaining_of, chaining, plain_behind, plain_of, repetition_of, repeating, step_behind, value_behind, value_of, ReadsTheText}
-use Rattle.tcf_schedules.proofs.Grammar.{IsExact, both_exact, guarded, two_ways, same_bytes, Passes, itself, name_exact, word_exact, numeral_exact, hex_exact, name_words, word_words, numeral_words, InRange, number_exact, number_words, Always, direction_exact, direction_words, thread_exact, GoodCommand, command_text, command_exact}
+use Rattle.tcf_schedules.specs.Words.{is_name, is_numeral, is_hex_word}
+use Rattle.tcf_schedules.specs.Line.{PlainStep, opens, sends, delivers, turns, ticks, closes, cuts, asks, LineStep, once, rounds, times, LineHead, image, chain, LineValue, head, step, IsPlainStep, IsLineStep, IsHead, IsLine, image_word, chain_word, open_word, send_word, deliver_word, turn_word, tick_word, close_word, cut_word, cached_word, rounds_word, times_word, direction_word, plain_spelling, step_spelling, head_spelling, spelling, Says}
+use Rattle.tcf_schedules.specs.Reading.{name_of, numeral_of, hex_of, direction_of, thread_of, command_of, sending_of, sending, delivery_of, delivering, turning_of, turning, cutting_of, cutting, asking_of, asking, imaging_of, imaging, chaining_of, chaining, plain_behind, plain_of, repetition_of, repeating, step_behind, value_behind, value_of, ReadsTheText}
+use Rattle.tcf_schedules.proofs.Grammar.{name_exact, numeral_exact, hex_exact, name_words, numeral_words, Always, direction_exact, direction_words, thread_exact, GoodCommand, command_text, command_exact}
 
 -- ---- What stands behind the first word
 
@@ -25,11 +30,23 @@ GoodSending s = Passes is_name s.0 × (Passes is_word s.1.0 × GoodCommand s.1.1
 abbrev sending_text : Sending → List ℕ
 sending_text s = spaced s.0 (spaced s.1.0 (command_text s.1.1))
 
+-- a command behind its service
+abbrev pub Serving : Type 0
+Serving = List ℕ × (List ℕ × List (List ℕ))
+
+abbrev pub GoodServing : Serving → Type 0
+GoodServing s = Passes is_word s.0 × GoodCommand s.1
+
+abbrev pub serving_text : Serving → List ℕ
+serving_text s = spaced s.0 (command_text s.1)
+
+pub serving_exact : IsExact Serving (both word_of command_of) GoodServing serving_text
+serving_exact =
+    both_exact (List ℕ) (List ℕ × List (List ℕ)) word_of command_of (Passes is_word) GoodCommand itself command_text word_exact word_words command_exact
+
 sending_exact : IsExact Sending sending_of GoodSending sending_text
 sending_exact =
-    both_exact (List ℕ) (List ℕ × (List ℕ × List (List ℕ))) name_of (both word_of command_of) (Passes is_name) (λ s. Passes is_word s.0 × GoodCommand s.1)
-    itself (λ s. spaced s.0 (command_text s.1)) name_exact name_words
-    (both_exact (List ℕ) (List ℕ × List (List ℕ)) word_of command_of (Passes is_word) GoodCommand itself command_text word_exact word_words command_exact)
+    both_exact (List ℕ) Serving name_of (both word_of command_of) (Passes is_name) GoodServing itself serving_text name_exact name_words serving_exact
 
 abbrev Arrival : Type 0
 Arrival = List ℕ × (Bool × ℕ)
@@ -65,6 +82,17 @@ turning_exact =
 cutting_exact : IsExact (List ℕ × List ℕ) cutting_of (λ c. Passes is_name c.0 × Passes is_numeral c.1) (λ c. spaced c.0 c.1)
 cutting_exact = both_exact (List ℕ) (List ℕ) name_of numeral_of (Passes is_name) (Passes is_numeral) itself itself name_exact name_words numeral_exact
 
+pub cached_exact : CachedRoundTrip → IsExact CachedWhat cached_of IsAsked cached_spelling
+cached_exact law =
+    record {
+      found = λ t what e. (law t what).0 e;
+      there = λ what good. (law (cached_spelling what) what).1 (good, refl);
+    }
+
+asking_exact : CachedRoundTrip → IsExact (List ℕ × CachedWhat) asking_of (λ a. Passes is_name a.0 × IsAsked a.1) (λ a. spaced a.0 (cached_spelling a.1))
+asking_exact law =
+    both_exact (List ℕ) CachedWhat name_of cached_of (Passes is_name) IsAsked itself cached_spelling name_exact name_words (cached_exact law)
+
 imaging_exact : IsExact (List ℕ × List ℕ) imaging_of (λ i. Passes is_name i.0 × Passes is_hex_word i.1) (λ i. spaced i.0 i.1)
 imaging_exact = both_exact (List ℕ) (List ℕ) name_of hex_of (Passes is_name) (Passes is_hex_word) itself itself name_exact name_words hex_exact
 
@@ -74,20 +102,14 @@ chaining_exact =
 
 -- ---- What is read is spelled so
 
--- what is made of what is read behind a word
-made : (A B : Type 0) (read : List ℕ → Option A) (Good : A → Type 0) (text : A → List ℕ) (make : A → B) (IsB : B → Type 0) (spelled : B → List ℕ) (word own rest : List ℕ) (x : B)
-    → IsExact A read Good text → ((y : A) → Good y → IsB (make y)) → ((y : A) → spelled (make y) ≡ spaced own (text y))
-    → bytes_eq word own ≡ true → option_map make (read rest) ≡ Some x → IsB x × (spaced word rest ≡ spelled x)
-made A B read Good text make IsB spelled word own rest x is good spells same e =
-    let m = map_found make (read rest) x e in
-    let f = is.found rest m.0 m.1 in
-    subst (λ y. IsB y × (spaced word rest ≡ spelled y)) m.2
-    (good m.0 f.0, ap (λ w. w ++ 32 ∷ rest) (same_bytes word own same) ∙ (ap (λ t. own ++ 32 ∷ t) f.1 ∙ sym (spells m.0)))
+-- what the values below the steps have: a context's identifier and what is asked of a cache are read from their texts
+abbrev Below : Type 0
+Below = ContextRoundTrip × CachedRoundTrip
 
 abbrev SaysPlain : List ℕ → List ℕ → PlainStep → Type 0
 SaysPlain word rest x = IsPlainStep x × (spaced word rest ≡ plain_spelling x)
 
-plain_found : ContextRoundTrip → (word rest : List ℕ) (x : PlainStep) → plain_behind word rest ≡ Some x → SaysPlain word rest x
+plain_found : Below → (word rest : List ℕ) (x : PlainStep) → plain_behind word rest ≡ Some x → SaysPlain word rest x
 unfolding plain_behind
 plain_found law word rest x e =
     elim (two_ways (bytes_eq word open_word) (option_map opens (name_of rest)) _ x e) [
@@ -102,13 +124,17 @@ plain_found law word rest x e =
             | inl w ↦ made (List ℕ × (List ℕ × Bool)) PlainStep turning_of (λ t. Passes is_name t.0 × GoodWay t.1) (λ t. spaced t.0 (way_text t.1)) turning IsPlainStep plain_spelling
                 word turn_word rest x turning_exact (λ y g. (g.0, g.1.0)) (λ y. refl) w.0 w.1
             | inr e ↦ elim (two_ways (bytes_eq word tick_word) (option_map ticks (thread_of rest)) _ x e) [
-              | inl w ↦ made ContextId PlainStep thread_of IsThread context_spelling ticks IsPlainStep plain_spelling word tick_word rest x (thread_exact law) (λ y g. g) (λ y. refl) w.0 w.1
+              | inl w ↦ made ContextId PlainStep thread_of IsThread context_spelling ticks IsPlainStep plain_spelling word tick_word rest x (thread_exact law.0) (λ y g. g) (λ y. refl) w.0 w.1
               | inr e ↦ elim (two_ways (bytes_eq word close_word) (option_map closes (name_of rest)) _ x e) [
                 | inl w ↦ made (List ℕ) PlainStep name_of (Passes is_name) itself closes IsPlainStep plain_spelling word close_word rest x name_exact (λ y g. g) (λ y. refl) w.0 w.1
-                | inr e ↦
-                    let g = guarded (bytes_eq word cut_word) (option_map cutting (cutting_of rest)) x e in
-                    made (List ℕ × List ℕ) PlainStep cutting_of (λ c. Passes is_name c.0 × Passes is_numeral c.1) (λ c. spaced c.0 c.1) cutting IsPlainStep plain_spelling
-                    word cut_word rest x cutting_exact (λ y g. g) (λ y. refl) g.0 g.1
+                | inr e ↦ elim (two_ways (bytes_eq word cut_word) (option_map cutting (cutting_of rest)) _ x e) [
+                  | inl w ↦ made (List ℕ × List ℕ) PlainStep cutting_of (λ c. Passes is_name c.0 × Passes is_numeral c.1) (λ c. spaced c.0 c.1) cutting IsPlainStep plain_spelling
+                      word cut_word rest x cutting_exact (λ y g. g) (λ y. refl) w.0 w.1
+                  | inr e ↦
+                      let g = guarded (bytes_eq word cached_word) (option_map asking (asking_of rest)) x e in
+                      made (List ℕ × CachedWhat) PlainStep asking_of (λ a. Passes is_name a.0 × IsAsked a.1) (λ a. spaced a.0 (cached_spelling a.1)) asking IsPlainStep plain_spelling
+                      word cached_word rest x (asking_exact law.1) (λ y g. g) (λ y. refl) g.0 g.1
+                ]
               ]
             ]
           ]
@@ -125,6 +151,7 @@ first_of (turns name node up) = turn_word
 first_of (ticks thread) = tick_word
 first_of (closes name) = close_word
 first_of (cuts name hop) = cut_word
+first_of (asks name what) = cached_word
 
 rest_of : PlainStep → List ℕ
 rest_of (opens name) = name
@@ -134,9 +161,10 @@ rest_of (turns name node up) = spaced name (way_text (node, up))
 rest_of (ticks thread) = context_spelling thread
 rest_of (closes name) = name
 rest_of (cuts name hop) = spaced name hop
+rest_of (asks name what) = spaced name (cached_spelling what)
 
 plain_cut : (x : PlainStep) → cut_of 32 (plain_spelling x) ≡ Some (first_of x, rest_of x)
-unfolding first_of rest_of open_word send_word deliver_word turn_word tick_word close_word cut_word
+unfolding first_of rest_of open_word send_word deliver_word turn_word tick_word close_word cut_word cached_word
 plain_cut (opens name) = refl
 plain_cut (sends name service command args) = refl
 plain_cut (delivers name hop up count) = refl
@@ -144,23 +172,25 @@ plain_cut (turns name node up) = refl
 plain_cut (ticks thread) = refl
 plain_cut (closes name) = refl
 plain_cut (cuts name hop) = refl
+plain_cut (asks name what) = refl
 
-plain_read : ContextRoundTrip → (x : PlainStep) → IsPlainStep x → plain_behind (first_of x) (rest_of x) ≡ Some x
-unfolding first_of rest_of plain_behind open_word send_word deliver_word turn_word tick_word close_word cut_word
+plain_read : Below → (x : PlainStep) → IsPlainStep x → plain_behind (first_of x) (rest_of x) ≡ Some x
+unfolding first_of rest_of plain_behind open_word send_word deliver_word turn_word tick_word close_word cut_word cached_word
 plain_read law (opens name) good = ap (option_map opens) (name_exact.there name good)
 plain_read law (sends name service command args) good =
     ap (option_map sending) (sending_exact.there (name, (service, (command, args))) (good.0, (good.1, (good.2, good.3))))
 plain_read law (delivers name hop up count) good =
     ap (option_map delivering) (delivery_exact.there (name, (hop, (up, count))) (good.0, (good.1, (tt, (good.2, good.3)))))
 plain_read law (turns name node up) good = ap (option_map turning) (turning_exact.there (name, (node, up)) (good.0, (good.1, tt)))
-plain_read law (ticks thread) good = ap (option_map ticks) ((thread_exact law).there thread good)
+plain_read law (ticks thread) good = ap (option_map ticks) ((thread_exact law.0).there thread good)
 plain_read law (closes name) good = ap (option_map closes) (name_exact.there name good)
 plain_read law (cuts name hop) good = ap (option_map cutting) (cutting_exact.there (name, hop) good)
+plain_read law (asks name what) good = ap (option_map asking) ((asking_exact law.1).there (name, what) good)
 
-plain_there : ContextRoundTrip → (x : PlainStep) → IsPlainStep x → plain_of (plain_spelling x) ≡ Some x
+plain_there : Below → (x : PlainStep) → IsPlainStep x → plain_of (plain_spelling x) ≡ Some x
 plain_there law x good = ap (option_and_then (λ parts. plain_behind parts.0 parts.1)) (plain_cut x) ∙ plain_read law x good
 
-plain_exact : ContextRoundTrip → IsExact PlainStep plain_of IsPlainStep plain_spelling
+plain_exact : Below → IsExact PlainStep plain_of IsPlainStep plain_spelling
 plain_exact law =
     record {
       found = λ t x e.
@@ -170,7 +200,7 @@ plain_exact law =
       there = plain_there law;
     }
 
-repetition_exact : ContextRoundTrip → IsExact (ℕ × PlainStep) repetition_of (λ r. InRange 1 10000 r.0 × IsPlainStep r.1) (λ r. spaced (decimal r.0) (plain_spelling r.1))
+repetition_exact : Below → IsExact (ℕ × PlainStep) repetition_of (λ r. InRange 1 10000 r.0 × IsPlainStep r.1) (λ r. spaced (decimal r.0) (plain_spelling r.1))
 repetition_exact law =
     both_exact ℕ PlainStep (number_of 1 10000) plain_of (InRange 1 10000) IsPlainStep decimal plain_spelling
     (number_exact 1 10000 (lit< tt)) (number_words 1 10000 (lit< tt)) (plain_exact law)
@@ -178,7 +208,7 @@ repetition_exact law =
 rounds_exact : IsExact ℕ (number_of 1 10000) (InRange 1 10000) decimal
 rounds_exact = number_exact 1 10000 (lit< tt)
 
-step_found : ContextRoundTrip → (word rest : List ℕ) (x : LineStep) → step_behind word rest ≡ Some x → IsLineStep x × (spaced word rest ≡ step_spelling x)
+step_found : Below → (word rest : List ℕ) (x : LineStep) → step_behind word rest ≡ Some x → IsLineStep x × (spaced word rest ≡ step_spelling x)
 unfolding step_behind
 step_found law word rest x e =
     elim (two_ways (bytes_eq word rounds_word) (option_map rounds (number_of 1 10000 rest)) _ x e) [
@@ -192,7 +222,7 @@ step_found law word rest x e =
       ]
     ]
 
-behind_found : ContextRoundTrip → (word rest : List ℕ) (value : LineValue) → value_behind word rest ≡ Some value → Says (spaced word rest) value
+behind_found : Below → (word rest : List ℕ) (value : LineValue) → value_behind word rest ≡ Some value → Says (spaced word rest) value
 unfolding value_behind
 behind_found law word rest value e =
     elim (two_ways (bytes_eq word image_word) (option_map (λ i. head (imaging i)) (imaging_of rest)) _ value e) [
@@ -208,7 +238,7 @@ behind_found law word rest value e =
     ]
 
 -- what is read is spelled so
-value_found : ContextRoundTrip → (line : List ℕ) (value : LineValue) → value_of line ≡ Some value → Says line value
+value_found : Below → (line : List ℕ) (value : LineValue) → value_of line ≡ Some value → Says line value
 value_found law line value e =
     let m = and_then_found (λ parts. value_behind parts.0 parts.1) (cut_of 32 line) value e in
     subst (λ t. Says t value) (sym (cut_found 32 line m.0 m.1)) (behind_found law m.0.0 m.0.1 value m.2)
@@ -228,7 +258,7 @@ head_there (chain name adds) good =
 
 -- the first word of a step is none of those of other lines
 over_others : (x : PlainStep) (rest : List ℕ) → value_behind (first_of x) rest ≡ option_map step (option_map once (plain_behind (first_of x) rest))
-unfolding first_of value_behind step_behind image_word chain_word rounds_word times_word open_word send_word deliver_word turn_word tick_word close_word cut_word
+unfolding first_of value_behind step_behind image_word chain_word rounds_word times_word open_word send_word deliver_word turn_word tick_word close_word cut_word cached_word
 over_others (opens name) rest = refl
 over_others (sends name service command args) rest = refl
 over_others (delivers name hop up count) rest = refl
@@ -236,8 +266,9 @@ over_others (turns name node up) rest = refl
 over_others (ticks thread) rest = refl
 over_others (closes name) rest = refl
 over_others (cuts name hop) rest = refl
+over_others (asks name what) rest = refl
 
-step_there : ContextRoundTrip → (x : LineStep) → IsLineStep x → value_of (step_spelling x) ≡ Some (step x)
+step_there : Below → (x : LineStep) → IsLineStep x → value_of (step_spelling x) ≡ Some (step x)
 unfolding rounds_word times_word image_word chain_word value_behind step_behind
 step_there law (once x) good =
     value_cut (plain_spelling x) (first_of x) (rest_of x) (plain_cut x)
@@ -248,10 +279,10 @@ step_there law (times count x) good =
     value_cut (step_spelling (times count x)) times_word (spaced (decimal count) (plain_spelling x)) refl
     ∙ ap (λ o. option_map step (option_map repeating o)) ((repetition_exact law).there (count, x) ((good.0, good.1), good.2))
 
-value_there : ContextRoundTrip → (value : LineValue) → IsLine value → value_of (spelling value) ≡ Some value
+value_there : Below → (value : LineValue) → IsLine value → value_of (spelling value) ≡ Some value
 value_there law (head h) good = head_there h good
 value_there law (step x) good = step_there law x good
 
-pub reads_the_text : ContextRoundTrip → ReadsTheText
+pub reads_the_text : ContextRoundTrip × CachedRoundTrip → ReadsTheText
 reads_the_text law line value =
     (value_found law line value, λ says. subst (λ t. value_of t ≡ Some value) (sym says.1) (value_there law value says.0))

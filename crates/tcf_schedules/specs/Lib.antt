@@ -6,4 +6,5 @@ pub mod Reading
 pub mod Refusal
 pub mod Said
 pub mod Schedule
+pub mod Script
 pub mod Words

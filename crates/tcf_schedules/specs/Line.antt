@@ -3,8 +3,11 @@ use Rattle.std.specs.Prelude.{ℕ, ◌≡◌, ◌≤◌, Bool, true, false, List
 use Rattle.std.specs.List.{AllByRecursion, join_with_byte}
 use Rattle.tcf_values.specs.declared.ids.ContextId.{ContextId}
 use Rattle.tcf_values.specs.Spelling.{context_spelling}
+use Rattle.line_words.specs.Words.{spaced, is_word}
+use Rattle.cached_lines.specs.declared.what.CachedWhat.{CachedWhat}
+use Rattle.cached_lines.specs.Asked.{IsAsked, cached_spelling}
 use Rattle.tcf_schedules.specs.Plan.{IsThread}
-use Rattle.tcf_schedules.specs.Words.{spaced, is_word, is_name, is_numeral, is_hex_word}
+use Rattle.tcf_schedules.specs.Words.{is_name, is_numeral, is_hex_word}
 
 -- ---- What a line can say
 
@@ -18,6 +21,7 @@ pub data PlainStep : Type 0 where
   ticks : (thread : ContextId) → PlainStep
   closes : (name : List ℕ) → PlainStep
   cuts : (name hop : List ℕ) → PlainStep
+  asks : (name : List ℕ) (what : CachedWhat) → PlainStep
 
 -- a step, so many rounds, or a step so many times
 pub data LineStep : Type 0 where
@@ -44,6 +48,7 @@ IsPlainStep (turns name node up) = IsTrue (is_name name) × IsTrue (is_numeral n
 IsPlainStep (ticks thread) = IsThread thread
 IsPlainStep (closes name) = IsTrue (is_name name)
 IsPlainStep (cuts name hop) = IsTrue (is_name name) × IsTrue (is_numeral hop)
+IsPlainStep (asks name what) = IsTrue (is_name name) × IsAsked what
 
 abbrev pub IsLineStep : LineStep → Type 0
 IsLineStep (once x) = IsPlainStep x
@@ -88,6 +93,9 @@ close_word = codes "close"
 unfoldable pub cut_word : List ℕ
 cut_word = codes "cut"
 
+unfoldable pub cached_word : List ℕ
+cached_word = codes "cached"
+
 unfoldable pub rounds_word : List ℕ
 rounds_word = codes "rounds"
 
@@ -118,6 +126,7 @@ plain_spelling (turns name node up) = spaced turn_word (spaced name (spaced node
 plain_spelling (ticks thread) = spaced tick_word (context_spelling thread)
 plain_spelling (closes name) = spaced close_word name
 plain_spelling (cuts name hop) = spaced cut_word (spaced name hop)
+plain_spelling (asks name what) = spaced cached_word (spaced name (cached_spelling what))
 
 abbrev pub step_spelling : LineStep → List ℕ
 step_spelling (once x) = plain_spelling x

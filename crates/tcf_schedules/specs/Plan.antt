@@ -5,9 +5,11 @@ use Rattle.tcf_values.specs.declared.ids.ContextId.{ContextId}
 use Rattle.tcf_values.specs.declared.ids.ContextId.TheVariants.{Process, Thread}
 use Rattle.tcf_values.specs.Spelling.{IsContext}
 use Rattle.tcf_message.specs.Message.{HasNoZero}
+use Rattle.cached_lines.specs.declared.what.CachedWhat.{CachedWhat}
+use Rattle.cached_lines.specs.Asked.{IsAsked}
 use Rattle.tcf_schedules.specs.declared.schedule.ChainHead.{ChainHead}
 use Rattle.tcf_schedules.specs.declared.schedule.ScheduleStep.{ScheduleStep}
-use Rattle.tcf_schedules.specs.declared.schedule.ScheduleStep.TheVariants.{Opens, Send, Deliver, Turn, Tick, Close, Cut, Rounds, Times'}
+use Rattle.tcf_schedules.specs.declared.schedule.ScheduleStep.TheVariants.{Opens, Send, Deliver, Turn, Tick, Close, Cut, Cached, Rounds, Times'}
 
 -- The meaning of a step. Steps are compared by it, since a step that is repeated stands in a place of its own, which
 -- means nothing. A chain is given by its place in the header, from 0. Its nodes are its client, 0, its value-adds, and
@@ -20,6 +22,7 @@ pub data Plan : Type 0 where
   tick : (thread : ContextId) → Plan
   close : (chain : ℕ) → Plan
   cut : (chain hop : ℕ) → Plan
+  cached : (chain : ℕ) (what : CachedWhat) → Plan
   rounds : (count : ℕ) → Plan
   times : (count : ℕ) (plan : Plan) → Plan
 
@@ -31,6 +34,7 @@ plan_of (Turn chain node up) = turn chain node up
 plan_of (Tick thread) = tick thread
 plan_of (Close chain) = close chain
 plan_of (Cut chain hop) = cut chain hop
+plan_of (Cached chain what) = cached chain what
 plan_of (Rounds count) = rounds count
 plan_of (Times' count place step) = times count (plan_of step)
 
@@ -77,8 +81,8 @@ IsSingle (rounds count) = ⊥
 IsSingle (times count plan) = ⊥
 IsSingle plan = Unit {0}
 
--- a step that these chains can have: its chain, its hop and its node are there, its numbers are in their ranges, and
--- the words of a command have no zero byte
+-- a step that these chains can have: its chain, its hop and its node are there, its numbers are in their ranges, the
+-- words of a command have no zero byte, and what is asked of a cache has its form
 abbrev pub IsStep : List ChainHead → Plan → Type 0
 IsStep chains (opens chain) = IsChain chains chain
 IsStep chains (send chain service name body) = IsChain chains chain × HasNoZero service × HasNoZero name
@@ -87,6 +91,7 @@ IsStep chains (turn chain node up) = IsTurn chains chain node up
 IsStep chains (tick thread) = IsThread thread
 IsStep chains (close chain) = IsChain chains chain
 IsStep chains (cut chain hop) = IsHop chains chain hop
+IsStep chains (cached chain what) = IsChain chains chain × IsAsked what
 IsStep chains (rounds count) = (1 ≤ count) × (count ≤ 10000)
 IsStep chains (times count plan) = (1 ≤ count) × (count ≤ 10000) × IsSingle plan × IsStep chains plan
 

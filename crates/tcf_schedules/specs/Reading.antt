@@ -6,23 +6,14 @@ use Rattle.tcf_values.specs.Ids.{context_of}
 use Rattle.tcf_values.specs.Number.{number_of}
 use Rattle.tcf_values.specs.declared.ids.ContextId.{ContextId}
 use Rattle.tcf_values.specs.declared.ids.ContextId.TheVariants.{Process, Thread}
-use Rattle.tcf_schedules.specs.Words.{words_of, is_word, is_name, is_numeral, is_hex_word}
-use Rattle.tcf_schedules.specs.Line.{PlainStep, opens, sends, delivers, turns, ticks, closes, cuts, LineStep, once, rounds, times, LineHead, image, chain, LineValue, head, step, Says, image_word, chain_word, open_word, send_word, deliver_word, turn_word, tick_word, close_word, cut_word, rounds_word, times_word, up_word, down_word}
-
--- two things that a blank separates
-abbrev pub both : {A B : Type 0} → (List ℕ → Option A) → (List ℕ → Option B) → List ℕ → Option (A × B)
-both first second text =
-    option_and_then (λ parts. option_and_then (λ a. option_map (λ b. (a, b)) (second parts.1)) (first parts.0)) (cut_of 32 text)
-
--- a text that passes a test
-abbrev pub passing : (List ℕ → Bool) → List ℕ → Option (List ℕ)
-passing test text = if test text then Some text else None
+use Rattle.line_words.specs.Words.{is_word, both, passing, word_of}
+use Rattle.cached_lines.specs.declared.what.CachedWhat.{CachedWhat}
+use Rattle.cached_lines.specs.Reading.{cached_of}
+use Rattle.tcf_schedules.specs.Words.{words_of, is_name, is_numeral, is_hex_word}
+use Rattle.tcf_schedules.specs.Line.{PlainStep, opens, sends, delivers, turns, ticks, closes, cuts, asks, LineStep, once, rounds, times, LineHead, image, chain, LineValue, head, step, Says, image_word, chain_word, open_word, send_word, deliver_word, turn_word, tick_word, close_word, cut_word, cached_word, rounds_word, times_word, up_word, down_word}
 
 unfoldable pub name_of : List ℕ → Option (List ℕ)
 name_of text = passing is_name text
-
-unfoldable pub word_of : List ℕ → Option (List ℕ)
-word_of text = passing is_word text
 
 unfoldable pub numeral_of : List ℕ → Option (List ℕ)
 numeral_of text = passing is_numeral text
@@ -65,6 +56,10 @@ turning_of text = both name_of (both numeral_of direction_of) text
 abbrev pub cutting_of : List ℕ → Option (List ℕ × List ℕ)
 cutting_of text = both name_of numeral_of text
 
+-- NAME KIND ..
+abbrev pub asking_of : List ℕ → Option (List ℕ × CachedWhat)
+asking_of text = both name_of cached_of text
+
 -- NAME HEX
 abbrev pub imaging_of : List ℕ → Option (List ℕ × List ℕ)
 imaging_of text = both name_of hex_of text
@@ -85,6 +80,9 @@ turning t = turns t.0 t.1.0 t.1.1
 abbrev pub cutting : List ℕ × List ℕ → PlainStep
 cutting c = cuts c.0 c.1
 
+abbrev pub asking : List ℕ × CachedWhat → PlainStep
+asking a = asks a.0 a.1
+
 abbrev pub imaging : List ℕ × List ℕ → LineHead
 imaging i = image i.0 i.1
 
@@ -101,6 +99,7 @@ plain_behind word rest =
     else if bytes_eq word tick_word then option_map ticks (thread_of rest)
     else if bytes_eq word close_word then option_map closes (name_of rest)
     else if bytes_eq word cut_word then option_map cutting (cutting_of rest)
+    else if bytes_eq word cached_word then option_map asking (asking_of rest)
     else None
 
 abbrev pub plain_of : List ℕ → Option PlainStep

@@ -7,11 +7,12 @@ use Rattle.tcf_schedules.specs.declared.image.ImageSays.{ImageSays}
 use Rattle.tcf_schedules.specs.declared.line.LineSays.{LineSays}
 use Rattle.tcf_schedules.specs.declared.line.LineSays.TheVariants.{Head, Step}
 use Rattle.tcf_schedules.specs.declared.line.PlainSays.{PlainSays}
-use Rattle.tcf_schedules.specs.declared.line.PlainSays.TheVariants.{Opens, Sends, Delivers, Turns, Ticks, Closes, Cuts}
+use Rattle.tcf_schedules.specs.declared.line.PlainSays.TheVariants.{Opens, Sends, Delivers, Turns, Ticks, Closes, Cuts, Asks}
 use Rattle.tcf_schedules.specs.declared.line.StepSays.{StepSays}
 use Rattle.tcf_schedules.specs.declared.line.StepSays.TheVariants.{Once, Rounds, Times}
+use Rattle.cached_lines.specs.Said.{cached_said}
 use Rattle.tcf_schedules.specs.Words.{words_of}
-use Rattle.tcf_schedules.specs.Line.{PlainStep, opens, sends, delivers, turns, ticks, closes, cuts, LineStep, once, rounds, times, LineHead, image, chain, LineValue, head, step}
+use Rattle.tcf_schedules.specs.Line.{PlainStep, opens, sends, delivers, turns, ticks, closes, cuts, asks, LineStep, once, rounds, times, LineHead, image, chain, LineValue, head, step}
 
 -- the words of a text, where there is one
 abbrev pub words_said : Option (List ℕ) → List (List ℕ)
@@ -30,6 +31,7 @@ plain_said (Turns name node up) = turns name.now node.now up
 plain_said (Ticks thread) = ticks thread
 plain_said (Closes name) = closes name.now
 plain_said (Cuts name hop) = cuts name.now hop.now
+plain_said (Asks name what) = asks name.now (cached_said what)
 
 abbrev pub step_said : StepSays → LineStep
 step_said (Once x) = once (plain_said x)

@@ -7,9 +7,9 @@ use Rattle.tcf_schedules.specs.declared.schedule.NamedImage.{NamedImage}
 use Rattle.tcf_schedules.specs.declared.schedule.Schedule.{Schedule}
 use Rattle.tcf_schedules.specs.declared.schedule.TextFault.{TextFault}
 use Rattle.tcf_schedules.specs.declared.schedule.TextFault.TheVariants.{Form, Late, Repeat, Unknown, Many}
-use Rattle.tcf_schedules.specs.Plan.{AreSteps, Plan, opens as plan_opens, send as plan_send, deliver as plan_deliver, turn as plan_turn, tick as plan_tick, close as plan_close, cut as plan_cut, rounds as plan_rounds, times as plan_times, plans_of, step_size, step_count, adds_at}
+use Rattle.tcf_schedules.specs.Plan.{AreSteps, Plan, opens as plan_opens, send as plan_send, deliver as plan_deliver, turn as plan_turn, tick as plan_tick, close as plan_close, cut as plan_cut, cached as plan_cached, rounds as plan_rounds, times as plan_times, plans_of, step_size, step_count, adds_at}
 use Rattle.tcf_schedules.specs.Words.{data_of, bytes_of}
-use Rattle.tcf_schedules.specs.Line.{PlainStep, opens, sends, delivers, turns, ticks, closes, cuts, LineStep, once, rounds, times, LineHead, image, chain, LineValue, head, step, IsHead, IsLineStep, head_spelling, step_spelling, Says}
+use Rattle.tcf_schedules.specs.Line.{PlainStep, opens, sends, delivers, turns, ticks, closes, cuts, asks, LineStep, once, rounds, times, LineHead, image, chain, LineValue, head, step, IsHead, IsLineStep, head_spelling, step_spelling, Says}
 use Rattle.tcf_schedules.specs.Reading.{value_of}
 use Rattle.tcf_schedules.specs.Refusal.{BadLine}
 
@@ -75,6 +75,7 @@ plain_plan chains (turns name node up) = option_map (λ at. plan_turn at.0 at.1 
 plain_plan chains (ticks thread) = Some (plan_tick thread)
 plain_plan chains (closes name) = option_map plan_close (chain_of chains name)
 plain_plan chains (cuts name hop) = option_map (λ at. plan_cut at.0 at.1) (hop_in chains name hop)
+plain_plan chains (asks name what) = option_map (λ place. plan_cached place what) (chain_of chains name)
 
 abbrev pub plan_in : List ChainHead → LineStep → Option Plan
 plan_in chains (once x) = plain_plan chains x

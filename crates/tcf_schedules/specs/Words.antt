@@ -12,18 +12,6 @@ use Rattle.hex.specs.declared.error.FromHexError.{FromHexError}
 abbrev pub words_of : List ℕ → List (List ℕ)
 words_of text = slice_split (λ byte. byte == 32) text
 
--- one word, a blank, and more of the line
-abbrev pub spaced : List ℕ → List ℕ → List ℕ
-spaced word more = word ++ 32 ∷ more
-
--- neither zero nor a blank
-abbrev pub is_inside : ℕ → Bool
-is_inside byte = not (byte == 0) && not (byte == 32)
-
--- a word of a command: one byte or more
-abbrev pub is_word : List ℕ → Bool
-is_word word = nat_lt 0 (length word) && list_all is_inside word
-
 -- 1 to 16 ASCII letters and digits
 abbrev pub is_name : List ℕ → Bool
 is_name name = nat_lt 0 (length name) && nat_le (length name) 16 && list_all is_ascii_alphanumeric name

@@ -1,4 +1,5 @@
-//! Schedules: the images, the chains and the steps that a world is to play, read from a file of lines.
+//! Schedules: the images, the chains and the steps that a world is to play, read from a file of lines. Scripts: what
+//! one client is to do, read in the same way.
 #![tactic(auto)]
 
 mod image;
@@ -7,6 +8,7 @@ mod line;
 mod place;
 mod reading;
 pub mod schedule;
+pub mod script;
 #[cfg(test)]
 mod tests;
 mod words;
@@ -16,3 +18,4 @@ pub use schedule::{
     ChainHead, ChainHeads, NamedImage, NamedImages, Schedule, ScheduleStep, ScheduleSteps,
     TextFault, TextRefusal,
 };
+pub use script::{Script, ScriptLine, read_script};

@@ -1,15 +1,18 @@
 //! What one line of a schedule says.
 ghost use Rattle.std.specs.Prelude.{◌≡◌, option_map};
 ghost use Rattle.tcf_values.specs.Number.{number_of};
-ghost use Rattle.tcf_schedules.specs.Reading.{both, word_of, numeral_of, direction_of, command_of, sending_of, sending, delivery_of, delivering, turning_of, turning, cutting_of, cutting, imaging_of, imaging, chaining_of, chaining, plain_behind, plain_of, repetition_of, repeating, step_behind, value_behind, value_of};
+ghost use Rattle.line_words.specs.Words.{both, word_of};
+ghost use Rattle.tcf_schedules.specs.Reading.{numeral_of, direction_of, command_of, sending_of, sending, delivery_of, delivering, turning_of, turning, cutting_of, cutting, asking_of, asking, imaging_of, imaging, chaining_of, chaining, plain_behind, plain_of, repetition_of, repeating, step_behind, value_behind, value_of};
 ghost use Rattle.tcf_schedules.specs.Said.{command_said, plain_said, step_said, image_said, head_said, said};
 
 use crate::image::ImageSays;
 use crate::words::{
-    are_words, chain_word, close_word, cut_word, deliver_word, first_word, good_name, good_word,
-    hex_digits, image_word, is_up, numeral, open_word, rounds_word, send_word, thread_id,
-    tick_word, times_word, turn_word,
+    are_words, cached_word, chain_word, close_word, cut_word, deliver_word, good_name, hex_digits,
+    image_word, is_up, numeral, open_word, rounds_word, send_word, thread_id, tick_word,
+    times_word, turn_word,
 };
+use cached_lines::{CachedSays, cached_says};
+use line_words::{first_word, good_word};
 use tcf_values::{ContextId, number_within};
 
 /// The most value-adds of a chain.
@@ -29,8 +32,8 @@ pub(crate) struct CommandSays<'a> {
 }
 
 /// A step that can be repeated, by the name of its chain: `open NAME`, `send NAME SERVICE COMMAND ARG ..`,
-/// `deliver NAME HOP up|down COUNT`, `turn NAME NODE up|down`, `tick THREAD`, `close NAME` and `cut NAME HOP`. Hops
-/// and nodes are given by their digits.
+/// `deliver NAME HOP up|down COUNT`, `turn NAME NODE up|down`, `tick THREAD`, `close NAME`, `cut NAME HOP` and
+/// `cached NAME KIND ..`. Hops and nodes are given by their digits.
 #[derive(Drop)]
 pub(crate) enum PlainSays<'a> {
     Opens(&'a [u8]),
@@ -55,6 +58,10 @@ pub(crate) enum PlainSays<'a> {
     Cuts {
         name: &'a [u8],
         hop: &'a [u8],
+    },
+    Asks {
+        name: &'a [u8],
+        what: CachedSays<'a>,
     },
 }
 
@@ -100,7 +107,7 @@ fn command_in(text: &[u8]) -> Option<CommandSays<'_>>
 }
 
 /// The command behind its service.
-fn service_in(text: &[u8]) -> Option<(&[u8], CommandSays<'_>)>
+pub(crate) fn service_in(text: &[u8]) -> Option<(&[u8], CommandSays<'_>)>
     ensures { option_map (λ parts. (parts.0.now, command_said parts.1)) result ≡ both word_of command_of text.now }
 {
     let (service, rest) = first_word(text)?;
@@ -179,6 +186,17 @@ fn cutting_in(text: &[u8]) -> Option<PlainSays<'_>>
     })
 }
 
+/// The name of a chain before what is asked of its client's cache.
+fn asking_in(text: &[u8]) -> Option<PlainSays<'_>>
+    ensures { option_map plain_said result ≡ option_map asking (asking_of text.now) }
+{
+    let (name, rest) = first_word(text)?;
+    Some(PlainSays::Asks {
+        name: good_name(name)?,
+        what: cached_says(rest)?,
+    })
+}
+
 /// The step of a text with this first word, but for rounds and repetitions.
 #[tactic(auto, unfolding(crate::specs::Reading::plain_behind))]
 fn plain_says<'a>(word: &[u8], rest: &'a [u8]) -> Option<PlainSays<'a>>
@@ -198,6 +216,8 @@ fn plain_says<'a>(word: &[u8], rest: &'a [u8]) -> Option<PlainSays<'a>>
         Some(PlainSays::Closes(good_name(rest)?))
     } else if word == cut_word() {
         cutting_in(rest)
+    } else if word == cached_word() {
+        asking_in(rest)
     } else {
         None
     }

@@ -9,7 +9,9 @@ ghost use Rattle.tcf_schedules.specs.Words.{words_of, part_text, data_of};
 
 use crate::line::{CommandSays, PlainSays, StepSays};
 use crate::schedule::{ChainHead, ScheduleStep};
-use crate::words::{dash_word, first_word};
+use crate::words::dash_word;
+use cached_lines::CachedSays;
+use line_words::first_word;
 use std::alloc::{AllocError, Global};
 use tcf_outside::Octets;
 use tcf_values::{ContextId, number_within};
@@ -43,6 +45,10 @@ pub(crate) enum Placed<'a> {
     Cuts {
         chain: usize,
         hop: usize,
+    },
+    Asks {
+        chain: usize,
+        what: CachedSays<'a>,
     },
 }
 
@@ -174,6 +180,10 @@ fn place_plain<'a>(chains: &[ChainHead], says: &PlainSays<'a>) -> Option<Placed<
             let (chain, hop) = hop_in(chains, name, hop)?;
             Some(Placed::Cuts { chain, hop })
         }
+        PlainSays::Asks { name, what } => Some(Placed::Asks {
+            chain: chain_at(chains, name)?,
+            what: *what,
+        }),
     }
 }
 
@@ -212,7 +222,7 @@ fn push_parts(words: &[u8], body: &mut Octets) -> Result<(), AllocError>
 }
 
 /// The data that the words say, where there are some.
-fn data(alloc: Global, words: Option<&[u8]>) -> Result<Octets, AllocError>
+pub(crate) fn data(alloc: Global, words: Option<&[u8]>) -> Result<Octets, AllocError>
     ensures { IfOk result (λ body. body ≡ data_of (words_said (option_map (λ t. t.now) words.entry))) }
 {
     let mut body = Octets::new(alloc);
@@ -269,6 +279,10 @@ fn plain_step(alloc: Global, placed: &Placed<'_>) -> Result<ScheduleStep, AllocE
         Placed::Cuts { chain, hop } => Ok(ScheduleStep::Cut {
             chain: *chain,
             hop: *hop,
+        }),
+        Placed::Asks { chain, what } => Ok(ScheduleStep::Cached {
+            chain: *chain,
+            what: what.copied(alloc)?,
         }),
     }
 }

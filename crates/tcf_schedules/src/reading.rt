@@ -50,7 +50,7 @@ impl<'a> Model for Reading<'a> {
 }
 
 /// The refusal of the line of this number.
-fn bad(line: u64, what: TextFault) -> TextRefusal
+pub(crate) fn bad(line: u64, what: TextFault) -> TextRefusal
     ensures { result ≡ TextRefusal.Bad line what }
 {
     TextRefusal::Bad { line, what }
@@ -193,7 +193,7 @@ impl<'a> Reading<'a> {
     }
 }
 
-fn is_blank_or_comment(line: &[u8]) -> bool
+pub(crate) fn is_blank_or_comment(line: &[u8]) -> bool
     ensures { result ≡ is_skipped line.now }
 {
     matches!(line, [] | [b'#', ..])
@@ -201,7 +201,7 @@ fn is_blank_or_comment(line: &[u8]) -> bool
 
 /// The first line of a file that isn't empty, without its end, and what follows it.
 #[tactic(auto, using(crate::proofs::Cuts::shorter_cut, crate::proofs::Lines::lines_cut, crate::proofs::Lines::lines_last))]
-fn cut_line(file: &[u8]) -> (&[u8], &[u8])
+pub(crate) fn cut_line(file: &[u8]) -> (&[u8], &[u8])
     requires { 0 < length file.now }
     ensures lines { lines_of file.now ≡ result.0.now ∷ lines_of result.1.now }
     ensures shorter { length result.1.now < length file.now }

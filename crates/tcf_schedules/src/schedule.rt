@@ -1,6 +1,7 @@
 //! Schedules: the images, the chains and the steps that a world is to play, and how a file of lines says them.
 ghost use Rattle.std.specs.Prelude.{◌≡◌};
 
+use cached_lines::CachedWhat;
 use std::alloc::{AllocError, AllocFailed};
 use tcf_outside::{Octets, Sequence};
 use tcf_values::{Bytes, ContextId, Text};
@@ -47,6 +48,11 @@ pub enum ScheduleStep {
     Cut {
         chain: usize,
         hop: usize,
+    },
+    /// What the cache of the chain's client knows is written to its log.
+    Cached {
+        chain: usize,
+        what: CachedWhat,
     },
     /// So many rounds, from 1 to 10,000, in each of which all that is in flight arrives and is taken.
     Rounds {

@@ -1,13 +1,15 @@
 //! The words of a schedule's lines.
-ghost use Rattle.std.specs.Prelude.{◌≡◌, option_copied, option_map, IfSome, IfNone, IsTrue};
+ghost use Rattle.std.specs.Prelude.{◌≡◌, option_copied, IfSome, IsTrue};
 ghost use Rattle.std.specs.Char.{is_ascii_alphanumeric, is_ascii_digit};
 ghost use Rattle.std.specs.List.{list_all};
-ghost use Rattle.tcf_values.specs.Cut.{IsCut, Lacks, cut_of};
-ghost use Rattle.tcf_schedules.specs.Words.{words_of, is_inside, is_word, is_name, dash_word, is_low_hex, is_hex_word};
-ghost use Rattle.tcf_schedules.specs.Reading.{name_of, word_of, numeral_of, hex_of, direction_of, thread_of};
-ghost use Rattle.tcf_schedules.specs.Line.{image_word, chain_word, open_word, send_word, deliver_word, turn_word, tick_word, close_word, cut_word, rounds_word, times_word, up_word, down_word};
+ghost use Rattle.line_words.specs.Words.{is_word};
+ghost use Rattle.tcf_schedules.specs.Words.{words_of, is_name, dash_word, is_low_hex, is_hex_word};
+ghost use Rattle.tcf_schedules.specs.Reading.{name_of, numeral_of, hex_of, direction_of, thread_of};
+ghost use Rattle.tcf_schedules.specs.Script.{wait_word};
+ghost use Rattle.tcf_schedules.specs.Line.{image_word, chain_word, open_word, send_word, deliver_word, turn_word, tick_word, close_word, cut_word, cached_word, rounds_word, times_word, up_word, down_word};
 
-use tcf_values::{ContextId, context_id, cut_at};
+use line_words::{first_word, is_word};
+use tcf_values::{ContextId, context_id};
 
 /// The most letters and digits of a name.
 const LONGEST_NAME: usize = 16;
@@ -75,6 +77,13 @@ pub(crate) fn cut_word() -> &'static [u8]
     b"cut"
 }
 
+#[tactic(auto, unfolding(crate::specs::Line::cached_word))]
+pub(crate) fn cached_word() -> &'static [u8]
+    ensures { result.now ≡ cached_word }
+{
+    b"cached"
+}
+
 #[tactic(auto, unfolding(crate::specs::Line::rounds_word))]
 pub(crate) fn rounds_word() -> &'static [u8]
     ensures { result.now ≡ rounds_word }
@@ -87,6 +96,13 @@ pub(crate) fn times_word() -> &'static [u8]
     ensures { result.now ≡ times_word }
 {
     b"times"
+}
+
+#[tactic(auto, unfolding(crate::specs::Script::wait_word))]
+pub(crate) fn wait_word() -> &'static [u8]
+    ensures { result.now ≡ wait_word }
+{
+    b"wait"
 }
 
 #[tactic(auto, unfolding(crate::specs::Line::up_word))]
@@ -110,15 +126,6 @@ pub(crate) fn dash_word() -> &'static [u8]
     b"-"
 }
 
-/// The first word of a text, and what stands behind the blank that ends it.
-pub(crate) fn first_word(text: &[u8]) -> Option<(&[u8], &[u8])>
-    ensures value { option_map (λ parts. (parts.0.now, parts.1.now)) result ≡ cut_of 32 text.now }
-    ensures cut { IfSome result (λ parts. IsCut 32 text.now parts.0.now parts.1.now) }
-    ensures none { IfNone result (Lacks 32 text.now) }
-{
-    cut_at(b' ', text)
-}
-
 /// Letters and digits of ASCII alone.
 fn is_plain(text: &[u8]) -> bool
     ensures { result ≡ list_all is_ascii_alphanumeric text.now }
@@ -138,19 +145,6 @@ pub(crate) fn good_name(text: &[u8]) -> Option<&[u8]>
     }
 }
 
-/// No zero byte, and no blank.
-fn has_no_zero_or_blank(text: &[u8]) -> bool
-    ensures { result ≡ list_all is_inside text.now }
-{
-    text.iter().all(|b| *b != 0 && *b != b' ')
-}
-
-fn is_word(text: &[u8]) -> bool
-    ensures { result ≡ is_word text.now }
-{
-    !text.is_empty() && has_no_zero_or_blank(text)
-}
-
 /// Whether blanks separate words of a command.
 #[tactic(auto, using(crate::proofs::Cuts::words_cut, crate::proofs::Cuts::words_last, crate::proofs::Cuts::shorter_cut))]
 pub(crate) fn are_words(text: &[u8]) -> bool
@@ -164,13 +158,6 @@ pub(crate) fn are_words(text: &[u8]) -> bool
         rest = after;
     }
     is_word(rest)
-}
-
-#[tactic(auto, unfolding(crate::specs::Reading::word_of))]
-pub(crate) fn good_word(text: &[u8]) -> Option<&[u8]>
-    ensures { option_copied result ≡ word_of text.now }
-{
-    if is_word(text) { Some(text) } else { None }
 }
 
 fn are_digits(text: &[u8]) -> bool

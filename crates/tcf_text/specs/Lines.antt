@@ -2,7 +2,7 @@
 use Rattle.std.specs.Prelude.{ℕ, List, [], ◌∷◌, Option, None, Some, Bool, true, false, if◌then◌else◌}
 use Rattle.std.specs.List.{flat_map, list_any}
 use Rattle.tcf_text.specs.declared.log.LogLine.{LogLine}
-use Rattle.tcf_text.specs.declared.log.LogLine.TheVariants.{Sent, Refused, Hello, Event, Progress, Final, Unknown, Closed, Ended}
+use Rattle.tcf_text.specs.declared.log.LogLine.TheVariants.{Sent, Refused, Hello, Event, Progress, Final, Unknown, Closed, Ended, Cached}
 
 -- an accepted command: its number, service, name and data
 pub record Accepted : Type 0 where
@@ -21,6 +21,7 @@ accepted_by (Final number mark body) = []
 accepted_by (Unknown number mark) = []
 accepted_by (Closed number) = []
 accepted_by (Ended why) = []
+accepted_by (Cached what value) = []
 
 -- the accepted commands, in order: those of the `sent` lines
 abbrev pub accepted : List LogLine → List Accepted
@@ -37,6 +38,7 @@ final_of (Final number mark body) = number ∷ []
 final_of (Unknown number mark) = number ∷ []
 final_of (Closed number) = number ∷ []
 final_of (Ended why) = []
+final_of (Cached what value) = []
 
 -- the numbers of the commands that have a final answer, in the order of these answers
 abbrev pub finals : List LogLine → List ℕ
@@ -59,6 +61,7 @@ mark_of (Sent number service name body) = None
 mark_of (Refused why) = None
 mark_of (Closed number) = None
 mark_of (Ended why) = None
+mark_of (Cached what value) = None
 
 abbrev pub later_or : {A : Type 0} → Option A → Option A → Option A
 later_or (Some later) earlier = Some later

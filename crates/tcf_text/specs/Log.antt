@@ -2,10 +2,13 @@
 use Rattle.std.specs.Prelude.{ℕ, ◌/◌, ◌%◌, ◌==◌, ◌||◌, ◌≡◌, Bool, true, List, [], ◌∷◌, ◌++◌, flat_map, Option, Some, None, if◌then◌else◌, nat_le, codes, decimal}
 use Rattle.std.specs.Fmt.{digit_glyph}
 use Rattle.std.specs.List.{slice_split}
+use Rattle.cached_lines.specs.Asked.{context_word, state_word, register_word, properties_word, status_word, bytes_word}
+use Rattle.cached_lines.specs.declared.what.CachedWhat.{CachedWhat}
+use Rattle.cached_lines.specs.declared.what.CachedWhat.TheVariants as asked
 use Rattle.tcf_text.specs.declared.log.EndWhy.{EndWhy}
 use Rattle.tcf_text.specs.declared.log.EndWhy.TheVariants.{Own, Eos, Ended as ConnectionEnded, Protocol, Stream}
 use Rattle.tcf_text.specs.declared.log.LogLine.{LogLine}
-use Rattle.tcf_text.specs.declared.log.LogLine.TheVariants.{Sent, Refused, Hello, Event, Progress, Final, Unknown, Closed, Ended}
+use Rattle.tcf_text.specs.declared.log.LogLine.TheVariants.{Sent, Refused, Hello, Event, Progress, Final, Unknown, Closed, Ended, Cached}
 use Rattle.tcf_text.specs.declared.log.RefusedWhy.{RefusedWhy}
 use Rattle.tcf_text.specs.declared.log.RefusedWhy.TheVariants.{Full, NotOpen, TooLong, Spent}
 
@@ -73,6 +76,12 @@ closed_word = codes "closed"
 unfoldable pub end_front : List ℕ
 end_front = codes "end "
 
+unfoldable pub cached_front : List ℕ
+cached_front = codes "cached "
+
+unfoldable pub none_word : List ℕ
+none_word = codes " none"
+
 unfoldable pub refused_reason : RefusedWhy → List ℕ
 refused_reason Full = codes "Full"
 refused_reason NotOpen = codes "NotOpen"
@@ -94,6 +103,20 @@ numbered word number = word ++ 32 ∷ decimal number
 abbrev pub named_text : List ℕ → List ℕ → List ℕ → List ℕ
 named_text service name body = word_text service ++ word_text name ++ args_text body
 
+-- what was asked of the cache, word by word
+abbrev pub asked_text : CachedWhat → List ℕ
+asked_text (asked.Context id) = context_word ++ word_text id
+asked_text (asked.State id) = state_word ++ word_text id
+asked_text (asked.Register id) = register_word ++ word_text id
+asked_text (asked.Properties id) = properties_word ++ word_text id
+asked_text (asked.Status id) = status_word ++ word_text id
+asked_text (asked.Bytes id addr size) = bytes_word ++ word_text id ++ 32 ∷ decimal addr ++ 32 ∷ decimal size
+
+-- what the cache had, behind a blank
+abbrev pub value_text : Option (List ℕ) → List ℕ
+value_text None = none_word
+value_text (Some value) = 32 ∷ value
+
 -- a log line without its end
 abbrev pub line_words : LogLine → List ℕ
 line_words (Sent number service name body) = numbered sent_word number ++ named_text service name body
@@ -105,6 +128,7 @@ line_words (Final number mark body) = numbered result_word number ++ mark_text m
 line_words (Unknown number mark) = numbered unknown_word number ++ mark_text mark
 line_words (Closed number) = numbered closed_word number
 line_words (Ended why) = end_front ++ end_cause why
+line_words (Cached what value) = cached_front ++ asked_text what ++ value_text value
 
 -- a log line, which byte 10 ends
 abbrev pub line_text : LogLine → List ℕ

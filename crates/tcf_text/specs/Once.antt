@@ -2,7 +2,7 @@
 use Rattle.std.specs.Prelude.{ℕ, ◌≡◌, ◌<◌, List, Option, None, Some, Bool, true, false, map}
 use Rattle.std.specs.List.{Contains, list_any, last_or}
 use Rattle.tcf_text.specs.declared.log.LogLine.{LogLine}
-use Rattle.tcf_text.specs.declared.log.LogLine.TheVariants.{Refused, Progress, Final, Unknown, Closed, Ended}
+use Rattle.tcf_text.specs.declared.log.LogLine.TheVariants.{Refused, Progress, Final, Unknown, Closed, Ended, Cached}
 use Rattle.tcf_text.specs.declared.log.RefusedWhy.TheVariants.{NotOpen}
 use Rattle.tcf_text.specs.Each.{Each}
 use Rattle.tcf_text.specs.Lines.{Accepted, accepted, finals}
@@ -37,13 +37,14 @@ abbrev pub EndsAll : List LogLine → LogLine → Type 0
 EndsAll before (Ended why) = AllAnswered before
 EndsAll before line = Unit {0}
 
--- After the end commands are refused, since the channel isn't open, and there is nothing else.
-abbrev pub IsRefusedNotOpen : LogLine → Type 0
-IsRefusedNotOpen (Refused why) = why ≡ NotOpen
-IsRefusedNotOpen line = ⊥
+-- After the end commands are refused, since the channel isn't open, and the cache is asked; there is nothing else.
+abbrev pub CanStandAfterEnd : LogLine → Type 0
+CanStandAfterEnd (Refused why) = why ≡ NotOpen
+CanStandAfterEnd (Cached what value) = Unit {0}
+CanStandAfterEnd line = ⊥
 
 abbrev pub NothingAfterEnd : List LogLine → LogLine → Type 0
-NothingAfterEnd before line = list_any is_end before ≡ true → IsRefusedNotOpen line
+NothingAfterEnd before line = list_any is_end before ≡ true → CanStandAfterEnd line
 
 -- `closed` lines stand directly before the end, with rising numbers, which is the order in which the commands were
 -- accepted.

@@ -9,4 +9,4 @@ mod tests;
 
 pub use log::{EndWhy, LogLine, RefusedWhy};
 pub use message::show_line;
-pub use show::{write_line, write_log};
+pub use show::{show_part, write_line, write_log};

@@ -1,4 +1,5 @@
 //! A client's log: what each of its lines says, and its text.
+use cached_lines::CachedWhat;
 use tcf_outside::Octets;
 
 /// Why a command was not accepted.
@@ -77,4 +78,9 @@ pub enum LogLine {
     },
     /// The channel ended.
     Ended(EndWhy),
+    /// The client's cache was asked. The value is shown as it stands; there is none where it isn't known.
+    Cached {
+        what: CachedWhat,
+        value: Option<Octets>,
+    },
 }

@@ -1,11 +1,13 @@
 //! How a log is shown: each line's text, and the log's as a whole.
 #![tactic(auto, using(crate::proofs::Growth::grows_later))]
 
-ghost use Rattle.std.specs.Prelude.{◌≡◌, ◌<◌, ◌++◌, ◌∷◌, decimal, true, OnOk, OnErr};
+ghost use Rattle.std.specs.Prelude.{◌≡◌, ◌<◌, ◌++◌, ◌∷◌, decimal, true, option_copied, OnOk, OnErr};
 ghost use Rattle.std.specs.Fmt.{digit_glyph};
-ghost use Rattle.tcf_text.specs.Log.{sent_word, hello_word, event_word, unknown_word, refused_front, end_front, is_hidden, shown_byte, shown, word_text, rest_text, args_text, mark_text, refused_reason, end_cause, numbered, named_text, line_words, line_text, log_text, Grows};
+ghost use Rattle.cached_lines.specs.Asked.{bytes_word};
+ghost use Rattle.tcf_text.specs.Log.{sent_word, hello_word, event_word, unknown_word, refused_front, end_front, is_hidden, shown_byte, shown, word_text, rest_text, args_text, mark_text, refused_reason, end_cause, numbered, named_text, asked_text, value_text, cached_front, line_words, line_text, log_text, Grows};
 
 use crate::log::{EndWhy, LogLine, RefusedWhy};
+use cached_lines::CachedWhat;
 use itoa::Buffer;
 use std::alloc::AllocError;
 use tcf_outside::Octets;
@@ -40,8 +42,10 @@ fn show_byte(byte: u8, out: &mut Octets) -> Result<(), AllocError>
     }
 }
 
-/// Appends a word or a part as it is shown.
-fn show(part: &[u8], out: &mut Octets) -> Result<(), AllocError>
+/// Appends a word, or a part of data, as it is shown: `-` where it is empty, else each byte as it is, but for blanks,
+/// control bytes, `%` and DEL, which are shown as `%` and two upper-case hexadecimal digits. Where memory runs out a
+/// part of it may be there.
+pub fn show_part(part: &[u8], out: &mut Octets) -> Result<(), AllocError>
     ensures shown { OnOk result (out.new ≡ out.old ++ shown part.now) }
     ensures part { OnErr result (Grows out.old out.new) }
 {
@@ -60,7 +64,7 @@ pub(crate) fn show_word(word: &[u8], out: &mut Octets) -> Result<(), AllocError>
     ensures part { OnErr result (Grows out.old out.new) }
 {
     out.push(b' ')?;
-    show(word, out)
+    show_part(word, out)
 }
 
 /// Appends what stands behind the last zero, where something does.
@@ -72,7 +76,7 @@ fn show_rest(rest: &[u8], out: &mut Octets) -> Result<(), AllocError>
         return Ok(());
     }
     out.extend(b" !")?;
-    show(rest, out)
+    show_part(rest, out)
 }
 
 /// Appends the parts of the data, each behind a blank.
@@ -239,6 +243,71 @@ fn show_unknown(number: u64, mark: Option<u64>, out: &mut Octets) -> Result<(), 
     show_mark(mark, out)
 }
 
+/// Appends a word that says what was asked, and the ID.
+fn show_kind(kind: &[u8], id: &Octets, out: &mut Octets) -> Result<(), AllocError>
+    ensures shown { OnOk result (out.new ≡ out.old ++ (kind.now ++ word_text id.now)) }
+    ensures part { OnErr result (Grows out.old out.new) }
+{
+    out.extend(kind)?;
+    show_word(id.as_slice(), out)
+}
+
+/// Appends the range of bytes that was asked.
+#[tactic(auto, using(crate::proofs::Growth::grows_later), unfolding(cached_lines::specs::Asked::bytes_word))]
+fn show_range(id: &Octets, addr: u32, size: u32, out: &mut Octets) -> Result<(), AllocError>
+    ensures shown { OnOk result (out.new ≡ out.old ++ (bytes_word ++ word_text id.now ++ 32 ∷ decimal addr ++ 32 ∷ decimal size)) }
+    ensures part { OnErr result (Grows out.old out.new) }
+{
+    show_kind(b"bytes", id, out)?;
+    show_number(u64::from(addr), out)?;
+    show_number(u64::from(size), out)
+}
+
+/// Appends what was asked of the cache.
+#[tactic(auto, using(crate::proofs::Growth::grows_later), unfolding(cached_lines::specs::Asked::context_word, cached_lines::specs::Asked::state_word, cached_lines::specs::Asked::register_word, cached_lines::specs::Asked::properties_word, cached_lines::specs::Asked::status_word))]
+fn show_asked(what: &CachedWhat, out: &mut Octets) -> Result<(), AllocError>
+    ensures shown { OnOk result (out.new ≡ out.old ++ asked_text what.now) }
+    ensures part { OnErr result (Grows out.old out.new) }
+{
+    match what {
+        CachedWhat::Context { id } => show_kind(b"context", id, out),
+        CachedWhat::State { id } => show_kind(b"state", id, out),
+        CachedWhat::Register { id } => show_kind(b"register", id, out),
+        CachedWhat::Properties { id } => show_kind(b"properties", id, out),
+        CachedWhat::Status { id } => show_kind(b"status", id, out),
+        CachedWhat::Bytes { id, addr, size } => show_range(id, *addr, *size, out),
+    }
+}
+
+/// Appends what the cache had.
+#[tactic(auto, using(crate::proofs::Growth::grows_later), unfolding(crate::specs::Log::none_word))]
+fn show_value(value: Option<&Octets>, out: &mut Octets) -> Result<(), AllocError>
+    ensures shown { OnOk result (out.new ≡ out.old ++ value_text (option_copied value.entry)) }
+    ensures part { OnErr result (Grows out.old out.new) }
+{
+    match value {
+        Some(value) => {
+            out.push(b' ')?;
+            out.extend(value.as_slice())
+        }
+        None => out.extend(b" none"),
+    }
+}
+
+#[tactic(auto, using(crate::proofs::Growth::grows_later), unfolding(crate::specs::Log::cached_front))]
+fn show_cached(
+    what: &CachedWhat,
+    value: Option<&Octets>,
+    out: &mut Octets,
+) -> Result<(), AllocError>
+    ensures shown { OnOk result (out.new ≡ out.old ++ (cached_front ++ asked_text what.now ++ value_text (option_copied value.entry))) }
+    ensures part { OnErr result (Grows out.old out.new) }
+{
+    out.extend(b"cached ")?;
+    show_asked(what, out)?;
+    show_value(value, out)
+}
+
 /// Appends the line's text without the byte that ends it.
 #[tactic(auto, using(crate::proofs::Growth::grows_later), unfolding(crate::specs::Log::progress_word, crate::specs::Log::result_word, crate::specs::Log::closed_word))]
 fn write_words(line: &LogLine, out: &mut Octets) -> Result<(), AllocError>
@@ -285,6 +354,7 @@ fn write_words(line: &LogLine, out: &mut Octets) -> Result<(), AllocError>
         LogLine::Unknown { number, mark } => show_unknown(*number, *mark, out),
         LogLine::Closed { number } => show_numbered(b"closed", *number, out),
         LogLine::Ended(why) => show_end(*why, out),
+        LogLine::Cached { what, value } => show_cached(what, value.as_ref(), out),
     }
 }
 

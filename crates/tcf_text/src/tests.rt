@@ -1,5 +1,6 @@
 //! Log lines of each kind, with the texts that the format gives them.
 use crate::{EndWhy, LogLine, RefusedWhy, write_line, write_log};
+use cached_lines::CachedWhat;
 use std::alloc::{AllocError, Global};
 use std::test::Fail;
 use tcf_outside::Octets;
@@ -103,6 +104,38 @@ fn log_of_ends(alloc: Global) -> Result<Vec<LogLine>, AllocError> {
     Ok(log)
 }
 
+fn log_of_a_cache(alloc: Global) -> Result<Vec<LogLine>, AllocError> {
+    let mut log = Vec::new(alloc);
+    log.push(LogLine::Cached {
+        what: CachedWhat::Bytes {
+            id: Octets::from_slice(alloc, b"P1")?,
+            addr: 0,
+            size: 65_536,
+        },
+        value: Some(Octets::from_slice(alloc, b"0a%20")?),
+    })?;
+    for what in [
+        CachedWhat::Context {
+            id: Octets::from_slice(alloc, b"%\x7f")?,
+        },
+        CachedWhat::State {
+            id: Octets::from_slice(alloc, b"P1.1")?,
+        },
+        CachedWhat::Register {
+            id: Octets::from_slice(alloc, b"P1.1.pc")?,
+        },
+        CachedWhat::Properties {
+            id: Octets::from_slice(alloc, b"b1")?,
+        },
+        CachedWhat::Status {
+            id: Octets::from_slice(alloc, b"-")?,
+        },
+    ] {
+        log.push(LogLine::Cached { what, value: None })?;
+    }
+    Ok(log)
+}
+
 #[test]
 fn shows_each_log_line(rt: HostRuntime) -> Result<(), Fail> {
     let mut text = Octets::new(rt.alloc());
@@ -118,5 +151,11 @@ fn shows_each_log_line(rt: HostRuntime) -> Result<(), Fail> {
     let ends =
         b"refused Full\nrefused NotOpen\nrefused TooLong\nrefused Spent\nunknown 3 -\nunknown 4 100\nclosed 5\nend own\nend eos\nend ended\nend protocol\nend stream\n";
     assert_eq!(rt; text.as_slice(), ends.as_slice());
+
+    let mut text = Octets::new(rt.alloc());
+    write_log(log_of_a_cache(rt.alloc())?.as_slice(), &mut text)?;
+    let cached =
+        b"cached bytes P1 0 65536 0a%20\ncached context %25%7F none\ncached state P1.1 none\ncached register P1.1.pc none\ncached properties b1 none\ncached status - none\n";
+    assert_eq!(rt; text.as_slice(), cached.as_slice());
     Ok(())
 }

@@ -31,6 +31,3 @@ pub use values::{
     BpProps, BpStatus, ContextData, Contexts, Instance, Instances, Location, Locations, Place,
     ProcessData, Props, Range, Ranges, RunState,
 };
-
-#[cfg(test)]
-mod tests;

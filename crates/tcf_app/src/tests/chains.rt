@@ -323,6 +323,73 @@ fn each_client_hears_the_one_target(rt: HostRuntime) -> Result<(), Fail> {
     Ok(())
 }
 
+const GET_4: &str = "send A Memory get \"P1\" 0 1 4 0\nrounds 1\ncached A state P1.1\n";
+
+static CACHES: [Run; 2] = [
+    // Another client writes a register: the pc is not known any more, and what is known besides stays.
+    (
+        &[
+            IMAGE_A,
+            TWO_OPENED,
+            START_A,
+            "rounds 1\n",
+            GET_4,
+            "send B Registers set \"P1.1.pc\" \"BAAAAA==\"\nrounds 2\ncached A state P1.1\ncached A bytes P1 0 4\n",
+        ],
+        &[
+            "chain A\nhello 1 ",
+            HELLO,
+            "sent 1 Processes start \"\" \"a\" [] [] true\nevent 3 RunControl contextAdded [",
+            PROC_A,
+            ",",
+            THREAD,
+            "]\nevent 3 RunControl contextSuspended \"P1.1\" 0 \"Suspended\" {}\nresult 1 3 - {\"Attached\":true,\"CanTerminate\":true,\"ID\":\"P1\",\"Name\":\"a\"}\nsent 2 Memory get \"P1\" 0 1 4 0\nresult 2 4 \"kwBQAA==\" - null\ncached state P1.1 suspended 0 \"Suspended\" {}\nevent 5 Registers registerChanged \"P1.1.pc\"\ncached state P1.1 suspended ? \"Suspended\" {}\ncached bytes P1 0 4 93005000\nchain B\nhello 2 ",
+            HELLO,
+            "event 3 RunControl contextAdded [",
+            PROC_A,
+            ",",
+            THREAD,
+            "]\nevent 3 RunControl contextSuspended \"P1.1\" 0 \"Suspended\" {}\nsent 1 Registers set \"P1.1.pc\" \"BAAAAA==\"\nevent 5 Registers registerChanged \"P1.1.pc\"\nresult 1 5 -\nhistory 5\n",
+        ],
+    ),
+    // Another client lets the thread run: its memory is not known any more.
+    (
+        &[
+            IMAGE_A,
+            TWO_OPENED,
+            START_A,
+            "rounds 1\n",
+            GET_4,
+            "send B RunControl resume \"P1.1\" 0 1\nrounds 2\ncached A state P1.1\ntimes 1 cached A bytes P1 0 4\n",
+        ],
+        &[
+            "chain A\nhello 1 ",
+            HELLO,
+            "sent 1 Processes start \"\" \"a\" [] [] true\nevent 3 RunControl contextAdded [",
+            PROC_A,
+            ",",
+            THREAD,
+            "]\nevent 3 RunControl contextSuspended \"P1.1\" 0 \"Suspended\" {}\nresult 1 3 - {\"Attached\":true,\"CanTerminate\":true,\"ID\":\"P1\",\"Name\":\"a\"}\nsent 2 Memory get \"P1\" 0 1 4 0\nresult 2 4 \"kwBQAA==\" - null\ncached state P1.1 suspended 0 \"Suspended\" {}\nevent 5 RunControl contextResumed \"P1.1\"\ncached state P1.1 running\ncached bytes P1 0 4 none\nchain B\nhello 2 ",
+            HELLO,
+            "event 3 RunControl contextAdded [",
+            PROC_A,
+            ",",
+            THREAD,
+            "]\nevent 3 RunControl contextSuspended \"P1.1\" 0 \"Suspended\" {}\nsent 1 RunControl resume \"P1.1\" 0 1\nevent 5 RunControl contextResumed \"P1.1\"\nresult 1 5 -\nhistory 5\n",
+        ],
+    ),
+];
+
+#[test]
+fn what_a_cache_shows_is_true(rt: HostRuntime) -> Result<(), Fail> {
+    for run in &CACHES {
+        let (exit, told, want) = outcome(&rt, run)?;
+        assert_eq!(rt; exit, Exit::Done);
+        assert_eq!(rt; told.as_slice(), want.as_slice());
+    }
+    Ok(())
+}
+
 /// The base64 text of the whole memory of a process with the image `a`: its 12 bytes, and zeros.
 fn memory_text(alloc: Global) -> Result<Vec<u8>, Fail> {
     let mut text = Vec::from_slice(alloc, b"\"kwBQACMgEABzABAA")?;

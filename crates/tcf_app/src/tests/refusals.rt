@@ -74,16 +74,16 @@ fn the_first_bad_line_is_named(rt: HostRuntime) -> Result<(), Fail> {
 }
 
 static FORMS: [Refusal; 8] = [
-    // Value-adds and what a client keeps can't be asked for.
+    // Value-adds can't be asked for, nor more of a memory than there can be, or a thread's.
     ("chain B 1\n", 2, TextFault::Form, "bad line 2: form\n"),
     (
-        "cached A state P1.1\n",
+        "cached A bytes P1 0 65537\n",
         2,
         TextFault::Form,
         "bad line 2: form\n",
     ),
     (
-        "times 2 cached A state P1.1\n",
+        "times 2 cached A bytes P1.1 0 1\n",
         2,
         TextFault::Form,
         "bad line 2: form\n",

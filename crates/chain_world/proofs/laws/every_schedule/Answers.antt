@@ -1,4 +1,5 @@
 use Rattle.chain_world.proofs.Agents.{Laws}
+use Rattle.chain_world.proofs.Coherent.{KeepingLaws, coherent}
 use Rattle.chain_world.proofs.Faithful.{faithful}
 use Rattle.chain_world.proofs.Hearing.{HeardLaws, waits_so}
 use Rattle.chain_world.proofs.Rightly.{ends_rightly}
@@ -60,4 +61,9 @@ returns c =
       stays = c.a_closed_end_stays_closed.ensures.stays;
       plain = c.only_what_is_sent_is_queued.ensures.plain;
     } in
-    record { faithful = faithful laws heard; ends = ends_rightly ending }
+    let keeping : KeepingLaws = record {
+      shown = c.the_cache_keeps_what_the_log_says.ensures;
+      heard = c.what_was_heard_is_true.ensures.heard;
+      nothing = c.what_was_heard_is_true.ensures.nothing;
+    } in
+    record { faithful = faithful laws heard; ends = ends_rightly ending; coherent = coherent laws heard keeping }

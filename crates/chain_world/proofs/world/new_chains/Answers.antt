@@ -4,5 +4,5 @@ use Rattle.chain_world.proofs.world.new_chains.Goals as goal
 
 pub loop-counter-preserved : goal.loop-counter-preserved
 loop-counter-preserved c =
-    one_more_chain c.loop-counter.chains.items c.push.new.self.items c.new.result c.args.count c.loop-counter.counter c.loop-counter-test.true c.in_ok-push.ensures.items c.new.ensures
+    one_more_chain c.loop-counter.chains.items c.push.new.self.items c.in_ok-new.field-0 c.args.count c.loop-counter.counter c.loop-counter-test.true c.in_ok-push.ensures.items c.in_ok-new.ensures
     ∙ c.loop-counter.invariant

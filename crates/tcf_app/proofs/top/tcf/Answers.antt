@@ -1,4 +1,4 @@
-use Rattle.tcf_app.proofs.Derived.{done_of, bad_of, bad_stream_of, long_of, front_of, complete_of, usage_of, usage_only_of, file_fault_of}
+use Rattle.tcf_app.proofs.Derived.{FileLaws, done_of, bad_of, bad_stream_of, long_of, front_of, complete_of, usage_of, usage_only_of, file_fault_of}
 use Rattle.tcf_app.proofs.top.tcf.Goals as goal
 
 pub returns-clause-usage : goal.returns-clause-usage
@@ -17,7 +17,9 @@ pub returns-clause-file_fault_text : goal.returns-clause-file_fault_text
 returns-clause-file_fault_text g c = λ is. (file_fault_of _ _ _ _ _ _ _ c.run_words.ensures.runs is).1
 
 pub returns-clause-done : goal.returns-clause-done
-returns-clause-done g c = done_of c.every_file.ensures.faithful c.every_file.ensures.ends _ _ _ _ _ _ _ c.run_words.ensures.runs
+returns-clause-done g c =
+    let laws : FileLaws = record { faithful = c.every_file.ensures.faithful; ends = c.every_file.ensures.ends; coherent = c.every_file.ensures.coherent } in
+    done_of laws _ _ _ _ _ _ _ c.run_words.ensures.runs
 
 pub returns-clause-bad_text : goal.returns-clause-bad_text
 returns-clause-bad_text g c = bad_of _ _ _ _ _ _ _ c.run_words.ensures.runs

@@ -1,5 +1,5 @@
 use Rattle.std.proofs.Common.{◌≡◌, false, arith}
-use Rattle.tcf_schedules.specs.Words.{is_word}
+use Rattle.line_words.specs.Words.{is_word}
 use Rattle.tcf_schedules.proofs.Cuts.{bad_word}
 use Rattle.tcf_schedules.proofs.words.are_words.Goals as goal
 

@@ -1,6 +1,7 @@
 use Rattle.std.proofs.Common.{◌≡◌, length}
 use Rattle.std.specs.List.{list_all}
-use Rattle.tcf_schedules.specs.Words.{words_of, is_word}
+use Rattle.line_words.specs.Words.{is_word}
+use Rattle.tcf_schedules.specs.Words.{words_of}
 use Rattle.tcf_schedules.proofs.words.are_words.Given as goal
 
 abbrev pub invariant-loop-word : goal.invariant-loop-word

@@ -1,0 +1,4 @@
+pub mod Lessons
+pub mod Cached
+pub mod Places
+pub mod Shown

@@ -1,0 +1,13 @@
+//! Tests that show of the crates of the target what no clause says.
+#![tactic(auto)]
+
+#[cfg(test)]
+mod data;
+#[cfg(test)]
+mod hub;
+#[cfg(test)]
+mod points;
+#[cfg(test)]
+mod processes;
+#[cfg(test)]
+mod steering;

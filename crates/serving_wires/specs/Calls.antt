@@ -1,0 +1,73 @@
+-- What calls of the wires say, in order.
+use Rattle.std.specs.Prelude.{ℕ, ◌≡◌, ◌==◌, Bool, false, List, [], ◌∷◌, ◌++◌, count_by, fold, length, nat_lt, Option, option_map, Ok, if◌then◌else◌}
+use Rattle.std.specs.List.{flat_map, list_any}
+use Rattle.tcf_wires.specs.Event.{faults_after, faults_after_put}
+use Rattle.tcf_wires.specs.declared.call.WireCall.{WireCall}
+use Rattle.tcf_wires.specs.declared.call.WireCall.TheVariants.{Listened, Connected, Gave, Offered, Shut}
+use Rattle.tcf_wires.specs.declared.event.Put.TheVariants.{Took, Lost}
+use Rattle.tcf_wires.specs.declared.event.WireEvent.{WireEvent}
+
+-- the events that came, in order
+abbrev pub event_of : WireCall → List WireEvent
+event_of (Gave (Ok event)) = event ∷ []
+event_of call = []
+
+abbrev pub events_in : List WireCall → List WireEvent
+events_in calls = flat_map event_of calls
+
+-- a put on this channel was lost
+abbrev pub loses_on : ℕ → WireCall → Bool
+loses_on channel (Offered number piece Lost) = number == channel
+loses_on channel call = false
+
+abbrev pub was_lost : ℕ → List WireCall → Bool
+was_lost channel calls = list_any (loses_on channel) calls
+
+-- how often this channel was shut
+abbrev pub shuts : ℕ → WireCall → Bool
+shuts channel (Shut number) = number == channel
+shuts channel call = false
+
+abbrev pub shut_count : ℕ → List WireCall → ℕ
+shut_count channel calls = count_by (shuts channel) calls
+
+-- the last put on this channel since the last event took less than it was offered
+abbrev pub falls_short : ℕ → Bool → WireCall → Bool
+falls_short channel was_short (Gave (Ok event)) = false
+falls_short channel was_short (Offered number piece (Took count)) = if number == channel then nat_lt count (length piece) else was_short
+falls_short channel was_short call = was_short
+
+abbrev pub is_short : ℕ → List WireCall → Bool
+is_short channel calls = fold (falls_short channel) false calls
+
+-- the channels of the puts since the last event, in order
+abbrev pub put_on : List ℕ → WireCall → List ℕ
+put_on channels (Gave (Ok event)) = []
+put_on channels (Offered channel piece answer) = channels ++ channel ∷ []
+put_on channels call = channels
+
+abbrev pub channels_put : List WireCall → List ℕ
+channels_put calls = fold put_on [] calls
+
+-- the count of faults after these calls: failed ones and lost puts count
+abbrev pub faults_by : ℕ → WireCall → ℕ
+faults_by count (Listened address answer) = faults_after answer count
+faults_by count (Connected peer answer) = faults_after answer count
+faults_by count (Gave answer) = faults_after answer count
+faults_by count (Offered channel piece answer) = faults_after_put answer count
+faults_by count (Shut channel) = count
+
+abbrev pub faults_through : List WireCall → ℕ → ℕ
+faults_through calls count = fold faults_by count calls
+
+-- the calls that are told, after these
+abbrev pub with_calls : List WireCall → Option (List WireCall) → Option (List WireCall)
+with_calls calls told = option_map (λ earlier. earlier ++ calls) told
+
+-- Calls were made that fit: they are what the wires tell more, where they tell their calls, and what made the count of
+-- faults rise.
+pub record Makes (Fits : List WireCall → Type 0) (told_before told_after : Option (List WireCall)) (faults_before faults_after : ℕ) : Type 0 where
+  pub calls : List WireCall
+  pub fits : Fits calls
+  pub told : told_after ≡ with_calls calls told_before
+  pub faults : faults_after ≡ faults_through calls faults_before

@@ -1,0 +1,11 @@
+pub mod Intake
+pub mod OutboxValue
+pub mod Calls
+pub mod Outbox
+pub mod Row
+pub mod Rows
+pub mod Slots
+pub mod Lending
+pub mod Serving
+pub mod Following
+pub mod Laws

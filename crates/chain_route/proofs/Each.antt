@@ -1,0 +1,56 @@
+-- What each hop of a way carries, and apart from it what was made last: there the end below the next hop was never used.
+use Rattle.std.proofs.Common.{◌≡◌, ◌+◌, ◌<◌, ℕ, zero, suc, List, [], ◌∷◌, ◌++◌, length, take, Some, None, refl, ap, subst, arith}
+use Rattle.std.specs.Prelude.{slice_get, slice_set}
+use Rattle.std.specs.List.{AllByRecursion}
+use Rattle.chain_route.specs.Carrying.{AllCarry, End, HopCarries, IsDead, IsUnused, Made, end_above, end_below, past_of}
+use Rattle.chain_route.specs.declared.hop.Hop.{Hop}
+use Rattle.chain_route.proofs.Adds.{end_of_none}
+
+-- ---- Each hop carries, whatever is known of an end that was never used
+
+abbrev pub EachCarries : End → List Hop → List Made → End → Type 0
+EachCarries lower [] made agent = ⊥
+EachCarries lower (hop ∷ hops) (m ∷ made) agent = HopCarries hop lower (end_below (past_of m)) × EachCarries (end_above (past_of m)) hops made agent
+EachCarries lower (hop ∷ []) [] agent = HopCarries hop lower agent
+EachCarries lower (hop ∷ hops) [] agent = AllByRecursion IsDead (hop ∷ hops)
+
+-- ---- The value-add that was made last hasn't connected
+
+abbrev pub IsUnconnected : Made → Type 0
+IsUnconnected m = (past_of m).connection ≡ None
+
+abbrev pub LastUnconnected : List Made → Type 0
+LastUnconnected [] = Unit {0}
+LastUnconnected (m ∷ []) = IsUnconnected m
+LastUnconnected (m ∷ n ∷ made) = LastUnconnected (n ∷ made)
+
+pub last_kept : (i : ℕ) (made : List Made) (m next : Made) → slice_get made i ≡ Some m → (IsUnconnected m → IsUnconnected next) → LastUnconnected made → LastUnconnected (slice_set made i next)
+last_kept i [] m next there keeps last = last
+last_kept zero (x ∷ []) m next there keeps last = let is : x ≡ m = cc in keeps (subst IsUnconnected is last)
+last_kept zero (x ∷ y ∷ made) m next there keeps last = last
+last_kept (suc i) (x ∷ []) m next there keeps last = last
+last_kept (suc zero) (x ∷ y ∷ made) m next there keeps last = last_kept zero (y ∷ made) m next there keeps last
+last_kept (suc (suc i)) (x ∷ y ∷ made) m next there keeps last = last_kept (suc i) (y ∷ made) m next there keeps last
+
+-- one that is made anew is the last
+pub last_anew : (at : ℕ) (made : List Made) (m next new : Made) → slice_get made at ≡ Some m → IsUnconnected new → LastUnconnected (slice_set (take (suc at) made ++ new ∷ []) at next)
+last_anew at [] m next new there is = absurd cc
+last_anew zero (x ∷ made) m next new there is = is
+last_anew (suc at) (x ∷ []) m next new there is = absurd cc
+last_anew (suc zero) (x ∷ y ∷ made) m next new there is = last_anew zero (y ∷ made) m next new there is
+last_anew (suc (suc at)) (x ∷ y ∷ made) m next new there is = last_anew (suc at) (y ∷ made) m next new there is
+
+-- ---- So its end above was never used
+
+unused_above : (m : Made) → IsUnconnected m → IsUnused (end_above (past_of m))
+unused_above m none = let is = end_of_none (past_of m) none in (ap (λ e. e.gave) is, ap (λ e. e.came) is)
+
+pub all_carry : (lower : End) (hops : List Hop) (made : List Made) (agent : End) → (length made ≡ 0 → 1 < length hops → IsUnused lower) → (length made + 1 < length hops → LastUnconnected made)
+    → EachCarries lower hops made agent → AllCarry lower hops made agent
+all_carry lower [] made agent unused last all = absurd all
+all_carry lower (hop ∷ []) [] agent unused last all = all
+all_carry lower (hop ∷ h ∷ hops) [] agent unused last all = (unused refl (omega arith), all)
+all_carry lower (hop ∷ hops) (m ∷ []) agent unused last all =
+    (all.0, all_carry (end_above (past_of m)) hops [] agent (λ none more. unused_above m (last (omega (arith, more)))) (λ more. tt) all.1)
+all_carry lower (hop ∷ hops) (m ∷ n ∷ made) agent unused last all =
+    (all.0, all_carry (end_above (past_of m)) hops (n ∷ made) agent (λ none more. absurd (omega (arith, none))) (λ more. last (omega (arith, more))) all.1)

@@ -1,0 +1,97 @@
+-- Calls of an end that neither bring bytes nor give out what is queued, and one call that does.
+use Rattle.std.proofs.Common.{◌≡◌, ℕ, List, [], ◌∷◌, ◌++◌, Option, refl, ap, ◌∙◌, append-nil}
+use Rattle.std.specs.Prelude.{slice_get}
+use Rattle.std.specs.List.{AllByRecursion}
+use Rattle.std.proofs.lemmas.List.Concat.{flat_map-append}
+use Rattle.channel_core.specs.Arrivals.{Marked, arrived, arrived_in, marked}
+use Rattle.channel_core.specs.EndValue.{EndValue}
+use Rattle.channel_core.specs.Laws.{listed}
+use Rattle.channel_core.specs.Runs.{Call, Run, after_call, after_calls, begun, closing, commanding, delivering, draining, ending, putting_out, sending, taking}
+use Rattle.channel_core.specs.declared.held.Outgoing.{Outgoing}
+use Rattle.chain_route.specs.Carrying.{End}
+use Rattle.chain_route.proofs.Flows.{came_more, gave_more}
+
+abbrev pub IsIdle : {T : Type 0} → Call T → Type 0
+IsIdle (delivering piece mark) = ⊥
+IsIdle ending = Unit {0}
+IsIdle taking = Unit {0}
+IsIdle (commanding service name body tag mark) = Unit {0}
+IsIdle (sending message mark) = Unit {0}
+IsIdle putting_out = ⊥
+IsIdle closing = Unit {0}
+IsIdle draining = Unit {0}
+
+abbrev pub AreIdle : {T : Type 0} → List (Call T) → Type 0
+AreIdle calls = AllByRecursion IsIdle calls
+
+pub all_append : {A : Type 0} → (P : A → Type 0) (xs ys : List A) → AllByRecursion P xs → AllByRecursion P ys → AllByRecursion P (xs ++ ys)
+all_append P [] ys first second = second
+all_append P (x ∷ xs) ys first second = (first.0, all_append P xs ys first.1 second)
+
+pub calls_more : {T : Type 0} → (calls more : List (Call T)) (r : Run T) → after_calls (calls ++ more) r ≡ after_calls more (after_calls calls r)
+calls_more [] more r = refl
+calls_more (call ∷ calls) more r = calls_more calls more (after_call call r)
+
+idle_gave : {T : Type 0} → (call : Call T) (r : Run T) → IsIdle call → (after_call call r).past.given ≡ r.past.given
+idle_gave (delivering piece mark) r idle = absurd idle
+idle_gave ending r idle = refl
+idle_gave taking r idle = refl
+idle_gave (commanding service name body tag mark) r idle = refl
+idle_gave (sending message mark) r idle = refl
+idle_gave putting_out r idle = absurd idle
+idle_gave closing r idle = refl
+idle_gave draining r idle = refl
+
+idle_given : {T : Type 0} → (calls : List (Call T)) (r : Run T) → AreIdle calls → (after_calls calls r).past.given ≡ r.past.given
+idle_given [] r idle = refl
+idle_given (call ∷ calls) r idle = idle_given calls (after_call call r) idle.1 ∙ idle_gave call r idle.0
+
+idle_arrived : {T : Type 0} → (calls : List (Call T)) → AreIdle calls → arrived calls ≡ []
+idle_arrived [] idle = refl
+idle_arrived (delivering piece mark ∷ calls) idle = absurd idle.0
+idle_arrived (ending ∷ calls) idle = idle_arrived calls idle.1
+idle_arrived (taking ∷ calls) idle = idle_arrived calls idle.1
+idle_arrived (commanding service name body tag mark ∷ calls) idle = idle_arrived calls idle.1
+idle_arrived (sending message mark ∷ calls) idle = idle_arrived calls idle.1
+idle_arrived (putting_out ∷ calls) idle = absurd idle.0
+idle_arrived (closing ∷ calls) idle = idle_arrived calls idle.1
+idle_arrived (draining ∷ calls) idle = idle_arrived calls idle.1
+
+pub arrived_more : {T : Type 0} → (calls more : List (Call T)) → arrived (calls ++ more) ≡ arrived calls ++ arrived more
+arrived_more calls more = flat_map-append arrived_in calls more
+
+-- ---- What an end gave, and what came to it, by its calls
+
+abbrev pub end_by : {T : Type 0} → EndValue T → List (Call T) → End
+end_by e calls = record { gave = (after_calls calls (begun e)).past.given; came = arrived calls }
+
+abbrev ends : List Outgoing → List Marked → End
+ends gave came = record { gave = gave; came = came }
+
+end_is : (gave also : List Outgoing) (came too : List Marked) → gave ≡ also → came ≡ too → ends gave came ≡ ends also too
+end_is gave also came too p q = ap (λ x. ends x came) p ∙ ap (λ x. ends also x) q
+
+-- idle calls change neither
+pub idle_end : {T : Type 0} → (e : EndValue T) (calls more : List (Call T)) → AreIdle more → end_by e (calls ++ more) ≡ end_by e calls
+idle_end e calls more idle =
+    let r = after_calls calls (begun e) in
+    end_is (after_calls (calls ++ more) (begun e)).past.given r.past.given (arrived (calls ++ more)) (arrived calls)
+    (ap (λ x. x.past.given) (calls_more calls more (begun e)) ∙ idle_given more r idle)
+    (arrived_more calls more ∙ ap (λ bs. arrived calls ++ bs) (idle_arrived more idle) ∙ append-nil (arrived calls))
+
+-- the first message that is queued goes out
+pub put_end : {T : Type 0} → (e : EndValue T) (calls : List (Call T)) (out : Outgoing) (rest : List Outgoing) → (after_calls calls (begun e)).end.queued ≡ out ∷ rest
+    → end_by e (calls ++ putting_out ∷ []) ≡ gave_more (out ∷ []) (end_by e calls)
+put_end e calls out rest is =
+    let r = after_calls calls (begun e) in
+    end_is (after_calls (calls ++ putting_out ∷ []) (begun e)).past.given (r.past.given ++ out ∷ []) (arrived (calls ++ putting_out ∷ [])) (arrived calls)
+    (ap (λ x. x.past.given) (calls_more calls (putting_out ∷ []) (begun e)) ∙ ap (λ os. r.past.given ++ listed (slice_get os 0)) is)
+    (arrived_more calls (putting_out ∷ []) ∙ append-nil (arrived calls))
+
+-- a piece comes
+pub come_end : {T : Type 0} → (e : EndValue T) (calls : List (Call T)) (piece : List ℕ) (mark : Option ℕ) → end_by e (calls ++ delivering piece mark ∷ []) ≡ came_more (marked piece mark) (end_by e calls)
+come_end e calls piece mark =
+    let r = after_calls calls (begun e) in
+    end_is (after_calls (calls ++ delivering piece mark ∷ []) (begun e)).past.given r.past.given (arrived (calls ++ delivering piece mark ∷ [])) (arrived calls ++ marked piece mark)
+    (ap (λ x. x.past.given) (calls_more calls (delivering piece mark ∷ []) (begun e)))
+    (arrived_more calls (delivering piece mark ∷ []) ∙ ap (λ bs. arrived calls ++ bs) (append-nil (marked piece mark)))

@@ -1,0 +1,177 @@
+-- What happens on a hop: it carries on.
+use Rattle.std.proofs.Common.{◌≡◌, ℕ, Bool, true, false, cond, List, [], ◌++◌, refl, sym, ap, ◌∙◌, subst, append_assoc, append-nil}
+use Rattle.channel_core.specs.Arrivals.{IsFront, Marked, bytes_of}
+use Rattle.channel_core.specs.declared.held.Outgoing.{Outgoing}
+use Rattle.value_node.specs.declared.states.Side.{Side}
+use Rattle.value_node.specs.declared.states.Side.TheVariants.{Below, Above}
+use Rattle.chain_route.specs.Carrying.{End, HopCarries, IsDead}
+use Rattle.chain_route.specs.Hop.{arrived_at, connected, lane_to, no_hop, sent_down, sent_from, sent_up}
+use Rattle.chain_route.specs.Lane.{arriving, staying}
+use Rattle.chain_route.specs.declared.hop.Hop.{Hop}
+use Rattle.chain_route.proofs.Bytes.{arrives_first, bytes_more, front_more, front_same}
+
+abbrev pub fresh_end : End
+fresh_end = record { gave = []; came = [] }
+
+abbrev pub gave_more : List Outgoing → End → End
+gave_more outs e = record e { gave = e.gave ++ outs }
+
+abbrev pub came_more : List Marked → End → End
+came_more bytes e = record e { came = e.came ++ bytes }
+
+not_both : {b : Bool} → b ≡ true → b ≡ false → ⊥
+not_both is isnt = let no : true ≡ false = sym is ∙ isnt in cc
+
+-- what is given behind what was given
+more_given : (e : End) (outs : List Outgoing) → bytes_of (e.gave ++ outs) ≡ bytes_of e.gave ++ bytes_of outs
+more_given e outs = bytes_more (λ mark. mark) e.gave outs
+
+front_given : (came : List Marked) (e : End) (outs : List Outgoing) → IsFront came (bytes_of e.gave) → IsFront came (bytes_of (e.gave ++ outs))
+front_given came e outs front =
+    front_same came (bytes_of e.gave ++ bytes_of outs) (bytes_of (e.gave ++ outs)) (sym (more_given e outs)) (front_more came (bytes_of e.gave) (bytes_of outs) front)
+
+lane_given : (came : List Marked) (e : End) (outs flight : List Outgoing) → bytes_of e.gave ≡ came ++ bytes_of flight → bytes_of (e.gave ++ outs) ≡ came ++ bytes_of (flight ++ outs)
+lane_given came e outs flight is =
+    more_given e outs ∙ ap (λ bs. bs ++ bytes_of outs) is ∙ append_assoc came (bytes_of flight) (bytes_of outs)
+    ∙ ap (λ bs. came ++ bs) (sym (bytes_more (λ mark. mark) flight outs))
+
+-- ---- a node gives
+
+pub up_given : (outs : List Outgoing) (hop : Hop) (lower upper : End) → HopCarries hop lower upper → HopCarries (sent_up outs hop) (gave_more outs lower) upper
+up_given outs hop lower upper h = by_flag hop.is_live refl
+  where
+    by_flag : (flag : Bool) → hop.is_live ≡ flag → HopCarries (cond flag (record hop { up = hop.up ++ outs }) hop) (gave_more outs lower) upper
+    by_flag true live = record {
+      up = λ _. lane_given upper.came lower outs hop.up (h.up live);
+      up_front = front_given upper.came lower outs h.up_front;
+      down = h.down;
+      down_front = h.down_front;
+      dead = λ none. absurd (not_both live none);
+    }
+    by_flag false dead = record {
+      up = λ live. absurd (not_both live dead);
+      up_front = front_given upper.came lower outs h.up_front;
+      down = h.down;
+      down_front = h.down_front;
+      dead = h.dead;
+    }
+
+pub down_given : (outs : List Outgoing) (hop : Hop) (lower upper : End) → HopCarries hop lower upper → HopCarries (sent_down outs hop) lower (gave_more outs upper)
+down_given outs hop lower upper h = by_flag hop.is_live refl
+  where
+    by_flag : (flag : Bool) → hop.is_live ≡ flag → HopCarries (cond flag (record hop { down = hop.down ++ outs }) hop) lower (gave_more outs upper)
+    by_flag true live = record {
+      up = h.up;
+      up_front = h.up_front;
+      down = λ _. lane_given lower.came upper outs hop.down (h.down live);
+      down_front = front_given lower.came upper outs h.down_front;
+      dead = λ none. absurd (not_both live none);
+    }
+    by_flag false dead = record {
+      up = h.up;
+      up_front = h.up_front;
+      down = λ live. absurd (not_both live dead);
+      down_front = front_given lower.came upper outs h.down_front;
+      dead = h.dead;
+    }
+
+-- ---- bytes arrive
+
+split_flight : (count : ℕ) (flight : List Outgoing) (came gave : List Marked) → gave ≡ came ++ bytes_of flight → gave ≡ (came ++ bytes_of (arriving count flight)) ++ bytes_of (staying count flight)
+split_flight count flight came gave is =
+    is ∙ ap (λ bs. came ++ bs) (arrives_first (λ mark. mark) count flight)
+    ∙ sym (append_assoc came (bytes_of (arriving count flight)) (bytes_of (staying count flight)))
+
+none_more : (came all : List Marked) → IsFront came all → IsFront (came ++ []) all
+none_more came all p = subst (λ bs. IsFront bs all) (sym (append-nil came)) p
+
+-- a hop that isn't live has nothing in flight
+pub up_came : (count : ℕ) (hop : Hop) (lower upper : End) → HopCarries hop lower upper → HopCarries (record hop { up = staying count hop.up }) lower (came_more (bytes_of (arriving count hop.up)) upper)
+up_came count hop lower upper h = by_flag hop.is_live refl
+  where
+    After : Hop → Type 0
+    After x = HopCarries (record x { up = staying count x.up }) lower (came_more (bytes_of (arriving count x.up)) upper)
+
+    by_flag : (flag : Bool) → hop.is_live ≡ flag → After hop
+    by_flag true live =
+        let split = split_flight count hop.up upper.came (bytes_of lower.gave) (h.up live) in
+        record {
+          up = λ _. split;
+          up_front = (bytes_of (staying count hop.up), split);
+          down = h.down;
+          down_front = h.down_front;
+          dead = λ none. absurd (not_both live none);
+        }
+    by_flag false dead = subst After (sym (h.dead dead)) (record {
+      up = λ live. absurd cc;
+      up_front = none_more upper.came (bytes_of lower.gave) h.up_front;
+      down = λ live. absurd cc;
+      down_front = h.down_front;
+      dead = λ _. refl;
+    })
+
+pub down_came : (count : ℕ) (hop : Hop) (lower upper : End) → HopCarries hop lower upper → HopCarries (record hop { down = staying count hop.down }) (came_more (bytes_of (arriving count hop.down)) lower) upper
+down_came count hop lower upper h = by_flag hop.is_live refl
+  where
+    After : Hop → Type 0
+    After x = HopCarries (record x { down = staying count x.down }) (came_more (bytes_of (arriving count x.down)) lower) upper
+
+    by_flag : (flag : Bool) → hop.is_live ≡ flag → After hop
+    by_flag true live =
+        let split = split_flight count hop.down lower.came (bytes_of upper.gave) (h.down live) in
+        record {
+          up = h.up;
+          up_front = h.up_front;
+          down = λ _. split;
+          down_front = (bytes_of (staying count hop.down), split);
+          dead = λ none. absurd (not_both live none);
+        }
+    by_flag false dead = subst After (sym (h.dead dead)) (record {
+      up = λ live. absurd cc;
+      up_front = h.up_front;
+      down = λ live. absurd cc;
+      down_front = none_more lower.came (bytes_of upper.gave) h.down_front;
+      dead = λ _. refl;
+    })
+
+-- ---- it is cut, or begins anew
+
+pub cut_carries : (hop : Hop) (lower upper : End) → HopCarries hop lower upper → HopCarries no_hop lower upper
+cut_carries hop lower upper h = record {
+  up = λ live. absurd cc;
+  up_front = h.up_front;
+  down = λ live. absurd cc;
+  down_front = h.down_front;
+  dead = λ _. refl;
+}
+
+pub begun_carries : HopCarries (connected []) fresh_end fresh_end
+begun_carries = record {
+  up = λ _. refl;
+  up_front = ([], refl);
+  down = λ _. refl;
+  down_front = ([], refl);
+  dead = λ none. absurd cc;
+}
+
+-- ---- at a side of a value-add
+
+abbrev pub CarriesAt : Side → Hop → End → End → Type 0
+CarriesAt Below hop own other = HopCarries hop other own
+CarriesAt Above hop own other = HopCarries hop own other
+
+pub side_given : (side : Side) (outs : List Outgoing) (hop : Hop) (own other : End) → CarriesAt side hop own other → CarriesAt side (sent_from side outs hop) (gave_more outs own) other
+side_given Below outs hop own other h = down_given outs hop other own h
+side_given Above outs hop own other h = up_given outs hop own other h
+
+pub side_came : (side : Side) (count : ℕ) (hop : Hop) (own other : End) → CarriesAt side hop own other → CarriesAt side (arrived_at side count hop) (came_more (bytes_of (arriving count (lane_to side hop))) own) other
+side_came Below count hop own other h = up_came count hop other own h
+side_came Above count hop own other h = down_came count hop own other h
+
+pub dead_given : (side : Side) (outs : List Outgoing) (hop : Hop) → IsDead hop → IsDead (sent_from side outs hop)
+dead_given Below outs hop dead = let P : Hop → Type 0 = λ x. sent_from Below outs x ≡ no_hop in subst P (sym dead) refl
+dead_given Above outs hop dead = let P : Hop → Type 0 = λ x. sent_from Above outs x ≡ no_hop in subst P (sym dead) refl
+
+pub dead_came : (side : Side) (count : ℕ) (hop : Hop) → IsDead hop → IsDead (arrived_at side count hop)
+dead_came Below count hop dead = let P : Hop → Type 0 = λ x. arrived_at Below count x ≡ no_hop in subst P (sym dead) refl
+dead_came Above count hop dead = let P : Hop → Type 0 = λ x. arrived_at Above count x ≡ no_hop in subst P (sym dead) refl

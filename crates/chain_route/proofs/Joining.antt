@@ -1,0 +1,92 @@
+-- The client connects, and the agent is reached: a way carries on.
+use Rattle.std.proofs.Common.{◌≡◌, ℕ, ◌-◌, ◌<◌, nat_lt, Bool, true, false, cond, List, [], ◌∷◌, length, refl, sym, ap, ◌∙◌, subst, arith, ltb-true}
+use Rattle.std.specs.List.{AllByRecursion}
+use Rattle.value_node.specs.RelayLaws.{AfterAllCalls, EndsAreRuns}
+use Rattle.value_node.specs.ValueValue.{ValueValue}
+use Rattle.value_node.specs.declared.states.Side.{Side}
+use Rattle.value_node.specs.declared.states.Side.TheVariants.{Below}
+use Rattle.chain_route.specs.Carrying.{HopCarries, IsDead, end_of}
+use Rattle.chain_route.specs.Hop.{connected as hop_connected}
+use Rattle.chain_route.specs.Passing.{carried}
+use Rattle.chain_route.specs.Route.{connected, joined, last_of, made_at, peer_of, with_carried}
+use Rattle.chain_route.specs.RouteValue.{RouteValue}
+use Rattle.chain_route.specs.Runs.{Past, RouteRun, joined_by}
+use Rattle.chain_route.specs.declared.hop.Hop.{Hop}
+use Rattle.chain_route.proofs.Each.{EachCarries}
+use Rattle.chain_route.proofs.Anew.{dead_above, fresh_made}
+use Rattle.chain_route.proofs.Flows.{begun_carries, fresh_end}
+use Rattle.chain_route.proofs.Holding.{Holds, on_pair_holds, with_route}
+use Rattle.chain_route.proofs.Stepping.{carried_step}
+
+pub carried_holds : AfterAllCalls EndsAreRuns → (side : Side) (at : ℕ) (r : RouteRun) → Holds r → Holds (with_route (with_carried side at r.route) r)
+carried_holds runs side at r h = on_pair_holds side at (carried side) r (λ m hop has_end. carried_step runs side m hop) h
+
+-- ---- The client connects
+
+abbrev wants : Past → Past
+wants p = record p { is_wanted = true }
+
+abbrev joins_now : Past → Past
+joins_now p = record p { is_joined = true }
+
+-- to the agent: a channel is wanted
+wanted_holds : (r : RouteRun) → r.past.is_joined ≡ false → Holds r → Holds (record { route = r.route; past = wants r.past })
+wanted_holds r none h = record {
+  made = h.made;
+  adds = h.adds;
+  way = h.way;
+  unmade = h.unmade;
+  unjoined = h.unjoined;
+  unreached = h.unreached;
+  none_earlier = h.none_earlier;
+  wanted = λ is. none;
+  unstarted = h.unstarted;
+  started = h.started;
+  earlier = h.earlier;
+}
+
+-- to a value-add, which is made
+first_made : (hops : List Hop) (adds : List ValueValue) (p : Past) → p.is_joined ≡ false → p.is_wanted ≡ false → 0 < length hops - 1
+    → Holds (record { route = record { hops = hops; adds = adds }; past = p })
+    → Holds (record { route = joined 0 (made_at 0 (record { hops = hops; adds = adds })); past = joins_now p })
+first_made [] adds p none unwanted more h = absurd h.way.all
+first_made (x ∷ []) adds p none unwanted more h = absurd (omega (arith, more))
+first_made (x ∷ g ∷ hops) adds p none unwanted more h =
+    let route : RouteValue = record { hops = x ∷ g ∷ hops; adds = adds } in
+    let unreached : p.is_reached ≡ false = h.unstarted none in
+    let no_client : end_of p.client ≡ fresh_end = ap end_of (h.unjoined none) in
+    let no_agent : end_of p.agent ≡ fresh_end = ap end_of (h.unreached unreached) in
+    let dead : AllByRecursion IsDead (x ∷ g ∷ hops) = subst (λ ms. EachCarries (end_of p.client) (x ∷ g ∷ hops) ms (end_of p.agent)) (h.unmade none) h.way.all in
+    record {
+      made = fresh_made (peer_of 0 route) ∷ [];
+      adds = refl;
+      way = record {
+        all = subst (λ e. EachCarries (end_of p.client) (hop_connected [] ∷ g ∷ hops) (fresh_made (peer_of 0 route) ∷ []) e) (sym no_agent)
+            (subst (λ e. HopCarries (hop_connected []) e fresh_end) (sym no_client) begun_carries, dead_above g hops dead.1);
+        connected = λ is. absurd (both is unreached);
+        reached = λ is. absurd (both is unreached);
+        unreached = h.way.unreached;
+        unconnected = λ more. refl;
+      };
+      unmade = λ is. absurd cc;
+      unjoined = λ is. absurd cc;
+      unreached = h.unreached;
+      none_earlier = h.none_earlier;
+      wanted = λ is. absurd (both is unwanted);
+      unstarted = λ is. absurd cc;
+      started = λ is more. omega arith;
+      earlier = h.earlier;
+    }
+  where
+    both : {b : Bool} → b ≡ true → b ≡ false → ⊥
+    both is isnt = let no : true ≡ false = sym is ∙ isnt in cc
+
+pub joins_kept : AfterAllCalls EndsAreRuns → (r : RouteRun) → r.past.is_joined ≡ false → r.past.is_wanted ≡ false → Holds r → Holds (joined_by (connected 0 r.route) r.past)
+joins_kept runs r none unwanted h = by_flag (nat_lt 0 (last_of r.route)) refl
+  where
+    r1 : RouteRun
+    r1 = record { route = joined 0 (made_at 0 r.route); past = joins_now r.past }
+
+    by_flag : (flag : Bool) → nat_lt 0 (last_of r.route) ≡ flag → Holds (joined_by (cond flag (false, with_carried Below 0 (joined 0 (made_at 0 r.route))) (true, r.route)) r.past)
+    by_flag true is = carried_holds runs Below 0 r1 (first_made r.route.hops r.route.adds r.past none unwanted (ltb-true 0 (last_of r.route) is) h)
+    by_flag false is = wanted_holds r none h

@@ -1,0 +1,97 @@
+-- What a way carries, over any calls: each hop carries what one of its nodes gave it to the other one.
+use Rattle.std.specs.Prelude.{ℕ, ◌≡◌, ◌+◌, Bool, true, false, List, [], ◌∷◌, ◌++◌, length, map, unwrap_or, IsSome}
+use Rattle.std.specs.List.{AllByRecursion}
+use Rattle.channel_core.specs.Arrivals.{IsFront, Marked, arrived, bytes_of}
+use Rattle.channel_core.specs.declared.held.Outgoing.{Outgoing}
+use Rattle.value_node.specs.RelayLaws.{IsGivenUp}
+use Rattle.value_node.specs.Runs as value
+use Rattle.value_node.specs.Runs.{UpperCall, above, below, upper_after}
+use Rattle.value_node.specs.ValueValue.{ValueValue}
+use Rattle.chain_route.specs.Hop.{no_hop}
+use Rattle.chain_route.specs.Runs.{Call, Past, RouteRun, Talk, after_all, no_calls}
+use Rattle.chain_route.specs.declared.hop.Hop.{Hop}
+
+-- ---- one end of a hop: what its node gave, and the bytes that came to it, with their marks
+
+pub record End : Type 0 where
+  pub gave : List Outgoing
+  pub came : List Marked
+
+abbrev pub end_of : Talk → End
+end_of talk = record { gave = talk.gave; came = bytes_of talk.got }
+
+-- a value-add's, below it since it was made, and above it since its connection
+abbrev pub past_after : List ℕ → List value.Call → value.Past
+past_after peer calls = (value.after_all calls (value.no_calls peer)).past
+
+abbrev pub end_below : value.Past → End
+end_below p = record { gave = (below p).past.given; came = arrived (p.until_bound ++ p.since_bound) }
+
+abbrev pub end_above : value.Past → End
+end_above p = record { gave = (above p).past.given; came = arrived (unwrap_or p.connection []) }
+
+-- it gave nothing, and nothing came to it
+abbrev pub IsUnused : End → Type 0
+IsUnused e = (e.gave ≡ []) × (e.came ≡ [])
+
+-- ---- a hop
+
+-- on a live hop what one end gave is what came to the other and then what is in flight; else it came as far as it came
+pub record HopCarries (hop : Hop) (lower upper : End) : Type 0 where
+  pub up : hop.is_live ≡ true → bytes_of lower.gave ≡ upper.came ++ bytes_of hop.up
+  pub up_front : IsFront upper.came (bytes_of lower.gave)
+  pub down : hop.is_live ≡ true → bytes_of upper.gave ≡ lower.came ++ bytes_of hop.down
+  pub down_front : IsFront lower.came (bytes_of upper.gave)
+  pub dead : hop.is_live ≡ false → hop ≡ no_hop  -- nothing is in flight on one that isn't live
+
+abbrev pub IsDead : Hop → Type 0
+IsDead hop = hop ≡ no_hop
+
+-- ---- a way
+
+-- a value-add that was made, by its calls
+pub record Made : Type 0 where
+  pub peer : List ℕ
+  pub calls : List value.Call
+
+abbrev pub past_of : Made → value.Past
+past_of m = past_after m.peer m.calls
+
+abbrev pub value_of : Made → ValueValue
+value_of m = (value.after_all m.calls (value.no_calls m.peer)).value
+
+-- the hops from this end on up to the agent's. Where value-adds are yet to be made, no hop beyond the last one that was made
+-- is live, and the end below these hops was never used
+abbrev pub AllCarry : End → List Hop → List Made → End → Type 0
+AllCarry lower [] made agent = ⊥
+AllCarry lower (hop ∷ hops) (m ∷ made) agent = HopCarries hop lower (end_below (past_of m)) × AllCarry (end_above (past_of m)) hops made agent
+AllCarry lower (hop ∷ []) [] agent = HopCarries hop lower agent
+AllCarry lower (hop ∷ hops) [] agent = IsUnused lower × AllByRecursion IsDead (hop ∷ hops)
+
+-- a value-add above which another was made, or the agent was reached, has connected
+abbrev pub HaveConnected : List Made → Bool → Type 0
+HaveConnected [] is_reached = Unit {0}
+HaveConnected (m ∷ []) is_reached = is_reached ≡ true → IsSome (past_of m).connection
+HaveConnected (m ∷ made) is_reached = IsSome (past_of m).connection × HaveConnected made is_reached
+
+-- the agent is reached when all value-adds were made
+abbrev pub IsReachedLast : List Made → List Hop → Past → Type 0
+IsReachedLast made hops p = p.is_reached ≡ true → length hops ≡ length made + 1
+
+-- what came to a channel of the agent that the way gave up: it was given by an end that took no Hello
+pub record IsGoneBy (got : List Outgoing) : Type 0 where
+  pub calls : List UpperCall
+  pub gone : IsGivenUp calls
+  pub front : IsFront (bytes_of got) (bytes_of (upper_after calls).past.given)
+
+pub record Carries (r : RouteRun) : Type 0 where
+  pub made : List Made
+  pub adds : r.route.adds ≡ map value_of made
+  pub hops : AllCarry (end_of r.past.client) r.route.hops made (end_of r.past.agent)
+  pub connected : HaveConnected made r.past.is_reached
+  pub reached : IsReachedLast made r.route.hops r.past
+  pub earlier : AllByRecursion IsGoneBy r.past.earlier
+
+-- After every list of calls of a new way, with so many value-adds.
+abbrev pub CarriesAfterAllCalls : Type 0
+CarriesAfterAllCalls = (adds : ℕ) (calls : List Call) → Carries (after_all calls (no_calls adds))

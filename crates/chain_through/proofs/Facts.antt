@@ -1,0 +1,61 @@
+-- The laws of the crates below, and what they say of each value-add.
+use Rattle.std.proofs.Common.{List, [], ◌++◌, Option, Some, None, refl, arith}
+use Rattle.std.specs.Prelude.{IfSome, unwrap_or}
+use Rattle.tcf_message.specs.Fault.{IsReadBack}
+use Rattle.tcf_message.specs.Message.{IsWellFormed, event}
+use Rattle.channel_core.specs.QueueLaws.{QueuesNoCommand, QueuesWhatIsSent}
+use Rattle.channel_core.specs.ReceivingLaws.{CanBeRead, QueuesReadable, ReceivesInOrder, SendsReadable, WhereAQueueComes}
+use Rattle.channel_core.specs.RunLaws.{AfterAllCalls as AfterEndCalls, CountsAnswers, QueuesInOrder, SendsInOrder}
+use Rattle.channel_core.specs.Wire.{hello, locator}
+use Rattle.value_node.specs.ForwardedValue.{ForwardedValue}
+use Rattle.value_node.specs.OwnLaws.{AnswersItself, AsksNothingBelow}
+use Rattle.value_node.specs.RelayLaws.{AfterAllCalls, EndsAreRuns, ForwardsInOrder, PassesAllOn}
+use Rattle.value_node.specs.Runs.{UpperCall, ValueRun, above, after_all, below, no_calls}
+use Rattle.value_node.specs.Value.{value_services}
+use Rattle.chain_route.specs.Carrying.{Made, past_of}
+
+pub record Laws : Type 0 where
+  pub lower_order : AfterEndCalls {T = Unit} QueuesInOrder
+  pub upper_order : AfterEndCalls {T = ForwardedValue} QueuesInOrder
+  pub lower_readable : QueuesReadable Unit
+  pub upper_readable : QueuesReadable ForwardedValue
+  pub lower_receives : WhereAQueueComes {T = Unit} ReceivesInOrder
+  pub upper_receives : WhereAQueueComes {T = ForwardedValue} ReceivesInOrder
+  pub lower_none : QueuesNoCommand Unit
+  pub upper_plain : QueuesWhatIsSent ForwardedValue
+  pub upper_sends : AfterEndCalls {T = ForwardedValue} SendsInOrder
+  pub upper_counts : AfterEndCalls {T = ForwardedValue} CountsAnswers
+  pub read_back : IsReadBack
+  pub runs : AfterAllCalls EndsAreRuns
+  pub forwards : AfterAllCalls ForwardsInOrder
+  pub passes : AfterAllCalls PassesAllOn
+  pub answers : AfterAllCalls AnswersItself
+  pub asks_nothing : AfterAllCalls AsksNothingBelow
+
+-- ---- A value-add that was made
+
+abbrev pub run_of : Made → ValueRun
+run_of m = after_all m.calls (no_calls m.peer)
+
+-- the calls of its upper end since its last connection
+abbrev pub calls_above : Made → List UpperCall
+calls_above m = unwrap_or (past_of m).connection []
+
+pub value_hello : IsWellFormed (event locator hello value_services)
+unfolding locator hello value_services
+value_hello = ((refl, refl), omega arith)
+
+readable_by : (connection : Option (List UpperCall)) → IfSome connection SendsReadable → SendsReadable (unwrap_or connection [])
+readable_by None is = tt
+readable_by (Some calls) is = is
+
+module _ (laws : Laws) (m : Made) where
+  pub facts_of : EndsAreRuns (run_of m)
+  facts_of = laws.runs m.peer m.calls
+
+  -- what its ends queue can be read
+  pub below_read : CanBeRead (below (past_of m))
+  below_read = laws.lower_readable value_services None ((past_of m).until_bound ++ (past_of m).since_bound) value_hello facts_of.below_readable
+
+  pub above_read : CanBeRead (above (past_of m))
+  above_read = laws.upper_readable value_services None (calls_above m) value_hello (readable_by (past_of m).connection facts_of.above_readable)

@@ -1,0 +1,16 @@
+pub mod Fronts
+pub mod Spelling
+pub mod Queues
+pub mod Decimals
+pub mod Numbered
+pub mod Taking
+pub mod Renaming
+pub mod Owning
+pub mod Facts
+pub mod Refusing
+pub mod Few
+pub mod Above
+pub mod Below
+pub mod Ways
+pub mod Bound
+pub mod Through

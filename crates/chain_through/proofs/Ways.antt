@@ -1,0 +1,168 @@
+-- What comes through a way, with how many commands were sent; and the way without value-adds.
+use Rattle.std.proofs.Common.{◌≡◌, ℕ, suc, ◌+◌, ◌-◌, ◌≤◌, Bool, true, false, ◌⊎◌, inl, inr, List, [], ◌∷◌, ◌++◌, length, map, refl, sym, ap, ◌∙◌, subst, arith, append-nil}
+use Rattle.channel_core.specs.Arrivals.{AreSpoken, IsFront, Spoken, bytes_of, marked, queue_of}
+use Rattle.value_node.specs.Asked.{Asked}
+use Rattle.value_node.specs.OwnLaws.{IsBoundBy}
+use Rattle.value_node.specs.OwnMessages.{BeginsWithHello, IsOwn}
+use Rattle.chain_route.specs.Carrying.{End, HopCarries, IsUnused, Made, past_of}
+use Rattle.chain_route.specs.declared.hop.Hop.{Hop}
+use Rattle.chain_through.specs.Calling.{Answering, Calls, Says, all_asking, entering, greeting}
+use Rattle.chain_through.specs.Through.{AreBound, Through, content, numbered, passed, top_end}
+use Rattle.chain_through.proofs.Fronts.{front_flat, front_length, front_then}
+use Rattle.chain_through.proofs.Numbered.{numbered_append}
+use Rattle.chain_through.proofs.Owning.{own_behind}
+use Rattle.chain_through.proofs.Renaming.{passed_same}
+
+pub record WayBound (made : List Made) (took behind left top : List Asked) (own said heard : List Spoken) : Type 0 where
+  pub all : left ≡ []
+  pub goes_up : IsFront (map content top) (map content behind)
+  pub comes_down : IsFront heard (own ++ passed (numbered (length took + 1) behind) said)
+  pub alone : made ≡ [] → (took ≡ []) × (own ≡ [])
+  pub bound_by : (made ≡ [] → ⊥) → IsBoundBy own (numbered 1 took)
+
+pub record WayUnbound (top : List Asked) (own heard : List Spoken) : Type 0 where
+  pub silent : top ≡ []
+  pub comes_down : IsFront heard own
+
+-- the first commands were taken by the value-adds themselves, and were sent, as were those that came up to the agent
+pub record Way (commands : List Asked) (lower : End) (calls : Calls commands lower.gave) (made : List Made) (said : List Spoken) : Type 0 where
+  pub top : List Asked
+  pub goes_up : Calls top (top_end lower made).gave
+  pub top_few : length (entering goes_up.spoken) - 1 ≤ length (entering calls.spoken) - 1
+  pub down : List Spoken
+  pub is_ended : Bool
+  pub formed : AreSpoken down
+  pub comes_down : IsFront lower.came (bytes_of (queue_of down is_ended))
+  pub answering : Answering 1 (length (entering calls.spoken) - 1) (entering down)
+  pub own : List Spoken
+  pub own_formed : AreSpoken own
+  pub begins : BeginsWithHello own
+  pub took : List Asked
+  pub behind : List Asked
+  pub split : commands ≡ took ++ behind
+  pub few : length took ≤ length (entering calls.spoken) - 1
+  pub left : List Asked
+  pub is_own : IsOwn (numbered 1 took) own left
+  pub bound : AreBound made → WayBound made took behind left top own said (entering down)
+  pub unbound : (AreBound made → ⊥) → WayUnbound top own (entering down)
+
+pub through_way : (commands : List Asked) (lower : End) (calls : Calls commands lower.gave) (made : List Made) (said : List Spoken) → Way commands lower calls made said → Through commands lower calls made said
+through_way commands lower calls made said w =
+    let others = numbered (1 + length w.took) w.behind in
+    let commands_are : numbered 1 commands ≡ numbered 1 w.took ++ others = ap (λ cs. numbered 1 cs) w.split ∙ numbered_append 1 w.took w.behind in
+    record {
+      top = w.top;
+      goes_up = w.goes_up;
+      down = w.down;
+      is_ended = w.is_ended;
+      formed = w.formed;
+      comes_down = w.comes_down;
+      answering = w.answering;
+      own = w.own;
+      own_formed = w.own_formed;
+      begins = w.begins;
+      bound = λ all. let b = w.bound all in record {
+        answered = w.took;
+        later = w.behind;
+        split = w.split;
+        goes_up = b.goes_up;
+        is_own = subst (λ cs. IsOwn (numbered 1 w.took) w.own cs) b.all w.is_own;
+        comes_down = b.comes_down;
+        alone = b.alone;
+        bound_by = b.bound_by;
+      };
+      unbound = λ none. let u = w.unbound none in record {
+        left = w.left ++ others;
+        is_own = subst (λ cs. IsOwn cs w.own (w.left ++ others)) (sym commands_are) (own_behind (numbered 1 w.took) w.left others w.own w.is_own);
+        silent = u.silent;
+        comes_down = u.comes_down;
+      };
+    }
+
+-- ---- Whether all are bound
+
+pub are_bound : (made : List Made) → AreBound made ⊎ (AreBound made → ⊥)
+are_bound [] = inl tt
+are_bound (m ∷ made) = by_flag (past_of m).is_bound refl (are_bound made)
+  where
+    by_flag : (flag : Bool) → (past_of m).is_bound ≡ flag → AreBound made ⊎ (AreBound made → ⊥) → AreBound (m ∷ made) ⊎ (AreBound (m ∷ made) → ⊥)
+    by_flag true is (inl all) = inl (is, all)
+    by_flag true is (inr none) = inr (λ all. none all.1)
+    by_flag false is rest = inr (λ all. let one : true ≡ false = sym all.0 ∙ is in cc)
+
+-- ---- So many commands are sent
+
+length_asking : (n : ℕ) (commands : List Asked) → length (all_asking n commands) ≡ length commands
+length_asking n [] = refl
+length_asking n (c ∷ commands) = ap suc (length_asking (n + 1) commands)
+
+pub calls_few : (commands : List Asked) (end : End) (calls : Calls commands end.gave) → length (entering calls.spoken) - 1 ≤ length commands
+calls_few commands end calls =
+    let front : length (entering calls.spoken) ≤ length (greeting calls.services ∷ all_asking 1 commands) = front_length (entering calls.spoken) (greeting calls.services ∷ all_asking 1 commands) calls.says in
+    let many : length (all_asking 1 commands) ≡ length commands = length_asking 1 commands in
+    omega arith
+
+-- ---- Without value-adds
+
+pub way_none : (hop : Hop) (lower agent : End) (commands : List Asked) (said : List Spoken) → HopCarries hop lower agent → (calls : Calls commands lower.gave) → Says said agent.gave
+    → Answering 1 (length (entering calls.spoken) - 1) said → Way commands lower calls [] said
+way_none hop lower agent commands said carries calls says answering =
+    let queue = queue_of says.spoken says.is_ended in
+    let gave : IsFront (bytes_of agent.gave) (bytes_of queue) = front_flat (λ o. marked o.bytes o.mark) agent.gave queue says.front in
+    record {
+      top = commands;
+      goes_up = calls;
+      top_few = omega arith;
+      down = says.spoken;
+      is_ended = says.is_ended;
+      formed = says.formed;
+      comes_down = front_then lower.came (bytes_of agent.gave) (bytes_of queue) carries.down_front gave;
+      answering = subst (λ xs. Answering 1 (length (entering calls.spoken) - 1) xs) (sym says.says) answering;
+      own = [];
+      own_formed = tt;
+      begins = tt;
+      took = [];
+      behind = commands;
+      split = refl;
+      few = omega arith;
+      left = [];
+      is_own = refl;
+      bound = λ all. record {
+        all = refl;
+        goes_up = ([], sym (append-nil (map content commands)));
+        comes_down = ([], passed_same commands 1 (length (entering calls.spoken) - 1) said answering ∙ sym says.says ∙ sym (append-nil (entering says.spoken)));
+        alone = λ none. (refl, refl);
+        bound_by = λ some. absurd (some refl);
+      };
+      unbound = λ none. absurd (none tt);
+    }
+
+-- no connection leads to the agent
+pub way_unused : (lower : End) (commands : List Asked) (said : List Spoken) → IsUnused lower → (calls : Calls commands lower.gave) → Way commands lower calls [] said
+way_unused lower commands said unused calls = record {
+  top = commands;
+  goes_up = calls;
+  top_few = omega arith;
+  down = [];
+  is_ended = false;
+  formed = tt;
+  comes_down = ([], sym (append-nil lower.came ∙ unused.1));
+  answering = tt;
+  own = [];
+  own_formed = tt;
+  begins = tt;
+  took = [];
+  behind = commands;
+  split = refl;
+  few = omega arith;
+  left = [];
+  is_own = refl;
+  bound = λ all. record {
+    all = refl;
+    goes_up = ([], sym (append-nil (map content commands)));
+    comes_down = (passed (numbered 1 commands) said, refl);
+    alone = λ none. (refl, refl);
+    bound_by = λ some. absurd (some refl);
+  };
+  unbound = λ none. absurd (none tt);
+}

@@ -1,0 +1,194 @@
+-- The calls of a turn, and those of a whole run.
+use Rattle.std.proofs.Common.{◌≡◌, ℕ, ◌+◌, ◌<◌, ◌≤◌, List, [], ◌∷◌, ◌++◌, length, Option, Some, None, refl, sym, ap, ◌∙◌, subst, arith}
+use Rattle.std.specs.Prelude.{Result, Ok, Err, IfErr, IsErrAnd}
+use Rattle.tcf_schedules.specs.declared.script.ScriptLine.{ScriptLine}
+use Rattle.tcf_wires.specs.Event.{faults_after}
+use Rattle.tcf_wires.specs.Told.{noted}
+use Rattle.tcf_wires.specs.declared.call.WireCall.{WireCall}
+use Rattle.tcf_wires.specs.declared.call.WireCall.TheVariants.{Connected, Gave}
+use Rattle.tcf_wires.specs.declared.event.WireEvent.{WireEvent}
+use Rattle.tcf_wires.specs.declared.event.WireRefusal.{WireRefusal}
+use Rattle.tcf_wires.specs.declared.event.WireRefusal.TheVariants.{Failed, NoMemory}
+use Rattle.serving_wires.specs.Calls.{Makes, events_in, with_calls}
+use Rattle.serving_wires.specs.Outbox.{Flushes, IsGivenUp, before_put}
+use Rattle.serving_wires.proofs.Making.{makes_both, makes_nothing, makes_one, makes_so}
+use Rattle.client_serving.specs.Run.{RunsClient, no_calls, not_connected}
+use Rattle.client_serving.specs.Serving.{after_event, begun}
+use Rattle.client_serving.specs.ServingValue.{ServingValue}
+use Rattle.client_serving.specs.Turn.{BreaksOff, IsTurn, failed, given_up, no_event}
+use Rattle.client_serving.specs.Wire.{WireLaws}
+use Rattle.client_serving.specs.declared.end.ClientEnd.{ClientEnd}
+use Rattle.client_serving.specs.declared.end.ClientEnd.TheVariants.{Turns}
+use Rattle.client_serving.specs.declared.end.ClientRun.{ClientRun}
+use Rattle.client_serving.proofs.Finishing.{begins_not, begun_given_up, put_ends, turn_breaks, turns_end}
+use Rattle.client_serving.proofs.Running.{connect}
+use Rattle.client_serving.proofs.Turning.{IsPut, IsReady, begun_count, begun_put, begun_ready, put_ready, turn_count, turn_puts}
+
+-- ---- what is answered in place of a value
+
+pub on_refusal : {A : Type 0} → (P Q : WireRefusal → Type 0) (result : Result A WireRefusal) → IsErrAnd result Q → ((refusal : WireRefusal) → Q refusal → P refusal) → IfErr result P
+on_refusal P Q (Ok value) is then = absurd is
+on_refusal P Q (Err refusal) is then = then refusal is
+
+pub by_refusal : {A : Type 0} → (P : Result A WireRefusal → Type 0) (Q : WireRefusal → Type 0) (result : Result A WireRefusal) → IsErrAnd result Q → ((refusal : WireRefusal) → Q refusal → P (Err refusal)) → P result
+by_refusal P Q (Ok value) is then = absurd is
+by_refusal P Q (Err refusal) is then = then refusal is
+
+-- ---- a turn
+
+-- no event comes
+pub turn_without : (old : ServingValue) (refusal : WireRefusal) (told_before told_after : Option (List WireCall)) (before after : ℕ)
+    → told_after ≡ noted {A = WireEvent} (Err refusal) (Gave (Err refusal)) told_before → after ≡ faults_after {A = WireEvent} (Err refusal) before
+    → Makes (BreaksOff old refusal) told_before told_after before after
+turn_without old Failed told_before told_after before after told faults =
+    makes_one (BreaksOff old Failed) (Gave (Err Failed)) told_before told_after before after (failed refl refl) told faults
+turn_without old NoMemory told_before told_after before after told faults =
+    makes_nothing (BreaksOff old NoMemory) told_before told_after before after (no_event refl refl) told faults
+
+-- memory is wanting for what the client does with it
+pub turn_unheard : (old : ServingValue) (refusal : WireRefusal) (event : WireEvent) (told_before told_after : Option (List WireCall)) (before after : ℕ)
+    → refusal ≡ NoMemory → told_after ≡ with_calls (Gave (Ok event) ∷ []) told_before → after ≡ before
+    → Makes (BreaksOff old refusal) told_before told_after before after
+turn_unheard old refusal event told_before told_after before after is told faults =
+    makes_one (BreaksOff old refusal) (Gave (Ok event)) told_before told_after before after (given_up event [] is refl (before_put refl)) told faults
+
+one_event : (event : WireEvent) (told_before told_after : Option (List WireCall)) (before after : ℕ)
+    → told_after ≡ with_calls (Gave (Ok event) ∷ []) told_before → after ≡ before → Makes (λ calls. calls ≡ Gave (Ok event) ∷ []) told_before told_after before after
+one_event event told_before told_after before after told faults =
+    makes_one (λ calls. calls ≡ Gave (Ok event) ∷ []) (Gave (Ok event)) told_before told_after before after refl told faults
+
+-- for what is put, or behind that
+pub turn_unput : (old mid : ServingValue) (refusal : WireRefusal) (event : WireEvent) (told_before told_mid told_after : Option (List WireCall)) (before between after : ℕ)
+    → refusal ≡ NoMemory → told_mid ≡ with_calls (Gave (Ok event) ∷ []) told_before → between ≡ before → mid ≡ after_event event old
+    → Makes (IsGivenUp mid.outbox) told_mid told_after between after → Makes (BreaksOff old refusal) told_before told_after before after
+turn_unput old mid refusal event told_before told_mid told_after before between after is told faults heeded m =
+    makes_both (λ calls. calls ≡ Gave (Ok event) ∷ []) (IsGivenUp mid.outbox) (BreaksOff old refusal) told_before told_mid told_after before between after
+    (λ first rest one gives_up. given_up event rest is (ap (λ cs. cs ++ rest) one) (subst (λ (s : ServingValue). IsGivenUp s.outbox rest) heeded gives_up))
+    (one_event event told_before told_mid before between told faults) m
+
+pub turn_done : (old mid new : ServingValue) (event : WireEvent) (told_before told_mid told_after : Option (List WireCall)) (before between after : ℕ)
+    → told_mid ≡ with_calls (Gave (Ok event) ∷ []) told_before → between ≡ before → mid ≡ after_event event old → new ≡ record mid { outbox = new.outbox }
+    → Makes (Flushes mid.outbox new.outbox) told_mid told_after between after → Makes (IsTurn old new) told_before told_after before after
+turn_done old mid new event told_before told_mid told_after before between after told faults heeded same m =
+    makes_both (λ calls. calls ≡ Gave (Ok event) ∷ []) (Flushes mid.outbox new.outbox) (IsTurn old new) told_before told_mid told_after before between after
+    (λ first rest one flush. record {
+      event = event;
+      puts = rest;
+      called = ap (λ cs. cs ++ rest) one;
+      put = subst (λ (s : ServingValue). Flushes s.outbox new.outbox rest) heeded flush;
+      same = same ∙ ap (λ (s : ServingValue). record s { outbox = new.outbox }) heeded;
+    })
+    (one_event event told_before told_mid before between told faults) m
+
+-- ---- a run: it connects
+
+pub run_unconnected : (script : List ScriptLine) (address : List ℕ) (turns : ℕ) (refusal : WireRefusal) (told_before told_after : Option (List WireCall)) (before after : ℕ)
+    → told_after ≡ noted {A = ℕ} (Err refusal) (Connected address (Err refusal)) told_before → after ≡ faults_after {A = ℕ} (Err refusal) before
+    → Makes (RunsClient script address turns (Err refusal)) told_before told_after before after
+run_unconnected script address turns Failed told_before told_after before after told faults =
+    makes_one (RunsClient script address turns (Err Failed)) (Connected address (Err Failed)) told_before told_after before after (not_connected refl refl) told faults
+run_unconnected script address turns NoMemory told_before told_after before after told faults =
+    makes_nothing (RunsClient script address turns (Err NoMemory)) told_before told_after before after (no_calls refl refl) told faults
+
+one_connect : (channel : ℕ) (address : List ℕ) (told_before told_after : Option (List WireCall)) (before after : ℕ)
+    → told_after ≡ with_calls (connect channel address) told_before → after ≡ before → Makes (λ calls. calls ≡ connect channel address) told_before told_after before after
+one_connect channel address told_before told_after before after told faults =
+    makes_one (λ calls. calls ≡ connect channel address) (Connected address (Ok channel)) told_before told_after before after refl told faults
+
+pub run_unbegun : WireLaws → (channel : ℕ) (script : List ScriptLine) (address : List ℕ) (turns : ℕ) (refusal : WireRefusal) (told_before told_after : Option (List WireCall)) (before after : ℕ)
+    → refusal ≡ NoMemory → told_after ≡ with_calls (connect channel address) told_before → after ≡ before
+    → Makes (RunsClient script address turns (Err refusal)) told_before told_after before after
+run_unbegun laws channel script address turns refusal told_before told_after before after is told faults =
+    makes_so (λ calls. calls ≡ connect channel address) (RunsClient script address turns (Err refusal)) told_before told_after before after
+    (λ calls one. rw (is, one) (begins_not laws channel address script turns)) (one_connect channel address told_before told_after before after told faults)
+
+-- the script ends the run
+
+pub run_unput : WireLaws → (channel : ℕ) (script : List ScriptLine) (address : List ℕ) (turns : ℕ) (refusal : WireRefusal) (last : ClientEnd) (s : ServingValue)
+    (told_before told_mid told_after : Option (List WireCall)) (before between after : ℕ)
+    → refusal ≡ NoMemory → told_mid ≡ with_calls (connect channel address) told_before → between ≡ before → s ≡ begun channel script → s.end ≡ Some last
+    → Makes (IsGivenUp s.outbox) told_mid told_after between after → Makes (RunsClient script address turns (Err refusal)) told_before told_after before after
+run_unput laws channel script address turns refusal last s told_before told_mid told_after before between after is told faults begins ended m =
+    makes_both (λ calls. calls ≡ connect channel address) (IsGivenUp s.outbox) (RunsClient script address turns (Err refusal)) told_before told_mid told_after before between after
+    (λ first rest one gives_up.
+    let given = subst (λ (t : ServingValue). IsGivenUp t.outbox rest) begins gives_up in
+    let runs = begun_given_up laws channel address script turns last rest (sym (ap (λ (t : ServingValue). t.end) begins) ∙ ended) given in
+    rw (is, one) runs)
+    (one_connect channel address told_before told_mid before between told faults) m
+
+pub run_at_once : WireLaws → (channel : ℕ) (script : List ScriptLine) (address : List ℕ) (turns : ℕ) (run : ClientRun) (last : ClientEnd) (s new : ServingValue)
+    (told_before told_mid told_after : Option (List WireCall)) (before between after : ℕ)
+    → told_mid ≡ with_calls (connect channel address) told_before → between ≡ before → s ≡ begun channel script → s.end ≡ Some last → new ≡ record s { outbox = new.outbox }
+    → run.end ≡ last → run.client ≡ new.client
+    → Makes (Flushes s.outbox new.outbox) told_mid told_after between after → Makes (RunsClient script address turns (Ok run)) told_before told_after before after
+run_at_once laws channel script address turns run last s new told_before told_mid told_after before between after told faults begins ended same ends client m =
+    makes_both (λ calls. calls ≡ connect channel address) (Flushes s.outbox new.outbox) (RunsClient script address turns (Ok run)) told_before told_mid told_after before between after
+    (λ first rest one flush.
+    let put = begun_put laws channel address script last s new rest begins ended flush same in
+    let over : new.end ≡ Some last = ap (λ (t : ServingValue). t.end) same ∙ ended in
+    let none = begun_count laws channel address script s new rest begins flush in
+    let runs = put_ends laws channel address script turns last run new (connect channel address ++ rest) put (omega (arith, none)) over ends client in
+    rw one runs)
+    (one_connect channel address told_before told_mid before between told faults) m
+
+-- ---- turns
+
+-- so many events came, and the next one is waited for
+pub record Waits (script : List ScriptLine) (address : List ℕ) (count : ℕ) (s : ServingValue) (calls : List WireCall) : Type 0 where
+  pub channel : ℕ
+  pub ready : IsReady channel address script s calls
+  pub counted : length (events_in calls) ≡ count
+
+-- so many came, and all is put
+pub record Turned (script : List ScriptLine) (address : List ℕ) (count : ℕ) (s : ServingValue) (calls : List WireCall) : Type 0 where
+  pub channel : ℕ
+  pub put : IsPut channel address script s calls
+  pub counted : length (events_in calls) ≡ count
+
+pub run_begins : WireLaws → (channel : ℕ) (script : List ScriptLine) (address : List ℕ) (s : ServingValue) (told_before told_after : Option (List WireCall)) (before after : ℕ)
+    → told_after ≡ with_calls (connect channel address) told_before → after ≡ before → s ≡ begun channel script → s.end ≡ None
+    → Makes (Waits script address 0 s) told_before told_after before after
+run_begins laws channel script address s told_before told_after before after told faults begins none =
+    makes_so (λ calls. calls ≡ connect channel address) (Waits script address 0 s) told_before told_after before after
+    (λ calls one.
+    let ready = begun_ready laws channel address script (sym (ap (λ (t : ServingValue). t.end) begins) ∙ none) in
+    rw (begins, one) (record { channel = channel; ready = ready; counted = refl }))
+    (one_connect channel address told_before told_after before after told faults)
+
+pub turned : WireLaws → (script : List ScriptLine) (address : List ℕ) (count : ℕ) (s new : ServingValue) (told_before told_mid told_after : Option (List WireCall)) (before between after : ℕ)
+    → Makes (Waits script address count s) told_before told_mid before between → Makes (IsTurn s new) told_mid told_after between after
+    → Makes (Turned script address (count + 1) new) told_before told_after before after
+turned laws script address count s new told_before told_mid told_after before between after =
+    makes_both (Waits script address count s) (IsTurn s new) (Turned script address (count + 1) new) told_before told_mid told_after before between after
+    (λ first rest waits turn. record {
+      channel = waits.channel;
+      put = turn_puts laws waits.channel address script s new first rest waits.ready turn;
+      counted = turn_count laws waits.channel address script s new first rest waits.ready turn ∙ ap (λ n. n + 1) waits.counted;
+    })
+
+pub goes_on : (script : List ScriptLine) (address : List ℕ) (count : ℕ) (s : ServingValue) (told_before told_after : Option (List WireCall)) (before after : ℕ)
+    → s.end ≡ None → Makes (Turned script address count s) told_before told_after before after → Makes (Waits script address count s) told_before told_after before after
+goes_on script address count s told_before told_after before after none =
+    makes_so (Turned script address count s) (Waits script address count s) told_before told_after before after
+    (λ calls old. record { channel = old.channel; ready = put_ready old.channel address script s calls old.put none; counted = old.counted })
+
+pub run_ends : WireLaws → (script : List ScriptLine) (address : List ℕ) (turns count : ℕ) (run : ClientRun) (last : ClientEnd) (s : ServingValue) (told_before told_after : Option (List WireCall)) (before after : ℕ)
+    → count ≤ turns → s.end ≡ Some last → run.end ≡ last → run.client ≡ s.client
+    → Makes (Turned script address count s) told_before told_after before after → Makes (RunsClient script address turns (Ok run)) told_before told_after before after
+run_ends laws script address turns count run last s told_before told_after before after within ended ends client =
+    makes_so (Turned script address count s) (RunsClient script address turns (Ok run)) told_before told_after before after
+    (λ calls old. put_ends laws old.channel address script turns last run s calls old.put (omega (arith, old.counted, within)) ended ends client)
+
+pub run_breaks : WireLaws → (script : List ScriptLine) (address : List ℕ) (turns count : ℕ) (refusal : WireRefusal) (s : ServingValue) (told_before told_mid told_after : Option (List WireCall)) (before between after : ℕ)
+    → count < turns → Makes (Waits script address count s) told_before told_mid before between → Makes (BreaksOff s refusal) told_mid told_after between after
+    → Makes (RunsClient script address turns (Err refusal)) told_before told_after before after
+run_breaks laws script address turns count refusal s told_before told_mid told_after before between after within =
+    makes_both (Waits script address count s) (BreaksOff s refusal) (RunsClient script address turns (Err refusal)) told_before told_mid told_after before between after
+    (λ first rest waits breaks. turn_breaks laws waits.channel address script turns count refusal s first rest waits.ready waits.counted within breaks)
+
+pub run_turns : WireLaws → (script : List ScriptLine) (address : List ℕ) (turns count : ℕ) (run : ClientRun) (s : ServingValue) (told_before told_after : Option (List WireCall)) (before after : ℕ)
+    → count ≡ turns → run.end ≡ Turns → run.client ≡ s.client
+    → Makes (Waits script address count s) told_before told_after before after → Makes (RunsClient script address turns (Ok run)) told_before told_after before after
+run_turns laws script address turns count run s told_before told_after before after all ends client =
+    makes_so (Waits script address count s) (RunsClient script address turns (Ok run)) told_before told_after before after
+    (λ calls old. turns_end laws old.channel address script turns run s calls old.ready (old.counted ∙ all) ends client)

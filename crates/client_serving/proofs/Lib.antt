@@ -1,0 +1,14 @@
+mod Standing
+mod Lining
+mod Ending
+mod Saying
+mod Apart
+mod Gathering
+mod Served
+mod Placing
+mod Running
+mod Putting
+mod Turning
+mod Finishing
+mod Calling
+mod Reporting

@@ -1,0 +1,7 @@
+pub mod ServingValue
+pub mod Lines
+pub mod Serving
+pub mod Client
+pub mod Wire
+pub mod Turn
+pub mod Run

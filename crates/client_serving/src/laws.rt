@@ -1,0 +1,32 @@
+//! The laws of a client's run.
+ghost use Rattle.client_serving.specs.Client.{ServesAClient};
+ghost use Rattle.client_serving.specs.Run.{EndsSaySo};
+ghost use Rattle.client_serving.specs.Wire.{WireLaws};
+
+use serving_wires::{
+    a_flush_is_in_place, a_flush_is_on_one_wire, an_outbox_is_what_is_left,
+    what_is_flushed_is_carried,
+};
+
+/// The law that a run is done exactly where no line is left, nothing is pending and the client closed its channel itself;
+/// that it ended for a cause exactly where the channel closed for that other one, or `Stop` came while it wasn't closed;
+/// and that it has no end while the channel isn't closed, `Stop` hasn't come, and a line is left or a command is pending.
+pub fn an_end_is_what_it_says()
+    ensures { EndsSaySo }
+{}
+
+/// The law that what is served is a client, whatever the script and whatever came: some calls of a new client make it,
+/// and what is queued for its wire is what it gave out in them.
+pub fn what_is_served_is_a_client()
+    ensures { ServesAClient }
+{}
+
+/// What is known of the outbox of a wire.
+pub(crate) fn an_outbox_is_put_on_its_wire()
+    ensures { WireLaws }
+{
+    an_outbox_is_what_is_left();
+    what_is_flushed_is_carried();
+    a_flush_is_in_place();
+    a_flush_is_on_one_wire();
+}

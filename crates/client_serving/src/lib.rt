@@ -1,0 +1,17 @@
+//! A client that is served over one wire: the lines of its script are done in order, and what it tells goes to its peer.
+#![tactic(auto)]
+
+pub mod end;
+pub mod laws;
+mod lines;
+pub mod run;
+mod serving;
+mod telling;
+
+pub use client_node::ClientNode;
+pub use end::{ClientEnd, ClientRun};
+pub use laws::{an_end_is_what_it_says, what_is_served_is_a_client};
+pub use run::run_client;
+
+#[cfg(test)]
+mod tests;

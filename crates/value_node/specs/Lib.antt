@@ -1,0 +1,11 @@
+pub mod ForwardedValue
+pub mod ValueValue
+pub mod Usable
+pub mod Own
+pub mod Passing
+pub mod Value
+pub mod Runs
+pub mod Asked
+pub mod OwnMessages
+pub mod RelayLaws
+pub mod OwnLaws

@@ -1,0 +1,65 @@
+//! The laws of a value-add, over any calls and whatever bytes come.
+ghost use Rattle.value_node.specs.OwnLaws.{AnswersItself, AsksNothingBelow, ConnectsWhenAsked};
+ghost use Rattle.value_node.specs.RelayLaws.{AfterAllCalls, EndsAreRuns, ForwardsInOrder, PassesAllOn, StopsAfterTheEnd};
+
+use crate::forwarded::Forwarded;
+
+/// The laws of what a value-add relays.
+///
+/// `runs`: its calls are runs of its ends. Each end is what the calls that it got make of a new one, the lower since the
+/// value-add was made, the upper since its connection. The lower end is open until the value-add is closed. An earlier
+/// connection never brought a Hello. All that is sent can be read.
+///
+/// `forwards`: the commands that were sent above are, in order and each once, with their data and their marks, a front of
+/// those taken from below since it was bound; and those that are held are the rest, while it is bound.
+///
+/// `passes`: what is said below since it was bound, flow control and the end of the stream aside, are exactly the events, the
+/// progress and the answers that were taken from above, in order, with their marks and their data, each answer under the
+/// token of its own command.
+///
+/// `stops`: once the end from above was taken the end of the stream is said below, and nothing after it.
+pub fn a_value_add_relays()
+    ensures runs { AfterAllCalls EndsAreRuns }
+    ensures forwards { AfterAllCalls ForwardsInOrder }
+    ensures passes { AfterAllCalls PassesAllOn }
+    ensures stops { AfterAllCalls StopsAfterTheEnd }
+{
+    channel_core::a_closed_end_takes_nothing::<()>();
+    channel_core::a_closed_end_takes_nothing::<Forwarded>();
+    channel_core::an_end_closes_only_so::<()>();
+    channel_core::an_end_closes_only_so::<Forwarded>();
+    channel_core::a_closed_end_stays_closed::<()>();
+    channel_core::only_what_is_sent_is_queued::<()>();
+    channel_core::commands_are_sent_in_order::<Forwarded>();
+    channel_core::each_answer_is_that_of_a_sent_command::<Forwarded>();
+    tcf_message::read_back();
+    reply_tables::what_is_small_fits();
+}
+
+/// The laws of what a value-add says itself, and when it connects.
+///
+/// `answers`: what it said below before it was bound, flow control and the end of the stream aside, are Hellos and answers to
+/// the commands that it took until then, each once and in order, without marks; the last answer before it was bound is that
+/// of a redirect, without an error.
+///
+/// `connects`: one that took no command has not connected, and doesn't wait for a connection.
+///
+/// `asks_nothing`: it sends no command below.
+pub fn a_value_add_answers_itself()
+    ensures answers { AfterAllCalls AnswersItself }
+    ensures connects { AfterAllCalls ConnectsWhenAsked }
+    ensures asks_nothing { AfterAllCalls AsksNothingBelow }
+{
+    channel_core::a_closed_end_takes_nothing::<()>();
+    channel_core::a_closed_end_takes_nothing::<Forwarded>();
+    channel_core::an_end_closes_only_so::<()>();
+    channel_core::an_end_closes_only_so::<Forwarded>();
+    channel_core::a_closed_end_stays_closed::<()>();
+    channel_core::only_what_is_sent_is_queued::<()>();
+    channel_core::commands_are_sent_in_order::<Forwarded>();
+    channel_core::each_answer_is_that_of_a_sent_command::<Forwarded>();
+    tcf_message::read_back();
+    reply_tables::what_is_small_fits();
+    service_names::names_are_exact();
+    command_tables::readings_are_legal();
+}

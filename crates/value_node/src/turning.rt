@@ -1,0 +1,293 @@
+//! One entry is taken from a side of a value-add.
+ghost use Rattle.std.specs.Prelude.{◌≡◌, IfOk, OnOk, option_map};
+ghost use Rattle.channel_core.specs.declared.taking.Taken.TheVariants.{Progress as progresses};
+ghost use Rattle.tcf_message.specs.Message.{IsToken, IsWellFormed, command, reading};
+ghost use Rattle.value_node.specs.Own.{Fits, IsSendable};
+ghost use Rattle.value_node.specs.Passing.{not_recognised};
+ghost use Rattle.value_node.specs.Usable.{IsUsable};
+ghost use Rattle.value_node.specs.Value.{answered, asked, before_hello, ended_in, event_taken, forwarded_to, redirect_answered, takes_below, took_above, took_below, turned_above, turned_at, turned_below, unbound_again};
+
+use crate::forwarded::Forwarded;
+use crate::own::{Own, own_reply, redirect_done, redirect_failed};
+use crate::passing::{pass_event, pass_final, pass_progress, refuse};
+use crate::relay::Relay;
+use crate::states::{Bind, Side, ValueTurn};
+use channel_core::{Incoming, Refused, SendRefusal, Taken};
+use std::alloc::{AllocError, Global};
+use tcf_message::{Message, read};
+use tcf_outside::Octets;
+
+/// How many commands can be pending above.
+const MOST_PENDING: usize = 1024;
+
+impl Relay {
+    /// Takes the oldest entry of a side's inbox.
+    pub fn turn(&mut self, alloc: Global, side: Side) -> Result<ValueTurn, AllocError>
+        requires usable { IsUsable self.old }
+        ensures turned { IfOk result (λ turn. (turn, self.new) ≡ turned_at side self.old) }
+        ensures usable { OnOk result (IsUsable self.new) }
+    {
+        match side {
+            Side::Below => self.turn_below(alloc),
+            Side::Above => self.turn_above(alloc),
+        }
+    }
+
+    // ---- from below
+
+    #[tactic(auto, unfolding(crate::specs::Value::turned_below))]
+    fn turn_below(&mut self, alloc: Global) -> Result<ValueTurn, AllocError>
+        requires usable { IsUsable self.old }
+        ensures turned { IfOk result (λ turn. (turn, self.new) ≡ turned_below self.old) }
+        ensures usable { OnOk result (IsUsable self.new) }
+    {
+        if !self.takes_below() {
+            return Ok(ValueTurn::Nothing);
+        }
+        match self.lower.next_message()? {
+            Some(what) => self.take_below(alloc, what),
+            None => Ok(ValueTurn::Nothing),
+        }
+    }
+
+    /// Whether something may be taken from below.
+    fn takes_below(&self) -> bool
+        ensures { result ≡ takes_below self.now.bind self.now.upper }
+    {
+        match self.bind {
+            Bind::Unbound => true,
+            Bind::Bound => match &self.upper {
+                Some(upper) => upper.pending() < MOST_PENDING,
+                None => false,
+            },
+            Bind::Opening | Bind::Closed => false,
+        }
+    }
+
+    fn take_below(&mut self, alloc: Global, what: Taken<()>) -> Result<ValueTurn, AllocError>
+        requires usable { IsUsable self.old }
+        ensures took { IfOk result (λ turn. (turn, self.new) ≡ took_below what self.old) }
+        ensures usable { OnOk result (IsUsable self.new) }
+    {
+        match what {
+            Taken::Command(incoming) => self.ask(alloc, &incoming),
+            Taken::Closed(_) => {
+                self.close();
+                Ok(ValueTurn::Took)
+            }
+            Taken::Hello(_) | Taken::Event(_) | Taken::Progress(..) | Taken::Final(..) => {
+                Ok(ValueTurn::Took)
+            }
+        }
+    }
+
+    /// A command came from below.
+    fn ask(&mut self, alloc: Global, incoming: &Incoming) -> Result<ValueTurn, AllocError>
+        requires usable { IsUsable self.old }
+        ensures asked { IfOk result (λ turn. (turn, self.new) ≡ asked (reading incoming.now.raw) incoming.now.mark self.old) }
+        ensures usable { OnOk result (IsUsable self.new) }
+    {
+        let Ok(
+            Message::Command {
+                token,
+                service,
+                name,
+                body,
+            },
+        ) = read(incoming.raw.as_slice())
+        else {
+            return Ok(ValueTurn::Took);
+        };
+        match self.bind {
+            Bind::Unbound => {
+                let own = own_reply(alloc, &self.peer, service, name, body)?;
+                self.answer(alloc, token, own)
+            }
+            Bind::Bound => {
+                self.forward(alloc, token, service, name, body, incoming.mark)?;
+                Ok(ValueTurn::Took)
+            }
+            Bind::Opening | Bind::Closed => Ok(ValueTurn::Took),
+        }
+    }
+
+    /// Answers a command itself, or begins a redirect.
+    fn answer(&mut self, alloc: Global, token: &[u8], own: Own) -> Result<ValueTurn, AllocError>
+        requires usable { IsUsable self.old }
+        requires token { IsToken token.now }
+        requires sendable { IsSendable own }
+        ensures answered { IfOk result (λ turn. (turn, self.new) ≡ answered token.now own self.old) }
+        ensures usable { OnOk result (IsUsable self.new) }
+    {
+        match own {
+            Own::Unknown => {
+                self.lower.send_unknown(token, None)?;
+                Ok(ValueTurn::Took)
+            }
+            Own::Result(body) => {
+                self.lower.send_answer(token, body.as_slice(), None)?;
+                Ok(ValueTurn::Took)
+            }
+            Own::Connect => {
+                self.redirect = Some(Octets::from_slice(alloc, token)?);
+                self.bind = Bind::Opening;
+                Ok(ValueTurn::Connect)
+            }
+        }
+    }
+
+    /// Sends a command above. Where the upper end has no token left, both sides are closed.
+    fn forward(
+        &mut self,
+        alloc: Global,
+        token: &[u8],
+        service: &[u8],
+        name: &[u8],
+        body: &[u8],
+        mark: Option<u64>,
+    ) -> Result<(), AllocError>
+        requires usable { IsUsable self.old }
+        requires formed { IsWellFormed (command token.now service.now name.now body.now) }
+        ensures forwarded { OnOk result (self.new ≡ forwarded_to self.old.upper token.now service.now name.now body.now mark self.old) }
+        ensures usable { OnOk result (IsUsable self.new) }
+    {
+        let Some(upper) = &mut self.upper else {
+            self.close();
+            return Ok(());
+        };
+        let forwarded = Forwarded::new(alloc, token)?;
+        match upper.send_command(service, name, body, forwarded, mark) {
+            Ok(_token) => Ok(()),
+            Err(
+                Refused {
+                    why: SendRefusal::NoMemory,
+                    ..
+                },
+            ) => Err(AllocError),
+            Err(_) => {
+                self.close();
+                Ok(())
+            }
+        }
+    }
+
+    // ---- from above
+
+    #[tactic(auto, unfolding(crate::specs::Value::turned_above))]
+    fn turn_above(&mut self, alloc: Global) -> Result<ValueTurn, AllocError>
+        requires usable { IsUsable self.old }
+        ensures turned { IfOk result (λ turn. (turn, self.new) ≡ turned_above self.old) }
+        ensures usable { OnOk result (IsUsable self.new) }
+    {
+        if self.bind == Bind::Closed {
+            return Ok(ValueTurn::Nothing);
+        }
+        let Some(upper) = &mut self.upper else {
+            return Ok(ValueTurn::Nothing);
+        };
+        match upper.next_message()? {
+            Some(what) => {
+                self.take_above(alloc, what)?;
+                Ok(ValueTurn::Took)
+            }
+            None => Ok(ValueTurn::Nothing),
+        }
+    }
+
+    fn take_above(&mut self, alloc: Global, what: Taken<Forwarded>) -> Result<(), AllocError>
+        requires usable { IsUsable self.old }
+        ensures took { OnOk result (self.new ≡ took_above what self.old) }
+        ensures usable { OnOk result (IsUsable self.new) }
+    {
+        match what {
+            Taken::Hello(incoming) => self.greet(alloc, &incoming),
+            Taken::Command(incoming) => self.refuse_above(&incoming),
+            Taken::Event(incoming) => pass_event(&mut self.lower, &incoming),
+            Taken::Progress(token, incoming) => self.go_on(token, &incoming),
+            Taken::Final(forwarded, incoming) => pass_final(&mut self.lower, &forwarded, &incoming),
+            Taken::Closed(_) => self.lose_upper(alloc),
+        }
+    }
+
+    /// A Hello goes below. That of the peer of a redirect goes behind the redirect's result, and binds.
+    fn greet(&mut self, alloc: Global, incoming: &Incoming) -> Result<(), AllocError>
+        requires usable { IsUsable self.old }
+        ensures greeted { OnOk result (self.new ≡ event_taken incoming.now (before_hello self.old.bind self.old)) }
+        ensures usable { OnOk result (IsUsable self.new) }
+    {
+        if self.bind == Bind::Opening {
+            let body = redirect_done(alloc)?;
+            self.answer_redirect(body.as_slice())?;
+            self.bind = Bind::Bound;
+        }
+        pass_event(&mut self.lower, incoming)
+    }
+
+    /// The upper side has ended: a redirect that is being done has failed, and a bound value-add closes.
+    fn lose_upper(&mut self, alloc: Global) -> Result<(), AllocError>
+        requires usable { IsUsable self.old }
+        ensures ended { OnOk result (self.new ≡ ended_in self.old.bind self.old) }
+        ensures usable { OnOk result (IsUsable self.new) }
+    {
+        match self.bind {
+            Bind::Opening => self.fail_redirect(alloc),
+            Bind::Bound => {
+                self.close();
+                Ok(())
+            }
+            Bind::Unbound | Bind::Closed => Ok(()),
+        }
+    }
+
+    /// The redirect that is being done has failed, and the value-add is unbound again.
+    pub fn fail_redirect(&mut self, alloc: Global) -> Result<(), AllocError>
+        requires usable { IsUsable self.old }
+        ensures failed { OnOk result (self.new ≡ unbound_again self.old) }
+        ensures usable { OnOk result (IsUsable self.new) }
+    {
+        let body = redirect_failed(alloc)?;
+        self.answer_redirect(body.as_slice())?;
+        self.bind = Bind::Unbound;
+        Ok(())
+    }
+
+    /// Answers the redirect that is being done.
+    fn answer_redirect(&mut self, body: &[u8]) -> Result<(), AllocError>
+        requires usable { IsUsable self.old }
+        requires fits { Fits body.now }
+        ensures answered { OnOk result (self.new ≡ redirect_answered self.old.redirect body.now self.old) }
+        ensures usable { OnOk result (IsUsable self.new) }
+    {
+        match self.redirect.take() {
+            Some(token) => self.lower.send_answer(token.as_slice(), body, None),
+            None => Ok(()),
+        }
+    }
+
+    /// A command from above isn't recognised.
+    fn refuse_above(&mut self, incoming: &Incoming) -> Result<(), AllocError>
+        requires usable { IsUsable self.old }
+        ensures refused { OnOk result (self.new ≡ record self.old { upper = option_map (not_recognised (reading incoming.now.raw)) self.old.upper }) }
+        ensures usable { OnOk result (IsUsable self.new) }
+    {
+        match &mut self.upper {
+            Some(upper) => refuse(upper, incoming),
+            None => Ok(()),
+        }
+    }
+
+    /// Progress of the command that the upper end has pending under this token.
+    fn go_on(&mut self, token: u64, incoming: &Incoming) -> Result<(), AllocError>
+        requires usable { IsUsable self.old }
+        ensures went_on { OnOk result (self.new ≡ took_above (progresses token incoming.now) self.old) }
+        ensures usable { OnOk result (IsUsable self.new) }
+    {
+        let Some(upper) = &self.upper else {
+            return Ok(());
+        };
+        match upper.tag(token) {
+            Some(forwarded) => pass_progress(&mut self.lower, forwarded, incoming),
+            None => Ok(()),
+        }
+    }
+}

@@ -1,9 +1,10 @@
 -- The upper end of a value-add begins anew below a hop that is connected.
 use Rattle.std.proofs.Common.{◌≡◌, ℕ, zero, suc, ◌+◌, ◌&&◌, Bool, true, false, cond, List, [], ◌∷◌, ◌++◌, length, map, take, Option, Some, None, refl, sym, ap, ◌∙◌, subst, arith}
-use Rattle.std.specs.Prelude.{IsSome, option_to_list, slice_get, slice_set, unwrap_or}
+use Rattle.std.specs.Prelude.{IfSome, IsSome, option_to_list, slice_get, slice_set, unwrap_or}
 use Rattle.std.specs.List.{AllByRecursion, list_any}
 use Rattle.channel_core.specs.Arrivals.{IsFront, bytes_of}
 use Rattle.channel_core.specs.Greeting.{is_greeting}
+use Rattle.channel_core.specs.ReceivingLaws.{SendsReadable}
 use Rattle.channel_core.specs.declared.held.Outgoing.{Outgoing}
 use Rattle.value_node.specs.RelayLaws.{AfterAllCalls, EndsAreRuns, IsGivenUp, StandsWell}
 use Rattle.value_node.specs.Runs.{Past, UpperCall, above, connects, reconnected, upper_after}
@@ -89,6 +90,7 @@ module _ (runs : AfterAllCalls EndsAreRuns) where
           record {
             calls = calls;
             gone = last_of_all IsGivenUp (past_of m).earlier calls (subst (AllByRecursion IsGivenUp) earlier (facts_of runs (anew m)).earlier);
+            readable = subst (λ c. IfSome c SendsReadable) is (facts_of runs m).above_readable;
             front = subst (λ c. IsFront (bytes_of got) (bytes_of (upper_after (unwrap_or c [])).past.given)) is front;
           }
 

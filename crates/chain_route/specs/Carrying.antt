@@ -2,6 +2,7 @@
 use Rattle.std.specs.Prelude.{ℕ, ◌≡◌, ◌+◌, Bool, true, false, List, [], ◌∷◌, ◌++◌, length, map, unwrap_or, IsSome}
 use Rattle.std.specs.List.{AllByRecursion}
 use Rattle.channel_core.specs.Arrivals.{IsFront, Marked, arrived, bytes_of}
+use Rattle.channel_core.specs.ReceivingLaws.{SendsReadable}
 use Rattle.channel_core.specs.declared.held.Outgoing.{Outgoing}
 use Rattle.value_node.specs.RelayLaws.{IsGivenUp}
 use Rattle.value_node.specs.Runs as value
@@ -78,10 +79,11 @@ HaveConnected (m ∷ made) is_reached = IsSome (past_of m).connection × HaveCon
 abbrev pub IsReachedLast : List Made → List Hop → Past → Type 0
 IsReachedLast made hops p = p.is_reached ≡ true → length hops ≡ length made + 1
 
--- what came to a channel of the agent that the way gave up: it was given by an end that took no Hello
+-- what came to a channel of the agent that the way gave up: it was given by an end that took no Hello, and can be read
 pub record IsGoneBy (got : List Outgoing) : Type 0 where
   pub calls : List UpperCall
   pub gone : IsGivenUp calls
+  pub readable : SendsReadable calls
   pub front : IsFront (bytes_of got) (bytes_of (upper_after calls).past.given)
 
 pub record Carries (r : RouteRun) : Type 0 where

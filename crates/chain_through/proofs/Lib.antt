@@ -14,3 +14,11 @@ pub mod Below
 pub mod Ways
 pub mod Bound
 pub mod Through
+pub mod Sound
+pub mod LastToken
+pub mod Given
+pub mod Accepting
+pub mod Lost
+pub mod OwnClosing
+pub mod ClosingBelow
+pub mod Ends

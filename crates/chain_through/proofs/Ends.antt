@@ -1,0 +1,255 @@
+-- No end of a way closes by a fault of its other side, and the end of the stream comes down it only where the agent gave it,
+-- or where a value-add lost its upper side: by recursion over the value-adds, from the bottom.
+use Rattle.std.proofs.Common.{◌≡◌, ℕ, ◌+◌, ◌-◌, ◌^◌, ◌<◌, ◌≤◌, Bool, true, false, ⊎_elim, inl, inr, List, [], ◌∷◌, ◌++◌, length, map, None, refl, sym, ap, ◌∙◌, subst, arith, append-nil}
+use Rattle.std.specs.Prelude.{Contains}
+use Rattle.std.specs.List.{AllByRecursion, filter, flat_map, list_any}
+use Rattle.std.proofs.lemmas.Bool.{or_left, or_right}
+use Rattle.std.proofs.lemmas.List.Elements.{filter-append}
+use Rattle.channel_core.specs.Arrivals.{AreSpoken, IsFront, Spoken, arrived, arrived_in, bytes_of, marked, queue_of}
+use Rattle.channel_core.specs.Closing.{is_closed}
+use Rattle.channel_core.specs.Greeting.{is_greeting}
+use Rattle.channel_core.specs.ReceivingLaws.{incoming_of}
+use Rattle.channel_core.specs.RunLaws.{EndsAs, is_end, sent_of}
+use Rattle.channel_core.specs.Wire.{end_of_stream}
+use Rattle.channel_core.specs.declared.held.Outgoing.{Outgoing}
+use Rattle.channel_core.specs.declared.states.Cause.{Cause}
+use Rattle.channel_core.specs.declared.states.Cause.TheVariants.{Ended, Eos, Own, Protocol, Stream}
+use Rattle.channel_core.specs.declared.states.EndState.{EndState}
+use Rattle.channel_core.specs.declared.states.EndState.TheVariants.{Closed as IsClosed, Live, Opening, Reopening}
+use Rattle.channel_core.specs.declared.states.Reason.{Reason}
+use Rattle.channel_core.specs.declared.taking.Taken.{Taken}
+use Rattle.channel_core.specs.declared.taking.Taken.TheVariants as taken
+use Rattle.stream_escape.specs.declared.stream.StreamFault.{StreamFault}
+use Rattle.value_node.specs.Asked.{Asked}
+use Rattle.value_node.specs.OwnLaws.{asked_until}
+use Rattle.value_node.specs.OwnMessages.{BeginsWithHello}
+use Rattle.value_node.specs.RelayLaws.{asked_since}
+use Rattle.value_node.specs.Runs.{Past, above, below, no_calls}
+use Rattle.value_node.specs.Value.{value_services}
+use Rattle.chain_route.specs.Carrying.{AllCarry, End, HopCarries, Made, end_above, end_below, past_after, past_of}
+use Rattle.chain_route.specs.Hop.{no_hop}
+use Rattle.chain_route.specs.declared.hop.Hop.{Hop}
+use Rattle.chain_through.specs.Calling.{Answering, AskNothing, Calls, Says, entering}
+use Rattle.chain_through.specs.Endings.{AddIsSound, ComesToSoundEnds, IsSound, MayComeDown, was_lost_above}
+use Rattle.chain_through.specs.Through.{Through, numbered, passed, top_end}
+use Rattle.chain_through.proofs.Above.{below_gives, calls_on}
+use Rattle.chain_through.proofs.Below.{Took, took}
+use Rattle.chain_through.proofs.ClosingBelow.{AreFew, IsEndedAbove, calls_below, calls_front, closed_so}
+use Rattle.chain_through.proofs.Facts.{Laws, below_read, calls_above, facts_of}
+use Rattle.chain_through.proofs.Fronts.{front_flat, front_then}
+use Rattle.chain_through.proofs.Given.{IsGiven, given_few, given_so}
+use Rattle.chain_through.proofs.Lost.{ended_lost}
+use Rattle.chain_through.proofs.Numbered.{length_numbered}
+use Rattle.chain_through.proofs.OwnClosing.{EndLaws}
+use Rattle.chain_through.proofs.Renaming.{answering_more, renamed}
+use Rattle.chain_through.proofs.Spelling.{said_so}
+use Rattle.chain_through.proofs.Taking.{come_as}
+use Rattle.chain_through.proofs.Through.{comes_through}
+use Rattle.chain_through.proofs.Ways.{are_bound, calls_few}
+
+-- ---- What comes down begins with a Hello
+
+begins_front : (xs ys : List Spoken) → IsFront xs ys → BeginsWithHello ys → BeginsWithHello xs
+begins_front [] ys p begins = tt
+begins_front (x ∷ xs) ys p begins = subst BeginsWithHello p.1 begins
+
+begins_behind : (own more : List Spoken) → BeginsWithHello own → (own ≡ [] → BeginsWithHello more) → BeginsWithHello (own ++ more)
+begins_behind [] more first begins = begins refl
+begins_behind (s ∷ own) more first begins = first
+
+begins_passed : (commands : List Asked) (said : List Spoken) → BeginsWithHello said → BeginsWithHello (passed commands said)
+begins_passed commands [] begins = tt
+begins_passed commands (s ∷ said) begins = subst (λ m. BeginsWithHello (renamed commands m s.mark ++ passed commands said)) (sym begins.1) (begins.0, refl)
+
+heard_begins : (commands : List Asked) (lower : End) (calls : Calls commands lower.gave) (made : List Made) (said : List Spoken) → BeginsWithHello said → (t : Through commands lower calls made said) → BeginsWithHello (entering t.down)
+heard_begins commands lower calls made said begins t = ⊎_elim
+    (λ all. let b = t.bound all in let others = passed (numbered (length b.answered + 1) b.later) said in
+    begins_front (entering t.down) (t.own ++ others) b.comes_down (begins_behind t.own others t.begins (λ none. begins_passed (numbered (length b.answered + 1) b.later) said begins)))
+    (λ none. begins_front (entering t.down) t.own (t.unbound none).comes_down t.begins)
+    (are_bound made)
+
+-- ---- An end that gave the end of the stream closed by its own side, where no fault closed it
+
+none_last : {A : Type 0} → (xs : List A) (x : A) → xs ++ x ∷ [] ≡ [] → ⊥
+none_last [] x none = absurd cc
+none_last (y ∷ xs) x none = absurd cc
+
+no_farewell : (queued front : List Outgoing) (spoken : List Spoken) → queued ≡ queue_of spoken true → queued ≡ front ++ [] → filter is_end front ≡ [] → ⊥
+no_farewell queued front spoken queue is none =
+    let nothing : filter is_end queued ≡ [] = ap (filter is_end) (is ∙ append-nil front) ∙ none in
+    let parts : filter is_end (queue_of spoken true) ≡ filter is_end (map said_so spoken) ++ end_of_stream ∷ [] = filter-append is_end (map said_so spoken) (end_of_stream ∷ []) in
+    none_last (filter is_end (map said_so spoken)) end_of_stream (sym parts ∙ ap (filter is_end) (sym queue) ∙ nothing)
+
+ends_own : (state : EndState) (queued : List Outgoing) (spoken : List Spoken) → queued ≡ queue_of spoken true → is_closed state ≡ true → EndsAs state queued
+    → ((number : ℕ) (reason : Reason) → state ≡ IsClosed (Protocol number reason) → ⊥) → ((fault : StreamFault) → state ≡ IsClosed (Stream fault) → ⊥) → state ≡ IsClosed Own
+ends_own Opening queued spoken queue closed ends protocol stream = absurd cc
+ends_own Live queued spoken queue closed ends protocol stream = absurd cc
+ends_own Reopening queued spoken queue closed ends protocol stream = absurd cc
+ends_own (IsClosed Own) queued spoken queue closed ends protocol stream = refl
+ends_own (IsClosed Eos) queued spoken queue closed ends protocol stream = absurd (no_farewell queued ends.0 spoken queue ends.1 ends.2)
+ends_own (IsClosed Ended) queued spoken queue closed ends protocol stream = absurd (no_farewell queued ends.0 spoken queue ends.1 ends.2)
+ends_own (IsClosed (Protocol number reason)) queued spoken queue closed ends protocol stream = absurd (protocol number reason refl)
+ends_own (IsClosed (Stream fault)) queued spoken queue closed ends protocol stream = absurd (stream fault refl)
+
+-- ---- Where no message came no Hello was taken
+
+none_before : {A : Type 0} → (xs ys : List A) → xs ++ ys ≡ [] → xs ≡ []
+none_before [] ys none = refl
+none_before (x ∷ xs) ys none = absurd cc
+
+no_greeting : {T : Type 0} → (entries : List (Taken T)) → flat_map incoming_of entries ≡ [] → list_any is_greeting entries ≡ false
+no_greeting [] none = refl
+no_greeting (taken.Hello incoming ∷ entries) none = absurd cc
+no_greeting (taken.Command incoming ∷ entries) none = absurd cc
+no_greeting (taken.Event incoming ∷ entries) none = absurd cc
+no_greeting (taken.Progress token incoming ∷ entries) none = absurd cc
+no_greeting (taken.Final tag incoming ∷ entries) none = absurd cc
+no_greeting (taken.Closed cause ∷ entries) none = no_greeting entries none
+
+-- ---- So few commands are taken
+
+took_few : (p : Past) (commands : List Asked) (count : ℕ) → Took p commands count → length (asked_until p) + length (asked_since p) ≤ count
+took_few p commands count t =
+    let until : length (asked_until p) ≡ length t.until = ap length t.until_are ∙ length_numbered 1 t.until in
+    let since : length (asked_since p) ≡ length t.since = ap length t.since_are ∙ length_numbered (length t.until + 1) t.since in
+    let some : length t.until + length t.since ≤ count = t.few in
+    omega arith
+
+-- ---- A way, and what comes down it
+
+-- where it has no value-adds, nothing is said before the end of the stream
+record SoundWay (lower : End) (made : List Made) (agent_ended : Bool) : Type 0 where
+  adds : AllByRecursion AddIsSound made
+  down : List Spoken
+  is_ended : Bool
+  formed : AreSpoken down
+  comes_down : IsFront lower.came (bytes_of (queue_of down is_ended))
+  ended : is_ended ≡ true → MayComeDown made agent_ended
+  silent : made ≡ [] → is_ended ≡ true → entering down ≡ []
+
+module _ (laws : Laws) (ends : EndLaws) where
+  -- ---- The ends of a value-add
+
+  lower_sound : (hop : Hop) (lower : End) (m : Made) (commands : List Asked) → HopCarries hop lower (end_below (past_of m)) → Calls commands lower.gave → IsSound (below (past_of m))
+  lower_sound hop lower m commands carries calls =
+      let all = calls_below (past_of m) in
+      let queue = queue_of calls.spoken calls.is_ended in
+      let gave : IsFront (bytes_of lower.gave) (bytes_of queue) = front_flat (λ o. marked o.bytes o.mark) lower.gave queue calls.front in
+      let came : IsFront (arrived all) (bytes_of queue) = front_then (arrived all) (bytes_of lower.gave) (bytes_of queue) carries.up_front gave in
+      ends.lower_asked value_services None all calls.spoken calls.is_ended calls.services commands calls.formed came calls.says
+
+  upper_sound : (m : Made) (hops : List Hop) (made : List Made) (agent : End) (said : List Spoken) → AllCarry (end_above (past_of m)) hops made agent → IsGiven (asked_since (past_of m)) (end_above (past_of m)).gave
+      → Says said agent.gave → AskNothing said → ((top : List Asked) (up : Calls top (top_end (end_above (past_of m)) made).gave) → Answering 1 (length (entering up.spoken) - 1) said) → BeginsWithHello said
+      → IsSound (above (past_of m))
+  upper_sound m hops made agent said carry g says quiet answers begins =
+      let r = above (past_of m) in
+      let commands = asked_since (past_of m) in
+      let t = comes_through laws (end_above (past_of m)) agent hops made commands said carry g.calls says quiet answers in
+      let few = given_few r commands (laws.upper_order value_services None (calls_above m)) (laws.upper_sends value_services None (calls_above m)) g in
+      let answering = answering_more 1 (length (entering g.calls.spoken) - 1) (length (sent_of r)) (entering t.down) few t.answering in
+      ends.upper_answered value_services None (calls_above m) t.down t.is_ended t.formed t.comes_down (heard_begins commands (end_above (past_of m)) g.calls made said begins t) answering
+
+  -- ---- The commands that it takes
+
+  few_taken : (hop : Hop) (lower : End) (m : Made) (commands : List Asked) → HopCarries hop lower (end_below (past_of m)) → Calls commands lower.gave → length commands < 2 ^ 64 → AreFew laws ends m.peer m.calls
+  few_taken hop lower m commands carries calls few first rest is =
+      let p = past_after m.peer first in
+      let n : Made = record { peer = m.peer; calls = first } in
+      let end : End = record { gave = lower.gave; came = [] } in
+      let front : IsFront (calls_below p) (calls_below (past_of m)) = subst (λ cs. IsFront (calls_below p) (calls_below (past_after m.peer cs))) (sym is) (calls_front laws ends m.peer first rest) in
+      let came : IsFront (arrived (calls_below p)) (arrived (calls_below (past_of m))) = front_flat arrived_in (calls_below p) (calls_below (past_of m)) front in
+      let carries_so : HopCarries no_hop end (end_below (past_of n)) = record {
+        up = λ live. absurd cc;
+        up_front = front_then (arrived (calls_below p)) (arrived (calls_below (past_of m))) (bytes_of lower.gave) came carries.up_front;
+        down = λ live. absurd cc;
+        down_front = (bytes_of (end_below (past_of n)).gave, refl);
+        dead = λ dead. refl;
+      } in
+      let some = took_few p commands (length (entering calls.spoken) - 1) (took laws no_hop end n commands carries_so calls) in
+      let most = calls_few commands lower calls in
+      omega arith
+
+  few_since : (m : Made) → AreFew laws ends m.peer m.calls → length (asked_since (past_of m)) < 2 ^ 64
+  few_since m few = let both = few m.calls [] (sym (append-nil m.calls)) in omega arith
+
+  -- ---- The end of the stream
+
+  own_closing : (m : Made) → AddIsSound m → (below_read laws m).is_ended ≡ true → (below (past_of m)).end.state ≡ IsClosed Own
+  own_closing m sound is =
+      let can = below_read laws m in
+      let r = below (past_of m) in
+      let once = ends.lower_once value_services None (calls_below (past_of m)) in
+      ends_own r.end.state r.past.queued can.spoken (can.queue ∙ ap (queue_of can.spoken) is) (can.closed is) once.ends
+      (λ number reason closed. sound.lower.protocol number reason (inr (inl closed))) (λ fault closed. sound.lower.stream fault (inr (inl closed)))
+
+  -- that from above goes down
+  came_above : (m : Made) (made : List Made) (agent_ended : Bool) (rest : SoundWay (end_above (past_of m)) made agent_ended) → (past_of m).is_bound ≡ true → Contains (above (past_of m)).past.taken (taken.Closed Eos)
+      → list_any was_lost_above (m ∷ made) ≡ true
+  came_above m (n ∷ made) agent_ended rest bound among =
+      let fair = ends.upper_causes value_services None (calls_above m) rest.down rest.is_ended rest.formed rest.comes_down Eos (inr (inr among)) in
+      or_right (was_lost_above m) (list_any was_lost_above (n ∷ made)) (rest.ended fair.0)
+  came_above m [] agent_ended rest bound among =
+      let r = above (past_of m) in
+      let fair = ends.upper_causes value_services None (calls_above m) rest.down rest.is_ended rest.formed rest.comes_down Eos (inr (inr among)) in
+      let none : flat_map incoming_of r.past.taken ≡ [] = none_before (flat_map incoming_of r.past.taken) _ (fair.1 ∙ ap (map come_as) (rest.silent refl fair.0)) in
+      let unheard = no_greeting r.past.taken none in
+      let heard : list_any is_greeting r.past.taken ≡ (past_of m).is_bound = (facts_of laws m).heard in
+      absurd cc
+
+  goes_down : (m : Made) (made : List Made) (agent_ended : Bool) (rest : SoundWay (end_above (past_of m)) made agent_ended) → AddIsSound m → IsEndedAbove (past_of m) → list_any was_lost_above (m ∷ made) ≡ true
+  goes_down m made agent_ended rest sound e = by_cause e.cause e.among e.other
+    where
+      by_cause : (cause : Cause) → Contains (above (past_of m)).past.taken (taken.Closed cause) → (cause ≡ Own → ⊥) → list_any was_lost_above (m ∷ made) ≡ true
+      by_cause Own among other = absurd (other refl)
+      by_cause Eos among other = came_above m made agent_ended rest e.bound among
+      by_cause Ended among other =
+          or_left (was_lost_above m) (list_any was_lost_above made) (ended_lost m.calls (no_calls m.peer) refl ((ends.upper_calls value_services None (calls_above m)).ended (inr (inr among))))
+      by_cause (Protocol number reason) among other = absurd (sound.upper.protocol number reason (inr (inr among)))
+      by_cause (Stream fault) among other = absurd (sound.upper.stream fault (inr (inr among)))
+
+  -- ---- The whole way
+
+  sound_way : (made : List Made) (lower agent : End) (hops : List Hop) (commands : List Asked) (said : List Spoken) → AllCarry lower hops made agent → Calls commands lower.gave → length commands < 2 ^ 64
+      → (says : Says said agent.gave) → AskNothing said → ((top : List Asked) (up : Calls top (top_end lower made).gave) → Answering 1 (length (entering up.spoken) - 1) said) → BeginsWithHello said → (says.is_ended ≡ true → said ≡ [])
+      → SoundWay lower made says.is_ended
+  sound_way [] lower agent [] commands said carry calls few says quiet answers begins ended = absurd carry
+  sound_way [] lower agent (hop ∷ []) commands said carry calls few says quiet answers begins ended =
+      let queue = queue_of says.spoken says.is_ended in
+      let gave : IsFront (bytes_of agent.gave) (bytes_of queue) = front_flat (λ o. marked o.bytes o.mark) agent.gave queue says.front in
+      record {
+        adds = tt;
+        down = says.spoken;
+        is_ended = says.is_ended;
+        formed = says.formed;
+        comes_down = front_then lower.came (bytes_of agent.gave) (bytes_of queue) carry.down_front gave;
+        ended = λ is. is;
+        silent = λ none is. says.says ∙ ended is;
+      }
+  sound_way [] lower agent (hop ∷ next ∷ hops) commands said carry calls few says quiet answers begins ended =
+      record { adds = tt; down = []; is_ended = false; formed = tt; comes_down = ([], sym (append-nil lower.came ∙ carry.0.1)); ended = λ is. absurd cc; silent = λ none is. refl }
+  sound_way (m ∷ made) lower agent [] commands said carry calls few says quiet answers begins ended = absurd carry
+  sound_way (m ∷ made) lower agent (hop ∷ hops) commands said carry calls few says quiet answers begins ended =
+      let p = past_of m in
+      let can = below_read laws m in
+      let queue = queue_of can.spoken can.is_ended in
+      let up = calls_on laws m hops made agent said carry.1 says quiet in
+      let few_all = few_taken hop lower m commands carry.0 calls few in
+      let rest = sound_way made (end_above p) agent hops (asked_since p) said carry.1 up.calls (few_since m few_all) says quiet answers begins ended in
+      let sound : AddIsSound m = record {
+        lower = lower_sound hop lower m commands carry.0 calls;
+        upper = upper_sound m hops made agent said carry.1 (given_so (asked_since p) (end_above p).gave up.calls) says quiet answers begins;
+      } in
+      record {
+        adds = (sound, rest.adds);
+        down = can.spoken;
+        is_ended = can.is_ended;
+        formed = can.well_formed;
+        comes_down = front_then lower.came (bytes_of (end_below p).gave) (bytes_of queue) carry.0.down_front (front_flat (λ o. marked o.bytes o.mark) (end_below p).gave queue (below_gives laws m));
+        ended = λ is. goes_down m made says.is_ended rest sound (closed_so laws ends m.peer m.calls few_all (own_closing m sound is));
+        silent = λ none is. absurd cc;
+      }
+
+  pub comes_to_sound_ends : ComesToSoundEnds
+  comes_to_sound_ends lower agent hops made commands said carry calls few says quiet answers begins ended =
+      let w = sound_way made lower agent hops commands said carry calls few says quiet answers begins ended in
+      record { adds = w.adds; down = w.down; is_ended = w.is_ended; formed = w.formed; comes_down = w.comes_down; ended = w.ended }

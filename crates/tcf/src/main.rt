@@ -2,10 +2,12 @@
 #![tactic(auto)]
 
 use std::alloc::AllocError;
+use std::io::ErrorKind;
 use std::process::ExitCode;
 use std::{env, io};
-use tcf_app::{Exit, tcf};
+use tcf_app::{Exit, report_wire_fault, tcf};
 use tcf_outside::{RealFiles, RealSink};
+use tcf_wires::RealWires;
 
 /// The words after the program's name.
 fn words(rt: &HostRuntime) -> io::Result<Vec<String>> {
@@ -16,13 +18,20 @@ fn words(rt: &HostRuntime) -> io::Result<Vec<String>> {
     Ok(words)
 }
 
+/// The run of the top call. Where the system lends no means to wait there are no wires.
+fn run(rt: &HostRuntime, words: &[String]) -> Exit {
+    let mut files = RealFiles::new(rt, rt.alloc());
+    let mut out = RealSink::new(io::writer(rt));
+    match RealWires::new(rt, rt.alloc()) {
+        Ok(mut wires) => tcf(rt.alloc(), words, &mut files, &mut out, &mut wires),
+        Err(error) if error.kind() == ErrorKind::OutOfMemory => Exit::NoMemory,
+        Err(_) => report_wire_fault(&mut out),
+    }
+}
+
 fn main(rt: HostRuntime) -> ExitCode {
     let exit = match words(&rt) {
-        Ok(words) => {
-            let mut files = RealFiles::new(&rt, rt.alloc());
-            let mut out = RealSink::new(io::writer(&rt));
-            tcf(rt.alloc(), &words, &mut files, &mut out)
-        }
+        Ok(words) => run(&rt, &words),
         Err(_) => Exit::NoMemory,
     };
     ExitCode::from(exit.status())

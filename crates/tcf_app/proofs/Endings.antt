@@ -1,10 +1,11 @@
 -- How runs end.
-use Rattle.std.proofs.Common.{◌≡◌, ℕ, List, [], ◌++◌, length, append_assoc, refl, ap, sym, ◌∙◌, inl, inr, arith}
+use Rattle.std.proofs.Common.{◌≡◌, ℕ, List, [], ◌++◌, length, append_assoc, refl, ap, sym, subst, ◌∙◌, inl, inr, arith}
 use Rattle.std.proofs.lemmas.List.{append-nil, take_all}
-use Rattle.std.specs.Prelude.{Option, None, Some}
+use Rattle.std.specs.Prelude.{Option, None, Some, Result, Ok, Err, IfOk, OnErr}
 use Rattle.tcf_outside.specs.Sink.{added}
+use Rattle.tcf_app.specs.declared.exit.Exit.{Exit}
 use Rattle.tcf_app.specs.declared.exit.Exit.TheVariants.{NoMemory}
-use Rattle.tcf_app.specs.Ending.{Ending, Ends}
+use Rattle.tcf_app.specs.Ending.{Ending, Ends, wanting_ending}
 
 -- all of the text was told
 pub ends_whole : (ending : Ending) (before after : Option (List ℕ)) → after ≡ added ending.text before → Ends ending ending.exit before after
@@ -32,3 +33,21 @@ ends_early ending told other =
       whole = λ e. absurd (other e);
       front = (0, sym (added_nothing told));
     }
+
+-- and nothing was to be told
+pub ends_wanting : (told : Option (List ℕ)) → Ends wanting_ending NoMemory told told
+ends_wanting told =
+    record {
+      which = inl refl;
+      whole = λ e. sym (added_nothing told);
+      front = (0, sym (added_nothing told));
+    }
+
+-- a text that was made was put, or memory was wanting for it
+pub made_ends : {E : Type 0} (made : Result (List ℕ) E) (text : List ℕ) (exit result : Exit) (before after : Option (List ℕ)) → (NoMemory ≡ exit → ⊥)
+    → IfOk made (λ t. t ≡ text) → IfOk made (λ t. Ends (record { exit = exit; text = t }) result before after) → OnErr made ((result ≡ NoMemory) × (after ≡ before))
+    → Ends (record { exit = exit; text = text }) result before after
+made_ends (Ok t) text exit result before after other is ends wanting = subst (λ (x : List ℕ). Ends (record { exit = exit; text = x }) result before after) is ends
+made_ends (Err e) text exit result before after other is ends wanting =
+    let ending : Ending = record { exit = exit; text = text } in
+    subst (λ (x : Exit). Ends ending x before after) (sym wanting.0) (subst (λ (t : Option (List ℕ)). Ends ending NoMemory before t) (sym wanting.1) (ends_early ending before other))

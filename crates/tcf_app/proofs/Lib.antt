@@ -5,6 +5,11 @@ pub mod Answered
 pub mod Stands
 pub mod ShowEnds
 pub mod Outcomes
-pub mod Heard
-pub mod Ways
-pub mod Derived
+pub mod Cutting
+pub mod Hearing
+pub mod Noting
+pub mod Imaging
+pub mod Running
+pub mod Rising
+pub mod Tells
+pub mod Exits

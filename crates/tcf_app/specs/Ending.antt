@@ -1,34 +1,70 @@
 -- How a run is to end.
-use Rattle.std.specs.Prelude.{ℕ, ◌≡◌, ◌⊎◌, List, ◌++◌, Option, None, Some, Result, Ok, Err, take}
-use Rattle.tcf_outside.specs.Files.{content_of, read_of}
+use Rattle.std.specs.Prelude.{ℕ, ◌≡◌, ◌+◌, ◌⊎◌, List, [], ◌∷◌, ◌++◌, Option, None, Some, Result, Ok, Err, map, take}
 use Rattle.tcf_outside.specs.Sink.{added}
-use Rattle.tcf_outside.specs.declared.files.HeldFile.{HeldFile}
-use Rattle.tcf_outside.specs.declared.files.FileRead.{FileRead}
-use Rattle.tcf_outside.specs.declared.files.FileRead.TheVariants.{Whole, Longer}
 use Rattle.tcf_schedules.specs.Refusal.{BadLine}
 use Rattle.tcf_schedules.specs.Schedule.{ScheduleValue, schedule_of}
+use Rattle.tcf_schedules.specs.Script.{script_of}
+use Rattle.tcf_schedules.specs.declared.script.ScriptLine.{ScriptLine}
+use Rattle.target_contexts.specs.declared.process.Image.{Image}
+use Rattle.tcf_wires.specs.declared.call.WireCall.{WireCall}
+use Rattle.tcf_wires.specs.declared.event.WireRefusal.{WireRefusal}
+use Rattle.tcf_wires.specs.declared.event.WireRefusal.TheVariants as refusals
+use Rattle.agent_serving.specs.Serve.{ServesAgent}
+use Rattle.agent_serving.specs.declared.serve.ServeEnd.{ServeEnd}
+use Rattle.agent_serving.specs.declared.serve.ServeEnd.TheVariants as serve_ends
+use Rattle.client_serving.specs.Run.{RunsClient}
+use Rattle.client_serving.specs.declared.end.ClientEnd.{ClientEnd}
+use Rattle.client_serving.specs.declared.end.ClientEnd.TheVariants as client_ends
+use Rattle.client_serving.specs.declared.end.ClientRun.{ClientRun}
 use Rattle.tcf_app.specs.declared.exit.BadPlace.{BadPlace}
 use Rattle.tcf_app.specs.declared.exit.Exit.{Exit}
-use Rattle.tcf_app.specs.declared.exit.Exit.TheVariants.{Done, Usage, BadText, FileFault, BadStream, TooLong}
+use Rattle.tcf_app.specs.declared.exit.Exit.TheVariants.{Done, Usage, BadText, FileFault, WireFault, Turns, NoMemory, BadStream, Ended, TooLong}
+use Rattle.tcf_app.specs.declared.reading.Unread.{Unread}
+use Rattle.tcf_app.specs.declared.reading.Unread.TheVariants as unread
 use Rattle.tcf_app.specs.Exit.{IsGivenUp}
-use Rattle.tcf_app.specs.Words.{OrderValue, chain, show, file_of}
-use Rattle.tcf_app.specs.Texts.{usage_text, file_fault_text, too_long_text, bad_line_text, bad_stream_text}
-use Rattle.tcf_app.specs.Played.{printed}
+use Rattle.tcf_app.specs.Words.{NamedFile, OrderValue, chain, show, agent, client, first_place}
+use Rattle.tcf_app.specs.Texts.{usage_text, file_fault_text, wire_fault_text, too_long_text, turns_text, bad_line_text, bad_stream_text}
+use Rattle.tcf_app.specs.Played.{printed, client_text}
+use Rattle.tcf_app.specs.Heard.{Heard, whole, longer, failed}
 use Rattle.tcf_app.specs.Show.{Shown, IsShown}
-
--- the most bytes of a file
-abbrev pub most_file : ℕ
-most_file = 16777216
 
 -- how a run is to end, and the whole text that it is to put
 pub record Ending : Type 0 where
   pub exit : Exit
   pub text : List ℕ
 
+-- for words that are none of the forms
+abbrev pub usage_ending : Ending
+usage_ending = record { exit = Usage; text = usage_text }
+
+-- for a file that can't be read
+abbrev pub fault_ending : Ending
+fault_ending = record { exit = FileFault; text = file_fault_text }
+
+-- for a file that is too long, which this word names
+abbrev pub long_ending : ℕ → Ending
+long_ending word = record { exit = TooLong word; text = too_long_text word }
+
+-- for a bad line
+abbrev pub bad_ending : BadLine → Ending
+bad_ending bad = record { exit = BadText bad.line bad.what; text = bad_line_text bad.line bad.what }
+
+-- where the wires failed
+abbrev pub wire_ending : Ending
+wire_ending = record { exit = WireFault; text = wire_fault_text }
+
+-- where memory was wanting before there was anything to put
+abbrev pub wanting_ending : Ending
+wanting_ending = record { exit = NoMemory; text = [] }
+
+-- ---- chain
+
 -- for what a schedule's file says
 abbrev pub played_ending : Result ScheduleValue BadLine → Ending
 played_ending (Ok schedule) = record { exit = Done; text = printed schedule }
-played_ending (Err bad) = record { exit = BadText bad.line bad.what; text = bad_line_text bad.line bad.what }
+played_ending (Err bad) = bad_ending bad
+
+-- ---- show
 
 -- for the lines that a stream's file is shown as, and its bad place
 abbrev pub lines_ending : List ℕ → Option BadPlace → Ending
@@ -39,30 +75,66 @@ lines_ending text (Some bad) = record { exit = BadStream bad.offset bad.what; te
 abbrev pub IsShownEnding : List ℕ → Ending → Type 0
 IsShownEnding file ending = (shown : Shown) × IsShown file shown × (ending ≡ lines_ending shown.text shown.bad)
 
--- for a whole file, by what is ordered
-abbrev pub IsWholeEnding : OrderValue → List ℕ → Ending → Type 0
-IsWholeEnding (chain name) file ending = ending ≡ played_ending (schedule_of file)
-IsWholeEnding (show name) file ending = IsShownEnding file ending
+-- ---- agent
 
--- for a file that can't be read
-abbrev pub fault_ending : Ending
-fault_ending = record { exit = FileFault; text = file_fault_text }
+-- the images that an agent has: the names that the words give, with what their files hold
+abbrev pub images_with : List NamedFile → List (List ℕ) → List Image
+images_with (named ∷ later) (bytes ∷ contents) = record { name = named.name; bytes = bytes } ∷ images_with later contents
+images_with named contents = []
 
--- for what a read of the file gave; none where it failed
-abbrev pub IsFileEnding : OrderValue → Option FileRead → Ending → Type 0
-IsFileEnding order None ending = ending ≡ fault_ending
-IsFileEnding order (Some Longer) ending = ending ≡ record { exit = TooLong 2; text = too_long_text }
-IsFileEnding order (Some (Whole file)) ending = IsWholeEnding order file ending
+-- what their files hold
+abbrev pub contents_of : List Image → List (List ℕ)
+contents_of images = map (λ (image : Image). image.bytes) images
 
--- for an order, or for words that are none, and what was heard of the file that it names
-abbrev pub IsEnding : Option OrderValue → Option FileRead → Ending → Type 0
-IsEnding None heard ending = ending ≡ record { exit = Usage; text = usage_text }
-IsEnding (Some order) heard ending = IsFileEnding order heard ending
+-- for how the serving ended, of so many turns
+abbrev pub served_ending : ℕ → ServeEnd → Ending
+served_ending turns (serve_ends.Stopped events) = record { exit = Done; text = turns_text events }
+served_ending turns serve_ends.Turns = record { exit = Turns; text = turns_text turns }
+served_ending turns serve_ends.WireFault = wire_ending
+served_ending turns serve_ends.NoMemory = wanting_ending
 
--- what was heard is what the files hold, where they tell what they hold
-abbrev pub Agrees : Option OrderValue → Option (List HeldFile) → Option FileRead → Type 0
-Agrees (Some order) (Some files) (Some answer) = answer ≡ read_of (content_of (file_of order) files) most_file
-Agrees order files heard = Unit {0}
+-- for an agent with these images that is served by these calls
+abbrev pub IsServedEnding : List Image → List ℕ → ℕ → List WireCall → Ending → Type 0
+IsServedEnding images address turns calls ending = (end : ServeEnd) × ServesAgent images address turns end calls × (ending ≡ served_ending turns end)
+
+-- ---- client
+
+abbrev pub exit_of : ClientEnd → Exit
+exit_of client_ends.Done = Done
+exit_of (client_ends.Ended cause) = Ended cause
+exit_of client_ends.Turns = Turns
+
+-- for what the run comes to
+abbrev pub ran_ending : Result ClientRun WireRefusal → Ending
+ran_ending (Ok run) = record { exit = exit_of run.end; text = client_text run.client.log }
+ran_ending (Err refusals.Failed) = wire_ending
+ran_ending (Err refusals.NoMemory) = wanting_ending
+
+-- for what a script's file says, and the calls of the client that does it
+abbrev pub IsRanEnding : Result (List ScriptLine) BadLine → List ℕ → ℕ → List WireCall → Ending → Type 0
+IsRanEnding (Err bad) address turns calls ending = (calls ≡ []) × (ending ≡ bad_ending bad)
+IsRanEnding (Ok script) address turns calls ending =
+    (result : Result ClientRun WireRefusal) × RunsClient script address turns result calls × (ending ≡ ran_ending result)
+
+-- ---- each order
+
+-- for the contents of the files, of which all orders but `agent` name one
+abbrev pub IsWholeEnding : OrderValue → List (List ℕ) → List WireCall → Ending → Type 0
+IsWholeEnding (chain name) (file ∷ []) calls ending = (calls ≡ []) × (ending ≡ played_ending (schedule_of file))
+IsWholeEnding (show name) (file ∷ []) calls ending = (calls ≡ []) × IsShownEnding file ending
+IsWholeEnding (agent address turns images) contents calls ending = IsServedEnding (images_with images contents) address turns calls ending
+IsWholeEnding (client address name turns) (file ∷ []) calls ending = IsRanEnding (script_of file) address turns calls ending
+IsWholeEnding order contents calls ending = ⊥
+
+-- For an order, or for words that are none, by what was heard of the files that it names, and the calls of the wires, of
+-- which there are none unless all files were read whole.
+abbrev pub IsEnding : Option OrderValue → Heard → List WireCall → Ending → Type 0
+IsEnding None heard calls ending = (calls ≡ []) × (ending ≡ usage_ending)
+IsEnding (Some order) (whole contents) calls ending = IsWholeEnding order contents calls ending
+IsEnding (Some order) (longer before) calls ending = (calls ≡ []) × (ending ≡ long_ending (first_place order + before))
+IsEnding (Some order) (failed before) calls ending = (calls ≡ []) × (ending ≡ fault_ending)
+
+-- ---- how it ends then
 
 -- A run with this ending ends so, or is given up; what was told then is a front of the text, and else all of it.
 pub record Ends (ending : Ending) (exit : Exit) (before after : Option (List ℕ)) : Type 0 where
@@ -73,3 +145,9 @@ pub record Ends (ending : Ending) (exit : Exit) (before after : Option (List ℕ
 -- the run ends as one of these endings is
 abbrev pub EndsIn : (Ending → Type 0) → Exit → Option (List ℕ) → Option (List ℕ) → Type 0
 EndsIn IsIts exit before after = (ending : Ending) × IsIts ending × Ends ending exit before after
+
+-- where the files weren't all read whole, of which this word names the first; where memory was wanting nothing was put
+abbrev pub EndsUnread : ℕ → Unread → Exit → Option (List ℕ) → Option (List ℕ) → Type 0
+EndsUnread place (unread.Longer count) exit before after = Ends (long_ending (place + count)) exit before after
+EndsUnread place (unread.Failed count) exit before after = Ends fault_ending exit before after
+EndsUnread place unread.NoMemory exit before after = (exit ≡ NoMemory) × (after ≡ before)

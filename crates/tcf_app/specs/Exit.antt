@@ -1,16 +1,19 @@
 use Rattle.std.specs.Prelude.{ℕ, ◌≡◌, ◌⊎◌}
 use Rattle.tcf_app.specs.declared.exit.Exit.{Exit}
-use Rattle.tcf_app.specs.declared.exit.Exit.TheVariants.{Done, Usage, BadText, FileFault, SinkFault, NoMemory, BadStream, TooLong}
+use Rattle.tcf_app.specs.declared.exit.Exit.TheVariants.{Done, Usage, BadText, FileFault, SinkFault, WireFault, Turns, NoMemory, BadStream, Ended, TooLong}
 
--- the status with which the program ends; 5, 6 and 9 are kept for ends that don't come yet
+-- the status with which the program ends
 abbrev pub status_of : Exit → ℕ
 status_of Done = 0
 status_of Usage = 1
 status_of (BadText line what) = 2
 status_of FileFault = 3
 status_of SinkFault = 4
+status_of WireFault = 5
+status_of Turns = 6
 status_of NoMemory = 7
 status_of (BadStream offset what) = 8
+status_of (Ended cause) = 9
 status_of (TooLong word) = 10
 
 -- the run was given up, with no text of its own: a put was a fault, or memory was wanting

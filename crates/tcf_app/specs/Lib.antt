@@ -2,6 +2,8 @@ pub mod Exit
 pub mod Words
 pub mod Texts
 pub mod Played
+pub mod Heard
+pub mod Reading
 pub mod Show
 pub mod Pieces
 pub mod Ending

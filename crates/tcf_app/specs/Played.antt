@@ -1,8 +1,9 @@
--- What is printed of a schedule that is played.
+-- What is printed of a schedule that is played, and of a client that is run.
 use Rattle.std.specs.Prelude.{ℕ, ◌+◌, List, [], ◌∷◌, ◌++◌, length, codes}
 use Rattle.std.specs.Fmt.{decimal}
 use Rattle.tcf_schedules.specs.declared.schedule.ChainHead.{ChainHead}
 use Rattle.tcf_text.specs.Log.{log_text}
+use Rattle.tcf_text.specs.declared.log.LogLine.{LogLine}
 use Rattle.tcf_schedules.specs.Schedule.{ScheduleValue}
 use Rattle.chain_world.specs.WorldValue.{WorldValue}
 use Rattle.chain_world.specs.World.{images_of, log_at, new_world, run}
@@ -33,3 +34,10 @@ chains_text at (head ∷ heads) w = chain_line head.name ++ log_text (log_at at 
 -- what is printed of a schedule: each chain with the log that playing gives, and the length of the history
 abbrev pub printed : ScheduleValue → List ℕ
 printed schedule = chains_text 0 schedule.chains (world_of schedule) ++ history_line (length (world_of schedule).history)
+
+unfoldable pub client_name : List ℕ
+client_name = codes "client"
+
+-- what is printed of a client that is run: its log
+abbrev pub client_text : List LogLine → List ℕ
+client_text log = chain_line client_name ++ log_text log

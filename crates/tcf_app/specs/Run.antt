@@ -1,40 +1,49 @@
 -- What each end of a run tells.
-use Rattle.std.specs.Prelude.{ℕ, ◌≡◌, ◌<◌, ◌⊎◌, List, ◌++◌, length, Option, None, Some, option_map, Ok, Err, IfSome, take}
-use Rattle.tcf_outside.specs.Faults.{Rose}
-use Rattle.tcf_outside.specs.Files.{content_of, read_of}
+use Rattle.std.specs.Prelude.{ℕ, ◌≡◌, ◌+◌, ◌<◌, ◌⊎◌, Bool, true, false, List, [], ◌∷◌, ◌++◌, length, Option, None, Some, Ok, Err, IfSome, take}
+use Rattle.std.specs.List.{list_any}
+use Rattle.tcf_outside.specs.Files.{content_of}
 use Rattle.tcf_outside.specs.Sink.{added}
 use Rattle.tcf_outside.specs.declared.files.HeldFile.{HeldFile}
-use Rattle.tcf_outside.specs.declared.files.FileRead.{FileRead}
-use Rattle.tcf_schedules.specs.declared.schedule.TextFault.{TextFault}
+use Rattle.channel_core.specs.declared.states.Cause.{Cause}
+use Rattle.tcf_schedules.specs.Refusal.{BadLine}
 use Rattle.tcf_schedules.specs.Schedule.{ScheduleValue, schedule_of}
-use Rattle.target_hub.specs.Ordered.{IsPrefixOf}
+use Rattle.tcf_schedules.specs.Script.{script_of}
+use Rattle.tcf_schedules.specs.declared.schedule.TextFault.{TextFault}
+use Rattle.tcf_schedules.specs.declared.script.ScriptLine.{ScriptLine}
+use Rattle.tcf_text.specs.Once.{Once}
+use Rattle.tcf_wires.specs.declared.call.WireCall.{WireCall}
+use Rattle.tcf_wires.specs.declared.event.WireRefusal.TheVariants as refusals
+use Rattle.serving_wires.specs.Calls.{Makes}
+use Rattle.serving_wires.specs.Serving.{fails}
+use Rattle.agent_serving.specs.Serve.{ServesAgent}
+use Rattle.agent_serving.specs.declared.serve.ServeEnd.{ServeEnd}
+use Rattle.agent_serving.specs.declared.serve.ServeEnd.TheVariants as serve_ends
+use Rattle.client_serving.specs.Run.{RunsClient}
+use Rattle.client_serving.specs.declared.end.ClientEnd.{ClientEnd}
+use Rattle.client_serving.specs.declared.end.ClientEnd.TheVariants as client_ends
+use Rattle.client_serving.specs.declared.end.ClientRun.{ClientRun}
 use Rattle.chain_world.specs.EndLaws.{EndsAllRightly}
 use Rattle.chain_world.specs.World.{images_of}
 use Rattle.chain_world.specs.WorldLaws.{AreCoherent, IsFaithful}
 use Rattle.tcf_app.specs.declared.exit.BadPlace.{BadPlace}
 use Rattle.tcf_app.specs.declared.exit.Exit.{Exit}
-use Rattle.tcf_app.specs.declared.exit.Exit.TheVariants.{NoMemory}
-use Rattle.tcf_app.specs.Words.{OrderValue, chain, show, file_of, names_of}
-use Rattle.tcf_app.specs.Texts.{bad_line_text, bad_stream_text, too_long_text}
-use Rattle.tcf_app.specs.Played.{printed, world_of}
+use Rattle.tcf_app.specs.declared.exit.Exit.TheVariants.{Done, Usage, BadText, FileFault, SinkFault, WireFault, Turns, NoMemory, BadStream, Ended, TooLong}
+use Rattle.tcf_app.specs.Words.{NamedFile, OrderValue, chain, show, agent, client, first_place, files_in, files_named, names_of}
+use Rattle.tcf_app.specs.Texts.{wire_fault_text, turns_text, bad_line_text, bad_stream_text, too_long_text}
+use Rattle.tcf_app.specs.Played.{printed, client_text, world_of}
+use Rattle.tcf_app.specs.Heard.{Heard, Hears, heard_in, AreHeld, IsFirstLong}
 use Rattle.tcf_app.specs.Show.{IsShown}
-use Rattle.tcf_app.specs.Ending.{most_file, Ending, Ends, Agrees, IsEnding}
+use Rattle.tcf_app.specs.Ending.{Ending, Ends, EndsIn, IsEnding, images_with, wire_ending}
 
--- Something was heard of the file that the order names, nothing only where a read failed, and the run ends as it is
--- to end then.
-pub record Runs (order : Option OrderValue) (files : Option (List HeldFile)) (faults_before faults_after : ℕ) (exit : Exit) (before after : Option (List ℕ)) : Type 0 where
-  pub heard : Option FileRead
-  pub agrees : Agrees order files heard
-  pub rose : heard ≡ None → Rose faults_before faults_after
-  pub ending : Ending
-  pub its : IsEnding order heard ending
-  pub ends : Ends ending exit before after
+-- ---- the run as a whole
 
--- the files were told as many names of the order's, from the left, as were read
-pub record ReadsInOrder (order : Option OrderValue) (before after : Option (List (List ℕ))) : Type 0 where
-  pub names : List (List ℕ)
-  pub front : IsPrefixOf names (names_of order)
-  pub told : after ≡ option_map (λ so_far. so_far ++ names) before
+-- Something was heard of the files that the order names, these calls were made, and the run ends as it is to end then.
+pub record RunsBy (order : Option OrderValue) (files : Option (List HeldFile)) (faults_before faults_after : ℕ) (exit : Exit) (before after : Option (List ℕ)) (calls : List WireCall) : Type 0 where
+  pub heard : Heard
+  pub hears : Hears (names_of order) files faults_before faults_after heard
+  pub ends : EndsIn (IsEnding order heard calls) exit before after
+
+-- ---- chain and show
 
 -- The file says a schedule. Exactly its text was put: each chain with the log that playing the schedule gives, and
 -- the length of the history. Each log is true to that history, and ends only as the steps say; what each client keeps,
@@ -57,20 +66,82 @@ pub record IsPrinted (name : List ℕ) (files : Option (List HeldFile)) (before 
   pub shown : IsShown file (record { text = text; bad = None })
   pub put : after ≡ added text before
 
--- what was done, by what was ordered
-abbrev pub IsDone : Option OrderValue → Option (List HeldFile) → Option (List ℕ) → Option (List ℕ) → Type 0
-IsDone None files before after = ⊥
-IsDone (Some (chain name)) files before after = IsPlayed name files before after
-IsDone (Some (show name)) files before after = IsPrinted name files before after
+-- ---- agent and client
 
--- The file that `chain` names has this line as its first bad one, with this as the first of its reasons, and the text
--- that says so was put.
-pub record IsBadText (order : Option OrderValue) (files : Option (List HeldFile)) (line : ℕ) (what : TextFault) (before after : Option (List ℕ)) : Type 0 where
-  pub name : List ℕ
-  pub ordered : order ≡ Some (chain name)
+-- An agent was served whose images have these names and what these files hold; its serving ended so, and this text was
+-- put.
+pub record IsServed (address : List ℕ) (turns : ℕ) (images : List NamedFile) (end : ServeEnd) (text : List ℕ) (files : Option (List HeldFile)) (told_before told_after : Option (List WireCall)) (wires_before wires_after : ℕ) (before after : Option (List ℕ)) : Type 0 where
+  pub contents : List (List ℕ)
+  pub held : AreHeld (files_in images) contents files
+  pub serves : Makes (ServesAgent (images_with images contents) address turns end) told_before told_after wires_before wires_after
+  pub put : after ≡ added text before
+
+-- A client did the script that this file says; its run ended so, and its log was put, in which each command is answered
+-- once.
+pub record HasRun (address name : List ℕ) (turns : ℕ) (end : ClientEnd) (files : Option (List HeldFile)) (told_before told_after : Option (List WireCall)) (wires_before wires_after : ℕ) (before after : Option (List ℕ)) : Type 0 where
   pub file : List ℕ
   pub held : IfSome files (λ fs. file ≡ content_of name fs)
-  pub says : schedule_of file ≡ Err (record { line = line; what = what })
+  pub script : List ScriptLine
+  pub says : script_of file ≡ Ok script
+  pub run : ClientRun
+  pub ended : run.end ≡ end
+  pub runs : Makes (RunsClient script address turns (Ok run)) told_before told_after wires_before wires_after
+  pub once : Once false run.client.log
+  pub put : after ≡ added (client_text run.client.log) before
+
+-- A client was to do the script that this file says, and the wires failed.
+pub record HasFailed (address name : List ℕ) (turns : ℕ) (files : Option (List HeldFile)) (told_before told_after : Option (List WireCall)) (wires_before wires_after : ℕ) (before after : Option (List ℕ)) : Type 0 where
+  pub file : List ℕ
+  pub held : IfSome files (λ fs. file ≡ content_of name fs)
+  pub script : List ScriptLine
+  pub says : script_of file ≡ Ok script
+  pub runs : Makes (RunsClient script address turns (Err refusals.Failed)) told_before told_after wires_before wires_after
+  pub put : after ≡ added wire_fault_text before
+
+-- ---- each exit, by what was ordered
+
+-- what was done; of an agent, that `Stop` came, as the last of so many events
+abbrev pub IsDone : Option OrderValue → Option (List HeldFile) → Option (List WireCall) → Option (List WireCall) → ℕ → ℕ → Option (List ℕ) → Option (List ℕ) → Type 0
+IsDone None files told told' wires wires' before after = ⊥
+IsDone (Some (chain name)) files told told' wires wires' before after = IsPlayed name files before after
+IsDone (Some (show name)) files told told' wires wires' before after = IsPrinted name files before after
+IsDone (Some (agent address turns images)) files told told' wires wires' before after =
+    (events : ℕ) × IsServed address turns images (serve_ends.Stopped events) (turns_text events) files told told' wires wires' before after
+IsDone (Some (client address name turns)) files told told' wires wires' before after = HasRun address name turns client_ends.Done files told told' wires wires' before after
+
+-- all turns were taken
+abbrev pub AreTaken : Option OrderValue → Option (List HeldFile) → Option (List WireCall) → Option (List WireCall) → ℕ → ℕ → Option (List ℕ) → Option (List ℕ) → Type 0
+AreTaken (Some (agent address turns images)) files told told' wires wires' before after =
+    IsServed address turns images serve_ends.Turns (turns_text turns) files told told' wires wires' before after
+AreTaken (Some (client address name turns)) files told told' wires wires' before after = HasRun address name turns client_ends.Turns files told told' wires wires' before after
+AreTaken order files told told' wires wires' before after = ⊥
+
+-- a client's run ended for this cause
+abbrev pub HasEnded : Cause → Option OrderValue → Option (List HeldFile) → Option (List WireCall) → Option (List WireCall) → ℕ → ℕ → Option (List ℕ) → Option (List ℕ) → Type 0
+HasEnded cause (Some (client address name turns)) files told told' wires wires' before after = HasRun address name turns (client_ends.Ended cause) files told told' wires wires' before after
+HasEnded cause order files told told' wires wires' before after = ⊥
+
+-- a call of the wires failed
+abbrev pub HaveFailed : Option OrderValue → Option (List HeldFile) → Option (List WireCall) → Option (List WireCall) → ℕ → ℕ → Option (List ℕ) → Option (List ℕ) → Type 0
+HaveFailed (Some (agent address turns images)) files told told' wires wires' before after =
+    IsServed address turns images serve_ends.WireFault wire_fault_text files told told' wires wires' before after
+HaveFailed (Some (client address name turns)) files told told' wires wires' before after = HasFailed address name turns files told told' wires wires' before after
+HaveFailed order files told told' wires wires' before after = ⊥
+
+-- a file has this line as its first bad one, by the command that reads it
+abbrev pub SaysBad : Option OrderValue → List ℕ → BadLine → Type 0
+SaysBad (Some (chain name)) file bad = schedule_of file ≡ Err bad
+SaysBad (Some (client address name turns)) file bad = script_of file ≡ Err bad
+SaysBad order file bad = ⊥
+
+-- The file that `chain` or `client` names has this line as its first bad one, with this as the first of its reasons, and
+-- the text that says so was put.
+pub record IsBadText (order : Option OrderValue) (files : Option (List HeldFile)) (line : ℕ) (what : TextFault) (before after : Option (List ℕ)) : Type 0 where
+  pub name : List ℕ
+  pub named : names_of order ≡ name ∷ []
+  pub file : List ℕ
+  pub held : IfSome files (λ fs. file ≡ content_of name fs)
+  pub says : SaysBad order file (record { line = line; what = what })
   pub put : after ≡ added (bad_line_text line what) before
 
 -- The file that `show` names is shown with this bad place. The lines before it were put, and the text that names it.
@@ -83,29 +154,58 @@ pub record IsBadStream (order : Option OrderValue) (files : Option (List HeldFil
   pub shown : IsShown file (record { text = text; bad = Some bad })
   pub put : after ≡ added (text ++ bad_stream_text bad) before
 
--- The file that this word names has more bytes than the limit, and the text that says so was put.
+-- The file that this word names is the first one that has more bytes than the limit, and the text that says so was put.
 pub record IsTooLong (order : Option OrderValue) (files : Option (List HeldFile)) (word : ℕ) (before after : Option (List ℕ)) : Type 0 where
   pub what : OrderValue
   pub ordered : order ≡ Some what
-  pub held : IfSome files (λ fs. most_file < length (content_of (file_of what) fs))
-  pub place : word ≡ 2
-  pub put : after ≡ added too_long_text before
+  pub count : ℕ
+  pub some : count < length (files_named what)
+  pub held : IfSome files (IsFirstLong (files_named what) count)
+  pub place : word ≡ first_place what + count
+  pub put : after ≡ added (too_long_text word) before
 
--- what was heard of the file that the order names, where these files are held and no read fails
-abbrev pub heard_in : Option OrderValue → List HeldFile → Option FileRead
-heard_in None files = None
-heard_in (Some order) files = Some (read_of (content_of (file_of order) files) most_file)
+-- ---- where the wires are used
 
--- an exit that the order has over these files, or want of memory
-abbrev pub ExitsOver : Option OrderValue → List HeldFile → Exit → Type 0
-ExitsOver order files exit = ((ending : Ending) × IsEnding order (heard_in order files) ending × (exit ≡ ending.exit)) ⊎ (exit ≡ NoMemory)
+abbrev pub serves_peers : Option OrderValue → Bool
+serves_peers None = false
+serves_peers (Some (chain name)) = false
+serves_peers (Some (show name)) = false
+serves_peers (Some (agent address turns images)) = true
+serves_peers (Some (client address name turns)) = true
 
--- What was put is a front of the text of an ending that the order has for what was heard of its file, which is nothing
--- only where a read failed.
-pub record PutsFront (order : Option OrderValue) (files : Option (List HeldFile)) (faults_before faults_after : ℕ) (before after : Option (List ℕ)) : Type 0 where
-  pub heard : Option FileRead
-  pub agrees : Agrees order files heard
-  pub rose : heard ≡ None → Rose faults_before faults_after
+-- the exit comes before the wires are used
+abbrev pub is_early : Exit → Bool
+is_early Done = false
+is_early Usage = true
+is_early (BadText line what) = true
+is_early FileFault = true
+is_early SinkFault = false
+is_early WireFault = false
+is_early Turns = false
+is_early NoMemory = false
+is_early (BadStream offset what) = true
+is_early (Ended cause) = false
+is_early (TooLong word) = true
+
+-- the wires aren't used by an order that serves nobody, nor before an early exit
+abbrev pub SparesWires : Option OrderValue → Exit → Type 0
+SparesWires order exit = (serves_peers order ≡ false) ⊎ (is_early exit ≡ true)
+
+-- a call that failed, a lost put aside, ends the run with the line that says so, or while that is put
+abbrev pub AreHeeded : Exit → Option (List ℕ) → Option (List ℕ) → List WireCall → Type 0
+AreHeeded exit before after calls = (list_any fails calls ≡ false) ⊎ Ends wire_ending exit before after
+
+-- ---- given up, and complete
+
+-- What was put is a front of the text of an ending that the order has for what was heard of its files and the calls that
+-- were made.
+pub record PutsFront (order : Option OrderValue) (files : Option (List HeldFile)) (faults_before faults_after : ℕ) (before after : Option (List ℕ)) (calls : List WireCall) : Type 0 where
+  pub heard : Heard
+  pub hears : Hears (names_of order) files faults_before faults_after heard
   pub ending : Ending
-  pub its : IsEnding order heard ending
+  pub its : IsEnding order heard calls ending
   pub front : (count : ℕ) × (after ≡ added (take count ending.text) before)
+
+-- an exit that the order has over these files and by these calls, or want of memory
+abbrev pub ExitsOver : Option OrderValue → List HeldFile → Exit → List WireCall → Type 0
+ExitsOver order files exit calls = ((ending : Ending) × IsEnding order (heard_in (names_of order) files) calls ending × (exit ≡ ending.exit)) ⊎ (exit ≡ NoMemory)

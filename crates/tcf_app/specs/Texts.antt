@@ -1,4 +1,4 @@
--- The last lines of the runs that refuse something.
+-- The last lines of runs.
 use Rattle.std.specs.Prelude.{ℕ, List, [], ◌∷◌, ◌++◌, codes}
 use Rattle.std.specs.Fmt.{decimal}
 use Rattle.tcf_schedules.specs.declared.schedule.TextFault.{TextFault}
@@ -13,8 +13,14 @@ usage_text = codes "usage: tcf chain FILE | show FILE | load NUMBER | agent ADDR
 unfoldable pub file_fault_text : List ℕ
 file_fault_text = codes "file fault\n"
 
-unfoldable pub too_long_text : List ℕ
-too_long_text = codes "file too long: word 2\n"
+unfoldable pub wire_fault_text : List ℕ
+wire_fault_text = codes "wire fault\n"
+
+unfoldable pub too_long_front : List ℕ
+too_long_front = codes "file too long: word "
+
+unfoldable pub turns_front : List ℕ
+turns_front = codes "turns "
 
 unfoldable pub bad_line_front : List ℕ
 bad_line_front = codes "bad line "
@@ -47,6 +53,18 @@ what_word Token = codes "token"
 what_word Level = codes "level"
 what_word Trailing = codes "trailing"
 what_word Body = codes "body"
+
+-- a line of a number behind its front
+abbrev pub number_text : List ℕ → ℕ → List ℕ
+number_text front number = front ++ decimal number ++ 10 ∷ []
+
+-- the last line where the file that this word names is too long
+abbrev pub too_long_text : ℕ → List ℕ
+too_long_text word = number_text too_long_front word
+
+-- the last line of a serving that took so many events
+abbrev pub turns_text : ℕ → List ℕ
+turns_text events = number_text turns_front events
 
 -- the last line where something is bad: its place and what it is
 abbrev pub place_text : List ℕ → ℕ → List ℕ → List ℕ

@@ -10,7 +10,7 @@ ghost use Rattle.tcf_app.specs.Played.{printed, chain_line, history_line, chains
 
 use crate::exit::Exit;
 use crate::finish::{finish_made, push_line};
-use crate::lines::bad_line;
+use crate::refusing::refuse_line;
 use chain_world::{World, read_is_playable};
 use std::alloc::{AllocError, Global};
 use tcf_outside::{Octets, Sink};
@@ -19,7 +19,7 @@ use tcf_text::write_log;
 
 /// Appends the line before a chain's log.
 #[tactic(auto, unfolding(crate::specs::Played::chain_front))]
-fn push_chain(out: &mut Octets, name: &[u8]) -> Result<(), AllocError>
+pub(crate) fn push_chain(out: &mut Octets, name: &[u8]) -> Result<(), AllocError>
     ensures { OnOk result (out.new ≡ out.old ++ chain_line name.now) }
 {
     push_line(out, b"chain ", name)
@@ -70,13 +70,7 @@ pub(crate) fn play_file<S: Sink>(alloc: Global, file: &[u8], out: &mut S) -> Exi
     read_is_playable();
     match read_schedule(alloc, file) {
         Ok(schedule) => finish_made(out, text_of(alloc, &schedule), Exit::Done),
-        Err(TextRefusal::Bad { line, what }) => {
-            finish_made(
-                out,
-                bad_line(alloc, line, what),
-                Exit::BadText { line, what },
-            )
-        }
+        Err(TextRefusal::Bad { line, what }) => refuse_line(alloc, line, what, out),
         Err(TextRefusal::NoMemory) => Exit::NoMemory,
     }
 }

@@ -2,6 +2,7 @@
 ghost use Rattle.std.specs.Prelude.{◌≡◌};
 ghost use Rattle.tcf_app.specs.Exit.{status_of};
 
+use channel_core::Cause;
 use tcf_schedules::TextFault;
 
 /// What is bad at a place of a stream of messages.
@@ -47,16 +48,22 @@ pub enum Exit {
     Done,
     /// The words are none of the forms.
     Usage,
-    /// This line of the schedule, counted from 1, is the first bad one.
+    /// This line of the schedule or the script, counted from 1, is the first bad one.
     BadText { line: u64, what: TextFault },
     /// A file could not be read.
     FileFault,
     /// A text could not be put whole.
     SinkFault,
+    /// The address could not be listened on or connected to, or the wires gave nothing any more.
+    WireFault,
+    /// All turns were taken before the run had its end.
+    Turns,
     /// There was not enough memory.
     NoMemory,
     /// The stream is bad at this offset, which counts the bytes before it.
     BadStream { offset: u64, what: StreamWhat },
+    /// A client's channel closed for this cause before its script was done.
+    Ended { cause: Cause },
     /// The file that this word names, counted from 1, has more than 16,777,216 bytes.
     TooLong { word: u64 },
 }
@@ -72,8 +79,11 @@ impl Exit {
             Exit::BadText { .. } => 2,
             Exit::FileFault => 3,
             Exit::SinkFault => 4,
+            Exit::WireFault => 5,
+            Exit::Turns => 6,
             Exit::NoMemory => 7,
             Exit::BadStream { .. } => 8,
+            Exit::Ended { .. } => 9,
             Exit::TooLong { .. } => 10,
         }
     }

@@ -1,17 +1,22 @@
 //! The top call.
 #![tactic(auto)]
 
+mod agent;
 mod chain;
+mod client;
 pub mod exit;
 mod finish;
 mod laws;
 mod lines;
 mod order;
+mod reading;
+pub mod refusing;
 mod show;
 pub mod top;
 
 pub use exit::{BadPlace, Exit, StreamWhat};
 pub use laws::one_outcome;
+pub use refusing::report_wire_fault;
 pub use top::tcf;
 
 #[cfg(test)]

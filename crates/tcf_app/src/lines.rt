@@ -1,8 +1,9 @@
-//! The last lines that name a place.
+//! The last lines that have a number.
 ghost use Rattle.std.specs.Prelude.{◌≡◌, IfOk};
-ghost use Rattle.tcf_app.specs.Texts.{fault_word, what_word, place_text, bad_line_text, bad_stream_text};
+ghost use Rattle.tcf_app.specs.Texts.{fault_word, what_word, number_text, place_text, too_long_text, turns_text, bad_line_text, bad_stream_text};
 
 use crate::exit::{BadPlace, StreamWhat};
+use crate::finish::push_line;
 use std::alloc::{AllocError, Global};
 use tcf_outside::Octets;
 use tcf_schedules::TextFault;
@@ -37,6 +38,32 @@ fn what_word(what: StreamWhat) -> &'static [u8]
         StreamWhat::Trailing => b"trailing",
         StreamWhat::Body => b"body",
     }
+}
+
+/// A line of its front and a number.
+fn number_line(alloc: Global, front: &[u8], number: u64) -> Result<Octets, AllocError>
+    ensures { IfOk result (λ text. text ≡ number_text front.now number) }
+{
+    let number = format!(in alloc; "{number}")?;
+    let mut text = Octets::new(alloc);
+    push_line(&mut text, front, number.as_bytes())?;
+    Ok(text)
+}
+
+/// The last line where the file that this word names is too long.
+#[tactic(auto, unfolding(crate::specs::Texts::too_long_front))]
+pub(crate) fn too_long(alloc: Global, word: u64) -> Result<Octets, AllocError>
+    ensures { IfOk result (λ text. text ≡ too_long_text word) }
+{
+    number_line(alloc, b"file too long: word ", word)
+}
+
+/// The last line of a serving that took so many events.
+#[tactic(auto, unfolding(crate::specs::Texts::turns_front))]
+pub(crate) fn turns(alloc: Global, events: u32) -> Result<Octets, AllocError>
+    ensures { IfOk result (λ text. text ≡ turns_text events) }
+{
+    number_line(alloc, b"turns ", u64::from(events))
 }
 
 /// A line of its front, a number, a colon and a word.

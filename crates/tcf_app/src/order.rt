@@ -1,25 +1,81 @@
 //! What the words after the program's name ask for.
 ghost use Rattle.std.specs.Prelude.{◌≡◌, option_map, map, string_bytes};
-ghost use Rattle.tcf_app.specs.Words.{order_value, order_with, order_of, file_of};
+ghost use Rattle.tcf_app.specs.Words.{order_value, image_value, image_in, images_in, has_name, are_named, turns_of, order_with, agent_by, client_by, serving_with, order_of};
 
-/// A command with its file.
+use tcf_values::number_within;
+
+/// A command with what its words say.
 #[derive(Clone, Copy)]
 pub(crate) enum Order<'a> {
     /// Plays a schedule.
-    Chain { file: &'a str },
+    Chain {
+        file: &'a str,
+    },
     /// Shows the messages of a stream.
-    Show { file: &'a str },
+    Show {
+        file: &'a str,
+    },
+    /// Serves an agent with the images that these words give.
+    Agent {
+        address: &'a str,
+        turns: u32,
+        images: &'a [String],
+    },
+    /// Lets a client do a script.
+    Client {
+        address: &'a str,
+        script: &'a str,
+        turns: u32,
+    },
 }
 
-impl Order<'_> {
-    /// The file that the order names.
-    pub(crate) fn file(&self) -> &str
-        ensures { result.now ≡ file_of (order_value self.now) }
-    {
-        match self {
-            Order::Chain { file } | Order::Show { file } => file,
+/// The name of an image, and of its file.
+#[derive(Clone, Copy)]
+pub(crate) struct ImageWord<'a> {
+    pub(crate) name: &'a str,
+    pub(crate) file: &'a str,
+}
+
+/// What the word says: a name, `=` and a file. A word without `=` has no name.
+pub(crate) fn image_in(word: &str) -> ImageWord<'_>
+    ensures { image_value result ≡ image_in word.now }
+{
+    match word.split_once('=') {
+        Some((name, file)) => ImageWord { name, file },
+        None => ImageWord { name: "", file: "" },
+    }
+}
+
+/// Whether one of the words gives this name.
+fn has_name(name: &str, words: &[String]) -> bool
+    ensures { result ≡ has_name name.now (images_in (map string_bytes words.now)) }
+{
+    for word in words {
+        if image_in(word.as_str()).name == name {
+            return true;
         }
     }
+    false
+}
+
+/// Whether each word gives an image a name, and no name is given twice.
+fn are_images(words: &[String]) -> bool
+    ensures { result ≡ are_named (images_in (map string_bytes words.now)) }
+{
+    for (at, word) in words.iter().enumerate() {
+        let name = image_in(word.as_str()).name;
+        if name.is_empty() || has_name(name, &words[at + 1..]) {
+            return false;
+        }
+    }
+    true
+}
+
+/// The number of turns that the word says.
+fn turns_in(word: &str) -> Option<u32>
+    ensures { result ≡ turns_of word.now }
+{
+    number_within(word.as_bytes(), 1, 1_000_000_000)
 }
 
 /// The order of a command with one word behind it.
@@ -34,12 +90,67 @@ fn order_with<'a>(command: &str, file: &'a str) -> Option<Order<'a>>
     }
 }
 
+/// The order to serve an agent.
+fn agent_order<'a>(address: &'a str, turns: &str, images: &'a [String]) -> Option<Order<'a>>
+    ensures { option_map order_value result ≡ agent_by address.now (images_in (map string_bytes images.now)) (turns_of turns.now) }
+{
+    let turns = turns_in(turns)?;
+    if !are_images(images) {
+        return None;
+    }
+    Some(Order::Agent {
+        address,
+        turns,
+        images,
+    })
+}
+
+/// The order to let a client do a script.
+fn client_order<'a>(address: &'a str, script: &'a str, words: &[String]) -> Option<Order<'a>>
+    ensures { option_map order_value result ≡ client_by address.now script.now (map string_bytes words.now) }
+{
+    match words {
+        [turns] => {
+            let turns = turns_in(turns.as_str())?;
+            Some(Order::Client {
+                address,
+                script,
+                turns,
+            })
+        }
+        _ => None,
+    }
+}
+
+/// The order of a command with two words and more behind it.
+#[tactic(auto, unfolding(crate::specs::Words::agent_word, crate::specs::Words::client_word))]
+fn serving_with<'a>(
+    command: &str,
+    address: &'a str,
+    word: &'a str,
+    words: &'a [String],
+) -> Option<Order<'a>>
+    ensures { option_map order_value result ≡ serving_with command.now address.now word.now (map string_bytes words.now) }
+{
+    match command {
+        "agent" => agent_order(address, word, words),
+        "client" => client_order(address, word, words),
+        _ => None,
+    }
+}
+
 /// The order that the words are, if they are one.
 pub(crate) fn read_words(words: &[String]) -> Option<Order<'_>>
     ensures { option_map order_value result ≡ order_of (map string_bytes words.now) }
 {
     match words {
         [command, file] => order_with(command.as_str(), file.as_str()),
+        [command, address, word, words @ ..] => serving_with(
+            command.as_str(),
+            address.as_str(),
+            word.as_str(),
+            words,
+        ),
         _ => None,
     }
 }

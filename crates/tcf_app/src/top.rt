@@ -1,111 +1,147 @@
 //! The top call.
-ghost use Rattle.std.specs.Prelude.{◌≡◌, ◌⊎◌, ℕ, None, Some, IfOk, IfSome, map, string_bytes};
+ghost use Rattle.std.specs.Prelude.{◌≡◌, ◌⊎◌, ◌∷◌, [], ℕ, None, Some, IfSome, map, string_bytes};
 ghost use Rattle.tcf_outside.specs.Faults.{Rose};
-ghost use Rattle.tcf_outside.specs.Files.{content_of, read_of, names_after, faults_after};
 ghost use Rattle.tcf_outside.specs.Sink.{added};
+ghost use Rattle.channel_core.specs.declared.states.Cause.{Cause};
 ghost use Rattle.tcf_schedules.specs.declared.schedule.TextFault.{TextFault};
+ghost use Rattle.serving_wires.specs.Calls.{Makes};
 ghost use Rattle.tcf_app.specs.declared.exit.StreamWhat.{StreamWhat};
 ghost use Rattle.tcf_app.specs.Exit.{IsGivenUp};
-ghost use Rattle.tcf_app.specs.Words.{order_value, order_of};
-ghost use Rattle.tcf_app.specs.Texts.{usage_text, file_fault_text, too_long_text};
-ghost use Rattle.tcf_app.specs.Ending.{most_file, Ends, EndsIn, IsWholeEnding, fault_ending};
-ghost use Rattle.tcf_app.specs.Run.{Runs, ReadsInOrder, IsDone, IsBadText, IsBadStream, IsTooLong, ExitsOver, PutsFront};
+ghost use Rattle.tcf_app.specs.Words.{agent, chain, client, show, files_in, images_in, order_value, order_of, names_of};
+ghost use Rattle.tcf_app.specs.Texts.{usage_text, file_fault_text};
+ghost use Rattle.tcf_app.specs.Heard.{ReadsInOrder};
+ghost use Rattle.tcf_app.specs.Ending.{Ends, fault_ending};
+ghost use Rattle.tcf_app.specs.Run.{RunsBy, IsDone, AreTaken, HasEnded, HaveFailed, IsBadText, IsBadStream, IsTooLong, SparesWires, AreHeeded, PutsFront, ExitsOver};
 
+use crate::agent::serve_images;
 use crate::chain::play_file;
+use crate::client::do_script;
 use crate::exit::Exit;
-use crate::finish::finish;
 use crate::laws::one_outcome;
 use crate::order::{Order, read_words};
+use crate::reading::{read_file, read_images};
+use crate::refusing::{refuse_unread, refuse_words};
 use crate::show::show_file;
 use chain_world::every_file;
+use client_node::each_command_is_answered_once;
+use client_serving::what_is_served_is_a_client;
 use std::alloc::Global;
-use tcf_outside::{FileRead, Files, ReadRefusal, Sink};
+use tcf_outside::{Files, Sink};
+use tcf_wires::Wires;
 
-/// The most bytes of a file.
-pub const FILE_LIMIT: usize = 16_777_216;
-
-/// The words that the program knows.
-const USAGE: &[u8] =
-    b"usage: tcf chain FILE | show FILE | load NUMBER | agent ADDRESS TURNS [NAME=FILE ..] | value ADDRESS PEER TURNS | client ADDRESS SCRIPT TURNS\n";
-
-/// Ends a run whose words are none of the forms.
-#[tactic(auto, unfolding(crate::specs::Texts::usage_text))]
-fn refuse_words<S: Sink>(out: &mut S) -> Exit
-    ensures ends { Ends (record { exit = Exit.Usage; text = usage_text }) result (S.told out.old) (S.told out.new) }
+/// Reads the schedule of this name, and plays it.
+fn run_chain<F: Files, S: Sink>(alloc: Global, name: &str, files: &mut F, out: &mut S) -> Exit
+    ensures runs { RunsBy (Some (chain name.now)) (F.held files.old) (F.faults files.old) (F.faults files.new) result (S.told out.old) (S.told out.new) [] }
+    ensures reads { ReadsInOrder (name.now ∷ []) (F.names files.old) (F.names files.new) }
     ensures fault { result ≡ Exit.SinkFault → Rose (S.faults out.old) (S.faults out.new) }
     ensures unharmed { (result ≡ Exit.SinkFault → ⊥) → S.faults out.new ≡ S.faults out.old }
 {
-    finish(out, USAGE, Exit::Usage)
-}
-
-/// Ends a run whose file has more bytes than the limit.
-#[tactic(auto, unfolding(crate::specs::Texts::too_long_text))]
-fn refuse_length<S: Sink>(out: &mut S) -> Exit
-    ensures ends { Ends (record { exit = Exit.TooLong 2; text = too_long_text }) result (S.told out.old) (S.told out.new) }
-    ensures fault { result ≡ Exit.SinkFault → Rose (S.faults out.old) (S.faults out.new) }
-    ensures unharmed { (result ≡ Exit.SinkFault → ⊥) → S.faults out.new ≡ S.faults out.old }
-{
-    finish(out, b"file too long: word 2\n", Exit::TooLong { word: 2 })
-}
-
-/// Ends a run whose file could not be read.
-#[tactic(auto, unfolding(crate::specs::Texts::file_fault_text))]
-fn report_fault<S: Sink>(out: &mut S) -> Exit
-    ensures ends { Ends fault_ending result (S.told out.old) (S.told out.new) }
-    ensures fault { result ≡ Exit.SinkFault → Rose (S.faults out.old) (S.faults out.new) }
-    ensures unharmed { (result ≡ Exit.SinkFault → ⊥) → S.faults out.new ≡ S.faults out.old }
-{
-    finish(out, b"file fault\n", Exit::FileFault)
-}
-
-/// Reads the file of this name whole, if it has no more bytes than the limit.
-fn read_file<F: Files>(files: &mut F, name: &str) -> Result<FileRead, ReadRefusal>
-    ensures content { IfOk result (λ answer. IfSome (F.held files.old) (λ held. answer ≡ read_of (content_of name.now held) most_file)) }
-    ensures noted { F.names files.new ≡ names_after result name.now (F.names files.old) }
-    ensures cause { F.faults files.new ≡ faults_after result (F.faults files.old) }
-{
-    files.read(name, FILE_LIMIT)
-}
-
-/// Does with the file what is ordered.
-fn run_file<S: Sink>(alloc: Global, order: Order<'_>, file: &[u8], out: &mut S) -> Exit
-    ensures ends { EndsIn (IsWholeEnding (order_value order.entry) file.now) result (S.told out.old) (S.told out.new) }
-    ensures fault { result ≡ Exit.SinkFault → Rose (S.faults out.old) (S.faults out.new) }
-    ensures unharmed { (result ≡ Exit.SinkFault → ⊥) → S.faults out.new ≡ S.faults out.old }
-{
-    match order {
-        Order::Chain { .. } => play_file(alloc, file, out),
-        Order::Show { .. } => show_file(alloc, file, out),
+    match read_file(files, name) {
+        Ok(file) => play_file(alloc, file.as_slice(), out),
+        Err(unread) => refuse_unread(alloc, 2, unread, out),
     }
 }
 
-/// Reads the file that the order names, and does with it what is ordered.
-fn run_order<F: Files, S: Sink>(alloc: Global, order: Order<'_>, files: &mut F, out: &mut S) -> Exit
-    ensures runs { Runs (Some (order_value order.entry)) (F.held files.old) (F.faults files.old) (F.faults files.new) result (S.told out.old) (S.told out.new) }
-    ensures reads { ReadsInOrder (Some (order_value order.entry)) (F.names files.old) (F.names files.new) }
-    ensures files_unharmed { (F.faults files.new ≡ F.faults files.old) ⊎ Ends fault_ending result (S.told out.old) (S.told out.new) }
+/// Reads the stream of this name, and shows it.
+fn run_show<F: Files, S: Sink>(alloc: Global, name: &str, files: &mut F, out: &mut S) -> Exit
+    ensures runs { RunsBy (Some (show name.now)) (F.held files.old) (F.faults files.old) (F.faults files.new) result (S.told out.old) (S.told out.new) [] }
+    ensures reads { ReadsInOrder (name.now ∷ []) (F.names files.old) (F.names files.new) }
     ensures fault { result ≡ Exit.SinkFault → Rose (S.faults out.old) (S.faults out.new) }
     ensures unharmed { (result ≡ Exit.SinkFault → ⊥) → S.faults out.new ≡ S.faults out.old }
 {
     one_outcome();
-    match read_file(files, order.file()) {
-        Ok(FileRead::Whole(file)) => run_file(alloc, order, file.as_slice(), out),
-        Ok(FileRead::Longer) => refuse_length(out),
-        Err(ReadRefusal::Failed) => report_fault(out),
-        Err(ReadRefusal::NoMemory) => Exit::NoMemory,
+    match read_file(files, name) {
+        Ok(file) => show_file(alloc, file.as_slice(), out),
+        Err(unread) => refuse_unread(alloc, 2, unread, out),
+    }
+}
+
+/// Reads the files of the images, and serves an agent with them.
+fn run_agent<F: Files, S: Sink, W: Wires>(
+    alloc: Global,
+    address: &str,
+    turns: u32,
+    words: &[String],
+    files: &mut F,
+    out: &mut S,
+    wires: &mut W,
+) -> Exit
+    ensures runs { Makes (RunsBy (Some (agent address.now turns (images_in (map string_bytes words.now)))) (F.held files.old) (F.faults files.old) (F.faults files.new) result (S.told out.old) (S.told out.new)) (W.told wires.old) (W.told wires.new) (W.faults wires.old) (W.faults wires.new) }
+    ensures reads { ReadsInOrder (files_in (images_in (map string_bytes words.now))) (F.names files.old) (F.names files.new) }
+    ensures fault { result ≡ Exit.SinkFault → Rose (S.faults out.old) (S.faults out.new) }
+    ensures unharmed { (result ≡ Exit.SinkFault → ⊥) → S.faults out.new ≡ S.faults out.old }
+{
+    match read_images(alloc, words, files) {
+        Ok(images) => serve_images(alloc, address, turns, images, out, wires),
+        Err(unread) => refuse_unread(alloc, 4, unread, out),
+    }
+}
+
+/// Reads the script of this name, and lets a client do it.
+fn run_script<F: Files, S: Sink, W: Wires>(
+    alloc: Global,
+    address: &str,
+    name: &str,
+    turns: u32,
+    files: &mut F,
+    out: &mut S,
+    wires: &mut W,
+) -> Exit
+    ensures runs { Makes (RunsBy (Some (client address.now name.now turns)) (F.held files.old) (F.faults files.old) (F.faults files.new) result (S.told out.old) (S.told out.new)) (W.told wires.old) (W.told wires.new) (W.faults wires.old) (W.faults wires.new) }
+    ensures reads { ReadsInOrder (name.now ∷ []) (F.names files.old) (F.names files.new) }
+    ensures fault { result ≡ Exit.SinkFault → Rose (S.faults out.old) (S.faults out.new) }
+    ensures unharmed { (result ≡ Exit.SinkFault → ⊥) → S.faults out.new ≡ S.faults out.old }
+{
+    match read_file(files, name) {
+        Ok(file) => do_script(alloc, address, file.as_slice(), turns, out, wires),
+        Err(unread) => refuse_unread(alloc, 3, unread, out),
+    }
+}
+
+/// Does what is ordered.
+fn run_order<F: Files, S: Sink, W: Wires>(
+    alloc: Global,
+    order: Order<'_>,
+    files: &mut F,
+    out: &mut S,
+    wires: &mut W,
+) -> Exit
+    ensures runs { Makes (RunsBy (Some (order_value order.entry)) (F.held files.old) (F.faults files.old) (F.faults files.new) result (S.told out.old) (S.told out.new)) (W.told wires.old) (W.told wires.new) (W.faults wires.old) (W.faults wires.new) }
+    ensures reads { ReadsInOrder (names_of (Some (order_value order.entry))) (F.names files.old) (F.names files.new) }
+    ensures fault { result ≡ Exit.SinkFault → Rose (S.faults out.old) (S.faults out.new) }
+    ensures unharmed { (result ≡ Exit.SinkFault → ⊥) → S.faults out.new ≡ S.faults out.old }
+{
+    match order {
+        Order::Chain { file } => run_chain(alloc, file, files, out),
+        Order::Show { file } => run_show(alloc, file, files, out),
+        Order::Agent {
+            address,
+            turns,
+            images,
+        } => run_agent(alloc, address, turns, images, files, out, wires),
+        Order::Client {
+            address,
+            script,
+            turns,
+        } => run_script(alloc, address, script, turns, files, out, wires),
     }
 }
 
 /// Runs what the words say.
-fn run_words<F: Files, S: Sink>(alloc: Global, words: &[String], files: &mut F, out: &mut S) -> Exit
-    ensures runs { Runs (order_of (map string_bytes words.now)) (F.held files.old) (F.faults files.old) (F.faults files.new) result (S.told out.old) (S.told out.new) }
-    ensures reads { ReadsInOrder (order_of (map string_bytes words.now)) (F.names files.old) (F.names files.new) }
-    ensures files_unharmed { (F.faults files.new ≡ F.faults files.old) ⊎ Ends fault_ending result (S.told out.old) (S.told out.new) }
+fn run_words<F: Files, S: Sink, W: Wires>(
+    alloc: Global,
+    words: &[String],
+    files: &mut F,
+    out: &mut S,
+    wires: &mut W,
+) -> Exit
+    ensures runs { Makes (RunsBy (order_of (map string_bytes words.now)) (F.held files.old) (F.faults files.old) (F.faults files.new) result (S.told out.old) (S.told out.new)) (W.told wires.old) (W.told wires.new) (W.faults wires.old) (W.faults wires.new) }
+    ensures reads { ReadsInOrder (names_of (order_of (map string_bytes words.now))) (F.names files.old) (F.names files.new) }
     ensures fault { result ≡ Exit.SinkFault → Rose (S.faults out.old) (S.faults out.new) }
     ensures unharmed { (result ≡ Exit.SinkFault → ⊥) → S.faults out.new ≡ S.faults out.old }
 {
     match read_words(words) {
-        Some(order) => run_order(alloc, order, files, out),
+        Some(order) => run_order(alloc, order, files, out, wires),
         None => refuse_words(out),
     }
 }
@@ -115,13 +151,39 @@ fn run_words<F: Files, S: Sink>(alloc: Global, words: &[String], files: &mut F, 
 /// - `chain FILE`: plays the schedule that the file says, and prints each chain's log and the history's length.
 /// - `show FILE`: prints a line for each message of the stream of bytes that the file has, and `EOS` at its end. Lines
 ///   that stand before a bad place stay printed.
+/// - `agent ADDRESS TURNS [NAME=FILE ..]`: listens on the address, serves an agent with these images, and prints how many
+///   events it took.
+/// - `client ADDRESS SCRIPT TURNS`: connects to the address, does the script that the file says, and prints the log.
+///
+/// TURNS is a decimal from 1 to 1,000,000,000 without a leading zero. NAME ends at the first `=`, isn't empty and isn't
+/// given twice.
 ///
 /// A refusal puts one last line that says why. The first of these causes that holds is answered: the words are no
-/// form, a file can't be read or is too long, a line of it or a place of its stream is bad; a fault of the sink ends
-/// the run where it comes. Want of memory may be answered at any point.
-pub fn tcf<F: Files, S: Sink>(alloc: Global, words: &[String], files: &mut F, out: &mut S) -> Exit
-    // What is printed: of a played schedule, whose logs are true to the history, and of a stream without a bad place.
-    ensures done { result ≡ Exit.Done → IsDone (order_of (map string_bytes words.now)) (F.held files.old) (S.told out.old) (S.told out.new) }
+/// form; a file, from the left, can't be read or is too long; a line of it or a place of its stream is bad; the wires
+/// fail. A fault of the sink ends the run where it comes. Want of memory may be answered at any point.
+pub fn tcf<F: Files, S: Sink, W: Wires>(
+    alloc: Global,
+    words: &[String],
+    files: &mut F,
+    out: &mut S,
+    wires: &mut W,
+) -> Exit
+    // The run as a whole: what was heard of the files, and which calls of the wires were made, say how it ends.
+    ensures runs { Makes (RunsBy (order_of (map string_bytes words.now)) (F.held files.old) (F.faults files.old) (F.faults files.new) result (S.told out.old) (S.told out.new)) (W.told wires.old) (W.told wires.new) (W.faults wires.old) (W.faults wires.new) }
+
+    // What is printed: of a played schedule, whose logs are true to the history; of a stream without a bad place; of an
+    // agent for which `Stop` came; and of a client whose script is done.
+    ensures done { result ≡ Exit.Done
+        → IsDone (order_of (map string_bytes words.now)) (F.held files.old) (W.told wires.old) (W.told wires.new) (W.faults wires.old) (W.faults wires.new) (S.told out.old) (S.told out.new) }
+
+    // How a serving command ends otherwise.
+    ensures turns { result ≡ Exit.Turns
+        → AreTaken (order_of (map string_bytes words.now)) (F.held files.old) (W.told wires.old) (W.told wires.new) (W.faults wires.old) (W.faults wires.new) (S.told out.old) (S.told out.new) }
+    ensures ended { (cause : Cause) → result ≡ Exit.Ended cause
+        → HasEnded cause (order_of (map string_bytes words.now)) (F.held files.old) (W.told wires.old) (W.told wires.new) (W.faults wires.old) (W.faults wires.new) (S.told out.old) (S.told out.new) }
+    ensures wire_fault { result ≡ Exit.WireFault → Rose (W.faults wires.old) (W.faults wires.new) }
+    ensures wire_fault_calls { result ≡ Exit.WireFault
+        → HaveFailed (order_of (map string_bytes words.now)) (F.held files.old) (W.told wires.old) (W.told wires.new) (W.faults wires.old) (W.faults wires.new) (S.told out.old) (S.told out.new) }
 
     // When each refusal comes, and what it prints.
     ensures usage { result ≡ Exit.Usage → order_of (map string_bytes words.now) ≡ None }
@@ -137,21 +199,30 @@ pub fn tcf<F: Files, S: Sink>(alloc: Global, words: &[String], files: &mut F, ou
     ensures sink_fault { result ≡ Exit.SinkFault → Rose (S.faults out.old) (S.faults out.new) }
 
     // A put that failed is always answered as such, so never as want of memory. A read that failed ends the run with
-    // the line that says so, or while that is put.
+    // the line that says so, or while that is put, and so does a call of the wires.
     ensures sink_unharmed { (result ≡ Exit.SinkFault → ⊥) → S.faults out.new ≡ S.faults out.old }
     ensures files_unharmed { (F.faults files.new ≡ F.faults files.old) ⊎ Ends fault_ending result (S.told out.old) (S.told out.new) }
+    ensures wires_heeded { Makes (AreHeeded result (S.told out.old) (S.told out.new)) (W.told wires.old) (W.told wires.new) (W.faults wires.old) (W.faults wires.new) }
+
+    // The wires are used only where an order serves, and behind its files.
+    ensures wires_spared { SparesWires (order_of (map string_bytes words.now)) result → W.told wires.new ≡ W.told wires.old }
+    ensures wires_unharmed { SparesWires (order_of (map string_bytes words.now)) result → W.faults wires.new ≡ W.faults wires.old }
 
     // What was put of a run that was given up.
-    ensures given_up { IsGivenUp result → PutsFront (order_of (map string_bytes words.now)) (F.held files.old) (F.faults files.old) (F.faults files.new) (S.told out.old) (S.told out.new) }
+    ensures given_up { IsGivenUp result
+        → Makes (PutsFront (order_of (map string_bytes words.now)) (F.held files.old) (F.faults files.old) (F.faults files.new) (S.told out.old) (S.told out.new)) (W.told wires.old) (W.told wires.new) (W.faults wires.old) (W.faults wires.new) }
 
     // The files are read in the order of the words.
-    ensures reads { ReadsInOrder (order_of (map string_bytes words.now)) (F.names files.old) (F.names files.new) }
+    ensures reads { ReadsInOrder (names_of (order_of (map string_bytes words.now))) (F.names files.old) (F.names files.new) }
 
-    // Without a fault of the files or the sink nothing but the words and the files decides, unless memory is wanting.
+    // Without a fault of the files or the sink nothing but the words, the files and the calls of the wires decides, unless
+    // memory is wanting.
     ensures usage_only { order_of (map string_bytes words.now) ≡ None → (result ≡ Exit.Usage) ⊎ IsGivenUp result }
     ensures complete { IfSome (F.held files.old) (λ held. (Rose (F.faults files.old) (F.faults files.new) → ⊥) → (Rose (S.faults out.old) (S.faults out.new) → ⊥)
-        → ExitsOver (order_of (map string_bytes words.now)) held result) }
+        → Makes (ExitsOver (order_of (map string_bytes words.now)) held result) (W.told wires.old) (W.told wires.new) (W.faults wires.old) (W.faults wires.new)) }
 {
     every_file();
-    run_words(alloc, words, files, out)
+    each_command_is_answered_once();
+    what_is_served_is_a_client();
+    run_words(alloc, words, files, out, wires)
 }

@@ -1,0 +1,429 @@
+#!/usr/bin/env python3
+"""Starts `tcf agent` on loopback, treats it badly, and measures it beside gdbserver and QEMU's stub.
+
+    bench/serve.py            builds the program first, which proves it
+    bench/serve.py PROGRAM    takes a program that is built
+
+It wants Python 3, and Debian's gdbserver and qemu-system-misc for the comparison; without them only the agent is measured.
+"""
+import os
+import shutil
+import socket
+import struct
+import subprocess
+import sys
+import tempfile
+import time
+from pathlib import Path
+
+HERE = Path(__file__).resolve().parent
+LOOPBACK = '127.0.0.1'
+EOM, EOS = b'\x03\x01', b'\x03\x02'
+HELLO = b'E\0Locator\0Hello\0["Locator"]\0' + EOM
+TURNS = '1000000000'
+
+# addi x5, x0, 1; jal x0, 0: a program that goes on for ever
+IMAGE = bytes.fromhex('930210006f000000')
+
+
+def free_port():
+    with socket.socket() as s:
+        s.bind((LOOPBACK, 0))
+        return s.getsockname()[1]
+
+
+def connected(port, tries=200):
+    for _ in range(tries):
+        try:
+            s = socket.create_connection((LOOPBACK, port), timeout=10)
+            s.setsockopt(socket.IPPROTO_TCP, socket.TCP_NODELAY, 1)
+            return s
+        except OSError:
+            time.sleep(0.02)
+    sys.exit(f'nothing listens on port {port}')
+
+
+class Agent:
+    """`tcf agent` with one image, `loop`."""
+
+    def __init__(self, program):
+        self.port = free_port()
+        self.folder = tempfile.TemporaryDirectory()
+        image = Path(self.folder.name) / 'loop.bin'
+        image.write_bytes(IMAGE)
+        self.process = subprocess.Popen([program, 'agent', f'{LOOPBACK}:{self.port}', TURNS, f'loop={image}'],
+                                        stdout=subprocess.DEVNULL)
+
+    def memory(self):
+        """KiB that are resident now."""
+        for line in Path(f'/proc/{self.process.pid}/status').read_text().splitlines():
+            if line.startswith('VmRSS'):
+                return int(line.split()[1])
+
+    def processor(self):
+        """Seconds of processor time so far."""
+        fields = Path(f'/proc/{self.process.pid}/stat').read_text().rsplit(')', 1)[1].split()
+        return (int(fields[11]) + int(fields[12])) / os.sysconf('SC_CLK_TCK')
+
+    def lives(self):
+        return self.process.poll() is None
+
+    def __enter__(self):
+        return self
+
+    def __exit__(self, *what):
+        self.process.kill()
+        self.process.wait()
+        self.folder.cleanup()
+
+
+class Channel:
+    """A client of the Target Communication Framework."""
+
+    def __init__(self, port):
+        self.socket = connected(port)
+        self.came = b''
+        self.token = 0
+        self.socket.sendall(HELLO)
+        self.message()
+
+    def message(self):
+        while EOM not in self.came:
+            piece = self.socket.recv(65536)
+            if not piece:
+                raise EOFError
+            self.came += piece
+        message, self.came = self.came.split(EOM, 1)
+        return message
+
+    def command(self, service, name, *arguments):
+        self.token += 1
+        parts = [b'C', str(self.token).encode(), service.encode(), name.encode(), *(a.encode() for a in arguments)]
+        return b'\0'.join(parts) + b'\0' + EOM
+
+    def ask(self, *words):
+        """The answer to one command; events before it are passed over."""
+        self.socket.sendall(self.command(*words))
+        return self.answer(self.token)
+
+    def answer(self, token):
+        while True:
+            message = self.message()
+            if message[:1] in b'RN' and message.split(b'\0')[1] == str(token).encode():
+                return message
+
+    def event(self, name):
+        while True:
+            message = self.message()
+            if message[:1] == b'E' and message.split(b'\0')[2] == name:
+                return message
+
+    def start(self):
+        """Starts the image, suspended, and answers its process's ID."""
+        answer = self.ask('Processes', 'start', '""', '"loop"', '[]', '[]', 'true')
+        return answer.split(b'"ID":"')[1].split(b'"')[0].decode()
+
+    def close(self):
+        self.socket.close()
+
+
+class Gdb:
+    """A client of gdb's remote protocol."""
+
+    def __init__(self, port):
+        self.socket = connected(port)
+        self.came = b''
+        self.socket.sendall(b'+')
+        self.ask(b'QStartNoAckMode')
+        self.socket.sendall(b'+')
+
+    def packet(self):
+        while True:
+            start = self.came.find(b'$')
+            end = self.came.find(b'#', start)
+            if start >= 0 and 0 <= end <= len(self.came) - 3:
+                body, self.came = self.came[start + 1:end], self.came[end + 3:]
+                return body
+            piece = self.socket.recv(65536)
+            if not piece:
+                raise EOFError
+            self.came += piece
+
+    @staticmethod
+    def spelled(body):
+        return b'$' + body + b'#%02x' % (sum(body) % 256)
+
+    def ask(self, body):
+        self.socket.sendall(self.spelled(body))
+        return self.packet()
+
+    def close(self):
+        self.socket.close()
+
+
+def rate(count, do):
+    """How many a second, over a run of about a second after a short one."""
+    do()
+    begin, done = time.perf_counter(), 0
+    while time.perf_counter() - begin < 1:
+        do()
+        done += count
+    return done / (time.perf_counter() - begin)
+
+
+# ---- the agent, measured
+
+def asked(channel, many, *words):
+    def do():
+        first = channel.token + 1
+        channel.socket.sendall(b''.join(channel.command(*words) for _ in range(many)))
+        for token in range(first, first + many):
+            channel.answer(token)
+    return do
+
+
+def stepped(channel, thread):
+    def do():
+        channel.ask('RunControl', 'resume', f'"{thread}"', '2', '1')
+        channel.event(b'contextSuspended')
+    return do
+
+
+def measure_agent(agent):
+    channel = Channel(agent.port)
+    process = channel.start()
+    thread = f'{process}.1'
+    memory = ('Memory', 'get', f'"{process}"', '0', '1', '4', '0')
+    register = ('Registers', 'get', f'"{thread}.x5"')
+    rates = {
+        'memory reads of 4 bytes': rate(1, asked(channel, 1, *memory)),
+        'memory reads of 4 bytes, 64 in the pipe': rate(64, asked(channel, 64, *memory)),
+        'register reads': rate(1, asked(channel, 1, *register)),
+        'register reads, 64 in the pipe': rate(64, asked(channel, 64, *register)),
+        'steps': rate(1, stepped(channel, thread)),
+    }
+    channel.ask('RunControl', 'terminate', f'"{process}"')
+    channel.close()
+    return rates
+
+
+# ---- the stubs, measured
+
+def measure_stub(port, address, register):
+    gdb = Gdb(port)
+    read = b'm%x,4' % address
+    one = b'p%x' % register
+
+    def piped(body):
+        def do():
+            gdb.socket.sendall(gdb.spelled(body) * 64)
+            for _ in range(64):
+                gdb.packet()
+        return do
+
+    gdb.ask(b'?')
+    rates = {
+        'memory reads of 4 bytes': rate(1, lambda: gdb.ask(read)),
+        'memory reads of 4 bytes, 64 in the pipe': rate(64, piped(read)),
+        'register reads': rate(1, lambda: gdb.ask(one)),
+        'register reads, 64 in the pipe': rate(64, piped(one)),
+        'steps': rate(1, lambda: gdb.ask(b's')),
+    }
+    gdb.close()
+    return rates
+
+
+def measure_gdbserver():
+    if not shutil.which('gdbserver'):
+        return None
+    port = free_port()
+    server = subprocess.Popen(['gdbserver', '--once', f'{LOOPBACK}:{port}', '/bin/sleep', '600'],
+                              stdout=subprocess.DEVNULL, stderr=subprocess.DEVNULL)
+    try:
+        gdb = Gdb(port)
+        # where the program is to begin: its instruction pointer, register 16 on x86-64
+        place = int.from_bytes(bytes.fromhex(gdb.ask(b'p10').decode()), 'little')
+        gdb.close()
+    finally:
+        server.kill()
+        server.wait()
+    server = subprocess.Popen(['gdbserver', '--once', f'{LOOPBACK}:{port}', '/bin/sleep', '600'],
+                              stdout=subprocess.DEVNULL, stderr=subprocess.DEVNULL)
+    try:
+        return measure_stub(port, place, 0)
+    finally:
+        server.kill()
+        server.wait()
+
+
+def measure_qemu():
+    if not shutil.which('qemu-system-riscv32'):
+        return None
+    port = free_port()
+    # the machine `virt` begins at the address 4096, in its ROM
+    emulator = subprocess.Popen(['qemu-system-riscv32', '-M', 'virt', '-bios', 'none', '-display', 'none', '-monitor', 'none',
+                                 '-serial', 'none', '-S', '-gdb', f'tcp:{LOOPBACK}:{port}'],
+                                stdout=subprocess.DEVNULL, stderr=subprocess.DEVNULL)
+    try:
+        return measure_stub(port, 4096, 5)
+    finally:
+        emulator.kill()
+        emulator.wait()
+
+
+def compare(program):
+    with Agent(program) as agent:
+        ours = measure_agent(agent)
+    others = {'gdbserver': measure_gdbserver(), 'QEMU': measure_qemu()}
+    print('| a second | `tcf agent` | gdbserver | QEMU | to gdbserver | to QEMU |')
+    print('|---|---|---|---|---|---|')
+    for what, count in ours.items():
+        row = [f'{count:,.0f}']
+        row += [f'{rates[what]:,.0f}' if rates else '-' for rates in others.values()]
+        row += [f'{count / rates[what]:.2f}' if rates else '-' for rates in others.values()]
+        print(f'| {what} | ' + ' | '.join(row) + ' |')
+
+
+# ---- idle and flooding peers
+
+def many_idle(program):
+    with Agent(program) as agent:
+        one = Channel(agent.port)
+        process = one.start()
+        read = asked(one, 1, 'Memory', 'get', f'"{process}"', '0', '1', '4', '0')
+        alone = rate(1, read)
+        others = [Channel(agent.port) for _ in range(63)]
+        beside = rate(1, read)
+        before = agent.processor()
+        time.sleep(2)
+        idle = (agent.processor() - before) / 2
+        for channel in others:
+            channel.close()
+    print(f'memory reads with 63 idle connections beside: {beside / alone:.2f} times as many as without')
+    print(f'64 idle connections take {idle * 100:.1f} % of a processor')
+
+
+def flooded(program):
+    with Agent(program) as agent:
+        calm = Channel(agent.port)
+        process = calm.start()
+        words = ('Memory', 'get', f'"{process}"', '0', '1', '4', '0')
+        flood = Channel(agent.port)
+        flood.socket.setblocking(False)
+        piece = b''.join(flood.command('Locator', 'sync') for _ in range(2000))
+        waits = []
+        for _ in range(200):
+            try:
+                flood.socket.send(piece)
+            except BlockingIOError:
+                pass
+            try:
+                flood.socket.recv(1 << 20)
+            except BlockingIOError:
+                pass
+            begin = time.perf_counter()
+            calm.ask(*words)
+            waits.append(time.perf_counter() - begin)
+    waits.sort()
+    print(f'beside a peer that floods an answer takes {waits[100] * 1000:.2f} ms in the middle, {waits[-1] * 1000:.2f} ms at most')
+
+
+# ---- peers that behave badly
+
+def check(what, holds):
+    print(f'{"yes" if holds else "NO "}  {what}')
+    return holds
+
+
+def reset(channel_socket):
+    channel_socket.setsockopt(socket.SOL_SOCKET, socket.SO_LINGER, struct.pack('ii', 1, 0))
+    channel_socket.close()
+
+
+def served(port):
+    channel = Channel(port)
+    answer = channel.ask('Locator', 'sync')
+    channel.close()
+    return answer.startswith(b'R')
+
+
+def rest_of(s):
+    got = b''
+    try:
+        while piece := s.recv(65536):
+            got += piece
+    except ConnectionError:
+        pass
+    return got
+
+
+def treat_badly(program):
+    fine = True
+    with Agent(program) as agent:
+        port = agent.port
+        s = connected(port)
+        s.sendall(HELLO + b'C\0001\0Loc')
+        reset(s)
+        fine &= check('a connection is reset in the middle of a message, and another is served', served(port) and agent.lives())
+
+        silent = Channel(port)
+        silent.socket.setblocking(False)
+        command = b''.join(silent.command('Locator', 'sync') for _ in range(1000))
+        try:
+            for _ in range(2000):
+                silent.socket.send(command)
+        except BlockingIOError:
+            pass
+        fine &= check('one never reads, and another is served', served(port))
+        silent.close()
+
+        s = connected(port)
+        for byte in HELLO + b'C\0001\0Locator\0sync\0' + EOM:
+            s.send(bytes([byte]))
+        s.shutdown(socket.SHUT_WR)
+        fine &= check('bytes come one at a time, and the answer goes out', b'R\0001\0' + EOM in rest_of(s))
+
+        s = connected(port)
+        s.sendall(b'A' + EOM)
+        fine &= check('a message of no kind closes its own connection with the end of the stream', rest_of(s).endswith(EOS) and served(port))
+
+    with Agent(program) as agent:
+        channels = [Channel(agent.port) for _ in range(64)]
+        late = connected(agent.port)
+        fine &= check('a 65th connection gets the end of the stream, and is shut', rest_of(late) == EOS)
+        fine &= check('and the first 64 are served', all(c.ask('Locator', 'sync').startswith(b'R') for c in channels))
+        for channel in channels:
+            channel.close()
+
+    with Agent(program) as agent:
+        for _ in range(100):
+            served(agent.port)
+        before = agent.memory()
+        good = all(served(agent.port) for _ in range(1000))
+        after = agent.memory()
+        fine &= check(f'1,000 connections one after the other: {before} KiB before, {after} KiB after', good and after <= before + 64)
+
+    with tempfile.NamedTemporaryFile(suffix='.script') as script:
+        script.write(b'send Locator sync\nwait\n')
+        script.flush()
+        run = subprocess.run([program, 'client', f'{LOOPBACK}:{free_port()}', script.name, '1000'], capture_output=True)
+        fine &= check('a client that is there before the agent says `wire fault`', run.stdout == b'wire fault\n' and run.returncode == 5)
+    return fine
+
+
+def main():
+    if len(sys.argv) > 1:
+        program = sys.argv[1]
+    else:
+        subprocess.run(['rt', 'run'], cwd=HERE.parent / 'crates' / 'tcf', stdout=subprocess.DEVNULL, check=True)
+        program = HERE.parent / 'crates' / 'tcf' / 'out' / 'tcf'
+    program = str(Path(program).resolve())
+    fine = treat_badly(program)
+    many_idle(program)
+    flooded(program)
+    compare(program)
+    sys.exit(not fine)
+
+
+if __name__ == '__main__':
+    main()

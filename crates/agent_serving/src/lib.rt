@@ -1,0 +1,14 @@
+//! An agent that is served over wires: each event goes to it, and what it tells goes to its peers.
+#![tactic(auto)]
+
+mod line;
+mod passing;
+pub mod serve;
+mod serving;
+mod ticking;
+
+pub use agent_node::Image;
+pub use serve::{ServeEnd, serve_agent};
+
+#[cfg(test)]
+mod tests;

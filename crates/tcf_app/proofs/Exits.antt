@@ -1,0 +1,215 @@
+-- What the exit of a run tells, from the run as a whole.
+use Rattle.std.proofs.Common.{◌≡◌, ℕ, true, false, List, [], ◌∷◌, sym, ap, ◌∙◌, subst, inl, inr, ◌⊎◌, arith}
+use Rattle.std.specs.Prelude.{Option, None, Some, Result, Ok, Err, IfSome}
+use Rattle.std.specs.List.{list_any}
+use Rattle.tcf_outside.specs.Faults.{Rose}
+use Rattle.tcf_outside.specs.declared.files.HeldFile.{HeldFile}
+use Rattle.tcf_schedules.specs.Refusal.{BadLine}
+use Rattle.tcf_schedules.specs.Script.{script_of}
+use Rattle.tcf_schedules.specs.declared.script.ScriptLine.{ScriptLine}
+use Rattle.target_contexts.specs.declared.process.Image.{Image}
+use Rattle.tcf_wires.specs.declared.call.WireCall.{WireCall}
+use Rattle.tcf_wires.specs.declared.event.WireRefusal.{WireRefusal}
+use Rattle.tcf_wires.specs.declared.event.WireRefusal.TheVariants as refusals
+use Rattle.serving_wires.specs.Calls.{Makes, faults_through, with_calls}
+use Rattle.serving_wires.specs.Serving.{fails}
+use Rattle.serving_wires.proofs.Making.{makes_so, told_none}
+use Rattle.agent_serving.specs.Serve.{ServesAgent, IsStopped, AreTaken as AgentTakes}
+use Rattle.agent_serving.specs.declared.serve.ServeEnd.{ServeEnd}
+use Rattle.agent_serving.specs.declared.serve.ServeEnd.TheVariants as serve_ends
+use Rattle.client_serving.specs.Run.{RunsClient, no_calls, not_connected, connected, HasRun as RunHas}
+use Rattle.client_serving.specs.declared.end.ClientEnd.{ClientEnd}
+use Rattle.client_serving.specs.declared.end.ClientEnd.TheVariants as client_ends
+use Rattle.client_serving.specs.declared.end.ClientRun.{ClientRun}
+use Rattle.tcf_app.specs.declared.exit.Exit.{Exit}
+use Rattle.tcf_app.specs.declared.exit.Exit.TheVariants.{Done, Usage, SinkFault, WireFault, Turns, NoMemory, Ended}
+use Rattle.tcf_app.specs.Exit.{IsGivenUp}
+use Rattle.tcf_app.specs.Words.{OrderValue, chain, show, agent, client, names_of}
+use Rattle.tcf_app.specs.Heard.{Heard, whole, longer, failed, Hears, heard_in}
+use Rattle.tcf_app.specs.Ending.{Ending, Ends, IsEnding, IsServedEnding, IsRanEnding, fault_ending, served_ending, exit_of, ran_ending, wire_ending}
+use Rattle.tcf_app.specs.Run.{RunsBy, serves_peers, is_early, SparesWires, AreHeeded, PutsFront, ExitsOver}
+use Rattle.tcf_app.proofs.Hearing.{heard_of_held}
+use Rattle.tcf_app.proofs.Tells.{Laws, Seen, Tells, given_up_tells, ending_tells}
+
+-- ---- where no call is made
+
+-- the ending comes before the wires are used
+abbrev Early : Option OrderValue → Ending → Type 0
+Early order ending = (serves_peers order ≡ false) ⊎ (is_early ending.exit ≡ true)
+
+served_calls : (images : List Image) (address : List ℕ) (turns : ℕ) (calls : List WireCall) (ending : Ending) → IsServedEnding images address turns calls ending → is_early ending.exit ≡ true → calls ≡ []
+served_calls images address turns calls ending its early = by_end its.0 (sym (ap (λ (e : Ending). is_early e.exit) its.2) ∙ early)
+  where
+    by_end : (end : ServeEnd) → is_early (served_ending turns end).exit ≡ true → calls ≡ []
+    by_end (serve_ends.Stopped events) e = cc
+    by_end serve_ends.Turns e = cc
+    by_end serve_ends.WireFault e = cc
+    by_end serve_ends.NoMemory e = cc
+
+ran_calls : (said : Result (List ScriptLine) BadLine) (address : List ℕ) (turns : ℕ) (calls : List WireCall) (ending : Ending) → IsRanEnding said address turns calls ending → is_early ending.exit ≡ true → calls ≡ []
+ran_calls (Err bad) address turns calls ending its early = its.0
+ran_calls (Ok script) address turns calls ending its early = by_result its.0 (sym (ap (λ (e : Ending). is_early e.exit) its.2) ∙ early)
+  where
+    by_end : (end : ClientEnd) → is_early (exit_of end) ≡ true → calls ≡ []
+    by_end client_ends.Done e = cc
+    by_end (client_ends.Ended cause) e = cc
+    by_end client_ends.Turns e = cc
+
+    by_result : (result : Result ClientRun WireRefusal) → is_early (ran_ending result).exit ≡ true → calls ≡ []
+    by_result (Ok run) e = by_end run.end e
+    by_result (Err refusals.Failed) e = cc
+    by_result (Err refusals.NoMemory) e = cc
+
+early_calls : (order : Option OrderValue) (heard : Heard) (calls : List WireCall) (ending : Ending) → IsEnding order heard calls ending → Early order ending → calls ≡ []
+early_calls None heard calls ending its early = its.0
+early_calls (Some order) (longer count) calls ending its early = its.0
+early_calls (Some order) (failed count) calls ending its early = its.0
+early_calls (Some (chain name)) (whole []) calls ending its early = absurd its
+early_calls (Some (chain name)) (whole (file ∷ [])) calls ending its early = its.0
+early_calls (Some (chain name)) (whole (file ∷ other ∷ more)) calls ending its early = absurd its
+early_calls (Some (show name)) (whole []) calls ending its early = absurd its
+early_calls (Some (show name)) (whole (file ∷ [])) calls ending its early = its.0
+early_calls (Some (show name)) (whole (file ∷ other ∷ more)) calls ending its early = absurd its
+early_calls (Some (agent address turns images)) (whole contents) calls ending its (inl none) = cc
+early_calls (Some (agent address turns images)) (whole contents) calls ending its (inr early) = served_calls _ address turns calls ending its early
+early_calls (Some (client address name turns)) (whole []) calls ending its early = absurd its
+early_calls (Some (client address name turns)) (whole (file ∷ [])) calls ending its (inl none) = cc
+early_calls (Some (client address name turns)) (whole (file ∷ [])) calls ending its (inr early) = ran_calls (script_of file) address turns calls ending its early
+early_calls (Some (client address name turns)) (whole (file ∷ other ∷ more)) calls ending its early = absurd its
+
+-- an early exit is that of the ending
+not_given_up : (exit : Exit) → is_early exit ≡ true → IsGivenUp exit → ⊥
+not_given_up exit early (inl is) = let e : is_early SinkFault ≡ true = sym (ap is_early is) ∙ early in cc
+not_given_up exit early (inr is) = let e : is_early NoMemory ≡ true = sym (ap is_early is) ∙ early in cc
+
+spared_calls : (order : Option OrderValue) (files : Option (List HeldFile)) (n m : ℕ) (exit : Exit) (before after : Option (List ℕ)) (calls : List WireCall)
+    → RunsBy order files n m exit before after calls → SparesWires order exit → calls ≡ []
+spared_calls order files n m exit before after calls r (inl none) = early_calls order r.heard calls r.ends.0 r.ends.1 (inl none)
+spared_calls order files n m exit before after calls r (inr early) = by_which r.ends.2.which
+  where
+    by_which : (exit ≡ r.ends.0.exit) ⊎ IsGivenUp exit → calls ≡ []
+    by_which (inl same) = early_calls order r.heard calls r.ends.0 r.ends.1 (inr (sym (ap is_early same) ∙ early))
+    by_which (inr up) = absurd (not_given_up exit early up)
+
+-- ---- where a call failed
+
+served_heeded : (images : List Image) (address : List ℕ) (turns : ℕ) (calls : List WireCall) (ending : Ending) → IsServedEnding images address turns calls ending → (list_any fails calls ≡ false) ⊎ (ending ≡ wire_ending)
+served_heeded images address turns calls ending its = by_end its.0 its.1 its.2
+  where
+    by_end : (end : ServeEnd) → ServesAgent images address turns end calls → ending ≡ served_ending turns end → (list_any fails calls ≡ false) ⊎ (ending ≡ wire_ending)
+    by_end (serve_ends.Stopped events) s e = let stopped : IsStopped turns events calls = s.ends in inl stopped.sound
+    by_end serve_ends.Turns s e = let taken : AgentTakes turns calls = s.ends in inl taken.sound
+    by_end serve_ends.WireFault s e = inr e
+    by_end serve_ends.NoMemory s e = inl s.ends
+
+ran_heeded : (said : Result (List ScriptLine) BadLine) (address : List ℕ) (turns : ℕ) (calls : List WireCall) (ending : Ending) → IsRanEnding said address turns calls ending
+    → (list_any fails calls ≡ false) ⊎ (ending ≡ wire_ending)
+ran_heeded (Err bad) address turns calls ending its = inl (ap (list_any fails) its.0)
+ran_heeded (Ok script) address turns calls ending its = by_result its.0 its.1 its.2
+  where
+    by_result : (result : Result ClientRun WireRefusal) → RunsClient script address turns result calls → ending ≡ ran_ending result → (list_any fails calls ≡ false) ⊎ (ending ≡ wire_ending)
+    by_result (Ok run) (no_calls is none) e = inl (ap (list_any fails) none)
+    by_result (Ok run) (not_connected is called) e = cc
+    by_result (Ok run) (connected channel later first alone served) e = let has : RunHas channel script turns run calls = served.ends in inl has.sound
+    by_result (Err refusals.Failed) r e = inr e
+    by_result (Err refusals.NoMemory) (no_calls is none) e = inl (ap (list_any fails) none)
+    by_result (Err refusals.NoMemory) (not_connected is called) e = cc
+    by_result (Err refusals.NoMemory) (connected channel later first alone served) e = inl served.ends
+
+heeded : (order : Option OrderValue) (heard : Heard) (calls : List WireCall) (ending : Ending) → IsEnding order heard calls ending → (list_any fails calls ≡ false) ⊎ (ending ≡ wire_ending)
+heeded None heard calls ending its = inl (ap (list_any fails) its.0)
+heeded (Some order) (longer count) calls ending its = inl (ap (list_any fails) its.0)
+heeded (Some order) (failed count) calls ending its = inl (ap (list_any fails) its.0)
+heeded (Some (chain name)) (whole []) calls ending its = absurd its
+heeded (Some (chain name)) (whole (file ∷ [])) calls ending its = inl (ap (list_any fails) its.0)
+heeded (Some (chain name)) (whole (file ∷ other ∷ more)) calls ending its = absurd its
+heeded (Some (show name)) (whole []) calls ending its = absurd its
+heeded (Some (show name)) (whole (file ∷ [])) calls ending its = inl (ap (list_any fails) its.0)
+heeded (Some (show name)) (whole (file ∷ other ∷ more)) calls ending its = absurd its
+heeded (Some (agent address turns images)) (whole contents) calls ending its = served_heeded _ address turns calls ending its
+heeded (Some (client address name turns)) (whole []) calls ending its = absurd its
+heeded (Some (client address name turns)) (whole (file ∷ [])) calls ending its = ran_heeded (script_of file) address turns calls ending its
+heeded (Some (client address name turns)) (whole (file ∷ other ∷ more)) calls ending its = absurd its
+
+-- ---- where a read failed
+
+reads_heeded : (order : Option OrderValue) (files : Option (List HeldFile)) (n m : ℕ) (exit : Exit) (before after : Option (List ℕ)) (heard : Heard) (calls : List WireCall) (ending : Ending)
+    → Hears (names_of order) files n m heard → IsEnding order heard calls ending → Ends ending exit before after → (m ≡ n) ⊎ Ends fault_ending exit before after
+reads_heeded order files n m exit before after (whole contents) calls ending hears its e = inl hears.counts
+reads_heeded order files n m exit before after (longer count) calls ending hears its e = inl hears.counts
+reads_heeded None files n m exit before after (failed count) calls ending hears its e = absurd (omega (arith, hears.is_of))
+reads_heeded (Some order) files n m exit before after (failed count) calls ending hears its e = inr (subst (λ x. Ends x exit before after) its.1 e)
+
+-- ---- what is heard where no read fails
+
+calm_heard : (names : List (List ℕ)) (held : List HeldFile) (n m : ℕ) (heard : Heard) → Hears names (Some held) n m heard → (Rose n m → ⊥) → heard ≡ heard_in names held
+calm_heard names held n m (whole contents) hears calm = heard_of_held names (whole contents) held hears.agrees tt
+calm_heard names held n m (longer count) hears calm = heard_of_held names (longer count) held hears.agrees tt
+calm_heard names held n m (failed count) hears calm = absurd (calm hears.counts)
+
+-- ---- each clause
+
+module _ (order : Option OrderValue) (files : Option (List HeldFile)) (n m : ℕ) (exit : Exit) (before after : Option (List ℕ)) (told told' : Option (List WireCall)) (k l : ℕ) (made : Makes (RunsBy order files n m exit before after) told told' k l) where
+  pub told_of : Laws → Tells (record { files = files; reads = n; reads_after = m; told = told; told_after = told'; wires = k; wires_after = l; before = before; after = after }) order exit
+  told_of laws =
+      let s : Seen = record { files = files; reads = n; reads_after = m; told = told; told_after = told'; wires = k; wires_after = l; before = before; after = after } in
+      let r = made.fits in
+      elim r.ends.2.which as (λ _. Tells s order exit) [
+        | inl same ↦ subst (Tells s order) (sym same) (ending_tells laws s order r.heard made.calls r.ends.0 r.hears made.told made.faults r.ends.1 (r.ends.2.whole same))
+        | inr up ↦ given_up_tells s order exit up
+      ]
+
+  pub tells_at : Laws → (other : Exit) → exit ≡ other → Tells (record { files = files; reads = n; reads_after = m; told = told; told_after = told'; wires = k; wires_after = l; before = before; after = after }) order other
+  tells_at laws other is =
+      subst (Tells (record { files = files; reads = n; reads_after = m; told = told; told_after = told'; wires = k; wires_after = l; before = before; after = after }) order) is (told_of laws)
+
+  pub usage_only_of : order ≡ None → (exit ≡ Usage) ⊎ IsGivenUp exit
+  usage_only_of is = by_order order is made.fits
+    where
+      by_order : (o : Option OrderValue) → o ≡ None → RunsBy o files n m exit before after made.calls → (exit ≡ Usage) ⊎ IsGivenUp exit
+      by_order None none r = elim r.ends.2.which as (λ _. (exit ≡ Usage) ⊎ IsGivenUp exit) [
+        | inl same ↦ inl (same ∙ ap (λ (e : Ending). e.exit) r.ends.1.1)
+        | inr up ↦ inr up
+      ]
+      by_order (Some o) none r = cc
+
+  pub files_unharmed_of : (m ≡ n) ⊎ Ends fault_ending exit before after
+  files_unharmed_of = let r = made.fits in reads_heeded order files n m exit before after r.heard made.calls r.ends.0 r.hears r.ends.1 r.ends.2
+
+  pub heeded_of : Makes (AreHeeded exit before after) told told' k l
+  heeded_of =
+      makes_so (RunsBy order files n m exit before after) (AreHeeded exit before after) told told' k l
+      (λ calls r. elim (heeded order r.heard calls r.ends.0 r.ends.1) as (λ _. AreHeeded exit before after calls) [
+        | inl none ↦ inl none
+        | inr is ↦ inr (subst (λ x. Ends x exit before after) is r.ends.2)
+      ])
+      made
+
+  pub spared_of : SparesWires order exit → told' ≡ told
+  spared_of spares =
+      made.told ∙ ap (λ cs. with_calls cs told) (spared_calls order files n m exit before after made.calls made.fits spares) ∙ sym (told_none told)
+
+  pub wires_unharmed_of : SparesWires order exit → l ≡ k
+  wires_unharmed_of spares =
+      made.faults ∙ ap (λ cs. faults_through cs k) (spared_calls order files n m exit before after made.calls made.fits spares)
+
+  pub front_of : Makes (PutsFront order files n m before after) told told' k l
+  front_of =
+      makes_so (RunsBy order files n m exit before after) (PutsFront order files n m before after) told told' k l
+      (λ calls r. record { heard = r.heard; hears = r.hears; ending = r.ends.0; its = r.ends.1; front = r.ends.2.front })
+      made
+
+pub complete_of : (order : Option OrderValue) (files : Option (List HeldFile)) (n m : ℕ) (exit : Exit) (before after : Option (List ℕ)) (told told' : Option (List WireCall)) (k l : ℕ) (sink sink' : ℕ)
+    → Makes (RunsBy order files n m exit before after) told told' k l → (exit ≡ SinkFault → Rose sink sink')
+    → IfSome files (λ held. (Rose n m → ⊥) → (Rose sink sink' → ⊥) → Makes (ExitsOver order held exit) told told' k l)
+complete_of order None n m exit before after told told' k l sink sink' made fault = tt
+complete_of order (Some held) n m exit before after told told' k l sink sink' made fault =
+    λ calm quiet.
+    makes_so (RunsBy order (Some held) n m exit before after) (ExitsOver order held exit) told told' k l
+    (λ calls r. elim r.ends.2.which as (λ _. ExitsOver order held exit calls) [
+      | inl same ↦
+          let is = calm_heard (names_of order) held n m r.heard r.hears calm in
+          inl (r.ends.0, subst (λ h. IsEnding order h calls r.ends.0) is r.ends.1, same)
+      | inr up ↦ elim up as (λ _. ExitsOver order held exit calls) [ inl broken ↦ absurd (quiet (fault broken)) | inr wanting ↦ inr wanting ]
+    ])
+    made

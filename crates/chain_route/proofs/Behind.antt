@@ -5,7 +5,7 @@ use Rattle.channel_core.specs.Arrivals.{IsFront, bytes_of}
 use Rattle.value_node.specs.Runs.{UpperCall}
 use Rattle.chain_route.specs.Carrying.{End, HopCarries, Made, end_above, end_below, past_of}
 use Rattle.chain_route.specs.declared.hop.Hop.{Hop}
-use Rattle.chain_route.proofs.Each.{EachCarries}
+use Rattle.chain_route.proofs.Each.{EachCarries, IsUnconnected}
 use Rattle.chain_route.proofs.Anew.{AreDeadBehind}
 use Rattle.chain_route.proofs.Reaching.{Awaits, waits_unheard}
 use Rattle.chain_route.proofs.Unheard.{Laws, unheard_unconnected}
@@ -32,9 +32,6 @@ gave_next (suc at) lower (h ∷ g ∷ hops) (x ∷ made) agent m other there nex
 pub record EndsBehind (at : ℕ) (hops : List Hop) (is_reached : Bool) : Type 0 where
   pub unreached : is_reached ≡ false
   pub dead : AreDeadBehind (suc at) hops
-
-abbrev IsUnconnected : Made → Type 0
-IsUnconnected m = (past_of m).connection ≡ None
 
 some_none : (m : Made) → IsUnconnected m → IsSome (past_of m).connection → ⊥
 some_none m none is = let no : IsSome {T = List UpperCall} None = subst IsSome none is in cc

@@ -10,7 +10,7 @@ use Rattle.chain_route.specs.Carrying.{HaveConnected, Made, end_of, past_of, val
 use Rattle.chain_route.specs.Hop.{connected as hop_connected}
 use Rattle.chain_route.specs.Route.{add_put, connected, hop_put, joined, last_of, made_at, on_hop, peer_of, with_carried, with_upper}
 use Rattle.chain_route.specs.RouteValue.{RouteValue}
-use Rattle.chain_route.specs.Runs.{RouteRun}
+use Rattle.chain_route.specs.Runs.{Call, RouteRun}
 use Rattle.chain_route.specs.declared.hop.Hop.{Hop}
 use Rattle.chain_route.proofs.Each.{EachCarries, last_anew}
 use Rattle.chain_route.proofs.Anew.{AreDeadBehind, fresh_made}
@@ -19,6 +19,7 @@ use Rattle.chain_route.proofs.Bytes.{take_mapped}
 use Rattle.chain_route.proofs.Flows.{fresh_end}
 use Rattle.chain_route.proofs.Holding.{Holds, with_route}
 use Rattle.chain_route.proofs.Joining.{carried_holds}
+use Rattle.chain_route.proofs.Losses.{loses_same, losses_anew, losses_set, lost_same}
 use Rattle.chain_route.proofs.Moving.{call_value}
 use Rattle.chain_route.proofs.Reaching.{Awaits, above_anew, anew, below_anew, connected_anew, turned_anew}
 use Rattle.chain_route.proofs.Unheard.{Laws}
@@ -79,7 +80,7 @@ joined_at at route v hop add =
 
 -- ---- The hop begins anew, and so does the upper end below it; nothing is carried yet
 
-module _ (laws : Laws) (at : ℕ) (r : RouteRun) (h : Holds r) (m : Made) (there : slice_get h.made at ≡ Some m) (waits : Awaits m) (behind : EndsBehind at r.route.hops r.past.is_reached) where
+module _ (laws : Laws) (at : ℕ) (calls : List Call) (r : RouteRun) (h : Holds calls r) (m : Made) (there : slice_get h.made at ≡ Some m) (waits : Awaits m) (behind : EndsBehind at r.route.hops r.past.is_reached) where
   abbrev peer : List ℕ
   peer = peer_of (suc at) r.route
 
@@ -114,7 +115,7 @@ module _ (laws : Laws) (at : ℕ) (r : RouteRun) (h : Holds r) (m : Made) (there
         unconnected = λ more. last_anew at h.made m (anew m) (fresh_made peer) there refl;
       }
 
-  begun_holds : Holds (with_route begun r)
+  begun_holds : Holds calls (with_route begun r)
   begun_holds = record {
     made = made_now;
     adds = adds_now;
@@ -129,6 +130,8 @@ module _ (laws : Laws) (at : ℕ) (r : RouteRun) (h : Holds r) (m : Made) (there
         let front = take (suc at) h.made ++ fresh_made peer ∷ [] in
         omega (arith, set_length at front (anew m), length-append (take (suc at) h.made) (fresh_made peer ∷ []));
     earlier = h.earlier;
+    losses = losses_set calls at (take (suc at) h.made ++ fresh_made peer ∷ []) m (anew m) (taken_at at h.made (fresh_made peer ∷ []) m there)
+        (loses_same calls at m (anew m) (lost_same connects m refl)) (losses_anew calls 0 (suc at) peer h.made h.losses);
   }
 
   -- the route is that, with the Hello of the upper end on its way
@@ -137,22 +140,22 @@ module _ (laws : Laws) (at : ℕ) (r : RouteRun) (h : Holds r) (m : Made) (there
       joined_at at (made_at (suc at) r.route) (value_of m) (hop_at (suc at) r.route.hops behind.dead)
       (taken_at at r.route.adds (new_value peer ∷ []) (value_of m) (ap (λ vs. slice_get vs at) h.adds ∙ mapped_at at h.made m there))
 
-  joined_holds : Holds (with_route (with_carried Below (suc at) (joined (suc at) (made_at (suc at) r.route))) r)
+  joined_holds : Holds calls (with_route (with_carried Below (suc at) (joined (suc at) (made_at (suc at) r.route))) r)
   joined_holds =
-      let up : Holds (with_route (with_carried Above at begun) r) = carried_holds laws.runs Above at (with_route begun r) begun_holds in
-      carried_holds laws.runs Below (suc at) (with_route (joined (suc at) (made_at (suc at) r.route)) r)
-      (subst (λ route. Holds (with_route route r)) (sym joined_is) up)
+      let up : Holds calls (with_route (with_carried Above at begun) r) = carried_holds laws.runs Above at calls (with_route begun r) begun_holds in
+      carried_holds laws.runs Below (suc at) calls (with_route (joined (suc at) (made_at (suc at) r.route)) r)
+      (subst (λ route. Holds calls (with_route route r)) (sym joined_is) up)
 
 -- to the agent, when the caller has it open a channel; else to a value-add that is made anew
-pub connects_kept : Laws → (at : ℕ) (r : RouteRun) (h : Holds r) (m : Made) → slice_get h.made at ≡ Some m → Awaits m → Holds (with_route (connected (at + 1) r.route).1 r)
-connects_kept laws at r h m there waits =
+pub connects_kept : Laws → (at : ℕ) (calls : List Call) (r : RouteRun) (h : Holds calls r) (m : Made) → slice_get h.made at ≡ Some m → Awaits m → Holds calls (with_route (connected (at + 1) r.route).1 r)
+connects_kept laws at calls r h m there waits =
     let one : suc at ≡ at + 1 = omega arith in
-    subst (λ k. Holds (with_route (connected k r.route).1 r)) one (by_flag (nat_lt (suc at) (last_of r.route)) refl)
+    subst (λ k. Holds calls (with_route (connected k r.route).1 r)) one (by_flag (nat_lt (suc at) (last_of r.route)) refl)
   where
     by_flag : (flag : Bool) → nat_lt (suc at) (last_of r.route) ≡ flag
-        → Holds (with_route (cond {A = Bool × RouteValue} flag (false, with_carried Below (suc at) (joined (suc at) (made_at (suc at) r.route))) (true, r.route)).1 r)
+        → Holds calls (with_route (cond {A = Bool × RouteValue} flag (false, with_carried Below (suc at) (joined (suc at) (made_at (suc at) r.route))) (true, r.route)).1 r)
     by_flag true is =
         let less = ltb-true (suc at) (last_of r.route) is in
         let behind = ends_behind laws at (end_of r.past.client) r.route.hops h.made (end_of r.past.agent) r.past.is_reached m there waits (omega (arith, less)) h.way in
-        joined_holds laws at r h m there waits behind
+        joined_holds laws at calls r h m there waits behind
     by_flag false is = h

@@ -10,7 +10,7 @@ use Rattle.chain_route.specs.Hop.{no_hop}
 use Rattle.chain_route.specs.Hop as hop
 use Rattle.chain_route.specs.Lane.{arriving, staying}
 use Rattle.chain_route.specs.Route.{arrived_down, arrived_up, flight_down, flight_up, hop_put, last_of, on_hop, sent_down, sent_up, up_of}
-use Rattle.chain_route.specs.Runs.{Past, RouteRun, Talk, gets, gives, no_talk, with_agent, with_client}
+use Rattle.chain_route.specs.Runs.{Call, Past, RouteRun, Talk, gets, gives, no_talk, with_agent, with_client}
 use Rattle.chain_route.specs.declared.hop.Hop.{Hop}
 use Rattle.chain_route.proofs.Bytes.{bytes_more}
 use Rattle.chain_route.proofs.Flows.{came_more, dead_came, dead_given, down_came, down_given, up_came, up_given}
@@ -24,7 +24,7 @@ run_by hops adds p = record { route = record { hops = hops; adds = adds }; past 
 
 -- ---- The client's hop
 
-module _ (change : Hop → Hop) (dead : (h : Hop) → IsDead h → IsDead (change h)) where
+module _ (calls : List Call) (change : Hop → Hop) (dead : (h : Hop) → IsDead h → IsDead (change h)) where
   first_way : (lower next : End) (h : Hop) (hops : List Hop) (made : List Made) (agent : End) (is_reached : Bool)
       → ((upper : End) → HopCarries h lower upper → HopCarries (change h) next upper)
       → Way lower (h ∷ hops) made agent is_reached → Way next (change h ∷ hops) made agent is_reached
@@ -39,8 +39,8 @@ module _ (change : Hop → Hop) (dead : (h : Hop) → IsDead h → IsDead (chang
   -- the client's talk goes on, and is none where it hasn't connected
   first_holds : (talk : Talk) (hops : List Hop) (adds : List ValueValue) (p : Past)
       → ((h : Hop) (upper : End) → slice_get hops 0 ≡ Some h → HopCarries h (end_of p.client) upper → HopCarries (change h) (end_of talk) upper)
-      → (p.is_joined ≡ false → talk ≡ no_talk) → Holds (run_by hops adds p)
-      → Holds (record { route = on_hop change 0 (record { hops = hops; adds = adds }); past = with_client talk p })
+      → (p.is_joined ≡ false → talk ≡ no_talk) → Holds calls (run_by hops adds p)
+      → Holds calls (record { route = on_hop change 0 (record { hops = hops; adds = adds }); past = with_client talk p })
   first_holds talk [] adds p carries none h = absurd h.way.all
   first_holds talk (x ∷ hops) adds p carries none h = record {
     made = h.made;
@@ -54,6 +54,7 @@ module _ (change : Hop → Hop) (dead : (h : Hop) → IsDead h → IsDead (chang
     unstarted = h.unstarted;
     started = h.started;
     earlier = h.earlier;
+    losses = h.losses;
   }
 
 -- ---- The agent's hop
@@ -71,10 +72,10 @@ last_way agent next lower hops made is_reached last after there carries dead way
 
 -- ---- Each call
 
-pub sends_up_holds : (outs : List Outgoing) (hops : List Hop) (adds : List ValueValue) (p : Past) → p.is_joined ≡ true → Holds (run_by hops adds p)
-    → Holds (record { route = sent_up outs (record { hops = hops; adds = adds }); past = with_client (gives outs p.client) p })
-sends_up_holds outs hops adds p joined h =
-    first_holds (hop.sent_up outs) (λ x. dead_up x) (gives outs p.client) hops adds p (λ x upper there c. up_given outs x (end_of p.client) upper c)
+pub sends_up_holds : (outs : List Outgoing) (calls : List Call) (hops : List Hop) (adds : List ValueValue) (p : Past) → p.is_joined ≡ true → Holds calls (run_by hops adds p)
+    → Holds calls (record { route = sent_up outs (record { hops = hops; adds = adds }); past = with_client (gives outs p.client) p })
+sends_up_holds outs calls hops adds p joined h =
+    first_holds calls (hop.sent_up outs) (λ x. dead_up x) (gives outs p.client) hops adds p (λ x upper there c. up_given outs x (end_of p.client) upper c)
     (λ is. absurd (both is)) h
   where
     dead_up : (x : Hop) → IsDead x → IsDead (hop.sent_up outs x)
@@ -91,15 +92,15 @@ first_dead lower x (g ∷ hops) agent is_reached unreached way = way.all.0
 got_more : (talk : Talk) (parts : List Outgoing) → end_of (gets parts talk) ≡ came_more (bytes_of parts) (end_of talk)
 got_more talk parts = ap (λ bs. record { gave = talk.gave; came = bs }) (bytes_more (λ mark. mark) talk.got parts)
 
-pub arrives_down_holds : (count : ℕ) (hops : List Hop) (adds : List ValueValue) (p : Past) → Holds (run_by hops adds p)
-    → Holds (record {
+pub arrives_down_holds : (count : ℕ) (calls : List Call) (hops : List Hop) (adds : List ValueValue) (p : Past) → Holds calls (run_by hops adds p)
+    → Holds calls (record {
       route = arrived_down count (record { hops = hops; adds = adds });
       past = with_client (gets (arriving count (flight_down (record { hops = hops; adds = adds }))) p.client) p;
     })
-arrives_down_holds count [] adds p h = absurd h.way.all
-arrives_down_holds count (x ∷ hops) adds p h =
+arrives_down_holds count calls [] adds p h = absurd h.way.all
+arrives_down_holds count calls (x ∷ hops) adds p h =
     let parts = arriving count x.down in
-    first_holds (λ y. record y { down = staying count y.down }) (dead_came Above count) (gets parts p.client) (x ∷ hops) adds p
+    first_holds calls (λ y. record y { down = staying count y.down }) (dead_came Above count) (gets parts p.client) (x ∷ hops) adds p
     (λ y upper there c. let is : x ≡ y = cc in subst (λ z. HopCarries (record z { down = staying count z.down }) (end_of (gets parts p.client)) upper) is (carries upper (subst (λ z. HopCarries z (end_of p.client) upper) (sym is) c)))
     none h
   where
@@ -116,18 +117,18 @@ arrives_down_holds count (x ∷ hops) adds p h =
 -- ---- The agent's side
 
 -- the agent's talk goes on, and is none where it wasn't reached
-last_holds : (change : Hop → Hop) (dead : (h : Hop) → IsDead h → IsDead (change h)) (talk : Talk) (x : Hop) (hops : List Hop) (adds : List ValueValue) (p : Past)
+last_holds : (calls : List Call) (change : Hop → Hop) (dead : (h : Hop) → IsDead h → IsDead (change h)) (talk : Talk) (x : Hop) (hops : List Hop) (adds : List ValueValue) (p : Past)
     → ((l : End) (h : Hop) → slice_get (x ∷ hops) (last_place (x ∷ hops)) ≡ Some h → HopCarries h l (end_of p.agent) → HopCarries (change h) l (end_of talk))
-    → (p.is_reached ≡ false → talk ≡ no_talk) → Holds (run_by (x ∷ hops) adds p)
-    → Holds (record { route = on_hop change (last_of (record { hops = x ∷ hops; adds = adds })) (record { hops = x ∷ hops; adds = adds }); past = with_agent talk p })
-last_holds change dead talk x hops adds p carries none h =
-    subst (λ n. Holds (record { route = on_hop change n (record { hops = x ∷ hops; adds = adds }); past = with_agent talk p })) (sym (last_is x hops))
-    (subst (λ o. Holds (record { route = hop_put change (last_place (x ∷ hops)) o (record { hops = x ∷ hops; adds = adds }); past = with_agent talk p })) (sym has.there) holds)
+    → (p.is_reached ≡ false → talk ≡ no_talk) → Holds calls (run_by (x ∷ hops) adds p)
+    → Holds calls (record { route = on_hop change (last_of (record { hops = x ∷ hops; adds = adds })) (record { hops = x ∷ hops; adds = adds }); past = with_agent talk p })
+last_holds calls change dead talk x hops adds p carries none h =
+    subst (λ n. Holds calls (record { route = on_hop change n (record { hops = x ∷ hops; adds = adds }); past = with_agent talk p })) (sym (last_is x hops))
+    (subst (λ o. Holds calls (record { route = hop_put change (last_place (x ∷ hops)) o (record { hops = x ∷ hops; adds = adds }); past = with_agent talk p })) (sym has.there) holds)
   where
     has : HasLast (x ∷ hops)
     has = has_last x hops
 
-    holds : Holds (record { route = record { hops = slice_set (x ∷ hops) (last_place (x ∷ hops)) (change has.last); adds = adds }; past = with_agent talk p })
+    holds : Holds calls (record { route = record { hops = slice_set (x ∷ hops) (last_place (x ∷ hops)) (change has.last); adds = adds }; past = with_agent talk p })
     holds = record {
       made = h.made;
       adds = h.adds;
@@ -140,13 +141,14 @@ last_holds change dead talk x hops adds p carries none h =
       unstarted = h.unstarted;
       started = λ is more. h.started is (omega (arith, more, set_length (last_place (x ∷ hops)) (x ∷ hops) (change has.last)));
       earlier = h.earlier;
+      losses = h.losses;
     }
 
-pub sends_down_holds : (outs : List Outgoing) (hops : List Hop) (adds : List ValueValue) (p : Past) → p.is_reached ≡ true → Holds (run_by hops adds p)
-    → Holds (record { route = sent_down outs (record { hops = hops; adds = adds }); past = with_agent (gives outs p.agent) p })
-sends_down_holds outs [] adds p reached h = absurd h.way.all
-sends_down_holds outs (x ∷ hops) adds p reached h =
-    last_holds (hop.sent_down outs) dead_down (gives outs p.agent) x hops adds p (λ l y there c. down_given outs y l (end_of p.agent) c) (λ is. absurd (both is)) h
+pub sends_down_holds : (outs : List Outgoing) (calls : List Call) (hops : List Hop) (adds : List ValueValue) (p : Past) → p.is_reached ≡ true → Holds calls (run_by hops adds p)
+    → Holds calls (record { route = sent_down outs (record { hops = hops; adds = adds }); past = with_agent (gives outs p.agent) p })
+sends_down_holds outs calls [] adds p reached h = absurd h.way.all
+sends_down_holds outs calls (x ∷ hops) adds p reached h =
+    last_holds calls (hop.sent_down outs) dead_down (gives outs p.agent) x hops adds p (λ l y there c. down_given outs y l (end_of p.agent) c) (λ is. absurd (both is)) h
   where
     dead_down : (y : Hop) → IsDead y → IsDead (hop.sent_down outs y)
     dead_down y dead = dead_given Below outs y dead
@@ -154,13 +156,13 @@ sends_down_holds outs (x ∷ hops) adds p reached h =
     both : p.is_reached ≡ false → ⊥
     both is = let no : true ≡ false = sym reached ∙ is in cc
 
-pub arrives_up_holds : (count : ℕ) (hops : List Hop) (adds : List ValueValue) (p : Past) → Holds (run_by hops adds p)
-    → Holds (record {
+pub arrives_up_holds : (count : ℕ) (calls : List Call) (hops : List Hop) (adds : List ValueValue) (p : Past) → Holds calls (run_by hops adds p)
+    → Holds calls (record {
       route = arrived_up count (record { hops = hops; adds = adds });
       past = with_agent (gets (arriving count (flight_up (record { hops = hops; adds = adds }))) p.agent) p;
     })
-arrives_up_holds count [] adds p h = absurd h.way.all
-arrives_up_holds count (x ∷ hops) adds p h = last_holds change (dead_came Below count) (gets (arriving count flight) p.agent) x hops adds p carries none h
+arrives_up_holds count calls [] adds p h = absurd h.way.all
+arrives_up_holds count calls (x ∷ hops) adds p h = last_holds calls change (dead_came Below count) (gets (arriving count flight) p.agent) x hops adds p carries none h
   where
     change : Hop → Hop
     change y = record y { up = staying count y.up }

@@ -1,22 +1,24 @@
--- What holds of a way after any calls: each hop carries, and what else each call needs to keep it.
+-- What holds of a way after any calls: each hop carries, and what else each call needs to keep it. The calls that it speaks of
+-- are all those of a run, of which the way has had a front.
 use Rattle.std.proofs.Common.{◌≡◌, ◌<◌, ℕ, Bool, true, false, List, [], length, map, Option, Some, None, refl, sym, ap, ◌∙◌, subst, arith}
 use Rattle.std.specs.Prelude.{slice_get, slice_set}
 use Rattle.std.specs.List.{AllByRecursion}
 use Rattle.value_node.specs.RelayLaws.{AfterAllCalls, EndsAreRuns}
 use Rattle.value_node.specs.ValueValue.{ValueValue}
 use Rattle.value_node.specs.declared.states.Side.{Side}
-use Rattle.chain_route.specs.Carrying.{Carries, IsGoneBy, IsUnused, Made, end_of, value_of}
+use Rattle.chain_route.specs.Carrying.{AllLoseByCuts, Carries, IsGoneBy, IsUnused, Made, end_of, value_of}
 use Rattle.chain_route.specs.Passing.{Pair, delivered, pair}
 use Rattle.chain_route.specs.Route.{beside, delivered_at, pair_put, with_pair}
 use Rattle.chain_route.specs.RouteValue.{RouteValue}
-use Rattle.chain_route.specs.Runs.{RouteRun, no_talk}
+use Rattle.chain_route.specs.Runs.{Call, RouteRun, no_talk}
 use Rattle.chain_route.specs.declared.hop.Hop.{Hop}
 use Rattle.chain_route.proofs.Each.{all_carry}
 use Rattle.chain_route.proofs.Stepping.{IsOpenAt, delivered_step}
+use Rattle.chain_route.proofs.Losses.{loses_same, losses_set}
 use Rattle.chain_route.proofs.Moving.{Step}
 use Rattle.chain_route.proofs.Ways.{IsMapped, Way, get_mapped, is_open, set_length, set_mapped, way_moved}
 
-pub record Holds (r : RouteRun) : Type 0 where
+pub record Holds (calls : List Call) (r : RouteRun) : Type 0 where
   pub made : List Made
   pub adds : r.route.adds ≡ map value_of made
   pub way : Way (end_of r.past.client) r.route.hops made (end_of r.past.agent) r.past.is_reached
@@ -28,23 +30,25 @@ pub record Holds (r : RouteRun) : Type 0 where
   pub unstarted : r.past.is_joined ≡ false → r.past.is_reached ≡ false
   pub started : r.past.is_joined ≡ true → 1 < length r.route.hops → 0 < length made  -- the client's first value-add was made
   pub earlier : AllByRecursion IsGoneBy r.past.earlier
+  pub losses : AllLoseByCuts calls 0 made
 
 -- the client used its end for nothing before
-unused_client : (r : RouteRun) (h : Holds r) → length h.made ≡ 0 → 1 < length r.route.hops → IsUnused (end_of r.past.client)
-unused_client r h none more = by_flag r.past.is_joined refl
+unused_client : (calls : List Call) (r : RouteRun) (h : Holds calls r) → length h.made ≡ 0 → 1 < length r.route.hops → IsUnused (end_of r.past.client)
+unused_client calls r h none more = by_flag r.past.is_joined refl
   where
     by_flag : (flag : Bool) → r.past.is_joined ≡ flag → IsUnused (end_of r.past.client)
     by_flag true is = let some = h.started is more in absurd (omega (arith, none, some))
     by_flag false is = let talk = h.unjoined is in subst (λ t. IsUnused (end_of t)) (sym talk) (refl, refl)
 
-pub carries_of : (r : RouteRun) → Holds r → Carries r
-carries_of r h = record {
+pub carries_of : (calls : List Call) (r : RouteRun) → Holds calls r → Carries calls r
+carries_of calls r h = record {
   made = h.made;
   adds = h.adds;
-  hops = all_carry (end_of r.past.client) r.route.hops h.made (end_of r.past.agent) (unused_client r h) h.way.unconnected h.way.all;
+  hops = all_carry (end_of r.past.client) r.route.hops h.made (end_of r.past.agent) (unused_client calls r h) h.way.unconnected h.way.all;
   connected = h.way.connected;
   reached = h.way.reached;
   earlier = h.earlier;
+  losses = h.losses;
 }
 
 -- ---- A value-add and a hop beside it change
@@ -52,9 +56,9 @@ carries_of r h = record {
 abbrev pub with_route : RouteValue → RouteRun → RouteRun
 with_route route r = record r { route = route }
 
-module _ (side : Side) (at : ℕ) (change : Pair → Pair) where
-  pair_holds : (r : RouteRun) (h : Holds r) (m : Made) (hop : Hop) → slice_get h.made at ≡ Some m → slice_get r.route.hops (beside side at) ≡ Some hop
-      → Step side m hop (change (pair (value_of m) hop)) → Holds (with_route (with_pair side at (change (pair (value_of m) hop)) r.route) r)
+module _ (side : Side) (at : ℕ) (change : Pair → Pair) (calls : List Call) where
+  pair_holds : (r : RouteRun) (h : Holds calls r) (m : Made) (hop : Hop) → slice_get h.made at ≡ Some m → slice_get r.route.hops (beside side at) ≡ Some hop
+      → Step side m hop (change (pair (value_of m) hop)) → Holds calls (with_route (with_pair side at (change (pair (value_of m) hop)) r.route) r)
   pair_holds r h m hop there hop_is step =
       let p = change (pair (value_of m) hop) in
       record {
@@ -69,20 +73,21 @@ module _ (side : Side) (at : ℕ) (change : Pair → Pair) where
         unstarted = h.unstarted;
         started = λ is more. omega (arith, set_length at h.made step.next, h.started is (omega (arith, more, set_length (beside side at) r.route.hops p.hop)));
         earlier = h.earlier;
+        losses = losses_set calls at h.made m step.next there (loses_same calls at m step.next step.moves.lost) h.losses;
       }
 
   pub on_pair_holds : (r : RouteRun) → ((m : Made) (hop : Hop) → (hop.is_live ≡ true → IsOpenAt side m) → Step side m hop (change (pair (value_of m) hop)))
-      → Holds r → Holds (with_route (pair_put change side at (slice_get r.route.adds at) (slice_get r.route.hops (beside side at)) r.route) r)
+      → Holds calls r → Holds calls (with_route (pair_put change side at (slice_get r.route.adds at) (slice_get r.route.hops (beside side at)) r.route) r)
   on_pair_holds r steps h = by_parts (slice_get r.route.adds at) (slice_get r.route.hops (beside side at)) refl refl
     where
       by_made : (v : ValueValue) (hop : Hop) → IsMapped value_of h.made at v → slice_get r.route.hops (beside side at) ≡ Some hop
-          → Holds (with_route (with_pair side at (change (pair v hop)) r.route) r)
+          → Holds calls (with_route (with_pair side at (change (pair v hop)) r.route) r)
       by_made v hop m hop_is =
           let has_end = is_open side at (end_of r.past.client) r.route.hops h.made (end_of r.past.agent) r.past.is_reached m.from hop m.there hop_is h.way in
-          subst (λ x. Holds (with_route (with_pair side at (change (pair x hop)) r.route) r)) m.value (pair_holds r h m.from hop m.there hop_is (steps m.from hop has_end))
+          subst (λ x. Holds calls (with_route (with_pair side at (change (pair x hop)) r.route) r)) m.value (pair_holds r h m.from hop m.there hop_is (steps m.from hop has_end))
 
       by_parts : (add : Option ValueValue) (hop : Option Hop) → slice_get r.route.adds at ≡ add → slice_get r.route.hops (beside side at) ≡ hop
-          → Holds (with_route (pair_put change side at add hop r.route) r)
+          → Holds calls (with_route (pair_put change side at add hop r.route) r)
       by_parts None None add_is hop_is = h
       by_parts None (Some hop) add_is hop_is = h
       by_parts (Some v) None add_is hop_is = h
@@ -91,5 +96,5 @@ module _ (side : Side) (at : ℕ) (change : Pair → Pair) where
 
 -- ---- Bytes arrive at a value-add
 
-pub delivers_holds : AfterAllCalls EndsAreRuns → (side : Side) (at count : ℕ) (r : RouteRun) → Holds r → Holds (with_route (delivered_at side at count r.route) r)
-delivers_holds runs side at count r h = on_pair_holds side at (delivered side count) r (λ m hop has_end. delivered_step runs side count m hop has_end) h
+pub delivers_holds : AfterAllCalls EndsAreRuns → (side : Side) (at count : ℕ) (calls : List Call) (r : RouteRun) → Holds calls r → Holds calls (with_route (delivered_at side at count r.route) r)
+delivers_holds runs side at count calls r h = on_pair_holds side at (delivered side count) calls r (λ m hop has_end. delivered_step runs side count m hop has_end) h

@@ -10,7 +10,7 @@ use Rattle.chain_route.specs.Hop.{connected as hop_connected}
 use Rattle.chain_route.specs.Passing.{carried}
 use Rattle.chain_route.specs.Route.{connected, joined, last_of, made_at, peer_of, with_carried}
 use Rattle.chain_route.specs.RouteValue.{RouteValue}
-use Rattle.chain_route.specs.Runs.{Past, RouteRun, joined_by}
+use Rattle.chain_route.specs.Runs.{Call, Past, RouteRun, joined_by}
 use Rattle.chain_route.specs.declared.hop.Hop.{Hop}
 use Rattle.chain_route.proofs.Each.{EachCarries}
 use Rattle.chain_route.proofs.Anew.{dead_above, fresh_made}
@@ -18,8 +18,8 @@ use Rattle.chain_route.proofs.Flows.{begun_carries, fresh_end}
 use Rattle.chain_route.proofs.Holding.{Holds, on_pair_holds, with_route}
 use Rattle.chain_route.proofs.Stepping.{carried_step}
 
-pub carried_holds : AfterAllCalls EndsAreRuns → (side : Side) (at : ℕ) (r : RouteRun) → Holds r → Holds (with_route (with_carried side at r.route) r)
-carried_holds runs side at r h = on_pair_holds side at (carried side) r (λ m hop has_end. carried_step runs side m hop) h
+pub carried_holds : AfterAllCalls EndsAreRuns → (side : Side) (at : ℕ) (calls : List Call) (r : RouteRun) → Holds calls r → Holds calls (with_route (with_carried side at r.route) r)
+carried_holds runs side at calls r h = on_pair_holds side at (carried side) calls r (λ m hop has_end. carried_step runs side m hop) h
 
 -- ---- The client connects
 
@@ -30,8 +30,8 @@ abbrev joins_now : Past → Past
 joins_now p = record p { is_joined = true }
 
 -- to the agent: a channel is wanted
-wanted_holds : (r : RouteRun) → r.past.is_joined ≡ false → Holds r → Holds (record { route = r.route; past = wants r.past })
-wanted_holds r none h = record {
+wanted_holds : (calls : List Call) (r : RouteRun) → r.past.is_joined ≡ false → Holds calls r → Holds calls (record { route = r.route; past = wants r.past })
+wanted_holds calls r none h = record {
   made = h.made;
   adds = h.adds;
   way = h.way;
@@ -43,15 +43,16 @@ wanted_holds r none h = record {
   unstarted = h.unstarted;
   started = h.started;
   earlier = h.earlier;
+  losses = h.losses;
 }
 
 -- to a value-add, which is made
-first_made : (hops : List Hop) (adds : List ValueValue) (p : Past) → p.is_joined ≡ false → p.is_wanted ≡ false → 0 < length hops - 1
-    → Holds (record { route = record { hops = hops; adds = adds }; past = p })
-    → Holds (record { route = joined 0 (made_at 0 (record { hops = hops; adds = adds })); past = joins_now p })
-first_made [] adds p none unwanted more h = absurd h.way.all
-first_made (x ∷ []) adds p none unwanted more h = absurd (omega (arith, more))
-first_made (x ∷ g ∷ hops) adds p none unwanted more h =
+first_made : (calls : List Call) (hops : List Hop) (adds : List ValueValue) (p : Past) → p.is_joined ≡ false → p.is_wanted ≡ false → 0 < length hops - 1
+    → Holds calls (record { route = record { hops = hops; adds = adds }; past = p })
+    → Holds calls (record { route = joined 0 (made_at 0 (record { hops = hops; adds = adds })); past = joins_now p })
+first_made calls [] adds p none unwanted more h = absurd h.way.all
+first_made calls (x ∷ []) adds p none unwanted more h = absurd (omega (arith, more))
+first_made calls (x ∷ g ∷ hops) adds p none unwanted more h =
     let route : RouteValue = record { hops = x ∷ g ∷ hops; adds = adds } in
     let unreached : p.is_reached ≡ false = h.unstarted none in
     let no_client : end_of p.client ≡ fresh_end = ap end_of (h.unjoined none) in
@@ -76,17 +77,18 @@ first_made (x ∷ g ∷ hops) adds p none unwanted more h =
       unstarted = λ is. absurd cc;
       started = λ is more. omega arith;
       earlier = h.earlier;
+      losses = (λ is. absurd cc, tt);
     }
   where
     both : {b : Bool} → b ≡ true → b ≡ false → ⊥
     both is isnt = let no : true ≡ false = sym is ∙ isnt in cc
 
-pub joins_kept : AfterAllCalls EndsAreRuns → (r : RouteRun) → r.past.is_joined ≡ false → r.past.is_wanted ≡ false → Holds r → Holds (joined_by (connected 0 r.route) r.past)
-joins_kept runs r none unwanted h = by_flag (nat_lt 0 (last_of r.route)) refl
+pub joins_kept : AfterAllCalls EndsAreRuns → (calls : List Call) (r : RouteRun) → r.past.is_joined ≡ false → r.past.is_wanted ≡ false → Holds calls r → Holds calls (joined_by (connected 0 r.route) r.past)
+joins_kept runs calls r none unwanted h = by_flag (nat_lt 0 (last_of r.route)) refl
   where
     r1 : RouteRun
     r1 = record { route = joined 0 (made_at 0 r.route); past = joins_now r.past }
 
-    by_flag : (flag : Bool) → nat_lt 0 (last_of r.route) ≡ flag → Holds (joined_by (cond flag (false, with_carried Below 0 (joined 0 (made_at 0 r.route))) (true, r.route)) r.past)
-    by_flag true is = carried_holds runs Below 0 r1 (first_made r.route.hops r.route.adds r.past none unwanted (ltb-true 0 (last_of r.route) is) h)
-    by_flag false is = wanted_holds r none h
+    by_flag : (flag : Bool) → nat_lt 0 (last_of r.route) ≡ flag → Holds calls (joined_by (cond flag (false, with_carried Below 0 (joined 0 (made_at 0 r.route))) (true, r.route)) r.past)
+    by_flag true is = carried_holds runs Below 0 calls r1 (first_made calls r.route.hops r.route.adds r.past none unwanted (ltb-true 0 (last_of r.route) is) h)
+    by_flag false is = wanted_holds calls r none h

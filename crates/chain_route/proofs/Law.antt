@@ -1,10 +1,11 @@
 -- After every list of calls a way carries.
-use Rattle.std.proofs.Common.{◌≡◌, ℕ, zero, suc, ◌||◌, Bool, true, false, cond, List, [], ◌∷◌, refl}
-use Rattle.std.specs.List.{AllByRecursion}
+use Rattle.std.proofs.Common.{◌≡◌, ℕ, zero, suc, ◌||◌, Bool, true, false, cond, List, [], ◌∷◌, refl, eq-eqb}
+use Rattle.std.specs.List.{AllByRecursion, list_any}
+use Rattle.std.proofs.lemmas.Bool.{or_left, or_right}
 use Rattle.channel_core.specs.declared.held.Outgoing.{Outgoing}
 use Rattle.value_node.specs.RelayLaws.{AfterAllCalls, EndsAreRuns}
 use Rattle.value_node.specs.declared.states.Side.{Side}
-use Rattle.chain_route.specs.Carrying.{CarriesAfterAllCalls, IsDead}
+use Rattle.chain_route.specs.Carrying.{Carries, CarriesAfterAllCalls, IsDead, is_cut_of}
 use Rattle.chain_route.specs.Hop.{no_hop}
 use Rattle.chain_route.specs.Route.{connected, hops_of, more_hops, reached, sent_down, sent_up}
 use Rattle.chain_route.specs.Runs.{Call, RouteRun, after_all, after_call, arrives_down, arrives_up, cuts, delivers, gives, is_waiting, joined_by, joins, no_calls, reached_past, reaches, sends_down, sends_up, turns, with_agent, with_client}
@@ -30,8 +31,8 @@ last_of_dead [] dead = tt
 last_of_dead (h ∷ []) dead = dead.0
 last_of_dead (h ∷ g ∷ hops) dead = last_of_dead (g ∷ hops) dead.1
 
-new_holds : (adds : ℕ) → Holds (no_calls adds)
-new_holds adds =
+new_holds : (calls : List Call) (adds : ℕ) → Holds calls (no_calls adds)
+new_holds calls adds =
     let dead : AllByRecursion IsDead (hops_of adds) = (refl, more_dead adds) in
     record {
       made = [];
@@ -51,60 +52,66 @@ new_holds adds =
       unstarted = λ is. refl;
       started = λ is. absurd cc;
       earlier = tt;
+      losses = tt;
     }
 
--- ---- Each call
+-- ---- Each call of them
 
-module _ (laws : Laws) where
+module _ (laws : Laws) (calls : List Call) where
   runs : AfterAllCalls EndsAreRuns
   runs = laws.runs
 
-  joins_holds : (r : RouteRun) → Holds r → Holds (after_call joins r)
+  joins_holds : (r : RouteRun) → Holds calls r → Holds calls (after_call joins r)
   joins_holds r h = by_flags r.past.is_wanted r.past.is_joined refl refl
     where
-      by_flags : (wanted joined : Bool) → r.past.is_wanted ≡ wanted → r.past.is_joined ≡ joined → Holds (cond (wanted || joined) r (joined_by (connected 0 r.route) r.past))
+      by_flags : (wanted joined : Bool) → r.past.is_wanted ≡ wanted → r.past.is_joined ≡ joined → Holds calls (cond (wanted || joined) r (joined_by (connected 0 r.route) r.past))
       by_flags true joined is also = h
       by_flags false true is also = h
-      by_flags false false is also = joins_kept runs r also is h
+      by_flags false false is also = joins_kept runs calls r also is h
 
-  reaches_holds : (did : Bool) (r : RouteRun) → Holds r → Holds (after_call (reaches did) r)
+  reaches_holds : (did : Bool) (r : RouteRun) → Holds calls r → Holds calls (after_call (reaches did) r)
   reaches_holds did r h = by_flag (is_waiting r) refl
     where
-      by_flag : (flag : Bool) → is_waiting r ≡ flag → Holds (cond flag (record { route = reached did r.route; past = reached_past did r.past }) r)
-      by_flag true is = reaches_kept laws did r is h
+      by_flag : (flag : Bool) → is_waiting r ≡ flag → Holds calls (cond flag (record { route = reached did r.route; past = reached_past did r.past }) r)
+      by_flag true is = reaches_kept laws did calls r is h
       by_flag false is = h
 
-  turns_holds : (side : Side) (at : ℕ) (r : RouteRun) → Holds r → Holds (after_call (turns side at) r)
-  turns_holds side at r h = turns_kept laws side at r h
+  turns_holds : (side : Side) (at : ℕ) (r : RouteRun) → Holds calls r → Holds calls (after_call (turns side at) r)
+  turns_holds side at r h = turns_kept laws side at calls r h
 
-  sends_up_kept : (outs : List Outgoing) (r : RouteRun) → Holds r → Holds (after_call (sends_up outs) r)
+  sends_up_kept : (outs : List Outgoing) (r : RouteRun) → Holds calls r → Holds calls (after_call (sends_up outs) r)
   sends_up_kept outs r h = by_flag r.past.is_joined refl
     where
-      by_flag : (flag : Bool) → r.past.is_joined ≡ flag → Holds (cond flag (record { route = sent_up outs r.route; past = with_client (gives outs r.past.client) r.past }) r)
-      by_flag true is = sends_up_holds outs r.route.hops r.route.adds r.past is h
+      by_flag : (flag : Bool) → r.past.is_joined ≡ flag → Holds calls (cond flag (record { route = sent_up outs r.route; past = with_client (gives outs r.past.client) r.past }) r)
+      by_flag true is = sends_up_holds outs calls r.route.hops r.route.adds r.past is h
       by_flag false is = h
 
-  sends_down_kept : (outs : List Outgoing) (r : RouteRun) → Holds r → Holds (after_call (sends_down outs) r)
+  sends_down_kept : (outs : List Outgoing) (r : RouteRun) → Holds calls r → Holds calls (after_call (sends_down outs) r)
   sends_down_kept outs r h = by_flag r.past.is_reached refl
     where
-      by_flag : (flag : Bool) → r.past.is_reached ≡ flag → Holds (cond flag (record { route = sent_down outs r.route; past = with_agent (gives outs r.past.agent) r.past }) r)
-      by_flag true is = sends_down_holds outs r.route.hops r.route.adds r.past is h
+      by_flag : (flag : Bool) → r.past.is_reached ≡ flag → Holds calls (cond flag (record { route = sent_down outs r.route; past = with_agent (gives outs r.past.agent) r.past }) r)
+      by_flag true is = sends_down_holds outs calls r.route.hops r.route.adds r.past is h
       by_flag false is = h
 
-  call_holds : (call : Call) (r : RouteRun) → Holds r → Holds (after_call call r)
-  call_holds joins r h = joins_holds r h
-  call_holds (reaches did) r h = reaches_holds did r h
-  call_holds (sends_up outs) r h = sends_up_kept outs r h
-  call_holds (sends_down outs) r h = sends_down_kept outs r h
-  call_holds (arrives_up count) r h = arrives_up_holds count r.route.hops r.route.adds r.past h
-  call_holds (arrives_down count) r h = arrives_down_holds count r.route.hops r.route.adds r.past h
-  call_holds (delivers side at count) r h = delivers_holds runs side at count r h
-  call_holds (turns side at) r h = turns_holds side at r h
-  call_holds (cuts hop) r h = cuts_holds runs hop r h
+  call_holds : (call : Call) (r : RouteRun) → ((hop : ℕ) → is_cut_of hop call ≡ true → list_any (is_cut_of hop) calls ≡ true) → Holds calls r → Holds calls (after_call call r)
+  call_holds joins r among h = joins_holds r h
+  call_holds (reaches did) r among h = reaches_holds did r h
+  call_holds (sends_up outs) r among h = sends_up_kept outs r h
+  call_holds (sends_down outs) r among h = sends_down_kept outs r h
+  call_holds (arrives_up count) r among h = arrives_up_holds count calls r.route.hops r.route.adds r.past h
+  call_holds (arrives_down count) r among h = arrives_down_holds count calls r.route.hops r.route.adds r.past h
+  call_holds (delivers side at count) r among h = delivers_holds runs side at count calls r h
+  call_holds (turns side at) r among h = turns_holds side at r h
+  call_holds (cuts hop) r among h = cuts_holds runs calls hop r (among hop (eq-eqb hop hop refl)) h
 
-  all_hold : (calls : List Call) (r : RouteRun) → Holds r → Holds (after_all calls r)
-  all_hold [] r h = h
-  all_hold (call ∷ calls) r h = all_hold calls (after_call call r) (call_holds call r h)
+  all_hold : (rest : List Call) (r : RouteRun) → ((hop : ℕ) → list_any (is_cut_of hop) rest ≡ true → list_any (is_cut_of hop) calls ≡ true) → Holds calls r → Holds calls (after_all rest r)
+  all_hold [] r among h = h
+  all_hold (call ∷ rest) r among h =
+      all_hold rest (after_call call r) (λ hop is. among hop (or_right (is_cut_of hop call) (list_any (is_cut_of hop) rest) is))
+      (call_holds call r (λ hop is. among hop (or_left (is_cut_of hop call) (list_any (is_cut_of hop) rest) is)) h)
 
-  pub carries_after_all : CarriesAfterAllCalls
-  carries_after_all adds calls = carries_of (after_all calls (no_calls adds)) (all_hold calls (no_calls adds) (new_holds adds))
+  carries_after : (adds : ℕ) → Carries calls (after_all calls (no_calls adds))
+  carries_after adds = carries_of calls (after_all calls (no_calls adds)) (all_hold calls (no_calls adds) (λ hop is. is) (new_holds calls adds))
+
+pub carries_after_all : Laws → CarriesAfterAllCalls
+carries_after_all laws adds calls = carries_after laws calls adds

@@ -11,7 +11,7 @@ use Rattle.value_node.specs.ValueValue.{ValueValue}
 use Rattle.value_node.specs.declared.relay.Relay.{Relay}
 use Rattle.value_node.specs.declared.states.Side.{Side}
 use Rattle.value_node.specs.declared.states.Side.TheVariants.{Below, Above}
-use Rattle.chain_route.specs.Carrying.{End, IsDead, Made, end_above, end_below, past_of, value_of}
+use Rattle.chain_route.specs.Carrying.{End, IsDead, Made, end_above, end_below, past_of, value_of, was_lost_above}
 use Rattle.chain_route.specs.Hop.{sent_from}
 use Rattle.chain_route.specs.Passing.{Pair, queue_of, queued_at, queued_on}
 use Rattle.chain_route.specs.declared.hop.Hop.{Hop}
@@ -19,6 +19,7 @@ use Rattle.chain_route.proofs.Adds.{above_added, above_same, below_added, below_
 use Rattle.chain_route.proofs.EndCalls.{AreIdle, put_end}
 use Rattle.chain_route.proofs.Each.{IsUnconnected}
 use Rattle.chain_route.proofs.Flows.{CarriesAt, dead_given, gave_more, side_given}
+use Rattle.chain_route.proofs.Losses.{lost_same}
 use Rattle.chain_route.proofs.Towers.{IsMoved, end_at}
 
 -- the end on the other side is as it was
@@ -31,10 +32,11 @@ pub record Moves (side : Side) (m next : Made) (hop after : Hop) : Type 0 where
   pub rests : RestsAt side m next
   pub connected : IsSome (past_of m).connection → IsSome (past_of next).connection
   pub unconnected : IsUnconnected m → IsUnconnected next
+  pub lost : was_lost_above next ≡ was_lost_above m
 
 pub moves_still : (side : Side) (m : Made) (hop : Hop) → Moves side m m hop hop
-moves_still Below m hop = record { moved = record { carries = λ other h. h; dead = λ d. d }; rests = refl; connected = λ is. is; unconnected = λ none. none }
-moves_still Above m hop = record { moved = record { carries = λ other h. h; dead = λ d. d }; rests = refl; connected = λ is. is; unconnected = λ none. none }
+moves_still Below m hop = record { moved = record { carries = λ other h. h; dead = λ d. d }; rests = refl; connected = λ is. is; unconnected = λ none. none; lost = refl }
+moves_still Above m hop = record { moved = record { carries = λ other h. h; dead = λ d. d }; rests = refl; connected = λ is. is; unconnected = λ none. none; lost = refl }
 
 pub rests_on : (side : Side) (m next last : Made) → RestsAt side m next → RestsAt side next last → RestsAt side m last
 rests_on Below m next last p q = q ∙ p
@@ -46,6 +48,7 @@ moves_on side m next last hop after end p q = record {
   rests = rests_on side m next last p.rests q.rests;
   connected = λ is. q.connected (p.connected is);
   unconnected = λ none. q.unconnected (p.unconnected none);
+  lost = q.lost ∙ p.lost;
 }
 
 pub moved_by : (side : Side) (m next : Made) (hop after : Hop) (grown : End → End) → end_at side next ≡ grown (end_at side m)
@@ -139,6 +142,7 @@ module _ (runs : AfterAllCalls EndsAreRuns) where
         rests = above_same runs (gives Below) m refl (give_below v v.upper);
         connected = still_connected runs (gives Below) m refl;
         unconnected = still_unconnected runs (gives Below) m refl;
+        lost = lost_same (gives Below) m refl;
       }
   gives_moves Above m hop out rest is =
       let next = with_call (gives Above) m in
@@ -156,4 +160,5 @@ module _ (runs : AfterAllCalls EndsAreRuns) where
         rests = below_same runs (gives Above) m refl tt;
         connected = still_connected runs (gives Above) m refl;
         unconnected = still_unconnected runs (gives Above) m refl;
+        lost = lost_same (gives Above) m refl;
       }

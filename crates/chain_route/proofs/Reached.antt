@@ -13,7 +13,7 @@ use Rattle.chain_route.specs.Hop.{connected, sent_from}
 use Rattle.chain_route.specs.Passing.{carried, pair, queued_at}
 use Rattle.chain_route.specs.Route.{hop_put, joined, last_of, on_hop, pair_put, reached, refused, sent_down, with_carried, with_pair}
 use Rattle.chain_route.specs.RouteValue.{RouteValue}
-use Rattle.chain_route.specs.Runs.{Past, RouteRun, awaits_of, earlier_of, is_waiting, reached_past}
+use Rattle.chain_route.specs.Runs.{Call, Past, RouteRun, awaits_of, earlier_of, is_waiting, reached_past}
 use Rattle.chain_route.specs.declared.hop.Hop.{Hop}
 use Rattle.chain_route.proofs.Each.{EachCarries}
 use Rattle.chain_route.proofs.Connecting.{HasAt, begun_at, joined_at, mapped_at}
@@ -22,6 +22,7 @@ use Rattle.chain_route.proofs.Ended.{sends_down_holds}
 use Rattle.chain_route.proofs.Flows.{fresh_end}
 use Rattle.chain_route.proofs.Holding.{Holds}
 use Rattle.chain_route.proofs.Joining.{carried_holds}
+use Rattle.chain_route.proofs.Losses.{loses_same, losses_set, lost_same}
 use Rattle.chain_route.proofs.Moving.{call_value}
 use Rattle.chain_route.proofs.Reaching.{Awaits, above_anew, anew, below_anew, connected_anew, gone_by, opened_carries, reached_all, waits_in}
 use Rattle.chain_route.proofs.Unheard.{Laws}
@@ -29,10 +30,10 @@ use Rattle.chain_route.proofs.Ways.{get_set, set_length, set_mapped}
 
 -- ---- Straight from the client: nothing was said on the hop, and the agent wasn't reached
 
-opened_way : (did : Bool) (x after : Hop) (adds : List ValueValue) (p : Past) → p.is_wanted ≡ true → HopCarries after fresh_end (end_of (reached_past did p).agent)
-    → Holds (record { route = record { hops = x ∷ []; adds = adds }; past = p })
-    → Holds (record { route = record { hops = after ∷ []; adds = adds }; past = reached_past did p })
-opened_way did x after adds p wanted carries h =
+opened_way : (calls : List Call) (did : Bool) (x after : Hop) (adds : List ValueValue) (p : Past) → p.is_wanted ≡ true → HopCarries after fresh_end (end_of (reached_past did p).agent)
+    → Holds calls (record { route = record { hops = x ∷ []; adds = adds }; past = p })
+    → Holds calls (record { route = record { hops = after ∷ []; adds = adds }; past = reached_past did p })
+opened_way calls did x after adds p wanted carries h =
     let none : p.is_joined ≡ false = h.wanted wanted in
     let client : end_of p.client ≡ fresh_end = ap end_of (h.unjoined none) in
     let earlier : earlier_of p ≡ p.earlier = ap (λ b. cond b (p.earlier ++ p.agent.got ∷ []) p.earlier) (h.unstarted none) in
@@ -54,12 +55,13 @@ opened_way did x after adds p wanted carries h =
       unstarted = λ is. absurd cc;
       started = λ is more. absurd (omega (arith, more));
       earlier = subst (AllByRecursion IsGoneBy) (sym earlier) h.earlier;
+      losses = tt;
     }
 
-wanted_reached : (did : Bool) (x : Hop) (adds : List ValueValue) (p : Past) → p.is_wanted ≡ true → Holds (record { route = record { hops = x ∷ []; adds = adds }; past = p })
-    → Holds (record { route = reached did (record { hops = x ∷ []; adds = adds }); past = reached_past did p })
-wanted_reached true x adds p wanted h = opened_way true x (connected []) adds p wanted (opened_carries true) h
-wanted_reached false x adds p wanted h = opened_way false x (connected (end_of_stream ∷ [])) adds p wanted (opened_carries false) h
+wanted_reached : (calls : List Call) (did : Bool) (x : Hop) (adds : List ValueValue) (p : Past) → p.is_wanted ≡ true → Holds calls (record { route = record { hops = x ∷ []; adds = adds }; past = p })
+    → Holds calls (record { route = reached did (record { hops = x ∷ []; adds = adds }); past = reached_past did p })
+wanted_reached calls true x adds p wanted h = opened_way calls true x (connected []) adds p wanted (opened_carries true) h
+wanted_reached calls false x adds p wanted h = opened_way calls false x (connected (end_of_stream ∷ [])) adds p wanted (opened_carries false) h
 
 -- ---- By the last value-add
 
@@ -84,9 +86,9 @@ all_connected (suc zero) (x ∷ y ∷ made) is_reached m next there size some ha
 all_connected (suc (suc at)) (x ∷ y ∷ made) is_reached m next there size some have = (have.0, all_connected (suc at) (y ∷ made) is_reached m next there (omega (arith, size)) some have.1)
 
 -- what came to the channel that it takes the place of was given by an end that took no Hello
-earlier_gone : Laws → (r : RouteRun) (h : Holds r) (at : ℕ) (m : Made) → slice_get h.made at ≡ Some m → length r.route.hops ≡ at + 2 → Awaits m
+earlier_gone : Laws → (calls : List Call) (r : RouteRun) (h : Holds calls r) (at : ℕ) (m : Made) → slice_get h.made at ≡ Some m → length r.route.hops ≡ at + 2 → Awaits m
     → AllByRecursion IsGoneBy (earlier_of r.past)
-earlier_gone laws r h at m there size waits = by_flag r.past.is_reached refl
+earlier_gone laws calls r h at m there size waits = by_flag r.past.is_reached refl
   where
     last_connected : (i : ℕ) (made : List Made) → slice_get made i ≡ Some m → length made ≡ i + 1 → HaveConnected made true → IsSome (past_of m).connection
     last_connected i [] is few have = absurd cc
@@ -118,11 +120,11 @@ earlier_gone laws r h at m there size waits = by_flag r.past.is_reached refl
     by_flag true is =
         let some = last_connected at h.made there count (subst (λ b. HaveConnected h.made b) is h.way.connected) in
         let front = last_front at (end_of r.past.client) r.route.hops h.made there size h.way.all in
-        all_append IsGoneBy r.past.earlier (r.past.agent.got ∷ []) h.earlier (gone_by laws.runs m waits some r.past.agent.got front, tt)
+        all_append IsGoneBy r.past.earlier (r.past.agent.got ∷ []) h.earlier (gone_by laws.runs laws.once m waits some r.past.agent.got front, tt)
     by_flag false is = h.earlier
 
 -- the upper end of it begins anew, and its Hello goes up; behind that the end of the stream comes down where the agent refused
-module _ (laws : Laws) (r : RouteRun) (h : Holds r) (at : ℕ) (m : Made) (there : slice_get h.made at ≡ Some m) (size : length r.route.hops ≡ at + 2) (waits : Awaits m) where
+module _ (laws : Laws) (calls : List Call) (r : RouteRun) (h : Holds calls r) (at : ℕ) (m : Made) (there : slice_get h.made at ≡ Some m) (size : length r.route.hops ≡ at + 2) (waits : Awaits m) where
   abbrev begun : RouteValue
   begun = begun_at at (value_of m) r.route
 
@@ -138,7 +140,7 @@ module _ (laws : Laws) (r : RouteRun) (h : Holds r) (at : ℕ) (m : Made) (there
       let least = there_within at h.made m there in
       omega (arith, most, least, size)
 
-  begun_holds : Holds (record { route = begun; past = p })
+  begun_holds : Holds calls (record { route = begun; past = p })
   begun_holds = record {
     made = made_now;
     adds = ap (λ vs. slice_set vs at (called connects (value_of m))) h.adds
@@ -158,7 +160,8 @@ module _ (laws : Laws) (r : RouteRun) (h : Holds r) (at : ℕ) (m : Made) (there
     wanted = λ is. absurd cc;
     unstarted = λ is. absurd cc;
     started = λ is more. omega (arith, made_count);
-    earlier = earlier_gone laws r h at m there size waits;
+    earlier = earlier_gone laws calls r h at m there size waits;
+    losses = losses_set calls at h.made m (anew m) there (loses_same calls at m (anew m) (lost_same connects m refl)) h.losses;
   }
     where
       made_count : length made_now ≡ at + 1
@@ -170,8 +173,8 @@ module _ (laws : Laws) (r : RouteRun) (h : Holds r) (at : ℕ) (m : Made) (there
   abbrev carried_up : RouteValue
   carried_up = with_carried Above at begun
 
-  up_holds : Holds (record { route = carried_up; past = p })
-  up_holds = carried_holds laws.runs Above at (record { route = begun; past = p }) begun_holds
+  up_holds : Holds calls (record { route = carried_up; past = p })
+  up_holds = carried_holds laws.runs Above at calls (record { route = begun; past = p }) begun_holds
 
   joined_is : joined (last_of r.route) r.route ≡ carried_up
   joined_is =
@@ -214,20 +217,20 @@ module _ (laws : Laws) (r : RouteRun) (h : Holds r) (at : ℕ) (m : Made) (there
       ∙ sym (ap (λ o. hop_put (hop.sent_down (end_of_stream ∷ [])) (at + 1) o carried_up) here)
       ∙ sym (ap (λ k. on_hop (hop.sent_down (end_of_stream ∷ [])) k carried_up) last)
 
-  last_reached : (did : Bool) → Holds (record { route = reached did r.route; past = reached_past did r.past })
-  last_reached true = subst (λ route. Holds (record { route = route; past = p })) (sym joined_is) up_holds
+  last_reached : (did : Bool) → Holds calls (record { route = reached did r.route; past = reached_past did r.past })
+  last_reached true = subst (λ route. Holds calls (record { route = route; past = p })) (sym joined_is) up_holds
   last_reached false =
-      subst (λ route. Holds (record { route = route; past = reached_past false r.past })) (sym (ap (refused (last_of r.route)) joined_is ∙ refused_is))
-      (sends_down_holds (end_of_stream ∷ []) carried_up.hops carried_up.adds p refl up_holds)
+      subst (λ route. Holds calls (record { route = route; past = reached_past false r.past })) (sym (ap (refused (last_of r.route)) joined_is ∙ refused_is))
+      (sends_down_holds (end_of_stream ∷ []) calls carried_up.hops carried_up.adds p refl up_holds)
 
 -- ---- Both
 
-reaches_by : Laws → (did : Bool) (hops : List Hop) (adds : List ValueValue) (p : Past) → is_waiting (record { route = record { hops = hops; adds = adds }; past = p }) ≡ true
-    → Holds (record { route = record { hops = hops; adds = adds }; past = p })
-    → Holds (record { route = reached did (record { hops = hops; adds = adds }); past = reached_past did p })
-reaches_by laws did [] adds p waiting h = absurd h.way.all
-reaches_by laws did (x ∷ []) adds p waiting h = wanted_reached did x adds p waiting h
-reaches_by laws did (x ∷ g ∷ hops) adds p waiting h =
+reaches_by : Laws → (did : Bool) (calls : List Call) (hops : List Hop) (adds : List ValueValue) (p : Past) → is_waiting (record { route = record { hops = hops; adds = adds }; past = p }) ≡ true
+    → Holds calls (record { route = record { hops = hops; adds = adds }; past = p })
+    → Holds calls (record { route = reached did (record { hops = hops; adds = adds }); past = reached_past did p })
+reaches_by laws did calls [] adds p waiting h = absurd h.way.all
+reaches_by laws did calls (x ∷ []) adds p waiting h = wanted_reached calls did x adds p waiting h
+reaches_by laws did calls (x ∷ g ∷ hops) adds p waiting h =
     let at = length hops in
     let r : RouteRun = record { route = record { hops = x ∷ g ∷ hops; adds = adds }; past = p } in
     let last : last_of r.route ≡ suc at = omega arith in
@@ -237,7 +240,7 @@ reaches_by laws did (x ∷ g ∷ hops) adds p waiting h =
     ap (λ n. awaits_of (slice_get adds n)) (sym less)
     ∙ sym (ap (λ b. cond b p.is_wanted (awaits_of (slice_get adds (last_of r.route - 1)))) some) ∙ waiting in
     let w = waits_in at h.made (sym (ap (λ vs. awaits_of (slice_get vs at)) h.adds) ∙ waits) in
-    last_reached laws r h at w.m w.there (omega arith) w.waits did
+    last_reached laws calls r h at w.m w.there (omega arith) w.waits did
 
-pub reaches_kept : Laws → (did : Bool) (r : RouteRun) → is_waiting r ≡ true → Holds r → Holds (record { route = reached did r.route; past = reached_past did r.past })
-reaches_kept laws did r waiting h = reaches_by laws did r.route.hops r.route.adds r.past waiting h
+pub reaches_kept : Laws → (did : Bool) (calls : List Call) (r : RouteRun) → is_waiting r ≡ true → Holds calls r → Holds calls (record { route = reached did r.route; past = reached_past did r.past })
+reaches_kept laws did calls r waiting h = reaches_by laws did calls r.route.hops r.route.adds r.past waiting h

@@ -5,7 +5,9 @@ use Rattle.std.specs.List.{AllByRecursion, list_any}
 use Rattle.channel_core.specs.Arrivals.{IsFront, bytes_of}
 use Rattle.channel_core.specs.Greeting.{is_greeting}
 use Rattle.channel_core.specs.ReceivingLaws.{SendsReadable}
+use Rattle.channel_core.specs.RunLaws.{AfterAllCalls as AfterEndCalls, EndsOnce}
 use Rattle.channel_core.specs.declared.held.Outgoing.{Outgoing}
+use Rattle.value_node.specs.ForwardedValue.{ForwardedValue}
 use Rattle.value_node.specs.RelayLaws.{AfterAllCalls, EndsAreRuns, IsGivenUp, StandsWell}
 use Rattle.value_node.specs.Runs.{Past, UpperCall, above, connects, reconnected, upper_after}
 use Rattle.value_node.specs.Value.{awaits, is_free, is_opening}
@@ -20,6 +22,7 @@ use Rattle.chain_route.proofs.Each.{EachCarries}
 use Rattle.chain_route.proofs.Adds.{call_run, facts_of, with_call}
 use Rattle.chain_route.proofs.Anew.{AreDeadBehind, dead_above, fresh_made}
 use Rattle.chain_route.proofs.Flows.{begun_carries, fresh_end}
+use Rattle.chain_route.proofs.Unsent.{unsent_above}
 
 -- ---- The value-add connects: below nothing changes, and above it begins anew
 
@@ -79,17 +82,19 @@ module _ (runs : AfterAllCalls EndsAreRuns) where
   last_of_all P [] x all = all.0
   last_of_all P (y ∷ xs) x all = last_of_all P xs x all.1
 
-  pub gone_by : (m : Made) → Awaits m → IsSome (past_of m).connection → (got : List Outgoing) → IsFront (bytes_of got) (bytes_of (end_above (past_of m)).gave) → IsGoneBy got
-  gone_by m waits some got front = by_connection (past_of m).connection refl some
+  pub gone_by : AfterEndCalls {T = ForwardedValue} EndsOnce → (m : Made) → Awaits m → IsSome (past_of m).connection → (got : List Outgoing) → IsFront (bytes_of got) (bytes_of (end_above (past_of m)).gave) → IsGoneBy got
+  gone_by once m waits some got front = by_connection (past_of m).connection refl some
     where
       by_connection : (connection : Option (List UpperCall)) → (past_of m).connection ≡ connection → IsSome connection → IsGoneBy got
       by_connection None is none = absurd cc
       by_connection (Some calls) is none =
           let earlier : (past_of (anew m)).earlier ≡ (past_of m).earlier ++ calls ∷ [] =
           ap (λ p. p.earlier) (past_anew m waits) ∙ ap (λ c. (past_of m).earlier ++ option_to_list c) is in
+          let gone : IsGivenUp calls = last_of_all IsGivenUp (past_of m).earlier calls (subst (AllByRecursion IsGivenUp) earlier (facts_of runs (anew m)).earlier) in
           record {
             calls = calls;
-            gone = last_of_all IsGivenUp (past_of m).earlier calls (subst (AllByRecursion IsGivenUp) earlier (facts_of runs (anew m)).earlier);
+            gone = gone;
+            silent = unsent_above once runs m.peer m.calls calls is gone.unheard;
             readable = subst (λ c. IfSome c SendsReadable) is (facts_of runs m).above_readable;
             front = subst (λ c. IsFront (bytes_of got) (bytes_of (upper_after (unwrap_or c [])).past.given)) is front;
           }

@@ -9,7 +9,7 @@ use Rattle.value_node.specs.Runs.{comes, gives, upper_from}
 use Rattle.value_node.specs.Value.{after_giving, value_services, waiting_at}
 use Rattle.value_node.specs.declared.states.Side.{Side}
 use Rattle.value_node.specs.declared.states.Side.TheVariants.{Below, Above}
-use Rattle.chain_route.specs.Carrying.{Made, past_of, value_of}
+use Rattle.chain_route.specs.Carrying.{Made, past_of, value_of, was_lost_above}
 use Rattle.chain_route.specs.Hop.{arrived_at, lane_to, sent_from}
 use Rattle.chain_route.specs.Lane.{arriving}
 use Rattle.chain_route.specs.Passing.{Pair, carried, came, delivered, emptied, most_waiting, pair, parts_came, queued_at, takes}
@@ -19,6 +19,7 @@ use Rattle.chain_route.proofs.Carried.{add_goes_on, add_is_empty, none_sent, sen
 use Rattle.chain_route.proofs.Each.{IsUnconnected}
 use Rattle.chain_route.proofs.EndCalls.{come_end}
 use Rattle.chain_route.proofs.Flows.{came_more, dead_came, side_came}
+use Rattle.chain_route.proofs.Losses.{lost_same}
 use Rattle.chain_route.proofs.Moving.{Moves, RestsAt, Step, call_value, come_below, given_is, gives_moves, has_upper, moved_by, moves_still, rests_on, step_on}
 use Rattle.chain_route.proofs.Towers.{end_at}
 
@@ -88,6 +89,7 @@ module _ (runs : AfterAllCalls EndsAreRuns) where
     rests : RestsAt side m next
     connected : IsSome (past_of m).connection → IsSome (past_of next).connection
     unconnected : IsUnconnected m → IsUnconnected next
+    lost : was_lost_above next ≡ was_lost_above m
 
   still_open : (side : Side) (piece : List ℕ) (mark : Option ℕ) (m : Made) → IsOpenAt side m → IsOpenAt side (with_call (comes side piece mark) m)
   still_open Below piece mark m has_end = tt
@@ -105,6 +107,7 @@ module _ (runs : AfterAllCalls EndsAreRuns) where
     rests = rests_same side m;
     connected = λ is. is;
     unconnected = λ none. none;
+    lost = refl;
   }
   parts_came_to (part ∷ parts) side m has_end =
       let call = comes side part.bytes part.mark in
@@ -119,6 +122,7 @@ module _ (runs : AfterAllCalls EndsAreRuns) where
         rests = rests_on side m m1 more.next (comes_rests side part.bytes part.mark m) more.rests;
         connected = λ is. more.connected (still_connected runs call m refl is);
         unconnected = λ none. more.unconnected (still_unconnected runs call m refl none);
+        lost = more.lost ∙ lost_same call m refl;
       }
 
   came_step : (side : Side) (count : ℕ) (m : Made) (hop : Hop) → IsOpenAt side m → Step side m hop (came side count (pair (value_of m) hop))
@@ -133,6 +137,7 @@ module _ (runs : AfterAllCalls EndsAreRuns) where
           rests = c.rests;
           connected = c.connected;
           unconnected = c.unconnected;
+          lost = c.lost;
         };
       }
 

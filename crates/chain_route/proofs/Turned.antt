@@ -27,14 +27,15 @@ use Rattle.chain_route.specs.Carrying.{Made, past_of, value_of}
 use Rattle.chain_route.specs.Passing.{carried, emptied, without_queue}
 use Rattle.chain_route.specs.Route.{beside, connected_after, pair_put, turn_put, turned, with_carried}
 use Rattle.chain_route.specs.RouteValue.{RouteValue}
-use Rattle.chain_route.specs.Runs.{RouteRun, awaits_of}
+use Rattle.chain_route.specs.Runs.{Call, RouteRun, awaits_of}
 use Rattle.chain_route.specs.declared.hop.Hop.{Hop}
-use Rattle.chain_route.proofs.Adds.{facts_of, run_of}
+use Rattle.chain_route.proofs.Adds.{facts_of, run_of, with_call}
 use Rattle.chain_route.proofs.Connecting.{connects_kept}
 use Rattle.chain_route.proofs.Cutting.{quiet_holds, with_add}
 use Rattle.chain_route.proofs.Holding.{Holds, with_route}
 use Rattle.chain_route.proofs.Idle.{turn_is_quiet}
 use Rattle.chain_route.proofs.Joining.{carried_holds}
+use Rattle.chain_route.proofs.Losses.{loses_same, lost_same}
 use Rattle.chain_route.proofs.Reaching.{waits_in}
 use Rattle.chain_route.proofs.Unheard.{Laws}
 use Rattle.chain_route.proofs.Ways.{IsMapped, get_mapped, get_set}
@@ -149,32 +150,33 @@ turn_waits Above m runs is = absurd (above_turns (value_of m).relay is)
 
 -- ---- A turn
 
-after_turn : Laws → (turn : ValueTurn) (at : ℕ) (r : RouteRun) → (turn ≡ Connect → WaitsAt at r.route) → Holds r → Holds (with_route (connected_after turn at r.route).1 r)
-after_turn laws Nothing at r waits h = h
-after_turn laws Took at r waits h = h
-after_turn laws Connect at r waits h =
-    let w = waits_in at h.made (sym (ap (λ vs. awaits_of (slice_get vs at)) h.adds) ∙ waits refl) in connects_kept laws at r h w.m w.there w.waits
+after_turn : Laws → (turn : ValueTurn) (at : ℕ) (calls : List Call) (r : RouteRun) → (turn ≡ Connect → WaitsAt at r.route) → Holds calls r → Holds calls (with_route (connected_after turn at r.route).1 r)
+after_turn laws Nothing at calls r waits h = h
+after_turn laws Took at calls r waits h = h
+after_turn laws Connect at calls r waits h =
+    let w = waits_in at h.made (sym (ap (λ vs. awaits_of (slice_get vs at)) h.adds) ∙ waits refl) in connects_kept laws at calls r h w.m w.there w.waits
 
-made_turns : Laws → (side : Side) (at : ℕ) (r : RouteRun) (h : Holds r) (m : Made) → slice_get h.made at ≡ Some m → slice_get r.route.adds at ≡ Some (value_of m)
-    → Holds (with_route (turn_put side at (Some (value_of m)) r.route).1 r)
-made_turns laws side at r h m there add_is =
+made_turns : Laws → (side : Side) (at : ℕ) (calls : List Call) (r : RouteRun) (h : Holds calls r) (m : Made) → slice_get h.made at ≡ Some m → slice_get r.route.adds at ≡ Some (value_of m)
+    → Holds calls (with_route (turn_put side at (Some (value_of m)) r.route).1 r)
+made_turns laws side at calls r h m there add_is =
     let next = value_turned side (value_of m) in
+    let call = value.turns side in
     let r1 = with_add at next.1 r in
-    let h1 : Holds r1 = quiet_holds laws.runs (value.turns side) at r h m there refl (turn_is_quiet side (run_of m).value.relay) in
+    let h1 : Holds calls r1 = quiet_holds laws.runs calls call at r h m there refl (turn_is_quiet side (run_of m).value.relay) (loses_same calls at m (with_call call m) (lost_same call m refl)) in
     let r2 = with_route (with_carried Below at r1.route) r1 in
     let r3 = with_route (with_carried Above at r2.route) r2 in
-    after_turn laws next.0 at r3
+    after_turn laws next.0 at calls r3
     (λ is. carried_waits Above at r2.route (carried_waits Below at r1.route (set_waits at r.route (value_of m) next.1 add_is (turn_waits side m laws.runs is))))
-    (carried_holds laws.runs Above at r2 (carried_holds laws.runs Below at r1 h1))
+    (carried_holds laws.runs Above at calls r2 (carried_holds laws.runs Below at calls r1 h1))
 
-pub turns_kept : Laws → (side : Side) (at : ℕ) (r : RouteRun) → Holds r → Holds (with_route (turned side at r.route).1 r)
-turns_kept laws side at r h = by_add (slice_get r.route.adds at) refl
+pub turns_kept : Laws → (side : Side) (at : ℕ) (calls : List Call) (r : RouteRun) → Holds calls r → Holds calls (with_route (turned side at r.route).1 r)
+turns_kept laws side at calls r h = by_add (slice_get r.route.adds at) refl
   where
-    by_made : (v : ValueValue) → slice_get r.route.adds at ≡ Some v → IsMapped value_of h.made at v → Holds (with_route (turn_put side at (Some v) r.route).1 r)
+    by_made : (v : ValueValue) → slice_get r.route.adds at ≡ Some v → IsMapped value_of h.made at v → Holds calls (with_route (turn_put side at (Some v) r.route).1 r)
     by_made v is m =
-        subst (λ x. Holds (with_route (turn_put side at (Some x) r.route).1 r)) m.value
-        (made_turns laws side at r h m.from m.there (is ∙ ap Some (sym m.value)))
+        subst (λ x. Holds calls (with_route (turn_put side at (Some x) r.route).1 r)) m.value
+        (made_turns laws side at calls r h m.from m.there (is ∙ ap Some (sym m.value)))
 
-    by_add : (add : Option ValueValue) → slice_get r.route.adds at ≡ add → Holds (with_route (turn_put side at add r.route).1 r)
+    by_add : (add : Option ValueValue) → slice_get r.route.adds at ≡ add → Holds calls (with_route (turn_put side at add r.route).1 r)
     by_add None is = h
     by_add (Some v) is = by_made v is (get_mapped value_of at h.made v (sym (ap (λ vs. slice_get vs at) h.adds) ∙ is))

@@ -8,7 +8,7 @@ use Rattle.channel_core.specs.Farewell.{leaving_behind}
 use Rattle.channel_core.specs.Greeting.{WaitsForHello, is_greeting}
 use Rattle.channel_core.specs.Laws.{listed}
 use Rattle.channel_core.specs.ReceivingLaws.{QueuesReadable, ReceivesInOrder, SendsReadable, WhereAQueueComes, incoming_of, received}
-use Rattle.channel_core.specs.RunLaws.{AfterAllCalls as AfterEndCalls, QueuesInOrder, is_command}
+use Rattle.channel_core.specs.RunLaws.{AfterAllCalls as AfterEndCalls, EndsOnce, QueuesInOrder, is_command}
 use Rattle.channel_core.specs.Runs.{Call, Run, after_call, after_calls, begun, closing, commanding, delivering, draining, ending, putting_out, sending, taking}
 use Rattle.channel_core.specs.Taking.{next_taken}
 use Rattle.channel_core.specs.Wire.{hello, locator, said}
@@ -33,6 +33,7 @@ pub record Laws : Type 0 where
   pub runs : AfterAllCalls EndsAreRuns
   pub connects : AfterAllCalls ConnectsWhenAsked
   pub waits : AfterEndCalls {T = ForwardedValue} WaitsForHello
+  pub once : AfterEndCalls {T = ForwardedValue} EndsOnce
   pub in_order : AfterEndCalls {T = ForwardedValue} QueuesInOrder
   pub readable : QueuesReadable ForwardedValue
   pub receives : WhereAQueueComes {T = Unit} ReceivesInOrder

@@ -1,15 +1,19 @@
 -- What a way carries, over any calls: each hop carries what one of its nodes gave it to the other one.
-use Rattle.std.specs.Prelude.{ℕ, ◌≡◌, ◌+◌, Bool, true, false, List, [], ◌∷◌, ◌++◌, length, map, unwrap_or, IsSome}
-use Rattle.std.specs.List.{AllByRecursion}
+use Rattle.std.specs.Prelude.{ℕ, ◌≡◌, ◌+◌, ◌==◌, Bool, true, false, List, [], ◌∷◌, ◌++◌, length, map, unwrap_or, IsSome, None}
+use Rattle.std.specs.List.{AllByRecursion, list_any}
 use Rattle.channel_core.specs.Arrivals.{IsFront, Marked, arrived, bytes_of}
+use Rattle.channel_core.specs.Beginning.{new_end}
+use Rattle.channel_core.specs.QueueLaws.{sent_in}
 use Rattle.channel_core.specs.ReceivingLaws.{SendsReadable}
 use Rattle.channel_core.specs.declared.held.Outgoing.{Outgoing}
 use Rattle.value_node.specs.RelayLaws.{IsGivenUp}
 use Rattle.value_node.specs.Runs as value
-use Rattle.value_node.specs.Runs.{UpperCall, above, below, upper_after}
+use Rattle.value_node.specs.Runs.{UpperCall, above, below, bytes_end, comes, connects, fails, gives, turns as value_turns, upper_after}
+use Rattle.value_node.specs.Value.{value_services}
 use Rattle.value_node.specs.ValueValue.{ValueValue}
+use Rattle.value_node.specs.declared.states.Side.TheVariants.{Below, Above}
 use Rattle.chain_route.specs.Hop.{no_hop}
-use Rattle.chain_route.specs.Runs.{Call, Past, RouteRun, Talk, after_all, no_calls}
+use Rattle.chain_route.specs.Runs.{Call, Past, RouteRun, Talk, after_all, arrives_down, arrives_up, cuts, delivers, joins, no_calls, reaches, sends_down, sends_up, turns}
 use Rattle.chain_route.specs.declared.hop.Hop.{Hop}
 
 -- ---- one end of a hop: what its node gave, and the bytes that came to it, with their marks
@@ -79,21 +83,61 @@ HaveConnected (m ∷ made) is_reached = IsSome (past_of m).connection × HaveCon
 abbrev pub IsReachedLast : List Made → List Hop → Past → Type 0
 IsReachedLast made hops p = p.is_reached ≡ true → length hops ≡ length made + 1
 
--- what came to a channel of the agent that the way gave up: it was given by an end that took no Hello, and can be read
+-- what came to a channel of the agent that the way gave up: it was given by an end that took no Hello and whose node sent
+-- nothing, and can be read
 pub record IsGoneBy (got : List Outgoing) : Type 0 where
   pub calls : List UpperCall
   pub gone : IsGivenUp calls
+  pub silent : sent_in calls (new_end value_services None) ≡ []
   pub readable : SendsReadable calls
   pub front : IsFront (bytes_of got) (bytes_of (upper_after calls).past.given)
 
-pub record Carries (r : RouteRun) : Type 0 where
+-- ---- what a value-add lost
+
+-- the bytes above a value-add have ended without the end of the stream
+abbrev pub loses_above : value.Call → Bool
+loses_above (comes side piece mark) = false
+loses_above (bytes_end Below) = false
+loses_above (bytes_end Above) = true
+loses_above (value_turns side) = false
+loses_above connects = false
+loses_above fails = false
+loses_above (gives side) = false
+
+abbrev pub was_lost_above : Made → Bool
+was_lost_above m = list_any loses_above m.calls
+
+abbrev pub is_cut_of : ℕ → Call → Bool
+is_cut_of hop joins = false
+is_cut_of hop (reaches did) = false
+is_cut_of hop (sends_up outs) = false
+is_cut_of hop (sends_down outs) = false
+is_cut_of hop (arrives_up count) = false
+is_cut_of hop (arrives_down count) = false
+is_cut_of hop (delivers side at count) = false
+is_cut_of hop (turns side at) = false
+is_cut_of hop (cuts at) = at == hop
+
+-- the bytes above the value-add at this place ended only where the hop above it was cut
+abbrev pub LosesByCut : List Call → ℕ → Made → Type 0
+LosesByCut calls at m = was_lost_above m ≡ true → list_any (is_cut_of (at + 1)) calls ≡ true
+
+-- from this place on
+abbrev pub AllLoseByCuts : List Call → ℕ → List Made → Type 0
+AllLoseByCuts calls at [] = Unit {0}
+AllLoseByCuts calls at (m ∷ made) = LosesByCut calls at m × AllLoseByCuts calls (at + 1) made
+
+-- ---- all of it, after these calls
+
+pub record Carries (calls : List Call) (r : RouteRun) : Type 0 where
   pub made : List Made
   pub adds : r.route.adds ≡ map value_of made
   pub hops : AllCarry (end_of r.past.client) r.route.hops made (end_of r.past.agent)
   pub connected : HaveConnected made r.past.is_reached
   pub reached : IsReachedLast made r.route.hops r.past
   pub earlier : AllByRecursion IsGoneBy r.past.earlier
+  pub losses : AllLoseByCuts calls 0 made
 
 -- After every list of calls of a new way, with so many value-adds.
 abbrev pub CarriesAfterAllCalls : Type 0
-CarriesAfterAllCalls = (adds : ℕ) (calls : List Call) → Carries (after_all calls (no_calls adds))
+CarriesAfterAllCalls = (adds : ℕ) (calls : List Call) → Carries calls (after_all calls (no_calls adds))

@@ -116,14 +116,14 @@ impl Route {
 
     /// The name of the peer of the value-add above a hop that isn't the last.
     fn peer(&self, hop: usize) -> Result<Text, AllocError>
-        requires { hop < last_of self.now }
         ensures { IfOk result (λ peer. peer ≡ peer_of hop self.now) }
     {
-        let last = self.last();
-        if hop + 1 == last {
+        // In more bits than a place has, so that no sum is too large.
+        let above = hop as u128 + 1;
+        if above == self.last() as u128 {
             return Text::from_str(self.alloc, "Agent");
         }
-        let name = format!(in self.alloc; "V{}", hop + 2)?;
+        let name = format!(in self.alloc; "V{}", above + 1)?;
         Text::from_str(self.alloc, name.as_str())
     }
 

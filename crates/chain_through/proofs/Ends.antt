@@ -2,10 +2,10 @@
 -- or where a value-add lost its upper side: by recursion over the value-adds, from the bottom.
 use Rattle.std.proofs.Common.{◌≡◌, ℕ, ◌+◌, ◌-◌, ◌^◌, ◌<◌, ◌≤◌, Bool, true, false, ⊎_elim, inl, inr, List, [], ◌∷◌, ◌++◌, length, map, None, refl, sym, ap, ◌∙◌, subst, arith, append-nil}
 use Rattle.std.specs.Prelude.{Contains}
-use Rattle.std.specs.List.{AllByRecursion, filter, flat_map, list_any}
+use Rattle.std.specs.List.{filter, flat_map, list_any}
 use Rattle.std.proofs.lemmas.Bool.{or_left, or_right}
 use Rattle.std.proofs.lemmas.List.Elements.{filter-append}
-use Rattle.channel_core.specs.Arrivals.{AreSpoken, IsFront, Spoken, arrived, arrived_in, bytes_of, marked, queue_of}
+use Rattle.channel_core.specs.Arrivals.{IsFront, Spoken, arrived, arrived_in, bytes_of, marked, queue_of}
 use Rattle.channel_core.specs.Closing.{is_closed}
 use Rattle.channel_core.specs.Greeting.{is_greeting}
 use Rattle.channel_core.specs.ReceivingLaws.{incoming_of}
@@ -26,12 +26,12 @@ use Rattle.value_node.specs.OwnMessages.{BeginsWithHello}
 use Rattle.value_node.specs.RelayLaws.{asked_since}
 use Rattle.value_node.specs.Runs.{Past, above, below, no_calls}
 use Rattle.value_node.specs.Value.{value_services}
-use Rattle.chain_route.specs.Carrying.{AllCarry, End, HopCarries, Made, end_above, end_below, past_after, past_of}
+use Rattle.chain_route.specs.Carrying.{AllCarry, End, HopCarries, Made, end_above, end_below, past_after, past_of, was_lost_above}
 use Rattle.chain_route.specs.Hop.{no_hop}
 use Rattle.chain_route.specs.declared.hop.Hop.{Hop}
 use Rattle.chain_through.specs.Calling.{Answering, AskNothing, Calls, Says, entering}
-use Rattle.chain_through.specs.Endings.{AddIsSound, ComesToSoundEnds, IsSound, MayComeDown, was_lost_above}
-use Rattle.chain_through.specs.Through.{Through, numbered, passed, top_end}
+use Rattle.chain_through.specs.Endings.{AddIsSound, ComesToSoundEnds, EndsSoundly, IsSound}
+use Rattle.chain_through.specs.Through.{numbered, passed, top_end}
 use Rattle.chain_through.proofs.Above.{below_gives, calls_on}
 use Rattle.chain_through.proofs.Below.{Took, took}
 use Rattle.chain_through.proofs.ClosingBelow.{AreFew, IsEndedAbove, calls_below, calls_front, closed_so}
@@ -44,8 +44,8 @@ use Rattle.chain_through.proofs.OwnClosing.{EndLaws}
 use Rattle.chain_through.proofs.Renaming.{answering_more, renamed}
 use Rattle.chain_through.proofs.Spelling.{said_so}
 use Rattle.chain_through.proofs.Taking.{come_as}
-use Rattle.chain_through.proofs.Through.{comes_through}
-use Rattle.chain_through.proofs.Ways.{are_bound, calls_few}
+use Rattle.chain_through.proofs.Through.{way, way_down}
+use Rattle.chain_through.proofs.Ways.{Way, are_bound, calls_few}
 
 -- ---- What comes down begins with a Hello
 
@@ -61,11 +61,11 @@ begins_passed : (commands : List Asked) (said : List Spoken) → BeginsWithHello
 begins_passed commands [] begins = tt
 begins_passed commands (s ∷ said) begins = subst (λ m. BeginsWithHello (renamed commands m s.mark ++ passed commands said)) (sym begins.1) (begins.0, refl)
 
-heard_begins : (commands : List Asked) (lower : End) (calls : Calls commands lower.gave) (made : List Made) (said : List Spoken) → BeginsWithHello said → (t : Through commands lower calls made said) → BeginsWithHello (entering t.down)
-heard_begins commands lower calls made said begins t = ⊎_elim
-    (λ all. let b = t.bound all in let others = passed (numbered (length b.answered + 1) b.later) said in
-    begins_front (entering t.down) (t.own ++ others) b.comes_down (begins_behind t.own others t.begins (λ none. begins_passed (numbered (length b.answered + 1) b.later) said begins)))
-    (λ none. begins_front (entering t.down) t.own (t.unbound none).comes_down t.begins)
+heard_begins : (commands : List Asked) (lower : End) (calls : Calls commands lower.gave) (made : List Made) (said : List Spoken) → BeginsWithHello said → (w : Way commands lower calls made said) → BeginsWithHello (entering w.down)
+heard_begins commands lower calls made said begins w = ⊎_elim
+    (λ all. let others = passed (numbered (length w.took + 1) w.behind) said in
+    begins_front (entering w.down) (w.own ++ others) (w.bound all).comes_down (begins_behind w.own others w.begins (λ none. begins_passed (numbered (length w.took + 1) w.behind) said begins)))
+    (λ none. begins_front (entering w.down) w.own (w.unbound none).comes_down w.begins)
     (are_bound made)
 
 -- ---- An end that gave the end of the stream closed by its own side, where no fault closed it
@@ -118,14 +118,9 @@ took_few p commands count t =
 -- ---- A way, and what comes down it
 
 -- where it has no value-adds, nothing is said before the end of the stream
-record SoundWay (lower : End) (made : List Made) (agent_ended : Bool) : Type 0 where
-  adds : AllByRecursion AddIsSound made
-  down : List Spoken
-  is_ended : Bool
-  formed : AreSpoken down
-  comes_down : IsFront lower.came (bytes_of (queue_of down is_ended))
-  ended : is_ended ≡ true → MayComeDown made agent_ended
-  silent : made ≡ [] → is_ended ≡ true → entering down ≡ []
+record SoundWay (commands : List Asked) (lower : End) (calls : Calls commands lower.gave) (made : List Made) (agent_ended : Bool) : Type 0 where
+  comes : EndsSoundly commands lower calls made agent_ended
+  silent : made ≡ [] → comes.is_ended ≡ true → entering comes.down ≡ []
 
 module _ (laws : Laws) (ends : EndLaws) where
   -- ---- The ends of a value-add
@@ -138,16 +133,13 @@ module _ (laws : Laws) (ends : EndLaws) where
       let came : IsFront (arrived all) (bytes_of queue) = front_then (arrived all) (bytes_of lower.gave) (bytes_of queue) carries.up_front gave in
       ends.lower_asked value_services None all calls.spoken calls.is_ended calls.services commands calls.formed came calls.says
 
-  upper_sound : (m : Made) (hops : List Hop) (made : List Made) (agent : End) (said : List Spoken) → AllCarry (end_above (past_of m)) hops made agent → IsGiven (asked_since (past_of m)) (end_above (past_of m)).gave
-      → Says said agent.gave → AskNothing said → ((top : List Asked) (up : Calls top (top_end (end_above (past_of m)) made).gave) → Answering 1 (length (entering up.spoken) - 1) said) → BeginsWithHello said
-      → IsSound (above (past_of m))
-  upper_sound m hops made agent said carry g says quiet answers begins =
+  upper_sound : (m : Made) (made : List Made) (agent_ended : Bool) (g : IsGiven (asked_since (past_of m)) (end_above (past_of m)).gave)
+      → EndsSoundly (asked_since (past_of m)) (end_above (past_of m)) g.calls made agent_ended → IsSound (above (past_of m))
+  upper_sound m made agent_ended g rest =
       let r = above (past_of m) in
-      let commands = asked_since (past_of m) in
-      let t = comes_through laws (end_above (past_of m)) agent hops made commands said carry g.calls says quiet answers in
-      let few = given_few r commands (laws.upper_order value_services None (calls_above m)) (laws.upper_sends value_services None (calls_above m)) g in
-      let answering = answering_more 1 (length (entering g.calls.spoken) - 1) (length (sent_of r)) (entering t.down) few t.answering in
-      ends.upper_answered value_services None (calls_above m) t.down t.is_ended t.formed t.comes_down (heard_begins commands (end_above (past_of m)) g.calls made said begins t) answering
+      let few = given_few r (asked_since (past_of m)) (laws.upper_order value_services None (calls_above m)) (laws.upper_sends value_services None (calls_above m)) g in
+      let answering = answering_more 1 (length (entering g.calls.spoken) - 1) (length (sent_of r)) (entering rest.down) few rest.answering in
+      ends.upper_answered value_services None (calls_above m) rest.down rest.is_ended rest.formed rest.comes_down rest.begins answering
 
   -- ---- The commands that it takes
 
@@ -183,25 +175,27 @@ module _ (laws : Laws) (ends : EndLaws) where
       (λ number reason closed. sound.lower.protocol number reason (inr (inl closed))) (λ fault closed. sound.lower.stream fault (inr (inl closed)))
 
   -- that from above goes down
-  came_above : (m : Made) (made : List Made) (agent_ended : Bool) (rest : SoundWay (end_above (past_of m)) made agent_ended) → (past_of m).is_bound ≡ true → Contains (above (past_of m)).past.taken (taken.Closed Eos)
-      → list_any was_lost_above (m ∷ made) ≡ true
-  came_above m (n ∷ made) agent_ended rest bound among =
-      let fair = ends.upper_causes value_services None (calls_above m) rest.down rest.is_ended rest.formed rest.comes_down Eos (inr (inr among)) in
-      or_right (was_lost_above m) (list_any was_lost_above (n ∷ made)) (rest.ended fair.0)
-  came_above m [] agent_ended rest bound among =
+  came_above : (m : Made) (made : List Made) (agent_ended : Bool) (calls : Calls (asked_since (past_of m)) (end_above (past_of m)).gave) (rest : SoundWay (asked_since (past_of m)) (end_above (past_of m)) calls made agent_ended)
+      → (past_of m).is_bound ≡ true → Contains (above (past_of m)).past.taken (taken.Closed Eos) → list_any was_lost_above (m ∷ made) ≡ true
+  came_above m (n ∷ made) agent_ended calls rest bound among =
+      let from = rest.comes in
+      let fair = ends.upper_causes value_services None (calls_above m) from.down from.is_ended from.formed from.comes_down Eos (inr (inr among)) in
+      or_right (was_lost_above m) (list_any was_lost_above (n ∷ made)) (from.ended fair.0)
+  came_above m [] agent_ended calls rest bound among =
       let r = above (past_of m) in
-      let fair = ends.upper_causes value_services None (calls_above m) rest.down rest.is_ended rest.formed rest.comes_down Eos (inr (inr among)) in
+      let from = rest.comes in
+      let fair = ends.upper_causes value_services None (calls_above m) from.down from.is_ended from.formed from.comes_down Eos (inr (inr among)) in
       let none : flat_map incoming_of r.past.taken ≡ [] = none_before (flat_map incoming_of r.past.taken) _ (fair.1 ∙ ap (map come_as) (rest.silent refl fair.0)) in
       let unheard = no_greeting r.past.taken none in
       let heard : list_any is_greeting r.past.taken ≡ (past_of m).is_bound = (facts_of laws m).heard in
       absurd cc
 
-  goes_down : (m : Made) (made : List Made) (agent_ended : Bool) (rest : SoundWay (end_above (past_of m)) made agent_ended) → AddIsSound m → IsEndedAbove (past_of m) → list_any was_lost_above (m ∷ made) ≡ true
-  goes_down m made agent_ended rest sound e = by_cause e.cause e.among e.other
+  goes_down : (m : Made) (made : List Made) (agent_ended : Bool) (calls : Calls (asked_since (past_of m)) (end_above (past_of m)).gave) → SoundWay (asked_since (past_of m)) (end_above (past_of m)) calls made agent_ended → AddIsSound m → IsEndedAbove (past_of m) → list_any was_lost_above (m ∷ made) ≡ true
+  goes_down m made agent_ended calls rest sound e = by_cause e.cause e.among e.other
     where
       by_cause : (cause : Cause) → Contains (above (past_of m)).past.taken (taken.Closed cause) → (cause ≡ Own → ⊥) → list_any was_lost_above (m ∷ made) ≡ true
       by_cause Own among other = absurd (other refl)
-      by_cause Eos among other = came_above m made agent_ended rest e.bound among
+      by_cause Eos among other = came_above m made agent_ended calls rest e.bound among
       by_cause Ended among other =
           or_left (was_lost_above m) (list_any was_lost_above made) (ended_lost m.calls (no_calls m.peer) refl ((ends.upper_calls value_services None (calls_above m)).ended (inr (inr among))))
       by_cause (Protocol number reason) among other = absurd (sound.upper.protocol number reason (inr (inr among)))
@@ -209,47 +203,68 @@ module _ (laws : Laws) (ends : EndLaws) where
 
   -- ---- The whole way
 
-  sound_way : (made : List Made) (lower agent : End) (hops : List Hop) (commands : List Asked) (said : List Spoken) → AllCarry lower hops made agent → Calls commands lower.gave → length commands < 2 ^ 64
+  sound_way : (made : List Made) (lower agent : End) (hops : List Hop) (commands : List Asked) (said : List Spoken) → AllCarry lower hops made agent → (calls : Calls commands lower.gave) → length commands < 2 ^ 64
       → (says : Says said agent.gave) → AskNothing said → ((top : List Asked) (up : Calls top (top_end lower made).gave) → Answering 1 (length (entering up.spoken) - 1) said) → BeginsWithHello said → (says.is_ended ≡ true → said ≡ [])
-      → SoundWay lower made says.is_ended
+      → SoundWay commands lower calls made says.is_ended
   sound_way [] lower agent [] commands said carry calls few says quiet answers begins ended = absurd carry
   sound_way [] lower agent (hop ∷ []) commands said carry calls few says quiet answers begins ended =
       let queue = queue_of says.spoken says.is_ended in
       let gave : IsFront (bytes_of agent.gave) (bytes_of queue) = front_flat (λ o. marked o.bytes o.mark) agent.gave queue says.front in
       record {
-        adds = tt;
-        down = says.spoken;
-        is_ended = says.is_ended;
-        formed = says.formed;
-        comes_down = front_then lower.came (bytes_of agent.gave) (bytes_of queue) carry.down_front gave;
-        ended = λ is. is;
+        comes = record {
+          adds = tt;
+          down = says.spoken;
+          is_ended = says.is_ended;
+          formed = says.formed;
+          comes_down = front_then lower.came (bytes_of agent.gave) (bytes_of queue) carry.down_front gave;
+          begins = subst BeginsWithHello (sym says.says) begins;
+          answering = subst (λ xs. Answering 1 (length (entering calls.spoken) - 1) xs) (sym says.says) (answers commands calls);
+          ended = λ is. is;
+        };
         silent = λ none is. says.says ∙ ended is;
       }
-  sound_way [] lower agent (hop ∷ next ∷ hops) commands said carry calls few says quiet answers begins ended =
-      record { adds = tt; down = []; is_ended = false; formed = tt; comes_down = ([], sym (append-nil lower.came ∙ carry.0.1)); ended = λ is. absurd cc; silent = λ none is. refl }
+  sound_way [] lower agent (hop ∷ next ∷ hops) commands said carry calls few says quiet answers begins ended = record {
+    comes = record {
+      adds = tt;
+      down = [];
+      is_ended = false;
+      formed = tt;
+      comes_down = ([], sym (append-nil lower.came ∙ carry.0.1));
+      begins = tt;
+      answering = tt;
+      ended = λ is. absurd cc;
+    };
+    silent = λ none is. refl;
+  }
   sound_way (m ∷ made) lower agent [] commands said carry calls few says quiet answers begins ended = absurd carry
   sound_way (m ∷ made) lower agent (hop ∷ hops) commands said carry calls few says quiet answers begins ended =
       let p = past_of m in
       let can = below_read laws m in
       let queue = queue_of can.spoken can.is_ended in
       let up = calls_on laws m hops made agent said carry.1 says quiet in
+      let given = given_so (asked_since p) (end_above p).gave up.calls in
       let few_all = few_taken hop lower m commands carry.0 calls few in
-      let rest = sound_way made (end_above p) agent hops (asked_since p) said carry.1 up.calls (few_since m few_all) says quiet answers begins ended in
+      let rest = sound_way made (end_above p) agent hops (asked_since p) said carry.1 given.calls (few_since m few_all) says quiet answers begins ended in
       let sound : AddIsSound m = record {
         lower = lower_sound hop lower m commands carry.0 calls;
-        upper = upper_sound m hops made agent said carry.1 (given_so (asked_since p) (end_above p).gave up.calls) says quiet answers begins;
+        upper = upper_sound m made says.is_ended given rest.comes;
       } in
+      let through = way laws (m ∷ made) lower agent (hop ∷ hops) commands said carry calls says quiet answers in
+      let down : through.down ≡ can.spoken = way_down laws m made lower agent hop hops commands said carry calls says quiet answers in
       record {
-        adds = (sound, rest.adds);
-        down = can.spoken;
-        is_ended = can.is_ended;
-        formed = can.well_formed;
-        comes_down = front_then lower.came (bytes_of (end_below p).gave) (bytes_of queue) carry.0.down_front (front_flat (λ o. marked o.bytes o.mark) (end_below p).gave queue (below_gives laws m));
-        ended = λ is. goes_down m made says.is_ended rest sound (closed_so laws ends m.peer m.calls few_all (own_closing m sound is));
+        comes = record {
+          adds = (sound, rest.comes.adds);
+          down = can.spoken;
+          is_ended = can.is_ended;
+          formed = can.well_formed;
+          comes_down = front_then lower.came (bytes_of (end_below p).gave) (bytes_of queue) carry.0.down_front (front_flat (λ o. marked o.bytes o.mark) (end_below p).gave queue (below_gives laws m));
+          begins = subst (λ spoken. BeginsWithHello (entering spoken)) down (heard_begins commands lower calls (m ∷ made) said begins through);
+          answering = subst (λ spoken. Answering 1 (length (entering calls.spoken) - 1) (entering spoken)) down through.answering;
+          ended = λ is. goes_down m made says.is_ended given.calls rest sound (closed_so laws ends m.peer m.calls few_all (own_closing m sound is));
+        };
         silent = λ none is. absurd cc;
       }
 
   pub comes_to_sound_ends : ComesToSoundEnds
   comes_to_sound_ends lower agent hops made commands said carry calls few says quiet answers begins ended =
-      let w = sound_way made lower agent hops commands said carry calls few says quiet answers begins ended in
-      record { adds = w.adds; down = w.down; is_ended = w.is_ended; formed = w.formed; comes_down = w.comes_down; ended = w.ended }
+      (sound_way made lower agent hops commands said carry calls few says quiet answers begins ended).comes

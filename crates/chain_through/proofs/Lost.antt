@@ -20,7 +20,7 @@ use Rattle.value_node.specs.declared.relay.Relay.{Relay}
 use Rattle.value_node.specs.declared.states.Bind.{Bind}
 use Rattle.value_node.specs.declared.states.Bind.TheVariants.{Bound, Closed, Opening, Unbound}
 use Rattle.value_node.specs.declared.states.Side.TheVariants.{Above, Below}
-use Rattle.chain_through.specs.Endings.{loses_above}
+use Rattle.chain_route.specs.Carrying.{loses_above}
 
 -- ---- Calls of the upper end by which its bytes don't end
 

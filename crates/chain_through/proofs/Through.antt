@@ -112,17 +112,27 @@ module _ (laws : Laws) where
         unbound = λ none. record { silent = silent m made said up.calls w unbound; comes_down = ([], sym (append-nil (entering can.spoken) ∙ says)) };
       }
 
-  way_one : (hop : Hop) (lower : End) (m : Made) (made : List Made) (commands : List Asked) (said : List Spoken) → HopCarries hop lower (end_below (past_of m)) → (calls : Calls commands lower.gave) → (up : CallsUp m)
-      → (w : Way (asked_since (past_of m)) (end_above (past_of m)) up.calls made said) → Answering 1 (length (entering w.goes_up.spoken) - 1) said → Way commands lower calls (m ∷ made) said
-  way_one hop lower m made commands said carries calls up w answering = by_flag (past_of m).is_bound refl
-    where
-      by_flag : (flag : Bool) → (past_of m).is_bound ≡ flag → Way commands lower calls (m ∷ made) said
-      by_flag true is = way_bound hop lower m made commands said carries calls up w answering is
-      by_flag false is = way_unbound hop lower m made commands said carries calls up w is
+  module _ (hop : Hop) (lower : End) (m : Made) (made : List Made) (commands : List Asked) (said : List Spoken) (carries : HopCarries hop lower (end_below (past_of m))) (calls : Calls commands lower.gave) (up : CallsUp m)
+      (w : Way (asked_since (past_of m)) (end_above (past_of m)) up.calls made said) (answering : Answering 1 (length (entering w.goes_up.spoken) - 1) said) where
+    way_by : (flag : Bool) → (past_of m).is_bound ≡ flag → Way commands lower calls (m ∷ made) said
+    way_by true is = way_bound hop lower m made commands said carries calls up w answering is
+    way_by false is = way_unbound hop lower m made commands said carries calls up w is
+
+    down_by : (flag : Bool) (is : (past_of m).is_bound ≡ flag) → (way_by flag is).down ≡ (below_read laws m).spoken
+    unfolding way_by way_bound way_unbound
+    down_by true is = refl
+    down_by false is = refl
+
+    way_one : Way commands lower calls (m ∷ made) said
+    way_one = way_by (past_of m).is_bound refl
+
+    one_down : way_one.down ≡ (below_read laws m).spoken
+    unfolding way_one
+    one_down = down_by (past_of m).is_bound refl
 
   -- ---- The whole way
 
-  way : (made : List Made) (lower agent : End) (hops : List Hop) (commands : List Asked) (said : List Spoken) → AllCarry lower hops made agent → (calls : Calls commands lower.gave) → Says said agent.gave → AskNothing said
+  pub way : (made : List Made) (lower agent : End) (hops : List Hop) (commands : List Asked) (said : List Spoken) → AllCarry lower hops made agent → (calls : Calls commands lower.gave) → Says said agent.gave → AskNothing said
       → ((top : List Asked) (up : Calls top (top_end lower made).gave) → Answering 1 (length (entering up.spoken) - 1) said) → Way commands lower calls made said
   way [] lower agent [] commands said carry calls says quiet answers = absurd carry
   way [] lower agent (hop ∷ []) commands said carry calls says quiet answers = way_none hop lower agent commands said carry calls says (answers commands calls)
@@ -132,6 +142,16 @@ module _ (laws : Laws) where
       let up = calls_on laws m hops made agent said carry.1 says quiet in
       let w = way made (end_above (past_of m)) agent hops (asked_since (past_of m)) said carry.1 up.calls says quiet answers in
       way_one hop lower m made commands said carry.0 calls up w (answers w.top w.goes_up)
+
+  -- what comes down is what the first value-add says
+  pub way_down : (m : Made) (made : List Made) (lower agent : End) (hop : Hop) (hops : List Hop) (commands : List Asked) (said : List Spoken) (carry : AllCarry lower (hop ∷ hops) (m ∷ made) agent)
+      (calls : Calls commands lower.gave) (says : Says said agent.gave) (quiet : AskNothing said) (answers : (top : List Asked) (up : Calls top (top_end lower (m ∷ made)).gave) → Answering 1 (length (entering up.spoken) - 1) said)
+      → (way (m ∷ made) lower agent (hop ∷ hops) commands said carry calls says quiet answers).down ≡ (below_read laws m).spoken
+  unfolding way
+  way_down m made lower agent hop hops commands said carry calls says quiet answers =
+      let up = calls_on laws m hops made agent said carry.1 says quiet in
+      let w = way made (end_above (past_of m)) agent hops (asked_since (past_of m)) said carry.1 up.calls says quiet answers in
+      one_down hop lower m made commands said carry.0 calls up w (answers w.top w.goes_up)
 
   pub comes_through : ComesThrough
   comes_through lower agent hops made commands said carry calls says quiet answers =

@@ -1,5 +1,5 @@
 -- For what the ends of a way close, at one moment.
-use Rattle.std.specs.Prelude.{ℕ, ◌≡◌, ◌-◌, ◌^◌, ◌<◌, Bool, true, false, List, [], ◌∷◌, length, Option}
+use Rattle.std.specs.Prelude.{ℕ, ◌≡◌, ◌-◌, ◌^◌, ◌<◌, Bool, true, List, [], ◌∷◌, length, Option}
 use Rattle.std.specs.List.{AllByRecursion, list_any}
 use Rattle.channel_core.specs.Arrivals.{AreSpoken, IsFront, Spoken, arrived, bytes_of, queue_of}
 use Rattle.channel_core.specs.Beginning.{new_end}
@@ -9,12 +9,11 @@ use Rattle.channel_core.specs.Runs.{Call as EndCall, Run, after_calls, begun}
 use Rattle.channel_core.specs.declared.states.Cause.TheVariants.{Protocol, Stream}
 use Rattle.channel_core.specs.declared.states.Reason.{Reason}
 use Rattle.stream_escape.specs.declared.stream.StreamFault.{StreamFault}
-use Rattle.chain_route.specs.Carrying.{AllCarry, End, Made, past_of}
+use Rattle.chain_route.specs.Carrying.{AllCarry, End, Made, past_of, was_lost_above}
 use Rattle.chain_route.specs.declared.hop.Hop.{Hop}
 use Rattle.value_node.specs.Asked.{Asked}
 use Rattle.value_node.specs.OwnMessages.{BeginsWithHello}
-use Rattle.value_node.specs.Runs.{Call, above, below, bytes_end, comes, connects, fails, gives, turns}
-use Rattle.value_node.specs.declared.states.Side.TheVariants.{Below, Above}
+use Rattle.value_node.specs.Runs.{above, below}
 use Rattle.chain_through.specs.Calling.{Answering, AskNothing, Calls, Says, all_asking, entering, greeting}
 use Rattle.chain_through.specs.Through.{top_end}
 
@@ -44,31 +43,21 @@ pub record AddIsSound (m : Made) : Type 0 where
   pub lower : IsSound (below (past_of m))
   pub upper : IsSound (above (past_of m))
 
--- the bytes above a value-add have ended without the end of the stream
-abbrev pub loses_above : Call → Bool
-loses_above (comes side piece mark) = false
-loses_above (bytes_end Below) = false
-loses_above (bytes_end Above) = true
-loses_above (turns side) = false
-loses_above connects = false
-loses_above fails = false
-loses_above (gives side) = false
-
-abbrev pub was_lost_above : Made → Bool
-was_lost_above m = list_any loses_above m.calls
-
 -- what comes down to the end of a client has the end of the stream only where the agent said that to it itself, or where a
 -- value-add lost its upper side
 abbrev pub MayComeDown : List Made → Bool → Type 0
 MayComeDown [] agent_ended = agent_ended ≡ true
 MayComeDown (m ∷ made) agent_ended = list_any was_lost_above (m ∷ made) ≡ true
 
-pub record EndsSoundly (lower : End) (made : List Made) (agent_ended : Bool) : Type 0 where
+-- what comes down to the client begins with a Hello, and answers, in order, commands that it sent
+pub record EndsSoundly (commands : List Asked) (lower : End) (calls : Calls commands lower.gave) (made : List Made) (agent_ended : Bool) : Type 0 where
   pub adds : AllByRecursion AddIsSound made
   pub down : List Spoken
   pub is_ended : Bool
   pub formed : AreSpoken down
   pub comes_down : IsFront lower.came (bytes_of (queue_of down is_ended))
+  pub begins : BeginsWithHello (entering down)
+  pub answering : Answering 1 (length (entering calls.spoken) - 1) (entering down)
   pub ended : is_ended ≡ true → MayComeDown made agent_ended
 
 -- Whatever the hops and the value-adds: where the client gives a Hello and these commands, no more than an end has tokens
@@ -76,7 +65,7 @@ pub record EndsSoundly (lower : End) (made : List Made) (agent_ended : Bool) : T
 -- do, begins with a Hello, and ends its stream only where it says nothing.
 abbrev pub ComesToSoundEnds : Type 0
 ComesToSoundEnds = (lower agent : End) (hops : List Hop) (made : List Made) (commands : List Asked) (said : List Spoken)
-    → AllCarry lower hops made agent → Calls commands lower.gave → length commands < 2 ^ 64 → (says : Says said agent.gave) → AskNothing said
+    → AllCarry lower hops made agent → (calls : Calls commands lower.gave) → length commands < 2 ^ 64 → (says : Says said agent.gave) → AskNothing said
     → ((top : List Asked) (up : Calls top (top_end lower made).gave) → Answering 1 (length (entering up.spoken) - 1) said)
     → BeginsWithHello said → (says.is_ended ≡ true → said ≡ [])
-    → EndsSoundly lower made says.is_ended
+    → EndsSoundly commands lower calls made says.is_ended

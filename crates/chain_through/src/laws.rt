@@ -36,8 +36,8 @@ pub fn what_comes_through()
 /// What its client gives, flow control and the end of the stream aside, is a Hello and fewer than 2^64 commands; what the agent
 /// says asks nothing, begins with a Hello and answers, in order, commands that came up to it, and it ends its stream only where
 /// it says nothing. Then neither end of any value-add closes by a fault of a message or of the stream. What comes down to the
-/// client can be read, and has the end of the stream only where the agent gave that to the client itself, or where the bytes
-/// above a value-add ended without it.
+/// client can be read, begins with a Hello and answers, in order, commands that it sent. It has the end of the stream only where
+/// the agent gave that to the client itself, or where the bytes above a value-add ended without it.
 pub fn no_fault_comes_through()
     ensures { ComesToSoundEnds }
 {

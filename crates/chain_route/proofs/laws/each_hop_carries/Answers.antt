@@ -8,6 +8,7 @@ returns c =
       runs = c.a_value_add_relays.ensures.runs;
       connects = c.a_value_add_answers_itself.ensures.connects;
       waits = c.no_command_goes_out_before_the_hello.ensures;
+      once = c.a_closed_end_stays_closed.ensures.once;
       in_order = c.what_is_queued_goes_out_in_order.ensures;
       readable = c.what_is_queued_can_be_read.ensures;
       receives = c.what_was_queued_is_received.ensures.order;

@@ -18,6 +18,3 @@ pub use exit::{BadPlace, Exit, StreamWhat};
 pub use laws::one_outcome;
 pub use refusing::report_wire_fault;
 pub use top::tcf;
-
-#[cfg(test)]
-mod tests;

@@ -1,2 +1,4 @@
 pub mod Json
 pub mod Splits
+pub mod ReadBack
+mod Spared

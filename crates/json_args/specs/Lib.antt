@@ -1,3 +1,4 @@
 pub mod Kinds
 pub mod Parts
 pub mod PartsLaws
+pub mod Unescaped

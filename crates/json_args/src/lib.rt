@@ -4,6 +4,7 @@
 pub mod fault;
 pub mod kinds;
 pub mod parts;
+mod plain;
 pub mod readers;
 
 pub use fault::ArgFault;

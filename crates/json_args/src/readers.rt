@@ -11,6 +11,7 @@ ghost use Rattle.json_args.specs.Kinds.{IsWhole, json_of, value_at, text_at, who
 use crate::fault::ArgFault;
 use crate::kinds::{bytes_in, flag_of, text_of, texts_of, whole_of};
 use crate::parts::Args;
+use crate::plain::{plain_number, plain_string};
 use serde_json::Value;
 use std::alloc::{AllocError, Global};
 use tcf_values::{Bytes, Text, Texts};
@@ -23,6 +24,12 @@ pub fn json(alloc: Global, part: &[u8]) -> Result<Option<Value>, AllocError>
 {
     if part.is_empty() {
         return Ok(Some(Value::Null));
+    }
+    if let Some(number) = plain_number(part) {
+        return Ok(Some(Value::from(number)));
+    }
+    if let Some(text) = plain_string(part) {
+        return Ok(Some(Value::String(String::from_str(alloc, text)?)));
     }
     match Value::from_slice(alloc, part) {
         Ok(value) => Ok(Some(value)),

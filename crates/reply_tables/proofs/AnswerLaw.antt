@@ -38,7 +38,7 @@ use Rattle.reply_tables.specs.declared.rows.Row.TheVariants.{NoData, ErrorAlone,
 use Rattle.reply_tables.proofs.Clean.{bp_clean, capabilities_clean, context_clean, flag_clean, null_clean, peers_clean, process_clean, report_clean, status_clean, word_clean}
 use Rattle.reply_tables.proofs.EventLaw.{Stands, all_there, hits_stand, one_none, text_stands, texts_stand}
 use Rattle.reply_tables.proofs.ReadBack.{in_back, json_nothing, no_data_failed, row_back}
-use Rattle.reply_tables.proofs.Texts.{clean_reads, read_none, read_there}
+use Rattle.json_args.proofs.ReadBack.{clean_reads, read_none, read_there}
 use Rattle.reply_tables.proofs.Utf8.{all_utf8, joined_utf8, nothing_utf8, split_false}
 use Rattle.tcf_values.specs.declared.answer.Answer.{Answer}
 use Rattle.tcf_values.specs.declared.values.RunState.{RunState}

@@ -21,7 +21,7 @@ use Rattle.json_values.specs.States.{hits_json}
 use Rattle.json_values.specs.Statuses.{IsInstance, IsStatus, instance_json, status_json}
 use Rattle.json_values.specs.Words.{word_json}
 use Rattle.reply_tables.specs.Written.{capabilities_json}
-use Rattle.reply_tables.proofs.Texts.{IsClean}
+use Rattle.json_args.proofs.ReadBack.{IsClean}
 use Rattle.tcf_values.specs.declared.errors.ErrorReport.{ErrorReport}
 use Rattle.tcf_values.specs.declared.values.BpProps.{BpProps}
 use Rattle.tcf_values.specs.declared.values.BpStatus.{BpStatus}

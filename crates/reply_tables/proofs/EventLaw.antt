@@ -30,7 +30,7 @@ use Rattle.reply_tables.specs.ReadingLaws.{EventsReadBack}
 use Rattle.reply_tables.proofs.Clean.{bp_clean, context_clean, hits_clean, list_clean, range_clean, status_clean, text_clean, texts_clean, whole_clean, word_clean}
 use Rattle.reply_tables.proofs.EventBack.{event_back}
 use Rattle.reply_tables.proofs.ReadBack.{parts_again}
-use Rattle.reply_tables.proofs.Texts.{clean_reads, read_none, read_there}
+use Rattle.json_args.proofs.ReadBack.{clean_reads, read_none, read_there}
 use Rattle.reply_tables.proofs.Utf8.{all_utf8, alone_false, joined_utf8, split_false}
 use Rattle.tcf_values.specs.declared.event.EventData.{EventData}
 

@@ -1,7 +1,6 @@
 pub mod Bodies
 pub mod ReadBack
 pub mod EventBack
-pub mod Texts
 pub mod Utf8
 pub mod Clean
 pub mod EventLaw

@@ -24,12 +24,17 @@ const WAIT: u64 = 10;
 /// The most waits for a connection to be made, 5 seconds in all.
 const WAITS: u32 = 500;
 
-/// A connection: the number of its channel, and whether anything can still come on it.
+/// The token by which a wait tells of peers that are to be let in; that of a connection is its channel's number.
+const PEERS: Token = Token(usize::MAX);
+
+/// A connection: the number of its channel, whether anything can still come on it, and whether something may be there that
+/// wasn't read.
 #[derive(Drop)]
 struct Line {
     channel: u64,
     stream: TcpStream,
     is_heard: bool,
+    is_ready: bool,
 }
 
 /// The connections that the runtime reaches. A peer that is gone is told by `Lost`, and never ends the program. An
@@ -41,9 +46,13 @@ pub struct RealWires<R: Net + Drop> {
     poll: Poll,
     events: Events,
     listener: Option<TcpListener>,
+    /// Whether a peer may wait to be let in.
+    has_peer: bool,
     lines: Vec<Line>,
-    /// The room for the next piece, made before it is read, so that want of memory loses nothing.
+    /// Into which all pieces are read.
     room: Vec<u8>,
+    /// The room for the next piece, made before it is read, so that want of memory loses nothing.
+    piece: Vec<u8>,
     /// The place that is looked at first, so that each connection has its turn.
     turn: usize,
     unused: u64,
@@ -84,8 +93,10 @@ impl<R: Net + Drop> RealWires<R> {
             poll,
             events: Events::with_capacity(alloc, 64)?,
             listener: None,
+            has_peer: false,
             lines: Vec::new(alloc),
             room: Vec::new(alloc),
+            piece: Vec::new(alloc),
             turn: 0,
             unused: 0,
             faults: 0,
@@ -119,7 +130,7 @@ impl<R: Net + Drop> RealWires<R> {
         let mut listener = TcpListener::bind(&self.runtime, address)?;
         self.poll
             .registry()
-            .register(&mut listener, Token(0), Interest::READABLE)?;
+            .register(&mut listener, PEERS, Interest::READABLE)?;
         Ok(listener)
     }
 
@@ -143,7 +154,7 @@ impl<R: Net + Drop> RealWires<R> {
         Ok(stream)
     }
 
-    /// Gives the connection a number, and has it wake a wait.
+    /// Gives the connection a number, and has it wake a wait. What is put on it goes out at once.
     fn admit(&mut self, mut stream: TcpStream) -> Result<u64, WireRefusal>
         ensures new { IfOk result (λ channel. channel ≡ self.old.unused) }
         ensures numbers { self.new.unused ≡ unused_after_connect result self.old.unused }
@@ -153,20 +164,25 @@ impl<R: Net + Drop> RealWires<R> {
         let Some(unused) = channel.checked_add(1) else {
             return Err(self.failed());
         };
-        if let Err(error) = self
-            .poll
-            .registry()
-            .register(&mut stream, Token(0), Interest::READABLE)
-        {
+        if let Err(error) = self.register(&mut stream, channel) {
             return Err(self.refused(&error));
         }
         self.lines.push(Line {
             channel,
             stream,
             is_heard: true,
+            is_ready: true,
         })?;
         self.unused = unused;
         Ok(channel)
+    }
+
+    /// Has a connection wake a wait by its channel's number, and send each put without a delay.
+    fn register(&self, stream: &mut TcpStream, channel: u64) -> io::Result<()> {
+        stream.set_nodelay(true)?;
+        self.poll
+            .registry()
+            .register(stream, Token(channel as usize), Interest::READABLE)
     }
 
     /// Lets a peer in that waits; `Idle` where there is none.
@@ -176,12 +192,19 @@ impl<R: Net + Drop> RealWires<R> {
         ensures numbers { self.new.unused ≡ unused_after_next result self.old.unused }
         ensures cause { self.new.faults ≡ faults_after result self.old.faults }
     {
+        if !self.has_peer {
+            return Ok(WireEvent::Idle);
+        }
         self.lines.try_reserve(1)?;
         let Some(listener) = &self.listener else {
             return Ok(WireEvent::Idle);
         };
         match listener.accept() {
             Ok((stream, _)) => Ok(WireEvent::Opened(self.admit(stream)?)),
+            Err(error) if error.kind() == ErrorKind::WouldBlock => {
+                self.has_peer = false;
+                Ok(WireEvent::Idle)
+            }
             Err(error) if is_passing(&error) || is_of_peer(&error) => Ok(WireEvent::Idle),
             Err(error) => Err(self.refused(&error)),
         }
@@ -194,13 +217,15 @@ impl<R: Net + Drop> RealWires<R> {
         ensures numbers { self.new.unused ≡ unused_after_next result self.old.unused }
         ensures cause { self.new.faults ≡ faults_after result self.old.faults }
     {
-        self.room.resize(MOST, 0)?;
         let Some(line) = self.lines.get_mut(at) else {
             return Ok(WireEvent::Idle);
         };
-        if !line.is_heard {
+        if !line.is_heard || !line.is_ready {
             return Ok(WireEvent::Idle);
         }
+        self.room.resize(MOST, 0)?;
+        self.piece.clear();
+        self.piece.try_reserve(MOST)?;
         let mut reader = &line.stream;
         match reader.read(&mut self.room) {
             Ok(0) => {
@@ -208,9 +233,14 @@ impl<R: Net + Drop> RealWires<R> {
                 Ok(WireEvent::Ended(line.channel))
             }
             Ok(count) => {
-                self.room.truncate(count);
-                let piece = mem::replace(&mut self.room, Vec::new(self.alloc));
+                let bytes = self.room.as_slice().get(..count).unwrap_or(&[]);
+                self.piece.extend_from_slice(bytes)?;
+                let piece = mem::replace(&mut self.piece, Vec::new(self.alloc));
                 Ok(WireEvent::Piece(line.channel, Octets::from_vec(piece)))
+            }
+            Err(error) if error.kind() == ErrorKind::WouldBlock => {
+                line.is_ready = false;
+                Ok(WireEvent::Idle)
             }
             Err(error) if is_passing(&error) => Ok(WireEvent::Idle),
             Err(error) if error.kind() == ErrorKind::OutOfMemory => Err(WireRefusal::NoMemory),
@@ -254,9 +284,26 @@ impl<R: Net + Drop> RealWires<R> {
     {
         let time = Duration::from_millis(WAIT);
         match self.poll.poll(&mut self.events, Some(time)) {
-            Ok(()) => Ok(!self.events.is_empty()),
+            Ok(()) => {
+                for event in self.events.iter() {
+                    if event.token() == PEERS {
+                        self.has_peer = true;
+                    }
+                    wake(&mut self.lines, event.token());
+                }
+                Ok(!self.events.is_empty())
+            }
             Err(error) if is_passing(&error) => Ok(false),
             Err(error) => Err(self.refused(&error)),
+        }
+    }
+}
+
+/// Something may have come on the connection of this token.
+fn wake(lines: &mut [Line], token: Token) {
+    for line in lines {
+        if Token(line.channel as usize) == token {
+            line.is_ready = true;
         }
     }
 }
@@ -281,6 +328,7 @@ impl<R: Net + Drop> Wires for RealWires<R> {
         };
         match self.listener(address) {
             Ok(listener) => {
+                self.has_peer = true;
                 self.listener = Some(listener);
                 Ok(())
             }

@@ -4,7 +4,7 @@ use std::alloc::{AllocError, Global};
 use std::test::Fail;
 use tcf_values::{
     Answer, BpProps, BpStatus, Bytes, Command, ContextData, Contexts, EventData, Instances,
-    Location, Locations, PC, Props, Range, Ranges, RegisterId, Text, Texts,
+    Location, Locations, PC, Props, Range, Ranges, RegisterId, RunState, Text, Texts,
 };
 
 /// Takes the event that a thread of the process 1 has stopped at the pc.
@@ -212,5 +212,123 @@ fn an_answer_is_kept_under_what_was_asked_for(rt: HostRuntime) -> Result<(), Fai
     answer_another(rt.alloc(), &mut known)?;
     assert!(rt; known.context(b"P1").is_none());
     assert!(rt; known.context(b"P2").is_some());
+    Ok(())
+}
+
+/// Asks for a range of memory.
+fn ask_memory(
+    alloc: Global,
+    known: &mut Knowledge,
+    id: &str,
+    addr: i128,
+    size: i128,
+) -> Result<Option<Answer>, AllocError> {
+    let id = Text::from_str(alloc, id)?;
+    known.reply(&Command::MemGet {
+        id,
+        addr,
+        word: 1,
+        size,
+        mode: 0,
+    })
+}
+
+/// Asks for parts of registers of the thread that `stop` stops, each by its offset and size.
+fn ask_registers(
+    alloc: Global,
+    known: &mut Knowledge,
+    parts: &[(&str, i128, i128)],
+) -> Result<Option<Answer>, AllocError> {
+    let mut list = Locations::new(alloc);
+    for (register, offset, size) in parts {
+        add_location(alloc, &mut list, register, *offset, *size)?;
+    }
+    known.reply(&Command::RegGetm { list })
+}
+
+fn is_blob(answer: &Option<Answer>, bytes: &[u8]) -> bool {
+    match answer {
+        Some(Answer::Blob(found)) => found.as_slice() == bytes,
+        _ => false,
+    }
+}
+
+/// The pc that the answer of getState tells; none where nothing is answered or the thread runs.
+fn ask_pc(alloc: Global, known: &mut Knowledge) -> Result<Option<u32>, AllocError> {
+    let id = Text::from_str(alloc, "P1.1")?;
+    match known.reply(&Command::GetState { id })? {
+        Some(Answer::State(RunState::Suspended { pc, .. })) => Ok(Some(pc)),
+        _ => Ok(None),
+    }
+}
+
+fn is_told_as_running(alloc: Global, known: &mut Knowledge) -> Result<bool, AllocError> {
+    let id = Text::from_str(alloc, "P1.1")?;
+    let answer = known.reply(&Command::GetState { id })?;
+    Ok(matches!(answer, Some(Answer::State(RunState::Running))))
+}
+
+#[test]
+fn memory_is_answered_from_one_block(rt: HostRuntime) -> Result<(), Fail> {
+    let mut known = Knowledge::new(rt.alloc())?;
+    stop(rt.alloc(), &mut known, 8)?;
+    read_memory(rt.alloc(), &mut known, 0)?;
+    read_memory(rt.alloc(), &mut known, 4)?;
+    assert!(rt;
+        is_blob(
+            &ask_memory(rt.alloc(), &mut known, "P1", 0, 4)?,
+            &[0x93, 0x00, 0x50, 0x00]
+        )
+    );
+    assert!(rt;
+        is_blob(
+            &ask_memory(rt.alloc(), &mut known, "P1.1", 6, 2)?,
+            &[0x50, 0x00]
+        )
+    );
+    for (id, addr, size) in [
+        ("P1", 2, 4),
+        ("P1", 0, 0),
+        ("P1", -1, 4),
+        ("P1.2", 0, 4),
+        ("P2", 0, 4),
+    ] {
+        assert!(rt; ask_memory(rt.alloc(), &mut known, id, addr, size)?.is_none());
+    }
+    Ok(())
+}
+
+#[test]
+fn registers_are_answered_where_each_is_known(rt: HostRuntime) -> Result<(), Fail> {
+    let mut known = Knowledge::new(rt.alloc())?;
+    stop(rt.alloc(), &mut known, 0)?;
+    read_registers(rt.alloc(), &mut known)?;
+    let both = ask_registers(
+        rt.alloc(),
+        &mut known,
+        &[("P1.1.x1", 0, 4), ("P1.1.pc", 0, 2)],
+    )?;
+    assert!(rt; is_blob(&both, &[1, 0, 0, 0, 4, 1]));
+    assert!(rt; ask_registers(rt.alloc(), &mut known, &[])?.is_none());
+    assert!(rt; ask_registers(rt.alloc(), &mut known, &[("P1.1.x1", 1, 4)])?.is_none());
+    let unknown = ask_registers(
+        rt.alloc(),
+        &mut known,
+        &[("P1.1.x1", 0, 4), ("P1.1.x2", 0, 4)],
+    )?;
+    assert!(rt; unknown.is_none());
+    Ok(())
+}
+
+#[test]
+fn a_stopped_thread_is_answered_with_its_pc(rt: HostRuntime) -> Result<(), Fail> {
+    let mut known = Knowledge::new(rt.alloc())?;
+    stop(rt.alloc(), &mut known, 4)?;
+    assert_eq!(rt; ask_pc(rt.alloc(), &mut known)?, Some(4));
+    known.learn_event(&EventData::RegsChanged)?;
+    assert_eq!(rt; ask_pc(rt.alloc(), &mut known)?, None);
+    assert!(rt; !is_told_as_running(rt.alloc(), &mut known)?);
+    resume(rt.alloc(), &mut known)?;
+    assert!(rt; is_told_as_running(rt.alloc(), &mut known)?);
     Ok(())
 }

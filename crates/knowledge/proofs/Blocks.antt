@@ -1,20 +1,20 @@
 -- The bytes of blocks are known, whatever a change makes of the blocks.
-use Rattle.std.proofs.Common.{◌≡◌, ℕ, ◌+◌, ◌-◌, ◌<◌, ◌≤◌, Bool, true, false, cond, not, ◌&&◌, ◌||◌, nat_eq, List, [], ◌∷◌, length, take, drop, filter, find, slice_get, zero, suc, Option, Some, None, option_map, refl, sym, ap, ◌∙◌, subst, arith}
-use Rattle.std.specs.Prelude.{nat_le, nat_lt, IfSome}
+use Rattle.std.proofs.Common.{◌≡◌, ℕ, ◌+◌, ◌-◌, ◌<◌, ◌≤◌, Bool, true, false, cond, not, ◌&&◌, ◌||◌, nat_eq, List, [], ◌∷◌, length, take, drop, filter, find, slice_get, zero, suc, Option, Some, None, option_map, refl, sym, ap, ◌∙◌, arith}
+use Rattle.std.specs.Prelude.{IfSome}
 use Rattle.std.specs.Borrow.{Bor}
 use Rattle.std.specs.List.{list_any}
-use Rattle.std.proofs.lemmas.Bool.{and_from, and_parts, cases_Bool, both_ways, eqb-true, eq-eqb, false_from_ne_true, leb-true, le-leb, lt-ltb, ltb-true, not-true}
+use Rattle.std.proofs.lemmas.Bool.{and_from, and_parts, both_ways, eqb-true, eq-eqb, false_from_ne_true, leb-true, le-leb, lt-ltb, ltb-true, not-true}
 use Rattle.block_store.specs.Blocks.{end_of, has_range, is_same, overlaps, part}
 use Rattle.block_store.specs.Store.{added, covered, without_process, without_range}
 use Rattle.block_store.specs.declared.block.Block.{Block}
 use Rattle.knowledge.specs.Changes.{Change, all_gone, context_told, context_gone, state_told, state_gone, register_read, register_gone, thread_registers_gone, registers_gone, bytes_read, bytes_gone, range_gone, properties_told, properties_gone, status_told, status_gone, statuses_gone, after, after_all, has_byte, is_byte, is_still, is_within}
-use Rattle.knowledge.specs.Facts.{Facts, is_suspended}
+use Rattle.knowledge.specs.Facts.{Facts}
 use Rattle.knowledge.specs.KnowledgeValue.{blocks_after, blocks_after_all, has_block_byte}
 use Rattle.knowledge.specs.Laws.{AreKnown, BlocksAreLearned, ReadIsKnown}
 use Rattle.knowledge.specs.Learning.{changes_of}
 
 -- the block is of the process, and has the byte
-abbrev holds : ℕ → ℕ → ℕ → Block → Bool
+abbrev pub holds : ℕ → ℕ → ℕ → Block → Bool
 holds process place byte block = nat_eq block.process process && has_byte block.addr block.bytes place byte
 
 -- ---- one of several
@@ -23,11 +23,11 @@ or_left : (a b : Bool) → a ≡ true → (a || b) ≡ true
 or_left true b is = refl
 or_left false b is = cc
 
-or_right : (a b : Bool) → b ≡ true → (a || b) ≡ true
+pub or_right : (a b : Bool) → b ≡ true → (a || b) ≡ true
 or_right true b is = refl
 or_right false b is = is
 
-or_cases : (a b : Bool) {C : Type 0} → (a || b) ≡ true → (a ≡ true → C) → (b ≡ true → C) → C
+pub or_cases : (a b : Bool) {C : Type 0} → (a || b) ≡ true → (a ≡ true → C) → (b ≡ true → C) → C
 or_cases true b is one two = one refl
 or_cases false b is one two = two is
 
@@ -36,7 +36,7 @@ any_gives : (p : Block → Bool) {C : Type 0} (blocks : List Block) → list_any
 any_gives p [] is then = absurd (both_ways false refl is)
 any_gives p (block ∷ blocks) is then = or_cases (p block) (list_any p blocks) is (then block) (λ rest. any_gives p blocks rest then)
 
-any_take : (p : Block → Bool) (n : ℕ) (blocks : List Block) → list_any p (take n blocks) ≡ true → list_any p blocks ≡ true
+pub any_take : (p : Block → Bool) (n : ℕ) (blocks : List Block) → list_any p (take n blocks) ≡ true → list_any p blocks ≡ true
 any_take p zero blocks is = absurd (both_ways false refl is)
 any_take p (suc n) [] is = is
 any_take p (suc n) (block ∷ blocks) is =
@@ -64,7 +64,7 @@ any_weaker p q (block ∷ blocks) then is =
 
 -- ---- each change of the blocks
 
-byte_there : (addr : ℕ) (bytes : List ℕ) (place byte : ℕ) → has_byte addr bytes place byte ≡ true → place < addr + length bytes
+pub byte_there : (addr : ℕ) (bytes : List ℕ) (place byte : ℕ) → has_byte addr bytes place byte ≡ true → place < addr + length bytes
 byte_there addr bytes place byte is =
     let parts = and_parts _ _ is in
     let first : addr ≤ place = leb-true _ _ parts.0 in

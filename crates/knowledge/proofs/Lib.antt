@@ -1,6 +1,9 @@
 pub mod Blocks
 pub mod Cache
+pub mod Inside
 pub mod Keys
 pub mod Monotone
+pub mod Replies
 pub mod Same
+pub mod SameReplies
 pub mod Steps

@@ -232,9 +232,10 @@ within_all [] some more ready within = within
 within_all (change ∷ changes) some more ready within =
     within_all changes (after change some) (after change more) ready.1 (within_after change some more ready.0 within)
 
--- changes that read no register are always ready
-abbrev IsPlain : Change → Type 0
+-- changes that read neither a register nor memory are always ready
+abbrev pub IsPlain : Change → Type 0
 IsPlain (register_read process thread index value) = ⊥
+IsPlain (bytes_read process addr bytes) = ⊥
 IsPlain _ = Unit {0}
 
 plain_ready : (change : Change) (known : Facts) → IsPlain change → IsReady change known
@@ -247,7 +248,7 @@ plain_ready (register_read process thread index value) known plain = absurd plai
 plain_ready (register_gone process thread index) known plain = tt
 plain_ready (thread_registers_gone process thread) known plain = tt
 plain_ready registers_gone known plain = tt
-plain_ready (bytes_read process addr bytes) known plain = tt
+plain_ready (bytes_read process addr bytes) known plain = absurd plain
 plain_ready (bytes_gone process) known plain = tt
 plain_ready (range_gone process addr size) known plain = tt
 plain_ready (properties_told id properties) known plain = tt
@@ -260,11 +261,11 @@ plain_all : (changes : List Change) (known : Facts) → AllByRecursion IsPlain c
 plain_all [] known plain = tt
 plain_all (change ∷ changes) known plain = (plain_ready change known plain.0, plain_all changes (after change known) plain.1)
 
-plain-append : (xs ys : List Change) → AllByRecursion IsPlain xs → AllByRecursion IsPlain ys → AllByRecursion IsPlain (xs ++ ys)
+pub plain-append : (xs ys : List Change) → AllByRecursion IsPlain xs → AllByRecursion IsPlain ys → AllByRecursion IsPlain (xs ++ ys)
 plain-append [] ys one two = two
 plain-append (x ∷ xs) ys one two = (one.0, plain-append xs ys one.1 two)
 
-plain_each : {A : Type 0} (changes : A → List Change) → ((item : A) → AllByRecursion IsPlain (changes item)) → (items : List A) → AllByRecursion IsPlain (of_each changes items)
+pub plain_each : {A : Type 0} (changes : A → List Change) → ((item : A) → AllByRecursion IsPlain (changes item)) → (items : List A) → AllByRecursion IsPlain (of_each changes items)
 plain_each changes plain [] = tt
 plain_each changes plain (item ∷ items) = plain-append (changes item) (of_each changes items) (plain item) (plain_each changes plain items)
 
@@ -342,7 +343,7 @@ parts_ready (location ∷ list) bytes known grounded =
 
 -- ---- each event
 
-stale_plain : (context : Option ContextId) → AllByRecursion IsPlain (stale_for context)
+pub stale_plain : (context : Option ContextId) → AllByRecursion IsPlain (stale_for context)
 stale_plain None = tt
 stale_plain (Some (Process process)) = (tt, tt)
 stale_plain (Some (Thread process thread)) = (tt, (tt, (tt, tt)))
@@ -353,13 +354,13 @@ range_plain_by process range true c = (tt, tt)
 range_plain_by process range false true = tt
 range_plain_by process range false false = (tt, tt)
 
-memory_plain : (context : Option ContextId) (list : List Range) → AllByRecursion IsPlain (memory_changes context list)
+pub memory_plain : (context : Option ContextId) (list : List Range) → AllByRecursion IsPlain (memory_changes context list)
 memory_plain None list = tt
 memory_plain (Some context) list =
     plain_each (changed_range (process_for context))
     (λ range. range_plain_by (process_for context) range (is_outside range.addr range.size) (nat_eq (unsigned_abs range.size) 0)) list
 
-register_plain : (register : Option RegisterId) → AllByRecursion IsPlain (changed_register register)
+pub register_plain : (register : Option RegisterId) → AllByRecursion IsPlain (changed_register register)
 register_plain None = tt
 register_plain (Some register) = (tt, tt)
 

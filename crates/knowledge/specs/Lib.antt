@@ -4,4 +4,5 @@ pub mod Keyed
 pub mod KnowledgeValue
 pub mod Laws
 pub mod Learning
+pub mod Reply
 pub mod Rows

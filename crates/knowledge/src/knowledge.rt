@@ -7,6 +7,7 @@ mod answers;
 mod changes;
 mod events;
 mod learning;
+mod reply;
 
 use crate::registers::Registers;
 use crate::state::StateFact;
@@ -21,6 +22,7 @@ use tcf_values::{BpProps, BpStatus, ContextData, ContextId, RegisterId, context_
 /// store of blocks is seen.
 #[derive(Drop)]
 pub struct Knowledge {
+    alloc: Global,
     contexts: TextMap<ContextData>,
     states: ThreadMap<StateFact>,
     registers: ThreadMap<Registers>,
@@ -44,6 +46,7 @@ impl Knowledge {
         ensures cache { IfOk result (IsCacheOf []) }
     {
         Ok(Knowledge {
+            alloc,
             contexts: TextMap::new(alloc),
             states: ThreadMap::new(alloc),
             registers: ThreadMap::new(alloc),

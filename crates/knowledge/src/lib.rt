@@ -11,6 +11,7 @@ mod thread_map;
 
 pub use knowledge::Knowledge;
 pub use laws::{
-    blocks_are_learned, learning_is_monotone, the_same_learn_the_same, what_is_read_is_known,
+    blocks_are_learned, learning_is_monotone, others_stay_unanswered, the_same_answer_the_same,
+    the_same_learn_the_same, what_is_covered_is_inside, what_is_read_is_known,
 };
 pub use state::StateFact;

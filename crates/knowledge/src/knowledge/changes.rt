@@ -60,7 +60,7 @@ impl Knowledge {
     }
 
     /// Whether the thread is known as suspended.
-    fn is_suspended(&self, process: u32, thread: u32) -> bool
+    pub(super) fn is_suspended(&self, process: u32, thread: u32) -> bool
         ensures { result ≡ is_suspended ((facts_of self.now).states process thread) }
     {
         match self.states.get(process, thread) {

@@ -12,8 +12,7 @@ use Rattle.tcf_wires.specs.declared.event.WireEvent.{WireEvent}
 use Rattle.serving_wires.specs.Calls.{event_of, events_in}
 use Rattle.serving_wires.specs.Following.{IsSplit, Spares}
 use Rattle.serving_wires.specs.Row.{Row}
-use Rattle.serving_wires.specs.Serving.{EachBehind, IsInPlace, IsOffer, Nodes}
-use Rattle.agent_serving.specs.Serve.{AreFronts}
+use Rattle.serving_wires.specs.Serving.{AreFronts, EachBehind, IsInPlace, IsOffer, Nodes}
 use Rattle.agent_serving.specs.Serving.{after_events, queued_in, served_by}
 use Rattle.agent_serving.specs.WireLaws.{WireLaws}
 use Rattle.agent_serving.specs.declared.line.Line.{Line}

@@ -16,10 +16,10 @@ use Rattle.tcf_wires.specs.declared.event.WireRefusal.TheVariants as refusals
 use Rattle.serving_wires.specs.Calls.{channels_put, events_in, put_on}
 use Rattle.serving_wires.specs.Following.{IsFlushed, Spares, is_on}
 use Rattle.serving_wires.specs.Row.{Row}
-use Rattle.serving_wires.specs.Serving.{EachBehind, IsInPlace, IsSettled, ListensOnce, Serves, fails, reaches_out}
+use Rattle.serving_wires.specs.Serving.{AreFronts, EachBehind, IsInPlace, IsSettled, ListensOnce, Serves, fails, reaches_out}
 use Rattle.serving_wires.proofs.Placing.{each_both, each_more, each_none, each_one}
 use Rattle.agent_serving.specs.Flushing.{FlushesKept, is_kept}
-use Rattle.agent_serving.specs.Serve.{AreFronts, EndsSo, IsLastCall, ServesAgent, end_of, is_stop, no_event, no_listening, stops}
+use Rattle.agent_serving.specs.Serve.{EndsSo, IsLastCall, ServesAgent, end_of, is_stop, no_event, no_listening, stops}
 use Rattle.agent_serving.specs.Serving.{after_event, after_events, new_serving, served_by}
 use Rattle.agent_serving.specs.ServingValue.{ServingValue}
 use Rattle.agent_serving.specs.Turn.{IsCutShort, IsTurn, at_event, at_puts, before_event}

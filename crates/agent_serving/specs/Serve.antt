@@ -10,7 +10,7 @@ use Rattle.tcf_wires.specs.declared.event.WireEvent.TheVariants as events
 use Rattle.tcf_wires.specs.declared.event.WireRefusal.{WireRefusal}
 use Rattle.tcf_wires.specs.declared.event.WireRefusal.TheVariants as refusals
 use Rattle.serving_wires.specs.Calls.{events_in}
-use Rattle.serving_wires.specs.Serving.{IsSettled, ListensOnce, Nodes, Serves, fails}
+use Rattle.serving_wires.specs.Serving.{AreFronts, IsSettled, ListensOnce, Nodes, Serves, fails}
 use Rattle.agent_serving.specs.Serving.{served_by}
 use Rattle.agent_serving.specs.declared.serve.ServeEnd.{ServeEnd}
 use Rattle.agent_serving.specs.declared.serve.ServeEnd.TheVariants.{Stopped, Turns, WireFault, NoMemory}
@@ -65,10 +65,6 @@ EndsSo turns (Stopped count) calls = IsStopped turns count calls
 EndsSo turns Turns calls = AreTaken turns calls
 EndsSo turns WireFault calls = IsBroken turns calls
 EndsSo turns NoMemory calls = list_any fails calls ≡ false
-
--- what was taken on each wire is a front of what was queued for it, whatever memory was wanting
-abbrev pub AreFronts : Nodes → List WireCall → Type 0
-AreFronts nodes calls = (channel : ℕ) → (rest : List ℕ) × (nodes.served (events_in calls) channel ≡ taken_on channel calls ++ rest)
 
 -- The agent that has these images is served at this address, and the serving ends so. Want of memory may come before the
 -- address is listened on, and before all is put.

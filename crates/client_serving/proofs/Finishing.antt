@@ -10,8 +10,8 @@ use Rattle.tcf_wires.specs.declared.event.WireRefusal.{WireRefusal}
 use Rattle.tcf_wires.specs.declared.event.WireRefusal.TheVariants.{Failed, NoMemory}
 use Rattle.serving_wires.specs.Calls.{events_in}
 use Rattle.serving_wires.specs.Outbox.{IsGivenUp}
-use Rattle.serving_wires.specs.Serving.{IsInPlace, IsSettled, reaches_out}
-use Rattle.client_serving.specs.Run.{AreFronts, EndsBy, GoesOnTo, IsQuiet, RunsClient, SaysSo, connected}
+use Rattle.serving_wires.specs.Serving.{AreFronts, IsInPlace, IsSettled, reaches_out}
+use Rattle.client_serving.specs.Run.{EndsBy, GoesOnTo, IsQuiet, RunsClient, SaysSo, connected}
 use Rattle.client_serving.specs.Serving.{after_event, after_events, begun, served_by}
 use Rattle.client_serving.specs.ServingValue.{ServingValue}
 use Rattle.client_serving.specs.Turn.{BreaksOff, failed, given_up, no_event}

@@ -15,9 +15,9 @@ use Rattle.serving_wires.specs.Following.{Follows, IsFlushed, IsSplit}
 use Rattle.serving_wires.specs.Laws.{AreAside}
 use Rattle.serving_wires.specs.Outbox.{Flushes, IsGivenUp, before_put, before_shut, is_due}
 use Rattle.serving_wires.specs.OutboxValue.{OutboxValue}
-use Rattle.serving_wires.specs.Serving.{IsCarried, IsInPlace, IsSettled, fails, reaches_out}
+use Rattle.serving_wires.specs.Serving.{AreFronts, IsCarried, IsInPlace, IsSettled, fails, reaches_out}
 use Rattle.serving_wires.specs.Following.{is_on}
-use Rattle.client_serving.specs.Run.{AreFronts, GoesOnTo, IsQuiet}
+use Rattle.client_serving.specs.Run.{GoesOnTo, IsQuiet}
 use Rattle.client_serving.specs.Serving.{after_events, begun, served_by}
 use Rattle.client_serving.specs.Wire.{WireLaws}
 use Rattle.client_serving.proofs.Placing.{EachBehind, each_both, no_front, none_of_both}

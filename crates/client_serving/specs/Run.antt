@@ -13,7 +13,7 @@ use Rattle.tcf_wires.specs.declared.event.WireEvent.TheVariants as events
 use Rattle.tcf_wires.specs.declared.event.WireRefusal.{WireRefusal}
 use Rattle.tcf_wires.specs.declared.event.WireRefusal.TheVariants.{Failed, NoMemory}
 use Rattle.serving_wires.specs.Calls.{events_in}
-use Rattle.serving_wires.specs.Serving.{Each, IsSettled, Nodes, Serves, fails, reaches_out}
+use Rattle.serving_wires.specs.Serving.{AreFronts, Each, IsSettled, Nodes, Serves, fails, reaches_out}
 use Rattle.client_serving.specs.Serving.{after_events, begun, cause_of, is_done, served_by}
 use Rattle.client_serving.specs.ServingValue.{ServingValue}
 use Rattle.client_serving.specs.declared.end.ClientEnd.{ClientEnd}
@@ -63,10 +63,6 @@ puts (Shut channel) = true
 -- before the first event nothing is put or shut, unless the script ends the run before it
 abbrev pub IsQuiet : ℕ → List ScriptLine → List WireCall → WireCall → Type 0
 IsQuiet channel script before call = puts call ≡ true → events_in before ≡ [] → IsSome (begun channel script).end
-
--- what was taken on each wire is a front of what was queued for it, whatever memory was wanting
-abbrev pub AreFronts : Nodes → List WireCall → Type 0
-AreFronts nodes calls = (channel : ℕ) → (rest : List ℕ) × (nodes.served (events_in calls) channel ≡ taken_on channel calls ++ rest)
 
 -- a run ended so at the last of these events, within the turns; or all turns were taken, and it has no end
 abbrev pub EndsBy : ℕ → ClientEnd → Option ClientEnd → List WireEvent → Type 0

@@ -1,5 +1,6 @@
 pub mod Making
 pub mod Placing
+pub mod Rising
 mod Putting
 mod Found
 mod Changed

@@ -48,6 +48,10 @@ IsInPlace nodes before (Gave answer) = events_in before ≢ [] → IsSettled nod
 IsInPlace nodes before (Offered channel piece answer) = IsOffer nodes channel piece before
 IsInPlace nodes before (Shut channel) = shut_count channel before ≡ 0
 
+-- what was taken on each wire is a front of what was queued for it, whatever memory was wanting
+abbrev pub AreFronts : Nodes → List WireCall → Type 0
+AreFronts nodes calls = (channel : ℕ) → (rest : List ℕ) × (nodes.served (events_in calls) channel ≡ taken_on channel calls ++ rest)
+
 -- behind these calls others come, each of which fits those before it
 abbrev pub EachBehind : (List WireCall → WireCall → Type 0) → List WireCall → List WireCall → Type 0
 EachBehind Fits first calls = (before after : List WireCall) (call : WireCall) → calls ≡ before ++ call ∷ after → Fits (first ++ before) call

@@ -129,6 +129,26 @@ def forgets(processes, count):
     return (known(processes) + lines * count).encode()
 
 
+def bound(adds):
+    """The header of a chain with so many value-adds, which redirects bind one after the other."""
+    peers = ["V%d" % number for number in range(2, adds + 1)] + ["Agent"] * (adds > 0)
+    lines = ["chain A %d" % adds, "open A", "rounds 1"]
+    for peer in peers:
+        lines += ['send A Locator redirect "%s"' % peer, "rounds 1"]
+    return "".join(line + "\n" for line in lines)
+
+
+def through(adds, count):
+    """So many commands that only the agent answers, 100 in a round, through so many value-adds."""
+    return (bound(adds) + "times 100 send A Locator sync\nrounds 1\n" * (count // 100)).encode()
+
+
+def pending(group, count):
+    """So many commands through one value-add, of which so many are pending at once."""
+    sends = "times %d send A Locator sync\nrounds %d\n" % (group, group // 100 + 2)
+    return (bound(1) + sends * (count // group)).encode()
+
+
 def busy():
     """The processor seconds of all runs so far."""
     used = resource.getrusage(resource.RUSAGE_CHILDREN)
@@ -204,6 +224,8 @@ def play_all(program, folder):
         growth(program, [(f"{way} in pieces of {piece}", pieces(way, piece)) for piece in (65_536, 100, 1)], folder)
     growth(program, [(f"{count} known, 100000 answers", learns(count, 100_000)) for count in (1, 64)], folder)
     growth(program, [(f"{count} known, 10000 resumes", forgets(count, 10_000)) for count in (1, 64)], folder)
+    growth(program, [(f"{adds} value-adds", through(adds, 100_000)) for adds in (0, 1, 4, 16)], folder)
+    growth(program, [(f"{group} pending", pending(group, 102_400)) for group in (1, 100, 1_024)], folder)
     growth(program, [(f"{count} ticks", ticks(count)) for count in (250_000, 500_000, 1_000_000)], folder)
 
 

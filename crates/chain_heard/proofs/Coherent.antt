@@ -1,14 +1,14 @@
 -- What a client keeps of the messages that it took is true of the target.
-use Rattle.std.proofs.Common.{◌≡◌, ℕ, false, List, [], ◌∷◌, ◌++◌, length, map, filter, Some, None, refl, ap, ap₂, sym, ◌∙◌, subst}
+use Rattle.std.proofs.Common.{◌≡◌, ℕ, false, List, [], ◌∷◌, ◌++◌, length, map, filter, Option, Some, refl, ap, ap₂, sym, ◌∙◌, subst, append-nil}
 use Rattle.std.specs.List.{flat_map, range_with_len}
 use Rattle.std.proofs.lemmas.List.{append_assoc}
 use Rattle.std.proofs.lemmas.List.Elements.{filter-append}
 use Rattle.cache_learning.specs.Kept.{KeptIsLearned, kept}
-use Rattle.client_log.specs.Lessons.{lessons}
+use Rattle.client_log.specs.Lessons.{lessons, lessons_from}
 use Rattle.client_node.specs.ClientValue.{ClientValue}
 use Rattle.client_node.specs.Runs.{Past, TellsPast, tells}
 use Rattle.knowledge.specs.Facts.{IsPart, byte_is, nothing}
-use Rattle.knowledge.specs.Learning.{Message, learned}
+use Rattle.knowledge.specs.Learning.{Message, learn_all, learned}
 use Rattle.target_contexts.specs.declared.process.Image.{Image}
 use Rattle.target_hub.specs.Fresh.{target_at}
 use Rattle.target_hub.specs.History.{IsLegal}
@@ -24,14 +24,15 @@ use Rattle.target_truth.specs.Typed.{AreTyped}
 use Rattle.tcf_text.specs.Lines.{Accepted, accepted, last_mark, later_or, mark_of}
 use Rattle.tcf_text.specs.Once.{Once, numbers}
 use Rattle.tcf_text.specs.declared.log.LogLine.{LogLine}
-use Rattle.chain_heard.specs.Coherent.{HeardIsCoherent, IsTrueThen, NothingHeardIsCoherent}
-use Rattle.chain_heard.specs.Heard.{Heard}
+use Rattle.chain_heard.specs.Coherent.{HeardIsCoherent, IsTrueThen, NoTargetHeardIsCoherent}
 use Rattle.chain_heard.proofs.Filtered.{last_mark_told}
-use Rattle.chain_heard.proofs.Heard.{taken_front}
-use Rattle.chain_heard.proofs.Lessons.{lessons_taught, no_lessons}
-use Rattle.chain_heard.proofs.Lines.{Front, commands_behind, lines_told, no_lines, told_line}
-use Rattle.chain_heard.proofs.Lists.{front_flat}
-use Rattle.chain_heard.proofs.Sending.{flags_of, flags_sent}
+use Rattle.chain_heard.proofs.Heard.{nothing_left, taken_front, taken_own}
+use Rattle.chain_heard.proofs.Lessons.{Answering, lessons_taught}
+use Rattle.chain_heard.proofs.Lines.{commands_behind, lines_told, told_line}
+use Rattle.chain_heard.proofs.Lists.{CutAt, PartsOf, cut_at, cut_past, cut_within, first_nothing, front_flat, parts_of}
+use Rattle.chain_heard.proofs.Own.{AreOwnLines, last_bare, own_bare, own_front}
+use Rattle.chain_heard.proofs.OwnLessons.{LeavesNothing, learn_both, lessons_both, own_leaves}
+use Rattle.chain_heard.proofs.Flags.{flags_of, flags_sent}
 
 -- ---- what is kept is a part of what was learned
 
@@ -42,14 +43,36 @@ kept_holds law messages target true_then = record {
   still = λ process addr byte known. true_then.still process addr byte (law messages (byte_is process addr byte) known);
 }
 
-nothing_true : KeptIsLearned → (images : List Image) (history : List Input) (front : List LogLine) → lessons front ≡ [] → last_mark front ≡ None → IsTrueThen front images history
+-- ---- nothing of the target
+
+-- where nothing was learned, and the last message has no position
+nothing_true : KeptIsLearned → (images : List Image) (history : List Input) (front : List LogLine) → LeavesNothing (lessons front)
+    → ((position : ℕ) → last_mark front ≡ Some (Some position) → ⊥) → IsTrueThen front images history
 nothing_true law images history front none unmarked = record {
-  holds = λ position is. absurd (no_mark position (sym unmarked ∙ is));
-  empty = λ without. subst (λ messages. IsPart (kept messages) nothing) (sym none) (law []);
+  holds = λ position is. absurd (unmarked position is);
+  empty = λ without. subst (IsPart (kept (lessons front))) none (law (lessons front));
 }
-  where
-    no_mark : (position : ℕ) → None ≡ Some (Some position) → ⊥
-    no_mark position e = cc
+
+answering : (c : ClientValue) (p : Past) → TellsPast c p → Once false c.log → Answering c.log
+answering c p past once = record {
+  counted = subst (λ cs. numbers cs ≡ range_with_len 1 (length cs)) (sym past.commands) past.counted;
+  pending = once.answers;
+}
+
+-- a front of the log that tells of what value-adds say alone
+own_true : KeptIsLearned → (images : List Image) (history : List Input) (log front back own : List LogLine) (commands left further : List Accepted) → Answering log → front ++ back ≡ log
+    → commands ++ further ≡ accepted log → filter tells front ≡ own → AreOwnLines commands own left → IsTrueThen front images history
+own_true law images history log front back own commands left further facts whole all messages are =
+    let none : LeavesNothing (lessons front) = own_leaves front log [] back facts commands left own (record {
+      split = sym whole;
+      done = [];
+      further = further;
+      whole = all;
+      messages = messages;
+      are = are;
+    }) in
+    nothing_true law images history front none
+    (λ position is. last_bare own position (own_bare own commands left are) (ap last_mark (sym messages) ∙ last_mark_told front ∙ is))
 
 -- ---- the last message
 
@@ -80,27 +103,32 @@ ending (next ∷ told) commands now =
 same_mark : (one two : ℕ) → Some (Some one) ≡ Some (Some two) → one ≡ two
 same_mark one two e = cc
 
+later_last : (xs ys : List LogLine) (mark : Option ℕ) → last_mark ys ≡ Some mark → last_mark (xs ++ ys) ≡ Some mark
+later_last [] ys mark is = is
+later_last (x ∷ xs) ys mark is = ap (λ m. later_or m (mark_of x)) (later_last xs ys mark is)
+
 -- ---- a front of the log
 
 -- a front of the log teaches what is taught by the first of what is told
-record Teaches (front : List LogLine) (images : List Image) (history : List Input) (k : ℕ) (commands : List Accepted) (told rest : List Told) : Type 0 where
+record Teaches (front : List LogLine) (images : List Image) (history : List Input) (k : ℕ) (commands : List Accepted) (own : List LogLine) (told rest : List Told) : Type 0 where
   pub split : told ++ rest ≡ sent images k history
-  pub lessons_are : lessons front ≡ taught (executed_on k history) told
-  pub marked : last_mark front ≡ last_mark (lines_told commands told)
+  pub learned_is : learned (lessons front) ≡ learned (taught (executed_on k history) told)
+  pub messages : filter tells front ≡ own ++ lines_told commands told
 
-taught_true : KeptIsLearned → IsTrueAfterEachMessage → (images : List Image) (history : List Input) (k : ℕ) (front : List LogLine) (commands : List Accepted) (told rest : List Told)
-    → IsLegal images history → AreTyped images → Teaches front images history k commands told rest → IsTrueThen front images history
-taught_true law truth images history k front commands [] rest legal typed teaches = nothing_true law images history front teaches.lessons_are teaches.marked
-taught_true law truth images history k front commands (now ∷ told) rest legal typed teaches =
+taught_true : KeptIsLearned → IsTrueAfterEachMessage → (images : List Image) (history : List Input) (k : ℕ) (front : List LogLine) (commands : List Accepted) (own : List LogLine)
+    (now : Told) (told rest : List Told) → IsLegal images history → AreTyped images → Teaches front images history k commands own (now ∷ told) rest → IsTrueThen front images history
+taught_true law truth images history k front commands own now told rest legal typed teaches =
     let final : Ending commands (now ∷ told) = ending told commands now in
     let whole : sent images k history ≡ final.before ++ final.last ∷ rest =
     sym teaches.split ∙ ap (λ l. l ++ rest) final.split ∙ append_assoc final.before (final.last ∷ []) rest in
-    let mark : last_mark front ≡ Some (Some (position_of final.last)) = teaches.marked ∙ final.mark in
-    let learned_here : lessons front ≡ taught (executed_on k history) (final.before ++ final.last ∷ []) = teaches.lessons_are ∙ ap (taught (executed_on k history)) final.split in
+    let mark : last_mark front ≡ Some (Some (position_of final.last)) =
+    sym (last_mark_told front) ∙ ap last_mark teaches.messages ∙ later_last own (lines_told commands (now ∷ told)) (Some (position_of final.last)) final.mark in
+    let learned_here : learned (lessons front) ≡ learned (taught (executed_on k history) (final.before ++ final.last ∷ [])) =
+    teaches.learned_is ∙ ap (λ all. learned (taught (executed_on k history) all)) final.split in
     let place : Target = target_at images history (position_of final.last) in
     let holds : Holds (kept (lessons front)) place =
     kept_holds law (lessons front) place
-    (subst (λ messages. Holds (learned messages) place) (sym learned_here) (truth images history legal typed k final.before rest final.last whole)) in
+    (subst (λ known. Holds known place) (sym learned_here) (truth images history legal typed k final.before rest final.last whole)) in
     record {
       holds = λ position is.
           subst (λ n. Holds (kept (lessons front)) (target_at images history n)) (same_mark (position_of final.last) position (sym mark ∙ is)) holds;
@@ -128,43 +156,76 @@ cut (x ∷ xs) ys commands (now ∷ told) are =
       lines_are = ap₂ (λ l ls. l ∷ ls) head further.lines_are;
     }
 
+-- what is known of a log whose client heard the target: what value-adds said, and a front of what is told
+record Hearing (log : List LogLine) (images : List Image) (history : List Input) (k : ℕ) (answered later : List Accepted) : Type 0 where
+  pub legal : IsLegal images history
+  pub typed : AreTyped images
+  pub facts : Answering log
+  pub commands : answered ++ later ≡ accepted log
+  pub asked : IsPrefixOf (executed_on k history) (map read later)
+
 -- the front of a log that tells so much
-told_true : KeptIsLearned → IsTrueAfterEachMessage → (images : List Image) (history : List Input) (k position : ℕ) (c : ClientValue) (p : Past) → AreTyped images
-    → TellsPast c p → Once false c.log → Heard images history k position p → (front back : List LogLine) → front ++ back ≡ c.log
-    → (told rest : List Told) → told ++ rest ≡ sent images k history → filter tells front ≡ lines_told (accepted c.log) told → IsTrueThen front images history
-told_true law truth images history k position c p typed past once heard front back whole told rest split messages =
-    taught_true law truth images history k front (accepted c.log) told rest heard.legal typed (record {
+told_true : KeptIsLearned → IsTrueAfterEachMessage → (images : List Image) (history : List Input) (k : ℕ) (log front back : List LogLine) (answered later : List Accepted)
+    → Hearing log images history k answered later → front ++ back ≡ log → (own : List LogLine) → AreOwnLines answered own [] → (now : Told) (told rest : List Told)
+    → (now ∷ told) ++ rest ≡ sent images k history → filter tells front ≡ own ++ lines_told later (now ∷ told) → IsTrueThen front images history
+told_true law truth images history k log front back answered later hearing whole own are now told rest split messages =
+    let parts : PartsOf tells front own (lines_told later (now ∷ told)) = parts_of tells front own (lines_told later (now ∷ told)) messages in
+    let place : log ≡ parts.front ++ (parts.back ++ back) = sym whole ∙ ap (λ l. l ++ back) (sym parts.whole) ∙ append_assoc parts.front parts.back back in
+    let before : LeavesNothing (lessons parts.front) = own_leaves parts.front log [] (parts.back ++ back) hearing.facts answered [] own (record {
+      split = place;
+      done = [];
+      further = later;
+      whole = hearing.commands;
+      messages = parts.first;
+      are = are;
+    }) in
+    let behind : lessons_from (accepted parts.front) parts.back ≡ taught (executed_on k history) (now ∷ told) =
+    lessons_taught parts.back log parts.front back hearing.facts later (executed_on k history) (now ∷ told) (record {
+      split = place;
+      done = answered;
+      commands = hearing.commands;
+      front = hearing.asked;
+      flags = subst (IsPrefixOf (flat_map flags_of (now ∷ told))) (flags_sent images history k hearing.legal)
+          (front_flat flags_of (now ∷ told) (sent images k history) (rest, split));
+      messages = parts.second;
+    }) in
+    let lessons_are : lessons front ≡ lessons parts.front ++ lessons_from (accepted parts.front) parts.back =
+    ap lessons (sym parts.whole) ∙ lessons_both parts.front parts.back [] in
+    taught_true law truth images history k front later own now told rest hearing.legal hearing.typed (record {
       split = split;
-      lessons_are = lessons_taught front c.log [] back
-          (record {
-            counted = subst (λ cs. numbers cs ≡ range_with_len 1 (length cs)) (sym past.commands) past.counted;
-            pending = once.answers;
-          })
-          (accepted c.log) (executed_on k history) told (record {
-            split = sym whole;
-            done = [];
-            commands = refl;
-            front = subst (λ cs. IsPrefixOf (executed_on k history) (map read cs)) (sym past.commands) heard.asked;
-            flags = subst (IsPrefixOf (flat_map flags_of told)) (flags_sent images history k heard.legal) (front_flat flags_of told (sent images k history) (rest, split));
-            messages = messages;
-          });
-      marked = sym (last_mark_told front) ∙ ap last_mark messages;
+      learned_is =
+          ap learned lessons_are ∙ learn_both (lessons parts.front) (lessons_from (accepted parts.front) parts.back) nothing
+          ∙ ap (learn_all (lessons_from (accepted parts.front) parts.back)) before ∙ ap learned behind;
+      messages = messages;
     })
 
-cut_true : KeptIsLearned → IsTrueAfterEachMessage → (images : List Image) (history : List Input) (k position : ℕ) (c : ClientValue) (p : Past) → AreTyped images
-    → TellsPast c p → Once false c.log → Heard images history k position p → (front back : List LogLine) → front ++ back ≡ c.log
-    → (told rest : List Told) → told ++ rest ≡ sent images k history → Cut (accepted c.log) told (filter tells front) → IsTrueThen front images history
-cut_true law truth images history k position c p typed past once heard front back whole told rest split part =
-    told_true law truth images history k position c p typed past once heard front back whole part.front (part.rest ++ rest)
-    (sym (append_assoc part.front part.rest rest) ∙ ap (λ l. l ++ rest) part.split ∙ split) part.lines_are
+-- by how much of what is told it tells
+cut_true : KeptIsLearned → IsTrueAfterEachMessage → (images : List Image) (history : List Input) (k : ℕ) (log front back : List LogLine) (answered later left : List Accepted)
+    → Hearing log images history k answered later → front ++ back ≡ log → (own : List LogLine) → AreOwnLines answered own left
+    → (told rest : List Told) → told ++ rest ≡ sent images k history → ((told ≡ [] → ⊥) → left ≡ [])
+    → (ws : List LogLine) → filter tells front ≡ own ++ ws → Cut later told ws → IsTrueThen front images history
+cut_true law truth images history k log front back answered later left hearing whole own are told rest split all ws messages part =
+    by_part part.front part.rest part.split (messages ∙ ap (λ l. own ++ l) part.lines_are)
+  where
+    some_told : (now : Told) (first more : List Told) → (now ∷ first) ++ more ≡ told → told ≡ [] → ⊥
+    some_told now first more is none = let empty : now ∷ (first ++ more) ≡ [] = is ∙ none in absurd cc
 
-front_true : KeptIsLearned → IsTrueAfterEachMessage → (images : List Image) (history : List Input) (k position : ℕ) (c : ClientValue) (p : Past) → AreTyped images
-    → TellsPast c p → Once false c.log → Heard images history k position p → (front back : List LogLine) → front ++ back ≡ c.log
-    → Front p.commands (sent images k history) p.taken → IsTrueThen front images history
-front_true law truth images history k position c p typed past once heard front back whole f =
-    cut_true law truth images history k position c p typed past once heard front back whole f.front f.rest f.split
-    (cut (filter tells front) (filter tells back) (accepted c.log) f.front
-    (sym (filter-append tells front back) ∙ ap (filter tells) whole ∙ past.messages ∙ f.lines_are ∙ ap (λ cs. lines_told cs f.front) (sym past.commands)))
+    by_part : (first more : List Told) → first ++ more ≡ told → filter tells front ≡ own ++ lines_told later first → IsTrueThen front images history
+    by_part [] more is so =
+        own_true law images history log front back own answered left later hearing.facts whole hearing.commands (so ∙ append-nil own) are
+    by_part (now ∷ first) more is so =
+        told_true law truth images history k log front back answered later hearing whole own (subst (AreOwnLines answered own) (all (some_told now first more is)) are)
+        now first (more ++ rest) (sym (append_assoc (now ∷ first) more rest) ∙ ap (λ l. l ++ rest) is ∙ split) so
+
+front_true : KeptIsLearned → IsTrueAfterEachMessage → (images : List Image) (history : List Input) (k : ℕ) (log front back : List LogLine) (answered later left : List Accepted)
+    → Hearing log images history k answered later → front ++ back ≡ log → (own : List LogLine) → AreOwnLines answered own left
+    → (told rest : List Told) → told ++ rest ≡ sent images k history → ((told ≡ [] → ⊥) → left ≡ [])
+    → CutAt (filter tells front) (filter tells back) own (lines_told later told) → IsTrueThen front images history
+front_true law truth images history k log front back answered later left hearing whole own are told rest split all (cut_within ws is) =
+    let first = own_front (filter tells front) ws answered left (subst (λ l. AreOwnLines answered l left) (sym is) are) in
+    own_true law images history log front back (filter tells front) answered first.0 later hearing.facts whole hearing.commands refl first.1
+front_true law truth images history k log front back answered later left hearing whole own are told rest split all (cut_past ws is further) =
+    cut_true law truth images history k log front back answered later left hearing whole own are told rest split all ws is (cut ws (filter tells back) later told further)
 
 -- ---- the laws
 
@@ -172,19 +233,30 @@ pub heard_coherent : KeptIsLearned → IsTrueAfterEachMessage → HeardIsCoheren
 heard_coherent law truth images history k position c p typed past once shown heard = record {
   shown = shown;
   always = λ front back whole.
-      front_true law truth images history k position c p typed past once heard front back whole (taken_front images history k position c p past once heard);
+      let f = taken_front images history k position c p past once heard in
+      let hearing : Hearing c.log images history k heard.answered heard.later = record {
+        legal = heard.legal;
+        typed = typed;
+        facts = answering c p past once;
+        commands = sym heard.commands ∙ sym past.commands;
+        asked = heard.asked;
+      } in
+      front_true law truth images history k c.log front back heard.answered heard.later f.left hearing whole f.own_lines f.are f.front f.rest f.split
+      (λ some. nothing_left f.left (f.all some))
+      (cut_at (filter tells front) (filter tells back) f.own_lines (lines_told heard.later f.front)
+      (sym (filter-append tells front back) ∙ ap (filter tells) whole ∙ past.messages ∙ f.lines_are));
 }
 
-pub nothing_coherent : KeptIsLearned → NothingHeardIsCoherent
-nothing_coherent law images history c p past shown none = record {
+pub no_target_coherent : KeptIsLearned → NoTargetHeardIsCoherent
+no_target_coherent law images history c p past once shown heard = record {
   shown = shown;
   always = λ front back whole.
-      let both : filter tells front ++ filter tells back ≡ [] =
-      sym (filter-append tells front back) ∙ ap (filter tells) whole ∙ past.messages ∙ no_lines p.taken none in
-      let silent : filter tells front ≡ [] = no_front_lines (filter tells front) (filter tells back) both in
-      nothing_true law images history front (no_lessons [] front silent) (sym (last_mark_told front) ∙ ap last_mark silent);
+      let f = taken_own c p past once heard in
+      let alone : f.own_lines ++ lines_told [] f.front ≡ f.own_lines =
+      ap (λ told. f.own_lines ++ lines_told [] told) (first_nothing f.front f.rest f.split) ∙ append-nil f.own_lines in
+      let both : filter tells front ++ filter tells back ≡ f.own_lines =
+      sym (filter-append tells front back) ∙ ap (filter tells) whole ∙ past.messages ∙ f.lines_are ∙ alone in
+      let first = own_front (filter tells front) (filter tells back) p.commands f.left (subst (λ l. AreOwnLines p.commands l f.left) (sym both) f.are) in
+      own_true law images history c.log front back (filter tells front) p.commands first.0 [] (answering c p past once) whole
+      (append-nil p.commands ∙ sym past.commands) refl first.1;
 }
-  where
-    no_front_lines : (xs ys : List LogLine) → xs ++ ys ≡ [] → xs ≡ []
-    no_front_lines [] ys e = refl
-    no_front_lines (x ∷ xs) ys e = absurd cc

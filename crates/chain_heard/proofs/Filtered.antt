@@ -3,6 +3,7 @@ use Rattle.std.proofs.Common.{◌≡◌, ℕ, Bool, true, false, ◌||◌, cond,
 use Rattle.std.specs.Prelude.{Option, Some, None}
 use Rattle.std.specs.List.{flat_map, list_any}
 use Rattle.std.proofs.lemmas.List.Elements.{filter-append}
+use Rattle.std.proofs.lemmas.List.Folds.{list_any-append}
 use Rattle.client_node.specs.Runs.{tells}
 use Rattle.tcf_text.specs.Each.{Each}
 use Rattle.tcf_text.specs.Lines.{Accepted, bare_answer_of, from_hello, is_placed_hello, last_mark, later_or, mark_of}
@@ -11,6 +12,7 @@ use Rattle.tcf_text.specs.declared.log.LogLine.TheVariants.{Sent, Refused, Hello
 use Rattle.target_hub.specs.Ordered.{ComesAfter, IsPlaced, hello_position}
 use Rattle.target_hub.specs.Received.{answer_of, told_of}
 use Rattle.target_hub.specs.declared.input.Input.{Input}
+use Rattle.chain_heard.proofs.Lists.{or_true}
 
 -- ---- words that are silent of other lines
 
@@ -85,6 +87,14 @@ from_none (x ∷ xs) none = by_flags (is_placed_hello x) (list_any is_placed_hel
     by_flags true b us vs none = absurd (true≢false none)
     by_flags false true us vs none = absurd (true≢false none)
     by_flags false false us vs none = refl
+
+-- what stands before such a Hello doesn't matter
+pub from_behind : (xs ys : List LogLine) → list_any is_placed_hello ys ≡ true → from_hello (xs ++ ys) ≡ from_hello ys
+from_behind [] ys some = refl
+from_behind (x ∷ xs) ys some =
+    let there : list_any is_placed_hello (xs ++ ys) ≡ true =
+    list_any-append is_placed_hello xs ys ∙ ap (λ b. list_any is_placed_hello xs || b) some ∙ or_true (list_any is_placed_hello xs) in
+    ap (λ b. cond b (from_hello (xs ++ ys)) (cond (is_placed_hello x) (x ∷ (xs ++ ys)) [])) there ∙ from_behind xs ys some
 
 skipped : (b : Bool) (xs : List LogLine) → list_any is_placed_hello xs ≡ b → filter tells (from_hello xs) ≡ from_hello (filter tells xs)
     → filter tells (cond b (from_hello xs) []) ≡ from_hello (filter tells xs)

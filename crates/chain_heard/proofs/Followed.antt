@@ -1,6 +1,7 @@
 -- What the lines of what a channel is told say of it again, and of the commands that were answered.
 use Rattle.std.proofs.Common.{◌≡◌, ℕ, ◌+◌, ◌≤◌, ◌==◌, zero, suc, Bool, true, false, not, ◌&&◌, ◌||◌, cond, List, [], ◌∷◌, ◌++◌, map, filter, refl, ap, ap₂, sym, ◌∙◌, subst, arith, eq-eqb, ne_eqb}
 use Rattle.std.specs.List.{AllByRecursion, flat_map, list_any, range_with_len}
+use Rattle.std.proofs.lemmas.List.Concat.{flat_map-append}
 use Rattle.tcf_text.specs.Lines.{Accepted, accepted, bare_answer_of}
 use Rattle.tcf_text.specs.Once.{numbers}
 use Rattle.tcf_text.specs.declared.log.LogLine.{LogLine}
@@ -8,9 +9,11 @@ use Rattle.target_hub.specs.Ordered.{IsPrefixOf, through}
 use Rattle.target_hub.specs.Received.{answer_of, goes_through, is_through_number, told_of}
 use Rattle.target_hub.specs.Sent.{Told, event_at, final_at, hello_at, progress_at, unknown_at}
 use Rattle.chain_heard.proofs.Filtered.{flat_told, silent_bare}
-use Rattle.chain_heard.proofs.Lines.{lines_told, numbers_from}
-use Rattle.chain_heard.proofs.Lists.{filter_same, front_first, front_rest, no_front, or_none}
-use Rattle.chain_heard.proofs.Sending.{flags_of}
+use Rattle.chain_heard.proofs.Lines.{lines_told}
+use Rattle.chain_heard.proofs.Lists.{front_first, front_rest, no_front, or_none}
+use Rattle.chain_heard.proofs.Numbers.{InParts, left_through, numbers_from}
+use Rattle.chain_heard.proofs.Own.{AreOwnLines, bare_answers}
+use Rattle.chain_heard.proofs.Flags.{flags_of}
 use Rattle.client_node.specs.Runs.{tells}
 
 -- ---- the command of a number
@@ -110,12 +113,12 @@ no_bare (final_at place goes body ∷ told) (c ∷ commands) = no_bare told comm
 no_bare (unknown_at place goes ∷ told) [] = no_bare told []
 no_bare (unknown_at place goes ∷ told) (c ∷ commands) = no_bare told commands
 
-and_true : (a : Bool) → (a && true) ≡ a
-and_true true = refl
-and_true false = refl
-
-pub through_all : (log : List LogLine) (told : List Told) (commands : List Accepted) → filter tells log ≡ lines_told commands told → through log ≡ filter goes_through (accepted log)
-through_all log told commands messages =
-    let none : flat_map bare_answer_of log ≡ [] = sym (flat_told bare_answer_of silent_bare log) ∙ ap (flat_map bare_answer_of) messages ∙ no_bare told commands in
-    ap (λ bare. filter (λ (c : Accepted). goes_through c && not (list_any (λ number. number == c.number) bare)) (accepted log)) none
-    ∙ filter_same (λ c. goes_through c && true) goes_through (λ c. and_true (goes_through c)) (accepted log)
+-- those without a position answer the first commands, so that the others are left
+pub through_left : (log xs : List LogLine) (told : List Told) (before after : List Accepted) → filter tells log ≡ xs ++ lines_told after told → AreOwnLines before xs []
+    → accepted log ≡ before ++ after → InParts before after 1 → through log ≡ filter goes_through after
+through_left log xs told before after messages own commands parts =
+    let named : flat_map bare_answer_of log ≡ numbers before =
+    sym (flat_told bare_answer_of silent_bare log) ∙ ap (flat_map bare_answer_of) messages ∙ flat_map-append bare_answer_of xs (lines_told after told)
+    ∙ ap (λ l. flat_map bare_answer_of xs ++ l) (no_bare told after) ∙ bare_answers xs before [] own in
+    ap₂ (λ bare commands. filter (λ (c : Accepted). goes_through c && not (list_any (λ number. number == c.number) bare)) commands) named commands
+    ∙ left_through before after parts

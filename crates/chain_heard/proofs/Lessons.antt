@@ -18,15 +18,15 @@ use Rattle.tcf_text.specs.declared.log.LogLine.{LogLine}
 use Rattle.tcf_text.specs.declared.log.LogLine.TheVariants as lines
 use Rattle.chain_heard.proofs.Lines.{commands_behind, first_number, later_commands, lines_told, told_line}
 use Rattle.chain_heard.proofs.Lists.{front_first, front_rest, no_front}
-use Rattle.chain_heard.proofs.Sending.{flag_of, flags_of}
+use Rattle.chain_heard.proofs.Flags.{flag_of, flags_of}
 
 -- ---- one message
 
-locator_is : locator ≡ codes "Locator"
+pub locator_is : locator ≡ codes "Locator"
 unfolding locator
 locator_is = refl
 
-hello_is : hello ≡ codes "Hello"
+pub hello_is : hello ≡ codes "Hello"
 unfolding hello
 hello_is = refl
 
@@ -46,7 +46,7 @@ lesson_told commands left asked (progress_at place body) found = refl
 lesson_told commands left asked (final_at place through body) found = ap (λ reading. final_message reading body ∷ []) found
 lesson_told commands left asked (unknown_at place through) found = refl
 
-silent_lesson : (commands : List Accepted) (x : LogLine) → tells x ≡ false → lesson_of commands x ≡ []
+pub silent_lesson : (commands : List Accepted) (x : LogLine) → tells x ≡ false → lesson_of commands x ≡ []
 silent_lesson commands (lines.Sent number service name body) silent = refl
 silent_lesson commands (lines.Refused why) silent = refl
 silent_lesson commands (lines.Closed number) silent = refl
@@ -95,6 +95,14 @@ pub record Answering (log : List LogLine) : Type 0 where
   pub counted : numbers (accepted log) ≡ range_with_len 1 (length (accepted log))
   pub pending : Each AnswersPending log
 
+-- the command of a line that answers it is found among those that were accepted before
+pub found_command : (log before after : List LogLine) (line : LogLine) (done left : List Accepted) (c : Accepted) → Answering log → log ≡ before ++ line ∷ after
+    → done ++ c ∷ left ≡ accepted log → IsPending before c.number → slice_get (accepted before) (c.number - 1) ≡ Some c
+found_command log before after line done left c facts split commands waits =
+    let parts : accepted log ≡ accepted before ++ accepted (line ∷ after) = ap accepted split ∙ flat_map-append accepted_by before (line ∷ after) in
+    found_at (accepted before) (accepted (line ∷ after)) done left c 1 (length (accepted log)) (sym parts ∙ sym commands)
+    (subst (λ cs. numbers cs ≡ range_with_len 1 (length (accepted log))) parts facts.counted) waits.accepted
+
 found_now : (log before after : List LogLine) (done left : List Accepted) (asked : List ReadCommand) (now : Told) (told : List Told) → Answering log
     → log ≡ before ++ told_line left now ∷ after → done ++ left ≡ accepted log → IsPrefixOf asked (map read left)
     → IsPrefixOf (flat_map flags_of (now ∷ told)) (map flag_of asked) → IsFound (accepted before) left asked now
@@ -108,11 +116,7 @@ found_now log before after done [] (a ∷ asked) (final_at place through body) t
 found_now log before after done (c ∷ left) (a ∷ asked) (final_at place through body) told facts split commands front flags =
     let line : LogLine = lines.Final c.number (Some place) body in
     let same : a ≡ read c = front_first a (read c) asked (map read left) front in
-    let waits : IsPending before c.number = facts.pending before after line split in
-    let parts : accepted log ≡ accepted before ++ accepted (line ∷ after) = ap accepted split ∙ flat_map-append accepted_by before (line ∷ after) in
-    let there : slice_get (accepted before) (c.number - 1) ≡ Some c =
-    found_at (accepted before) (accepted (line ∷ after)) done left c 1 (length (accepted log)) (sym parts ∙ sym commands)
-    (subst (λ cs. numbers cs ≡ range_with_len 1 (length (accepted log))) parts facts.counted) waits.accepted in
+    let there = found_command log before after line done left c facts split commands (facts.pending before after line split) in
     ap reading_as there ∙ ap (λ (d : ReadCommand). Some d.reading) (sym same)
 
 -- ---- behind a message
@@ -163,19 +167,19 @@ abbrev pub AreTaught : (log before xs after : List LogLine) → Type 0
 AreTaught log before xs after = (left : List Accepted) (asked : List ReadCommand) (told : List Told) → Telling log before xs after left asked told
     → lessons_from (accepted before) xs ≡ taught asked told
 
-telling_first : (x : LogLine) (xs : List LogLine) → tells x ≡ true → filter tells (x ∷ xs) ≡ x ∷ filter tells xs
+pub telling_first : (x : LogLine) (xs : List LogLine) → tells x ≡ true → filter tells (x ∷ xs) ≡ x ∷ filter tells xs
 telling_first x xs telling = ap (λ t. cond t (x ∷ filter tells xs) (filter tells xs)) telling
 
-silent_first : (x : LogLine) (xs : List LogLine) → tells x ≡ false → filter tells (x ∷ xs) ≡ filter tells xs
+pub silent_first : (x : LogLine) (xs : List LogLine) → tells x ≡ false → filter tells (x ∷ xs) ≡ filter tells xs
 silent_first x xs silent = ap (λ t. cond t (x ∷ filter tells xs) (filter tells xs)) silent
 
-no_first : (x : LogLine) (xs : List LogLine) → x ∷ xs ≡ [] → ⊥
+pub no_first : (x : LogLine) (xs : List LogLine) → x ∷ xs ≡ [] → ⊥
 no_first x xs e = cc
 
-accepted_push : (before : List LogLine) (x : LogLine) → accepted (before ++ x ∷ []) ≡ accepted before ++ accepted_by x
+pub accepted_push : (before : List LogLine) (x : LogLine) → accepted (before ++ x ∷ []) ≡ accepted before ++ accepted_by x
 accepted_push before x = flat_map-append accepted_by before (x ∷ []) ∙ ap (λ cs. accepted before ++ cs) (append-nil (accepted_by x))
 
-lessons_first : (before : List LogLine) (x : LogLine) (xs : List LogLine)
+pub lessons_first : (before : List LogLine) (x : LogLine) (xs : List LogLine)
     → lessons_from (accepted before) (x ∷ xs) ≡ lesson_of (accepted before) x ++ lessons_from (accepted (before ++ x ∷ [])) xs
 lessons_first before x xs = ap (λ cs. lesson_of (accepted before) x ++ lessons_from cs xs) (sym (accepted_push before x))
 
@@ -224,13 +228,3 @@ lessons_taught [] log before after facts left asked [] t = refl
 lessons_taught [] log before after facts left asked (now ∷ told) t = absurd (no_first (told_line left now) (lines_told (commands_behind left now) told) (sym t.messages))
 lessons_taught (x ∷ xs) log before after facts left asked told t =
     by_flag (tells x) x xs log before after facts refl (lessons_taught xs log (before ++ x ∷ []) after facts) left asked told t
-
--- where no line tells of a message, nothing is taught
-pub no_lessons : (commands : List Accepted) (xs : List LogLine) → filter tells xs ≡ [] → lessons_from commands xs ≡ []
-no_lessons commands [] none = refl
-no_lessons commands (x ∷ xs) none = by_test (tells x) refl (no_lessons (commands ++ accepted_by x) xs)
-  where
-    by_test : (flag : Bool) → tells x ≡ flag → (filter tells xs ≡ [] → lessons_from (commands ++ accepted_by x) xs ≡ []) → lessons_from commands (x ∷ xs) ≡ []
-    by_test true telling further = absurd (no_first x (filter tells xs) (sym (telling_first x xs telling) ∙ none))
-    by_test false silent further =
-        ap₂ (λ here behind. here ++ behind) (silent_lesson commands x silent) (further (sym (silent_first x xs silent) ∙ none))

@@ -2,11 +2,16 @@ pub mod Lists
 pub mod Filtered
 pub mod Greetless
 pub mod Sending
+pub mod Flags
 pub mod Lines
+pub mod Numbers
+pub mod Own
+pub mod Saying
 pub mod Placed
 pub mod Followed
 pub mod Heard
 pub mod Few
 pub mod Tokens
 pub mod Lessons
+pub mod OwnLessons
 pub mod Coherent

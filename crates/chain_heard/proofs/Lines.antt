@@ -1,27 +1,22 @@
 -- The lines of what a client took, where that is a front of what its channel is told.
-use Rattle.std.proofs.Common.{◌≡◌, ℕ, ◌+◌, ◌<◌, ◌≤◌, ◌^◌, zero, suc, true, false, true≢false, List, [], ◌∷◌, ◌++◌, length, map, Option, Some, None, Ok, filter, filter_map, refl, ap, ap₂, sym, ◌∙◌, subst, subst₂, arith}
+use Rattle.std.proofs.Common.{◌≡◌, ℕ, ◌<◌, ◌^◌, true, false, true≢false, List, [], ◌∷◌, ◌++◌, length, map, Option, Some, None, Ok, filter_map, refl, ap, ap₂, sym, ◌∙◌, subst, subst₂, arith}
 use Rattle.std.specs.Prelude.{IfSome, decimal}
-use Rattle.std.specs.List.{AllByRecursion, Contains, cons_option, flat_map, range_with_len}
+use Rattle.std.specs.List.{AllByRecursion, cons_option, flat_map}
 use Rattle.std.proofs.lemmas.Fmt.{decimal_injective, decimal_nonempty}
-use Rattle.std.proofs.lemmas.List.{append_assoc, map-append}
-use Rattle.std.proofs.lemmas.List.Concat.{flat_map-append}
-use Rattle.std.proofs.lemmas.List.Elements.{Contains-append_left}
 use Rattle.channel_core.specs.Wire.{hello, locator}
 use Rattle.channel_core.specs.declared.held.Incoming.{Incoming}
 use Rattle.channel_core.specs.declared.taking.Taken.{Taken}
 use Rattle.channel_core.specs.declared.taking.Taken.TheVariants as taken
 use Rattle.client_node.specs.Lines.{event_line, final_line, hello_line, progress_line}
-use Rattle.client_node.specs.Runs.{FitsMessage, IsAnswerTo, IsCommand, IsHello, IsOtherEvent, IsProgressOf, is_hello, line_of, tells}
+use Rattle.client_node.specs.Runs.{FitsMessage, IsAnswerTo, IsCommand, IsHello, IsOtherEvent, IsProgressOf, is_hello, line_of}
 use Rattle.target_hub.specs.Ordered.{IsPrefixOf}
 use Rattle.target_hub.specs.Sent.{Told, event_at, final_at, hello_at, progress_at, unknown_at}
 use Rattle.tcf_message.specs.Message.{MessageValue, event, final, not_known, progress, reading, spelling}
-use Rattle.tcf_text.specs.Each.{Each}
-use Rattle.tcf_text.specs.Lines.{Accepted, accepted, accepted_by}
-use Rattle.tcf_text.specs.Once.{AnswersPending, IsPending, numbers}
+use Rattle.tcf_text.specs.Lines.{Accepted}
 use Rattle.tcf_text.specs.declared.log.LogLine.{LogLine}
 use Rattle.tcf_text.specs.declared.log.LogLine.TheVariants as lines
 use Rattle.chain_heard.specs.Heard.{first_token, incoming, incoming_of, later_tokens, messages_told, tokens_of}
-use Rattle.chain_heard.proofs.Lists.{all_filter, all_weaker, front_first, front_rest, no_front}
+use Rattle.chain_heard.proofs.Lists.{front_first, front_rest, no_front}
 
 -- ---- what is told, as lines: answers and progress under the number of their command
 
@@ -89,8 +84,11 @@ IsFew (lines.Final number mark body) = number < 2 ^ 64
 IsFew (lines.Unknown number mark) = number < 2 ^ 64
 IsFew line = Unit {0}
 
+abbrev pub IsOfFew : Accepted → Type 0
+IsOfFew c = c.number < 2 ^ 64
+
 abbrev pub AreFew : List Accepted → Type 0
-AreFew commands = AllByRecursion (λ c. c.number < 2 ^ 64) commands
+AreFew commands = AllByRecursion IsOfFew commands
 
 few_behind : (commands : List Accepted) (told : Told) → AreFew commands → AreFew (commands_behind commands told)
 few_behind commands (hello_at place body) few = few
@@ -107,7 +105,7 @@ numbered number [] named bound few =
     let none : 0 ≡ length (decimal number) = ap length named in absurd (omega arith)
 numbered number (c ∷ commands) named bound few = decimal_injective number c.number bound few.0 (sym named)
 
-is_greeting : is_hello locator hello ≡ true
+pub is_greeting : is_hello locator hello ≡ true
 unfolding hello locator
 is_greeting = refl
 
@@ -162,11 +160,11 @@ abbrev pub IsReadAgain : MessageValue × Option ℕ → Type 0
 IsReadAgain m = reading (spelling m.0) ≡ Ok m.0
 
 -- what came says the message, with its mark
-record Conveys (came : Incoming) (m : MessageValue × Option ℕ) : Type 0 where
+pub record Conveys (came : Incoming) (m : MessageValue × Option ℕ) : Type 0 where
   pub says : reading came.raw ≡ Ok m.0
   pub mark : came.mark ≡ m.1
 
-conveys : (came : Incoming) (m : MessageValue × Option ℕ) → came ∷ [] ≡ incoming m ∷ [] → IsReadAgain m → Conveys came m
+pub conveys : (came : Incoming) (m : MessageValue × Option ℕ) → came ∷ [] ≡ incoming m ∷ [] → IsReadAgain m → Conveys came m
 conveys came m is again =
     let same : came ≡ incoming m = cc in
     record {
@@ -215,7 +213,7 @@ pub record Front (commands : List Accepted) (told : List Told) (what : List (Tak
   pub lines_are : filter_map line_of what ≡ lines_told commands front
   pub silent : front ≡ [] → flat_map incoming_of what ≡ []
 
-few_first : (line : Option LogLine) (further : List LogLine) → AllByRecursion IsFew (cons_option line further) → IfSome line IsFew × AllByRecursion IsFew further
+pub few_first : (line : Option LogLine) (further : List LogLine) → AllByRecursion IsFew (cons_option line further) → IfSome line IsFew × AllByRecursion IsFew further
 few_first None further all = (tt, all)
 few_first (Some line) further all = all
 
@@ -276,73 +274,3 @@ fronts (taken.Closed cause ∷ what) commands told facts =
       readable = facts.readable;
       heard = facts.heard;
     }))
-
--- where no message was taken there is no line
-pub no_lines : (what : List (Taken ℕ)) → flat_map incoming_of what ≡ [] → filter_map line_of what ≡ []
-no_lines [] none = refl
-no_lines (taken.Closed cause ∷ what) none = no_lines what none
-no_lines (taken.Command came ∷ what) none = absurd cc
-no_lines (taken.Hello came ∷ what) none = absurd cc
-no_lines (taken.Event came ∷ what) none = absurd cc
-no_lines (taken.Progress number came ∷ what) none = absurd cc
-no_lines (taken.Final number came ∷ what) none = absurd cc
-
--- ---- the numbers of commands
-
-pub numbers_from : (commands : List Accepted) (low count : ℕ) → numbers commands ≡ range_with_len low count → AllByRecursion (λ c. low ≤ c.number) commands
-numbers_from [] low count are = tt
-numbers_from (c ∷ commands) low zero are = absurd cc
-numbers_from (c ∷ commands) low (suc count) are =
-    let head : c.number ≡ low = cc in
-    let tail : numbers commands ≡ range_with_len (low + 1) count = cc in
-    (omega arith, all_weaker (λ d. low + 1 ≤ d.number) (λ d. low ≤ d.number) commands (λ d above. omega arith) (numbers_from commands (low + 1) count tail))
-
-numbers_below : (commands : List Accepted) (low count : ℕ) → numbers commands ≡ range_with_len low count → AllByRecursion (λ c. c.number < low + count) commands
-numbers_below [] low count are = tt
-numbers_below (c ∷ commands) low zero are = absurd cc
-numbers_below (c ∷ commands) low (suc count) are =
-    let head : c.number ≡ low = cc in
-    let tail : numbers commands ≡ range_with_len (low + 1) count = cc in
-    (omega arith, all_weaker (λ d. d.number < (low + 1) + count) (λ d. d.number < low + suc count) commands (λ d below. omega arith) (numbers_below commands (low + 1) count tail))
-
-pub commands_few : (commands : List Accepted) → numbers commands ≡ range_with_len 1 (length commands) → length commands < 2 ^ 64 → AreFew commands
-commands_few commands are few =
-    all_weaker (λ c. c.number < 1 + length commands) (λ c. c.number < 2 ^ 64) commands (λ c below. omega arith) (numbers_below commands 1 (length commands) are)
-
-in_range : (low count number : ℕ) → Contains (range_with_len low count) number → number < low + count
-in_range low zero number (k, within, is) = absurd (omega arith)
-in_range low (suc count) number (zero, within, is) = let same : low ≡ number = is in omega arith
-in_range low (suc count) number (suc k, within, is) =
-    let less : k < length (range_with_len (low + 1) count) = omega arith in
-    let below : number < (low + 1) + count = in_range (low + 1) count number (k, less, is) in omega arith
-
--- ---- each line answers a command that was accepted
-
-all_parts : {A : Type 0} → (P : List A → A → Type 0) (Q : A → Type 0) (whole before rest : List A) → whole ≡ before ++ rest → Each P whole
-    → ((front back : List A) (x : A) → whole ≡ front ++ x ∷ back → P front x → Q x) → AllByRecursion Q rest
-all_parts P Q whole before [] split each gives = tt
-all_parts P Q whole before (x ∷ rest) split each gives = (
-  gives before rest x split (each before rest x split),
-  all_parts P Q whole (before ++ x ∷ []) rest (split ∙ sym (append_assoc before (x ∷ []) rest)) each gives,
-)
-
-pending_few : (log before after : List LogLine) (x : LogLine) (count number : ℕ) → numbers (accepted log) ≡ range_with_len 1 count → count < 2 ^ 64
-    → log ≡ before ++ x ∷ after → IsPending before number → number < 2 ^ 64
-pending_few log before after x count number are few split waits =
-    let parts : numbers (accepted log) ≡ numbers (accepted before) ++ numbers (accepted (x ∷ after)) =
-    ap (λ ls. numbers (accepted ls)) split ∙ ap numbers (flat_map-append accepted_by before (x ∷ after))
-    ∙ map-append (λ (c : Accepted). c.number) (accepted before) (accepted (x ∷ after)) in
-    let there : Contains (range_with_len 1 count) number =
-    subst (λ ns. Contains ns number) (sym parts ∙ are) (Contains-append_left (numbers (accepted before)) (numbers (accepted (x ∷ after))) number waits.accepted) in
-    let below : number < 1 + count = in_range 1 count number there in omega arith
-
-line_few : (log before after : List LogLine) (x : LogLine) (count : ℕ) → numbers (accepted log) ≡ range_with_len 1 count → count < 2 ^ 64
-    → log ≡ before ++ x ∷ after → AnswersPending before x → IsFew x
-line_few log before after (lines.Progress number mark body) count are few split waits = pending_few log before after (lines.Progress number mark body) count number are few split waits
-line_few log before after (lines.Final number mark body) count are few split waits = pending_few log before after (lines.Final number mark body) count number are few split waits
-line_few log before after (lines.Unknown number mark) count are few split waits = pending_few log before after (lines.Unknown number mark) count number are few split waits
-line_few log before after x count are few split waits = tt
-
-pub lines_few : (log : List LogLine) (count : ℕ) → numbers (accepted log) ≡ range_with_len 1 count → count < 2 ^ 64 → Each AnswersPending log → AllByRecursion IsFew (filter tells log)
-lines_few log count are few each =
-    all_filter IsFew tells log (all_parts AnswersPending IsFew log [] log refl each (λ before after x split waits. line_few log before after x count are few split waits))

@@ -1,5 +1,5 @@
 -- Fronts of lists, and lists by a test.
-use Rattle.std.proofs.Common.{◌≡◌, zero, suc, inl, Bool, true, false, ◌||◌, cond, List, [], ◌∷◌, ◌++◌, map, filter, refl, ap, sym, ◌∙◌, arith}
+use Rattle.std.proofs.Common.{◌≡◌, zero, suc, inl, inr, Bool, true, false, ◌||◌, cond, List, [], ◌∷◌, ◌++◌, map, filter, refl, ap, ap₂, sym, ◌∙◌, arith}
 use Rattle.std.specs.List.{AllByRecursion, Contains, flat_map}
 use Rattle.std.proofs.lemmas.List.{append_assoc, map-append}
 use Rattle.std.proofs.lemmas.List.Concat.{flat_map-append}
@@ -21,6 +21,9 @@ no_front {A} x xs p =
     let none : List A = [] in
     let whole : x ∷ (xs ++ p.0) ≡ none = p.1 in cc
 
+pub front_more : {A : Type 0} → (x y : A) (xs ys : List A) → x ≡ y → IsPrefixOf xs ys → IsPrefixOf (x ∷ xs) (y ∷ ys)
+front_more x y xs ys same p = (p.0, ap₂ (λ a l. a ∷ l) same p.1)
+
 pub front_map : {A B : Type 0} → (f : A → B) (xs ys : List A) → IsPrefixOf xs ys → IsPrefixOf (map f xs) (map f ys)
 front_map f xs ys p = (map f p.0, sym (map-append f xs p.0) ∙ ap (map f) p.1)
 
@@ -38,7 +41,37 @@ front_subsequence [] ys p = tt
 front_subsequence (x ∷ xs) [] p = absurd (no_front x xs p)
 front_subsequence (x ∷ xs) (y ∷ ys) p = inl (front_first x y xs ys p, front_subsequence xs ys (front_rest x y xs ys p))
 
+-- what is left of a list is left of it behind others too
+pub behind_subsequence : {A : Type 0} → (xs ys zs : List A) → IsSubsequenceOf xs ys → IsSubsequenceOf xs (zs ++ ys)
+behind_subsequence [] ys zs sub = tt
+behind_subsequence (x ∷ xs) ys [] sub = sub
+behind_subsequence (x ∷ xs) ys (z ∷ zs) sub = inr (behind_subsequence (x ∷ xs) ys zs sub)
+
+-- where two lists are put together and cut elsewhere, the cut is within the first one or past it
+pub data CutAt {A : Type 0} (us vs xs ys : List A) : Type 0 where
+  cut_within : (ws : List A) → us ++ ws ≡ xs → CutAt us vs xs ys
+  cut_past : (ws : List A) → us ≡ xs ++ ws → ws ++ vs ≡ ys → CutAt us vs xs ys
+
+cut_further : {A : Type 0} → (u x : A) (us vs xs ys : List A) → u ≡ x → CutAt us vs xs ys → CutAt (u ∷ us) vs (x ∷ xs) ys
+cut_further u x us vs xs ys same (cut_within ws is) = cut_within ws (ap (λ l. u ∷ l) is ∙ ap (λ a. a ∷ xs) same)
+cut_further u x us vs xs ys same (cut_past ws is further) = cut_past ws (ap (λ l. u ∷ l) is ∙ ap (λ a. a ∷ (xs ++ ws)) same) further
+
+pub cut_at : {A : Type 0} → (us vs xs ys : List A) → us ++ vs ≡ xs ++ ys → CutAt us vs xs ys
+cut_at [] vs xs ys e = cut_within xs refl
+cut_at (u ∷ us) vs [] ys e = cut_past (u ∷ us) refl e
+cut_at (u ∷ us) vs (x ∷ xs) ys e =
+    let same : u ≡ x = cc in
+    let rest : us ++ vs ≡ xs ++ ys = cc in cut_further u x us vs xs ys same (cut_at us vs xs ys rest)
+
+pub first_nothing : {A : Type 0} → (xs ys : List A) → xs ++ ys ≡ [] → xs ≡ []
+first_nothing [] ys e = refl
+first_nothing (x ∷ xs) ys e = absurd cc
+
 -- ---- by a test
+
+pub or_true : (b : Bool) → (b || true) ≡ true
+or_true true = refl
+or_true false = refl
 
 pub or_none : (b : Bool) → (b || false) ≡ b
 or_none true = refl
@@ -56,11 +89,72 @@ filter_mapped {A} {B} q f (x ∷ xs) = by_flag (q (f x)) x (filter q (map f xs))
     by_flag true y us vs e = ap (λ l. f y ∷ l) e
     by_flag false y us vs e = e
 
-pub filter_same : {A : Type 0} → (p q : A → Bool) → ((x : A) → p x ≡ q x) → (xs : List A) → filter p xs ≡ filter q xs
-filter_same p q same [] = refl
-filter_same p q same (x ∷ xs) = ap (λ b. cond b (x ∷ filter p xs) (filter p xs)) (same x) ∙ ap (λ l. cond (q x) (x ∷ l) l) (filter_same p q same xs)
+pub filter_each : {A : Type 0} → (p q : A → Bool) (xs : List A) → AllByRecursion (λ x. p x ≡ q x) xs → filter p xs ≡ filter q xs
+filter_each p q [] same = refl
+filter_each p q (x ∷ xs) same =
+    ap (λ b. cond b (x ∷ filter p xs) (filter p xs)) same.0 ∙ ap (λ l. cond (q x) (x ∷ l) l) (filter_each p q xs same.1)
+
+pub filter_nothing : {A : Type 0} → (p : A → Bool) (xs : List A) → AllByRecursion (λ x. p x ≡ false) xs → filter p xs ≡ []
+filter_nothing p [] none = refl
+filter_nothing p (x ∷ xs) none = ap (λ b. cond b (x ∷ filter p xs) (filter p xs)) none.0 ∙ filter_nothing p xs none.1
+
+-- a list whose elements of a kind are these and those is cut between them
+pub record PartsOf {A : Type 0} (p : A → Bool) (zs xs ys : List A) : Type 0 where
+  pub front : List A
+  pub back : List A
+  pub whole : front ++ back ≡ zs
+  pub first : filter p front ≡ xs
+  pub second : filter p back ≡ ys
+
+part_first : {A : Type 0} → (p : A → Bool) (z : A) (zs xs ys : List A) → p z ≡ true → z ∷ filter p zs ≡ xs ++ ys
+    → ((us : List A) → filter p zs ≡ us ++ ys → PartsOf p zs us ys) → PartsOf p (z ∷ zs) xs ys
+part_first p z zs [] ys is e further = record {
+  front = [];
+  back = z ∷ zs;
+  whole = refl;
+  first = refl;
+  second = ap (λ b. cond b (z ∷ filter p zs) (filter p zs)) is ∙ e;
+}
+part_first p z zs (x ∷ xs) ys is e further =
+    let same : z ≡ x = cc in
+    let rest : filter p zs ≡ xs ++ ys = cc in
+    let more : PartsOf p zs xs ys = further xs rest in
+    record {
+      front = z ∷ more.front;
+      back = more.back;
+      whole = ap (λ l. z ∷ l) more.whole;
+      first = ap (λ b. cond b (z ∷ filter p more.front) (filter p more.front)) is ∙ ap₂ (λ a l. a ∷ l) same more.first;
+      second = more.second;
+    }
+
+part_over : {A : Type 0} → (p : A → Bool) (z : A) (zs xs ys : List A) → p z ≡ false → PartsOf p zs xs ys → PartsOf p (z ∷ zs) xs ys
+part_over p z zs xs ys is more = record {
+  front = z ∷ more.front;
+  back = more.back;
+  whole = ap (λ l. z ∷ l) more.whole;
+  first = ap (λ b. cond b (z ∷ filter p more.front) (filter p more.front)) is ∙ more.first;
+  second = more.second;
+}
+
+part_by : {A : Type 0} → (flag : Bool) (p : A → Bool) (z : A) (zs xs ys : List A) → p z ≡ flag → cond flag (z ∷ filter p zs) (filter p zs) ≡ xs ++ ys
+    → ((us : List A) → filter p zs ≡ us ++ ys → PartsOf p zs us ys) → PartsOf p (z ∷ zs) xs ys
+part_by true p z zs xs ys is e further = part_first p z zs xs ys is e further
+part_by false p z zs xs ys is e further = part_over p z zs xs ys is (further xs e)
+
+pub parts_of : {A : Type 0} → (p : A → Bool) (zs xs ys : List A) → filter p zs ≡ xs ++ ys → PartsOf p zs xs ys
+parts_of p [] [] ys e = record { front = []; back = []; whole = refl; first = refl; second = e }
+parts_of p [] (x ∷ xs) ys e = absurd cc
+parts_of p (z ∷ zs) xs ys e = part_by (p z) p z zs xs ys refl e (λ us. parts_of p zs us ys)
 
 -- ---- what holds of each
+
+pub all_front : {A : Type 0} → (P : A → Type 0) (xs ys : List A) → AllByRecursion P (xs ++ ys) → AllByRecursion P xs
+all_front P [] ys all = tt
+all_front P (x ∷ xs) ys all = (all.0, all_front P xs ys all.1)
+
+pub all_back : {A : Type 0} → (P : A → Type 0) (xs ys : List A) → AllByRecursion P (xs ++ ys) → AllByRecursion P ys
+all_back P [] ys all = all
+all_back P (x ∷ xs) ys all = all_back P xs ys all.1
 
 pub all_append : {A : Type 0} → (P : A → Type 0) (xs ys : List A) → AllByRecursion P xs → AllByRecursion P ys → AllByRecursion P (xs ++ ys)
 all_append P [] ys left right = right

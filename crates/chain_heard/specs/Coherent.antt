@@ -1,5 +1,5 @@
 -- What a client keeps of the messages that it took is true of the target at the position of the last one.
-use Rattle.std.specs.Prelude.{ℕ, ◌≡◌, false, List, [], ◌++◌, Some}
+use Rattle.std.specs.Prelude.{ℕ, ◌≡◌, false, List, ◌++◌, Some}
 use Rattle.cache_learning.specs.Kept.{kept}
 use Rattle.client_log.specs.Lessons.{lessons}
 use Rattle.client_log.specs.Shown.{ShowsKept}
@@ -15,7 +15,7 @@ use Rattle.tcf_text.specs.Each.{Each}
 use Rattle.tcf_text.specs.Lines.{last_mark}
 use Rattle.tcf_text.specs.Once.{Once}
 use Rattle.tcf_text.specs.declared.log.LogLine.{LogLine}
-use Rattle.chain_heard.specs.Heard.{Heard, heard_in}
+use Rattle.chain_heard.specs.Heard.{Heard, HeardNoTarget}
 
 -- The facts that are kept of the messages of these lines are true of the target at the position of the last message.
 -- Where that has none, nothing is kept.
@@ -35,7 +35,7 @@ abbrev pub HeardIsCoherent : Type 0
 HeardIsCoherent = (images : List Image) (history : List Input) (k position : ℕ) (c : ClientValue) (p : Past) → AreTyped images
     → TellsPast c p → Once false c.log → Each ShowsKept c.log → Heard images history k position p → IsCoherent c.log images history
 
--- One that took no message keeps nothing.
-abbrev pub NothingHeardIsCoherent : Type 0
-NothingHeardIsCoherent = (images : List Image) (history : List Input) (c : ClientValue) (p : Past)
-    → TellsPast c p → Each ShowsKept c.log → heard_in p ≡ [] → IsCoherent c.log images history
+-- One that heard nothing of the target keeps nothing.
+abbrev pub NoTargetHeardIsCoherent : Type 0
+NoTargetHeardIsCoherent = (images : List Image) (history : List Input) (c : ClientValue) (p : Past)
+    → TellsPast c p → Once false c.log → Each ShowsKept c.log → HeardNoTarget p → IsCoherent c.log images history

@@ -1,7 +1,8 @@
 -- What a client heard of the target, and what its log owes to the history by it.
-use Rattle.std.specs.Prelude.{ℕ, ◌≡◌, ◌^◌, ◌<◌, false, List, [], ◌∷◌, ◌++◌, length, map, decimal, Option, Ok}
+use Rattle.std.specs.Prelude.{ℕ, ◌≡◌, ◌^◌, ◌<◌, false, List, [], ◌∷◌, ◌++◌, length, map, decimal, Option, None, Ok}
 use Rattle.std.specs.List.{AllByRecursion, Contains, flat_map}
 pub use Rattle.agent_node.specs.AgentLaws.{first_token, later_tokens, messages_told}
+use Rattle.channel_core.specs.Arrivals.{Spoken}
 pub use Rattle.channel_core.specs.ReceivingLaws.{incoming_of}
 use Rattle.channel_core.specs.declared.held.Incoming.{Incoming}
 use Rattle.client_node.specs.ClientValue.{ClientValue}
@@ -15,6 +16,8 @@ use Rattle.target_hub.specs.declared.input.Input.{Input}
 use Rattle.tcf_message.specs.Message.{MessageValue, reading, spelling}
 use Rattle.tcf_text.specs.Lines.{Accepted}
 use Rattle.tcf_text.specs.Once.{Once}
+use Rattle.value_node.specs.Asked.{Asked}
+use Rattle.value_node.specs.OwnMessages.{BeginsWithHello, IsOwn}
 
 -- ---- what a client heard
 
@@ -30,20 +33,51 @@ heard_in p = flat_map incoming_of p.taken
 abbrev pub tokens_of : List Accepted → List (List ℕ)
 tokens_of commands = map (λ c. decimal c.number) commands
 
--- all that the history tells the channel k, to a client with this past
-abbrev pub owed_to : Past → List Image → ℕ → List Input → List (MessageValue × Option ℕ)
-owed_to p images k history = messages_told (tokens_of p.commands) (sent images k history)
+-- all that the history tells the channel k, to a peer that sends these commands there
+abbrev pub owed_to : List Accepted → List Image → ℕ → List Input → List (MessageValue × Option ℕ)
+owed_to commands images k history = messages_told (tokens_of commands) (sent images k history)
 
--- What a client heard of the target, on the channel k that the history opens at this position: its messages are, in
--- order, a front of what the history tells k, and what k executes are, in order, the first of its commands.
+-- a command of a client, as it is taken from it
+abbrev pub asked_as : Accepted → Asked
+asked_as c = record { token = decimal c.number; service = c.service; name = c.name; body = c.body; mark = None }
+
+-- what value-adds say themselves, as messages
+abbrev pub messages_of : List Spoken → List (MessageValue × Option ℕ)
+messages_of own = map (λ s. (s.message, s.mark)) own
+
+-- each of these messages is read as it was meant
+abbrev pub AreReadable : List (MessageValue × Option ℕ) → Type 0
+AreReadable messages = AllByRecursion (λ m. reading (spelling m.0) ≡ Ok m.0) messages
+
+-- What a client heard of the target, on the channel k that the history opens at this position. First come messages of the
+-- value-adds on the way, which answered its first commands themselves. Behind them its messages are, in order, a front of
+-- what the history tells k, and what k executes are, in order, the first of its other commands.
 pub record Heard (images : List Image) (history : List Input) (k position : ℕ) (p : Past) : Type 0 where
+  pub own : List Spoken  -- what the value-adds said themselves
+  pub answered : List Accepted  -- the commands that they answered
+  pub later : List Accepted  -- the others
+  pub commands : p.commands ≡ answered ++ later
+  pub is_own : IsOwn (map asked_as answered) own []
+  pub begins : BeginsWithHello own  -- as each channel does
   pub legal : IsLegal images history
   pub opened : OpensAt history position k
-  pub asked : IsPrefixOf (executed_on k history) (map read p.commands)
-  pub told : IsPrefixOf (heard_in p) (map incoming (owed_to p images k history))
-  pub readable : AllByRecursion (λ m. reading (spelling m.0) ≡ Ok m.0) (owed_to p images k history)
-  pub greeted_first : heard_in p ≡ [] → executed_on k history ≡ []  -- nothing is executed before a message was taken
+  pub asked : IsPrefixOf (executed_on k history) (map read later)
+  pub told : IsPrefixOf (heard_in p) (map incoming (messages_of own ++ owed_to later images k history))
+  pub readable : AreReadable (messages_of own ++ owed_to later images k history)
+  -- nothing is executed before the target's Hello was taken
+  pub greeted_first : IsPrefixOf (heard_in p) (map incoming (messages_of own)) → executed_on k history ≡ []
   pub few : length p.commands < 2 ^ 64  -- so no two tokens are the same
+
+-- A client heard nothing of the target: its messages are, in order, a front of what the value-adds on the way said
+-- themselves.
+pub record HeardNoTarget (p : Past) : Type 0 where
+  pub own : List Spoken
+  pub left : List Asked
+  pub is_own : IsOwn (map asked_as p.commands) own left
+  pub begins : BeginsWithHello own
+  pub told : IsPrefixOf (heard_in p) (map incoming (messages_of own))
+  pub readable : AreReadable (messages_of own)
+  pub few : length p.commands < 2 ^ 64
 
 -- ---- the laws
 
@@ -69,8 +103,8 @@ abbrev pub UnusedTokensChangeNothing : Type 0
 UnusedTokensChangeNothing = (images : List Image) (history : List Input) (k : ℕ) (names more : List (List ℕ)) → IsLegal images history
     → length names ≡ length (executed_on k history) → messages_told (names ++ more) (sent images k history) ≡ messages_told names (sent images k history)
 
--- The log of a client that took no message follows the history, where its channels execute nothing.
-abbrev pub NothingHeardIsOrdered : Type 0
-NothingHeardIsOrdered = (images : List Image) (history : List Input) (c : ClientValue) (p : Past) (channels : List ℕ)
-    → TellsPast c p → heard_in p ≡ [] → ((j : ℕ) → Contains channels j → executed_on j history ≡ [])
+-- The log of a client that heard nothing of the target follows the history, where its channels execute nothing.
+abbrev pub NoTargetHeardIsOrdered : Type 0
+NoTargetHeardIsOrdered = (images : List Image) (history : List Input) (c : ClientValue) (p : Past) (channels : List ℕ)
+    → TellsPast c p → Once false c.log → HeardNoTarget p → ((j : ℕ) → Contains channels j → executed_on j history ≡ [])
     → Ordered false c.log images history channels

@@ -19,11 +19,11 @@ use Rattle.agent_node.specs.Runs.{AgentRun, Call, Past, after_all, after_call, b
 use Rattle.agent_node.specs.Strangers.{HasNoStranger, NoStrangersAfterAnyCalls}
 use Rattle.agent_node.specs.declared.channel.Channel.{Channel}
 use Rattle.chain_world.specs.Chain.{agent_emptied, emptied, parts_delivered, queue_of}
-use Rattle.chain_world.proofs.Bytes.{bytes_by}
+use Rattle.chain_world.specs.Standing.{past_at, unmarked}
 use Rattle.chain_world.proofs.Calls.{calls_more, putting}
 use Rattle.chain_world.proofs.Emptying.{IsQueue, emptied_by, put, puts}
 use Rattle.chain_world.proofs.Queued.{changed_first as changed_is, place_found}
-use Rattle.chain_world.proofs.Pasts.{at_all, at_number, at_one, at_open, number_leaves, numbers_mapped, on_number_keeps, on_open_keeps, open_leaves, over_by, past_at, same_elsewhere, with_twice}
+use Rattle.chain_world.proofs.Pasts.{at_all, at_number, at_one, at_open, number_leaves, numbers_mapped, on_number_keeps, on_open_keeps, open_leaves, over_by, same_elsewhere, with_twice}
 
 -- ---- Calls of one channel
 
@@ -152,7 +152,7 @@ pieces_open closes k (part ∷ parts) r past opened is =
     (at_open k calls r.channels ∙ ap (option_map (over_by calls)) is ∙ ap Some (over_one false calls past opened))
     ∙ with_twice calls (delivering_all parts) (Some past)
 
-pub delivering_arrived : (parts : List Outgoing) → arrived (delivering_all parts) ≡ bytes_by (λ mark. None) parts
+pub delivering_arrived : (parts : List Outgoing) → arrived (delivering_all parts) ≡ unmarked parts
 delivering_arrived [] = refl
 delivering_arrived (part ∷ parts) = ap (λ bs. marked part.bytes None ++ bs) (delivering_arrived parts)
 

@@ -1,94 +1,21 @@
--- The bytes of what is in flight, and fronts of lists.
-use Rattle.std.proofs.Common.{◌≡◌, ℕ, zero, suc, ◌+◌, ◌-◌, ◌≤◌, ◌==◌, Bool, true, false, cond, nat_le, List, [], ◌∷◌, ◌++◌, length, take, drop, map, Option, refl, sym, ap, ◌∙◌, subst, arith, append_assoc, append-nil, length-append}
-use Rattle.std.specs.List.{AllByRecursion, flat_map}
-use Rattle.std.proofs.lemmas.List.{map-append, take-append-drop}
+-- The bytes of what is in flight, with their marks and without, and fronts of lists.
+use Rattle.std.proofs.Common.{◌≡◌, List, ◌++◌, map, sym, ap, ◌∙◌, append_assoc}
+use Rattle.std.proofs.lemmas.List.{map-append}
 use Rattle.std.proofs.lemmas.List.Concat.{flat_map-append}
-use Rattle.channel_core.specs.Arrivals.{IsFront, Marked, marked}
+use Rattle.std.specs.Prelude.{None}
+use Rattle.channel_core.specs.Arrivals.{IsFront, bytes_of, marked}
 use Rattle.channel_core.specs.declared.held.Outgoing.{Outgoing}
-use Rattle.chain_world.specs.Lane.{arriving, staying}
+use Rattle.chain_world.specs.Standing.{unmarked}
 
--- the bytes of a queue, each with what f makes of its message's mark
-abbrev pub bytes_by : (Option ℕ → Option ℕ) → List Outgoing → List Marked
-bytes_by f outs = flat_map (λ o. marked o.bytes (f o.mark)) outs
+pub bytes_more : (outs more : List Outgoing) → bytes_of (outs ++ more) ≡ bytes_of outs ++ bytes_of more
+bytes_more outs more = flat_map-append (λ o. marked o.bytes o.mark) outs more
 
-take_drop : {A : Type 0} → (n : ℕ) (xs : List A) → take n xs ++ drop n xs ≡ xs
-take_drop n xs = take-append-drop n xs
-
-cut_bytes : (f : Option ℕ → Option ℕ) (count : ℕ) (out : Outgoing) (outs : List Outgoing) → bytes_by f (out ∷ outs)
-    ≡ (marked (take count out.bytes) (f out.mark) ++ []) ++ (marked (drop count out.bytes) (f out.mark) ++ bytes_by f outs)
-cut_bytes f count out outs =
-    let mark = f out.mark in
-    let front = marked (take count out.bytes) mark in
-    let rest = marked (drop count out.bytes) mark in
-    ap (λ bs. marked bs mark ++ bytes_by f outs) (sym (take_drop count out.bytes))
-    ∙ ap (λ bs. bs ++ bytes_by f outs) (map-append (λ byte. record { byte = byte; mark = mark }) (take count out.bytes) (drop count out.bytes))
-    ∙ append_assoc front rest (bytes_by f outs)
-    ∙ ap (λ bs. bs ++ (rest ++ bytes_by f outs)) (sym (append-nil front))
-
--- what arrives, and then what stays, is what was in flight
-pub arrives_first : (f : Option ℕ → Option ℕ) (count : ℕ) (outs : List Outgoing) → bytes_by f outs ≡ bytes_by f (arriving count outs) ++ bytes_by f (staying count outs)
-arrives_first f count [] = refl
-arrives_first f count (out ∷ outs) = by_flags (count == 0) (nat_le (length out.bytes) count) (arrives_first f (count - length out.bytes) outs)
-  where
-    by_flags : (none whole : Bool) → bytes_by f outs ≡ bytes_by f (arriving (count - length out.bytes) outs) ++ bytes_by f (staying (count - length out.bytes) outs)
-        → bytes_by f (out ∷ outs)
-        ≡ bytes_by f (cond none [] (cond whole (out ∷ arriving (count - length out.bytes) outs) (record out { bytes = take count out.bytes } ∷ [])))
-        ++ bytes_by f (cond none (out ∷ outs) (cond whole (staying (count - length out.bytes) outs) (record out { bytes = drop count out.bytes } ∷ outs)))
-    by_flags true whole rest = refl
-    by_flags false true rest =
-        ap (λ bs. marked out.bytes (f out.mark) ++ bs) rest
-        ∙ sym (append_assoc (marked out.bytes (f out.mark)) (bytes_by f (arriving (count - length out.bytes) outs)) (bytes_by f (staying (count - length out.bytes) outs)))
-    by_flags false false rest = cut_bytes f count out outs
-
-pub bytes_more : (f : Option ℕ → Option ℕ) (outs more : List Outgoing) → bytes_by f (outs ++ more) ≡ bytes_by f outs ++ bytes_by f more
-bytes_more f outs more = flat_map-append (λ o. marked o.bytes (f o.mark)) outs more
-
--- ---- Fronts
+pub unmarked_more : (outs more : List Outgoing) → unmarked (outs ++ more) ≡ unmarked outs ++ unmarked more
+unmarked_more outs more =
+    let plain : Outgoing → Outgoing = λ out. record out { mark = None } in ap bytes_of (map-append plain outs more) ∙ bytes_more (map plain outs) (map plain more)
 
 pub front_same : {A : Type 0} → (front all next : List A) → all ≡ next → IsFront front all → IsFront front next
 front_same front all next same p = (p.0, sym same ∙ p.1)
 
 pub front_more : {A : Type 0} → (front all more : List A) → IsFront front all → IsFront front (all ++ more)
 front_more front all more p = (p.0 ++ more, ap (λ xs. xs ++ more) p.1 ∙ append_assoc front p.0 more)
-
-pub front_then : {A : Type 0} → (xs ys zs : List A) → IsFront xs ys → IsFront ys zs → IsFront xs zs
-front_then xs ys zs p q = (p.0 ++ q.0, q.1 ∙ ap (λ l. l ++ q.0) p.1 ∙ append_assoc xs p.0 q.0)
-
-pub front_map : {A B : Type 0} → (f : A → B) (xs ys : List A) → IsFront xs ys → IsFront (map f xs) (map f ys)
-front_map f xs ys p = (map f p.0, ap (map f) p.1 ∙ map-append f xs p.0)
-
-pub front_flat : {A B : Type 0} → (f : A → List B) (xs ys : List A) → IsFront xs ys → IsFront (flat_map f xs) (flat_map f ys)
-front_flat f xs ys p = (flat_map f p.0, ap (flat_map f) p.1 ∙ flat_map-append f xs p.0)
-
-pub front_none : {A : Type 0} → (xs : List A) → IsFront xs [] → xs ≡ []
-front_none [] p = refl
-front_none (x ∷ xs) p = let whole : [] ≡ x ∷ (xs ++ p.0) = p.1 in absurd cc
-
-pub front_length : {A : Type 0} → (xs ys : List A) → IsFront xs ys → length xs ≤ length ys
-front_length xs ys p = let is : length ys ≡ length xs + length p.0 = ap length p.1 ∙ length-append xs p.0 in omega arith
-
-pub front_each : {A : Type 0} → (P : A → Type 0) (xs ys : List A) → IsFront xs ys → AllByRecursion P ys → AllByRecursion P xs
-front_each P xs ys p each = by_front xs (subst (AllByRecursion P) p.1 each)
-  where
-    by_front : (front : List _) → AllByRecursion P (front ++ p.0) → AllByRecursion P front
-    by_front [] each = tt
-    by_front (x ∷ front) each = (each.0, by_front front each.1)
-
-pub take_front : {A : Type 0} → (n : ℕ) (xs : List A) → IsFront (take n xs) xs
-take_front n xs = (drop n xs, sym (take_drop n xs))
-
--- ---- One list after the other
-
-pub take_mapped : {A B : Type 0} → (f : A → B) (n : ℕ) (xs : List A) → take n (map f xs) ≡ map f (take n xs)
-take_mapped f zero xs = refl
-take_mapped f (suc n) [] = refl
-take_mapped f (suc n) (x ∷ xs) = ap (λ ys. f x ∷ ys) (take_mapped f n xs)
-
-pub map_twice : {A B C : Type 0} → (g : B → C) (f : A → B) (xs : List A) → map g (map f xs) ≡ map (λ x. g (f x)) xs
-map_twice g f [] = refl
-map_twice g f (x ∷ xs) = ap (λ ys. g (f x) ∷ ys) (map_twice g f xs)
-
-pub all_taken : {A : Type 0} → (P : A → Type 0) (n : ℕ) (xs : List A) → AllByRecursion P xs → AllByRecursion P (take n xs)
-all_taken P zero xs each = tt
-all_taken P (suc n) [] each = tt
-all_taken P (suc n) (x ∷ xs) each = (each.0, all_taken P n xs each.1)

@@ -21,10 +21,6 @@ IsIdle draining = Unit {0}
 abbrev pub AreIdle : {T : Type 0} → List (Call T) → Type 0
 AreIdle calls = AllByRecursion IsIdle calls
 
-pub all_append : {A : Type 0} → (P : A → Type 0) (xs ys : List A) → AllByRecursion P xs → AllByRecursion P ys → AllByRecursion P (xs ++ ys)
-all_append P [] ys first second = second
-all_append P (x ∷ xs) ys first second = (first.0, all_append P xs ys first.1 second)
-
 pub calls_more : {T : Type 0} → (calls more : List (Call T)) (r : Run T) → after_calls (calls ++ more) r ≡ after_calls more (after_calls calls r)
 calls_more [] more r = refl
 calls_more (call ∷ calls) more r = calls_more calls more (after_call call r)

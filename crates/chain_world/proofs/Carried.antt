@@ -1,31 +1,11 @@
--- What is queued goes out, one message after the other.
+-- What a client has queued goes out, one message after the other.
 use Rattle.std.proofs.Common.{◌≡◌, ℕ, Bool, true, false, List, [], ◌∷◌, Option, Some, None, refl, sym, ap}
-use Rattle.std.proofs.lemmas.List.{append-nil, append_assoc}
 use Rattle.std.proofs.lemmas.Option.{none-some, same_Some}
 use Rattle.channel_core.specs.EndValue.{EndValue}
 use Rattle.channel_core.specs.declared.held.Outgoing.{Outgoing}
 use Rattle.client_node.specs.ClientValue.{ClientValue}
 use Rattle.client_node.specs.Client.{after_giving, given}
 use Rattle.chain_world.specs.Chain.{client_emptied, queue_of}
-use Rattle.chain_world.specs.Hop.{sent_up}
-use Rattle.chain_world.specs.declared.hop.Hop.{Hop}
-
-sent_parts : (live : Bool) (up down : List Outgoing) (out : Outgoing) (outs : List Outgoing) →
-    sent_up outs (sent_up (out ∷ []) (record { is_live = live; up = up; down = down })) ≡ sent_up (out ∷ outs) (record { is_live = live; up = up; down = down })
-sent_parts true up down out outs =
-    let hop_of : List Outgoing → Hop = λ xs. record { is_live = true; up = xs; down = down } in ap hop_of (append_assoc up (out ∷ []) outs)
-sent_parts false up down out outs = refl
-
--- one message and then the others
-pub sent_on : (out : Outgoing) (outs : List Outgoing) (hop : Hop) → sent_up outs (sent_up (out ∷ []) hop) ≡ sent_up (out ∷ outs) hop
-sent_on out outs hop = sent_parts hop.is_live hop.up hop.down out outs
-
-none_parts : (live : Bool) (up down : List Outgoing) → sent_up [] (record { is_live = live; up = up; down = down }) ≡ record { is_live = live; up = up; down = down }
-none_parts true up down = let hop_of : List Outgoing → Hop = λ xs. record { is_live = true; up = xs; down = down } in ap hop_of (append-nil up)
-none_parts false up down = refl
-
-pub none_sent : (hop : Hop) → sent_up [] hop ≡ hop
-none_sent hop = none_parts hop.is_live hop.up hop.down
 
 -- ---- a client gives the first message that it has queued
 

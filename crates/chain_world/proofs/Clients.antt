@@ -238,13 +238,30 @@ called_on closes e log spent = closed_opened (is_closed e.state) (client_of (Som
 called_on gives e log spent = refl
 called_on (asks what) e log spent = refl
 
-pub opened_stays : (call : Call) (c : ClientValue) → is_some c.channel ≡ true → is_some (called call c).channel ≡ true
-opened_stays call c opened = by_channel c.channel c.log c.is_spent opened
-  where
-    by_channel : (channel : Option (EndValue ℕ)) (log : List LogLine) (spent : Bool) → is_some channel ≡ true → is_some (called call (client_of channel log spent)).channel ≡ true
-    by_channel None log spent is = absurd cc
-    by_channel (Some e) log spent is = called_on call e log spent
+-- before the opening nothing changes that
+abbrev pub IsLater : Call → Type 0
+IsLater opens = ⊥
+IsLater (sends service name body) = Unit {0}
+IsLater (comes piece mark) = Unit {0}
+IsLater bytes_end = Unit {0}
+IsLater turns = Unit {0}
+IsLater closes = Unit {0}
+IsLater gives = Unit {0}
+IsLater (asks what) = Unit {0}
 
-pub opened_run : (calls : List Call) (c : ClientValue) → is_some c.channel ≡ true → is_some (run calls c).channel ≡ true
-opened_run [] c opened = opened
-opened_run (call ∷ calls) c opened = opened_run calls (called call c) (opened_stays call c opened)
+none_later : (call : Call) (log : List LogLine) (spent : Bool) → IsLater call → is_some (called call (client_of None log spent)).channel ≡ false
+none_later opens log spent later = absurd later
+none_later (sends service name body) log spent later = refl
+none_later (comes piece mark) log spent later = refl
+none_later bytes_end log spent later = refl
+none_later turns log spent later = refl
+none_later closes log spent later = refl
+none_later gives log spent later = refl
+none_later (asks what) log spent later = refl
+
+pub opened_kept : (call : Call) (c : ClientValue) → IsLater call → is_some (called call c).channel ≡ is_some c.channel
+opened_kept call c later = by_channel c.channel c.log c.is_spent
+  where
+    by_channel : (channel : Option (EndValue ℕ)) (log : List LogLine) (spent : Bool) → is_some (called call (client_of channel log spent)).channel ≡ is_some channel
+    by_channel None log spent = none_later call log spent later
+    by_channel (Some e) log spent = called_on call e log spent

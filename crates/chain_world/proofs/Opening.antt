@@ -1,288 +1,285 @@
--- A client connects, and the agent opens the next number or refuses it.
-use Rattle.std.proofs.Common.{◌≡◌, ℕ, zero, suc, ◌+◌, ◌<◌, ◌≤◌, ◌||◌, Bool, true, false, cond, List, [], ◌∷◌, ◌++◌, Option, Some, None, refl, sym, ap, ◌∙◌, subst, arith, append-nil, eq-eqb}
-use Rattle.std.specs.Prelude.{is_some, slice_get, slice_set, ◌^◌, ◌-◌}
-use Rattle.std.specs.List.{AllByRecursion, list_any}
-use Rattle.std.proofs.Math.Nat.{min-eq_left}
-use Rattle.std.proofs.lemmas.List.{map-append}
-use Rattle.channel_core.specs.Arrivals.{arrived}
+-- A client connects, or a value-add does; where that is to the agent, it opens the next number or refuses it.
+use Rattle.std.proofs.Common.{◌≡◌, ℕ, ◌+◌, ◌<◌, ◌||◌, Bool, true, false, cond, nat_lt, List, [], ◌∷◌, ◌++◌, Option, Some, None, refl, sym, ap, ◌∙◌, subst, arith, append-nil, eq-eqb}
+use Rattle.std.specs.Prelude.{is_some, slice_get, slice_set, ◌^◌}
+use Rattle.std.specs.List.{AllByRecursion, Contains}
+use Rattle.client_node.specs.Client.{opened as client_opened}
+use Rattle.client_node.specs.Runs.{called, opened_from, opens as client_opens}
 use Rattle.channel_core.specs.EndValue.{EndValue}
-use Rattle.channel_core.specs.Runs.{Call as EndCall}
-use Rattle.client_node.specs.Client.{new_client, opened as client_opened}
-use Rattle.client_node.specs.ClientValue.{ClientValue}
-use Rattle.client_node.specs.Ends.{HasNames, IsEndAfter, end_after, end_calls, given_out}
-use Rattle.client_node.specs.Runs.{Call as ClientCall, called, opened_from, opens as client_opens, run}
 use Rattle.target_contexts.specs.declared.process.Image.{Image}
 use Rattle.target_hub.specs.declared.input.Input.TheVariants.{Opened}
 use Rattle.agent_node.specs.Agent.{opened as agent_opened}
 use Rattle.agent_node.specs.AgentValue.{AgentValue}
-use Rattle.agent_node.specs.Runs.{AgentRun, Past, input_if, opened_by, opens}
-use Rattle.chain_world.specs.Chain.{carried_up, is_opened, opened, refusal_of}
-use Rattle.chain_world.specs.Hop.{connected}
-use Rattle.chain_world.specs.World.{after_next, connected_at, opened_at, opened_from as world_opened_from, opening, with_input}
+use Rattle.agent_node.specs.Runs.{AgentRun, Past, input_if, opened_by as pasts_opened, opens}
+use Rattle.tcf_schedules.specs.Plan.{Plan}
+use Rattle.value_node.specs.declared.states.Side.{Side}
+use Rattle.chain_route.specs.Route.{connected, turned as way_turned}
+use Rattle.chain_route.specs.RouteValue.{RouteValue}
+use Rattle.chain_route.specs.Runs.{RouteRun, after_call, joined_by, joins, turns}
+use Rattle.chain_world.specs.Chain.{carried_up, channels_of, is_opened, none_reached, opened_by, reached}
+use Rattle.chain_world.specs.ChainValue.{ChainValue}
+use Rattle.chain_world.specs.Standing.{AllStand, AreBelow, AreNumbered, Talks, past_at}
+use Rattle.chain_world.specs.World.{add_turned, after_number, carried, connected_at, on_chain, on_some, opened_at, opened_from as world_opened_from, opening, reached_at, reached_by, reached_from, reached_if, reached_with, with_chain, with_input, with_route}
 use Rattle.chain_world.specs.WorldValue.{WorldValue}
-use Rattle.chain_world.specs.declared.chain.Chain.{Chain}
-use Rattle.chain_world.specs.declared.hop.Hop.{Hop}
 use Rattle.chain_world.proofs.Agents.{Laws, Reached, reached_more}
-use Rattle.chain_world.proofs.Calls.{all_append, arrived_more}
-use Rattle.chain_world.proofs.Clients.{end_calls_more, given_more, quiet_arrived, run_more}
-use Rattle.chain_world.proofs.Flows.{Flows}
-use Rattle.chain_world.proofs.Moves.{Carries, Linked, up_carries}
-use Rattle.chain_world.proofs.Pasts.{Keeps, apart_flag, at_more, at_new, keeps_same, past_at}
-use Rattle.chain_world.proofs.Steps.{carries_kept}
-use Rattle.chain_world.proofs.Worlds.{AreNumbered, Differ, IsApart, IsBelow, IsOwned, Stands, at_place, carried_stands, channels_of, has_channel, numbers_of, set_each, unopened}
+use Rattle.chain_world.proofs.Chains.{client_agrees, inside_agrees, inside_fits, up_fits}
+use Rattle.chain_world.proofs.Fitting.{Agrees, Fits, IsWay, is_way_holds, way_on}
+use Rattle.chain_world.proofs.Lists.{all_append, all_map, get_set, set_twice}
+use Rattle.chain_world.proofs.Numbers.{HasMore, all_channels, at_contains, each_all, set_below, set_contains, set_differ, set_new}
+use Rattle.chain_world.proofs.Pasts.{Keeps, apart_flag, at_more, at_new, keeps_same}
+use Rattle.chain_world.proofs.Places.{StandsAt, place_of, set_stands, stands_at}
+use Rattle.chain_world.proofs.Reaching.{Waits, new_talk, reached_chain, reached_fits}
+use Rattle.chain_world.proofs.Talks.{IsCameSame, came_grown, talked_same, talks_same}
+use Rattle.chain_world.proofs.Ways.{connected_last, joined_waits, turned_joined, turned_waits}
+use Rattle.chain_world.proofs.Worlds.{Standing, carried_stands, chain_stands}
 
--- ---- The chain
+-- ---- The agent opens the next number, or refuses it
 
--- what the agent has of the number then
-abbrev Begins : Bool → Option Past → Type 0
-Begins true there = (past : Past) × (there ≡ Some past) × (past.calls ≡ [])
-Begins false there = there ≡ None
+abbrev new_past : ℕ → AgentValue → Past
+new_past k a = record { number = k; position = a.position + 1; calls = [] }
 
-first_flows : (did : Bool) (there : Option Past) → Begins did there → Flows (connected (refusal_of did)) [] [] there
-first_flows false there is =
-    subst (Flows (connected (refusal_of false)) [] []) (sym is) (record { down = λ live. refl; down_front = (_, refl); up = λ live taking. absurd cc; up_front = ([], refl) })
-first_flows true there is =
-    let fresh : Past = record is.0 { calls = [] } in
-    let same : is.0 ≡ fresh = ap (λ calls. record is.0 { calls = calls }) is.2 in
-    subst (Flows (connected (refusal_of true)) [] []) (sym (is.1 ∙ ap Some same)) (record { down = λ live. refl; down_front = ([], refl); up = λ live taking. refl; up_front = ([], refl) })
+-- the channel is new
+unpast : (k : ℕ) (numbers : List ℕ) (pasts : List Past) → AllByRecursion (λ j. j < k) numbers → AllByRecursion (λ past. Contains numbers past.number) pasts → past_at k pasts ≡ None
+unpast k numbers [] below owned = refl
+unpast k numbers (past ∷ pasts) below owned =
+    let less : past.number < k = each_all (λ j. j < k) numbers below past.number owned.0 in
+    ap (λ b. cond b (Some past) (past_at k pasts)) (apart_flag past.number k (λ same. let is : past.number ≡ k = same in omega arith)) ∙ unpast k numbers pasts below owned.1
 
-abbrev joined : Bool → ℕ → Chain → Chain
-joined did k chain = record chain { client = client_opened chain.client; hop = connected (refusal_of did); channel = Some k }
+begins_by : (did : Bool) (k : ℕ) (a : AgentValue) (pasts : List Past) → past_at k pasts ≡ None → Talks (past_at k (pasts_opened did k a pasts)) (new_talk did)
+begins_by true k a pasts none =
+    subst (λ past. Talks past (new_talk true)) (sym (at_new k pasts (new_past k a) none (eq-eqb k k refl))) (record { gave = refl; came = λ takes. refl; front = ([], refl) })
+begins_by false k a pasts none = subst (λ past. Talks past (new_talk false)) (sym none) (record { gave = refl; came = λ takes. absurd cc; front = ([], refl) })
 
--- the end of a client that isn't opened had no call
-pub none_called : (channel : Option (EndValue ℕ)) (calls : List (EndCall ℕ)) → channel ≡ None → IsEndAfter channel calls → calls ≡ []
-none_called None calls none is = is
-none_called (Some e) calls none is = absurd cc
+opened_keeps : (did : Bool) (k : ℕ) (a : AgentValue) (pasts : List Past) (j : ℕ) → j < k → Keeps j pasts (pasts_opened did k a pasts)
+opened_keeps true k a pasts j less =
+    let new = new_past k a in
+    keeps_same j pasts (pasts ++ new ∷ []) (at_more j pasts new (apart_flag k j (λ same. let is : k ≡ j = same in omega arith)))
+opened_keeps false k a pasts j less = keeps_same j pasts pasts refl
 
-joined_carries : Laws → (did : Bool) (pasts later : List Past) (k : ℕ) (chain : Chain) → chain.client.channel ≡ None → Begins did (past_at k later) → Carries pasts chain → Carries later (joined did k chain)
-joined_carries laws did pasts later k chain none begins c =
-    let e = laws.ends c.calls in
-    let all = c.calls ++ client_opens ∷ [] in
-    let nothing : end_calls c.calls new_client ≡ [] = none_called (run c.calls new_client).channel (end_calls c.calls new_client) (ap (λ x. x.channel) (sym c.client) ∙ none) e.end in
-    let gave : given_out all new_client ≡ [] =
-    given_more c.calls (client_opens ∷ []) new_client ∙ append-nil (given_out c.calls new_client) ∙ e.given ∙ ap (λ calls. (end_after calls).past.given) nothing in
-    let got : arrived (end_calls all new_client) ≡ [] =
-    ap arrived (end_calls_more c.calls (client_opens ∷ []) new_client) ∙ arrived_more (end_calls c.calls new_client) (end_calls (client_opens ∷ []) (run c.calls new_client))
-    ∙ ap (λ calls. arrived calls ++ arrived (end_calls (client_opens ∷ []) (run c.calls new_client))) nothing ∙ quiet_arrived client_opens (run c.calls new_client) tt in
-    record {
-      calls = all;
-      client = ap (λ ch. opened_from ch chain.client) (sym none) ∙ ap (called client_opens) c.client ∙ sym (run_more c.calls (client_opens ∷ []) new_client);
-      names = all_append HasNames c.calls (client_opens ∷ []) c.names (tt, tt);
-      linked = record {
-        opened = refl;
-        flows = subst (λ os. Flows (connected (refusal_of did)) os (arrived (end_calls all new_client)) (past_at k later)) (sym gave)
-            (subst (λ bs. Flows (connected (refusal_of did)) [] bs (past_at k later)) (sym got) (first_flows did (past_at k later) begins));
-      };
-    }
+opened_owned : (did : Bool) (k : ℕ) (a : AgentValue) (pasts : List Past) (numbers more : List ℕ) → ((j : ℕ) → Contains numbers j → Contains more j) → Contains more k → AllByRecursion (λ past. Contains numbers past.number) pasts
+    → AllByRecursion (λ past. Contains more past.number) (pasts_opened did k a pasts)
+opened_owned true k a pasts numbers more within new owned =
+    all_append (λ past. Contains more past.number) pasts (new_past k a ∷ []) (all_map (λ past. Contains numbers past.number) (λ past. Contains more past.number) pasts (λ past has. within past.number has) owned) (new, tt)
+opened_owned false k a pasts numbers more within new owned =
+    all_map (λ past. Contains numbers past.number) (λ past. Contains more past.number) pasts (λ past has. within past.number has) owned
 
-unjoined : (ch : Option ℕ) (client : ClientValue) (hop : Hop) (calls : List ClientCall) (pasts : List Past) → is_some client.channel ≡ false → Linked ch client hop calls pasts → (ch ≡ None) × (client.channel ≡ None)
-unjoined None client hop calls pasts closed l = (refl, l.unopened)
-unjoined (Some k) client hop calls pasts closed l = let opened = l.opened in absurd cc
-
--- ---- The numbers
-
-no_past : (k : ℕ) (pasts : List Past) → AllByRecursion (λ n. n < k) (numbers_of pasts) → past_at k pasts ≡ None
-no_past k [] each = refl
-no_past k (past ∷ pasts) each =
-    let less : past.number < k = each.0 in
-    ap (λ b. cond b (Some past) (past_at k pasts)) (apart_flag past.number k (λ same. let is : past.number ≡ k = same in omega arith)) ∙ no_past k pasts each.1
-
-more_numbers : (k : ℕ) (numbers : List ℕ) → AllByRecursion (λ n. n < k) numbers → AllByRecursion (λ n. n < k + 1) numbers
-more_numbers k [] each = tt
-more_numbers k (n ∷ numbers) each = let less : n < k = each.0 in (omega arith, more_numbers k numbers each.1)
-
-next_below : (k : ℕ) (ch : Option ℕ) → IsBelow k ch → IsBelow (k + 1) ch
-next_below k None below = tt
-next_below k (Some n) below = let less : n < k = below in omega arith
-
-rest_below : (k : ℕ) (chs : List (Option ℕ)) → AllByRecursion (IsBelow k) chs → AllByRecursion (IsBelow (k + 1)) chs
-rest_below k [] each = tt
-rest_below k (ch ∷ chs) each = (next_below k ch each.0, rest_below k chs each.1)
-
-set_below : (k : ℕ) (chains : List Chain) (at : ℕ) (next : Chain) → next.channel ≡ Some k → AllByRecursion (IsBelow k) (channels_of chains) → AllByRecursion (IsBelow (k + 1)) (channels_of (slice_set chains at next))
-set_below k [] at next is each = tt
-set_below k (x ∷ chains) zero next is each = let less : k < k + 1 = omega arith in (subst (IsBelow (k + 1)) (sym is) less, rest_below k (channels_of chains) each.1)
-set_below k (x ∷ chains) (suc at) next is each = (next_below k x.channel each.0, set_below k chains at next is each.1)
-
-below_apart : (k : ℕ) (ch : Option ℕ) → IsBelow k ch → IsApart ch (Some k)
-below_apart k None below j one other = absurd cc
-below_apart k (Some n) below j one other =
-    let less : n < k = below in
-    let first : n ≡ j = cc in
-    let second : k ≡ j = cc in
-    let same : n ≡ k = first ∙ sym second in omega arith
-
-set_apart : (k : ℕ) (ch : Option ℕ) (chains : List Chain) (at : ℕ) (next : Chain) → next.channel ≡ Some k → IsBelow k ch → AllByRecursion (IsApart ch) (channels_of chains) → AllByRecursion (IsApart ch) (channels_of (slice_set chains at next))
-set_apart k ch [] at next is below each = tt
-set_apart k ch (x ∷ chains) zero next is below each = (subst (IsApart ch) (sym is) (below_apart k ch below), each.1)
-set_apart k ch (x ∷ chains) (suc at) next is below each = (each.0, set_apart k ch chains at next is below each.1)
-
-new_apart : (k : ℕ) (chs : List (Option ℕ)) → AllByRecursion (IsBelow k) chs → AllByRecursion (IsApart (Some k)) chs
-new_apart k [] each = tt
-new_apart k (ch ∷ chs) each = (λ j one other. below_apart k ch each.0 j other one, new_apart k chs each.1)
-
-set_differ : (k : ℕ) (chains : List Chain) (at : ℕ) (next : Chain) → next.channel ≡ Some k → AllByRecursion (IsBelow k) (channels_of chains) → Differ (channels_of chains) → Differ (channels_of (slice_set chains at next))
-set_differ k [] at next is below differ = tt
-set_differ k (x ∷ chains) zero next is below differ = (subst (λ ch. AllByRecursion (IsApart ch) (channels_of chains)) (sym is) (new_apart k (channels_of chains) below.1), differ.1)
-set_differ k (x ∷ chains) (suc at) next is below differ = (set_apart k x.channel chains at next is below.0 differ.0, set_differ k chains at next is below.1 differ.1)
-
-one_unopened : (ch : Option ℕ) (chs : List (Option ℕ)) → ch ≡ None → unopened (ch ∷ chs) ≡ 1 + unopened chs
-one_unopened None chs is = refl
-one_unopened (Some k) chs is = absurd cc
-
-none_unopened : (ch : Option ℕ) (k : ℕ) (chs : List (Option ℕ)) → ch ≡ Some k → unopened (ch ∷ chs) ≡ unopened chs
-none_unopened None k chs is = absurd cc
-none_unopened (Some j) k chs is = refl
-
-each_unopened : (ch : Option ℕ) (chs others : List (Option ℕ)) → unopened chs ≡ 1 + unopened others → unopened (ch ∷ chs) ≡ 1 + unopened (ch ∷ others)
-each_unopened None chs others is = ap (λ n. 1 + n) is
-each_unopened (Some k) chs others is = is
-
-set_unopened : (k : ℕ) (chains : List Chain) (at : ℕ) (c next : Chain) → slice_get chains at ≡ Some c → c.channel ≡ None → next.channel ≡ Some k
-    → unopened (channels_of chains) ≡ 1 + unopened (channels_of (slice_set chains at next))
-set_unopened k [] at c next there none is = absurd cc
-set_unopened k (x ∷ chains) zero c next there none is =
-    let same : x ≡ c = cc in
-    one_unopened x.channel (channels_of chains) (ap (λ y. y.channel) same ∙ none) ∙ ap (λ n. 1 + n) (sym (none_unopened next.channel k (channels_of chains) is))
-set_unopened k (x ∷ chains) (suc at) c next there none is = each_unopened x.channel (channels_of chains) (channels_of (slice_set chains at next)) (set_unopened k chains at c next there none is)
-
--- a channel that a chain had it has, and the new one is the chain's
-or_more : (a b : Bool) → b ≡ true → (a || b) ≡ true
-or_more true b is = refl
-or_more false b is = is
-
-set_owned : (n : ℕ) (chains : List Chain) (at : ℕ) (c next : Chain) → slice_get chains at ≡ Some c → c.channel ≡ None → IsOwned (channels_of chains) n → IsOwned (channels_of (slice_set chains at next)) n
-set_owned n [] at c next there none owned = owned
-set_owned n (x ∷ chains) zero c next there none owned =
-    let same : x ≡ c = cc in
-    let rest : IsOwned (channels_of chains) n = sym (ap (λ ch. has_channel n ch || list_any (has_channel n) (channels_of chains)) (ap (λ y. y.channel) same ∙ none)) ∙ owned in
-    or_more (has_channel n next.channel) (list_any (has_channel n) (channels_of chains)) rest
-set_owned n (x ∷ chains) (suc at) c next there none owned = by_flag (has_channel n x.channel) owned (set_owned n chains at c next there none)
+next_below : (k : ℕ) (numbers : List ℕ) → AllByRecursion (λ j. j < k + 1) numbers → AreBelow (after_number k) numbers
+next_below k numbers below = by_flag (nat_lt (k + 1) (2 ^ 64))
   where
-    by_flag : (flag : Bool) → (flag || list_any (has_channel n) (channels_of chains)) ≡ true → (IsOwned (channels_of chains) n → IsOwned (channels_of (slice_set chains at next)) n)
-        → (flag || list_any (has_channel n) (channels_of (slice_set chains at next))) ≡ true
-    by_flag true some rest = refl
-    by_flag false some rest = rest some
+    by_flag : (flag : Bool) → AreBelow (cond flag (Some (k + 1)) None) numbers
+    by_flag true = below
+    by_flag false = tt
 
-all_owned : (numbers : List ℕ) (chains : List Chain) (at : ℕ) (c next : Chain) → slice_get chains at ≡ Some c → c.channel ≡ None → AllByRecursion (IsOwned (channels_of chains)) numbers
-    → AllByRecursion (IsOwned (channels_of (slice_set chains at next))) numbers
-all_owned [] chains at c next there none each = tt
-all_owned (n ∷ numbers) chains at c next there none each = (set_owned n chains at c next there none each.0, all_owned numbers chains at c next there none each.1)
+module _ (laws : Laws) (plans : List Plan) (images : List Image) (adds : List ℕ) where
+  -- ---- The way of a chain has reached the agent
 
-new_owned : (k : ℕ) (chains : List Chain) (at : ℕ) (c next : Chain) → slice_get chains at ≡ Some c → next.channel ≡ Some k → IsOwned (channels_of (slice_set chains at next)) k
-new_owned k [] at c next there is = absurd cc
-new_owned k (x ∷ chains) zero c next there is = ap (λ ch. has_channel k ch || list_any (has_channel k) (channels_of chains)) is ∙ ap (λ b. b || list_any (has_channel k) (channels_of chains)) (eq-eqb k k refl)
-new_owned k (x ∷ chains) (suc at) c next there is = or_more (has_channel k x.channel) _ (new_owned k chains at c next there is)
+  module _ (at : ℕ) (c d : ChainValue) (w : WorldValue) (s : Standing plans images adds w) (there : slice_get w.chains at ≡ Some c) (same : channels_of d ≡ channels_of c)
+      (waits : (pasts : List Past) (count : ℕ) → Fits (place_of plans at) pasts count c → Waits (place_of plans at) pasts count d) where
+    here : StandsAt (place_of plans at) s.run.channels adds at c
+    here = stands_at plans s.run.channels adds w.chains at c there s.chains
 
-both_each : (P : Chain → Type 0) (Q : Option ℕ → Type 0) (chains : List Chain) → AllByRecursion P chains → AllByRecursion Q (channels_of chains) → AllByRecursion (λ c. P c × Q c.channel) chains
-both_each P Q [] first second = tt
-both_each P Q (c ∷ chains) first second = ((first.0, second.0), both_each P Q chains first.1 second.1)
+    abbrev middle : WorldValue
+    middle = with_chain at d w
 
--- ---- The world
+    found : slice_get middle.chains at ≡ Some d
+    found = get_set at w.chains d c there
 
-module _ (laws : Laws) (images : List Image) (count : ℕ) (few : count < 2 ^ 64) where
-  module _ (at : ℕ) (chain : Chain) (w : WorldValue) (s : Stands images count w) (there : slice_get w.chains at ≡ Some chain) (closed : is_opened chain ≡ false) where
-    k : ℕ
-    k = w.next
+    -- no number is left
+    refused_stands : Standing plans images adds (on_chain none_reached at middle)
+    refused_stands =
+        let next = none_reached d in
+        let changed : on_chain none_reached at middle ≡ with_chain at next w =
+        ap (λ o. on_some none_reached at o middle) found ∙ ap (λ chains. record w { chains = chains }) (set_twice at w.chains d next) in
+        let fits : (pasts : List Past) (count : ℕ) → Fits (place_of plans at) pasts count c → Fits (place_of plans at) pasts count next =
+        λ pasts count f. up_fits laws (place_of plans at) pasts count (reached_chain None false d) (reached_fits (place_of plans at) pasts pasts count d None false refl (λ j has. refl) (waits pasts count f)) in
+        subst (Standing plans images adds) (sym changed) (chain_stands laws plans images adds at c next w there (append-nil (channels_of d) ∙ same) fits s)
 
-    carries : Carries s.run.channels chain
-    carries = at_place (Carries s.run.channels) w.chains at chain there s.chains
+    module _ (k : ℕ) (is : w.next ≡ Some k) where
+      numbered : AreNumbered (Some k) s.run.channels (all_channels w.chains)
+      numbered = subst (λ next. AreNumbered next s.run.channels (all_channels w.chains)) is s.numbered
 
-    none : (chain.channel ≡ None) × (chain.client.channel ≡ None)
-    none = unjoined chain.channel chain.client chain.hop carries.calls s.run.channels closed carries.linked
+      abbrev after : Bool → List Past
+      after did = pasts_opened did k s.run.agent s.run.channels
 
-    abbrev opened_world : Bool → AgentValue → WorldValue
-    opened_world did a = with_input (opening did w.next) (record w { chains = slice_set w.chains at (carried_up (joined did w.next chain)); agent = a; next = after_next w.next })
+      abbrev next_of : Bool → ChainValue
+      next_of did = carried_up (reached_chain (Some k) did d)
 
-    abbrev opened_run : Bool → AgentValue → AgentRun
-    opened_run did a = record { agent = a; history = s.run.history ++ input_if did (Opened w.next); channels = opened_by did w.next s.run.agent s.run.channels }
+      none : past_at k s.run.channels ≡ None
+      none = unpast k (all_channels w.chains) s.run.channels numbered.below numbered.owned
 
-    unpast : past_at w.next s.run.channels ≡ None
-    unpast = no_past w.next s.run.channels s.numbered.pasts
+      below : (j : ℕ) → Contains (channels_of c) j → j < k
+      below j has = each_all (λ i. i < k) (all_channels w.chains) numbered.below j (at_contains w.chains at c j there has)
 
-    begins : (did : Bool) → Begins did (past_at w.next (opened_by did w.next s.run.agent s.run.channels))
-    begins true =
-        let new : Past = record { number = w.next; position = s.run.agent.position + 1; calls = [] } in
-        (new, at_new w.next s.run.channels new unpast (eq-eqb w.next w.next refl), refl)
-    begins false = unpast
+      fits : (did : Bool) → Fits (place_of plans at) (after did) here.count (next_of did)
+      fits did =
+          let came : (j : ℕ) → Contains (channels_of d) j → IsCameSame s.run.channels (after did) j =
+          λ j has. came_grown (past_at j s.run.channels) (past_at j (after did)) (opened_keeps did k s.run.agent s.run.channels j (below j (subst (λ ks. Contains ks j) same has))) in
+          up_fits laws (place_of plans at) (after did) here.count (reached_chain (Some k) did d)
+          (reached_fits (place_of plans at) s.run.channels (after did) here.count d (Some k) did (begins_by did k s.run.agent s.run.channels none) came (waits s.run.channels here.count here.fits))
 
-    keeps : (did : Bool) (j : ℕ) → j < w.next → Keeps j s.run.channels (opened_by did w.next s.run.agent s.run.channels)
-    keeps true j less =
-        let new : Past = record { number = w.next; position = s.run.agent.position + 1; calls = [] } in
-        keeps_same j s.run.channels (s.run.channels ++ new ∷ []) (at_more j s.run.channels new (apart_flag w.next j (λ same. let is : w.next ≡ j = same in omega arith)))
-    keeps false j less = keeps_same j s.run.channels s.run.channels refl
+      more : (did : Bool) → HasMore k c (next_of did)
+      more did = ap (λ ks. ks ++ k ∷ []) same
 
-    kept : (did : Bool) (d : Chain) → Carries s.run.channels d × IsBelow w.next d.channel → Carries (opened_by did w.next s.run.agent s.run.channels) d
-    kept did d facts = carries_kept laws s.run.channels (opened_by did w.next s.run.agent s.run.channels) d (λ j is. keeps did j (subst (IsBelow w.next) is facts.1)) facts.0
+      abbrev opened_world : Bool → AgentValue → WorldValue
+      opened_world did a = with_input (opening did k) (record w { chains = slice_set w.chains at (next_of did); agent = a; next = after_number k })
 
-    chains : (did : Bool) → AllByRecursion (Carries (opened_by did w.next s.run.agent s.run.channels)) (slice_set w.chains at (carried_up (joined did w.next chain)))
-    chains did =
-        let later = opened_by did w.next s.run.agent s.run.channels in
-        set_each (λ d. Carries s.run.channels d × IsBelow w.next d.channel) (Carries later) w.chains at chain (carried_up (joined did w.next chain)) s.numbered.differ there
-        (both_each (Carries s.run.channels) (IsBelow w.next) w.chains s.chains s.numbered.below) (λ d apart facts. kept did d facts)
-        (up_carries laws images later (joined did w.next chain) (joined_carries laws did s.run.channels later w.next chain none.1 (begins did) carries))
+      abbrev opened_run : Bool → AgentValue → AgentRun
+      opened_run did a = record { agent = a; history = s.run.history ++ input_if did (Opened k); channels = after did }
 
-    numbers : (did : Bool) → AllByRecursion (λ n. n < w.next + 1) (numbers_of (opened_by did w.next s.run.agent s.run.channels))
-    numbers true =
-        let new : Past = record { number = w.next; position = s.run.agent.position + 1; calls = [] } in
-        let less : w.next < w.next + 1 = omega arith in
-        subst (AllByRecursion (λ n. n < w.next + 1)) (sym (map-append (λ p. p.number) s.run.channels (new ∷ [])))
-        (all_append (λ n. n < w.next + 1) (numbers_of s.run.channels) (w.next ∷ []) (more_numbers w.next (numbers_of s.run.channels) s.numbered.pasts) (less, tt))
-    numbers false = more_numbers w.next (numbers_of s.run.channels) s.numbered.pasts
+      chains : (did : Bool) → AllStand plans (after did) 0 adds (slice_set w.chains at (next_of did))
+      chains did =
+          set_stands laws plans s.run.channels (after did) adds w.chains at here.count c (next_of did) numbered.differ there here.there
+          (λ j has apart. opened_keeps did k s.run.agent s.run.channels j (each_all (λ i. i < k) (all_channels w.chains) numbered.below j has)) (fits did) s.chains
 
-    owned : (did : Bool) → AllByRecursion (IsOwned (channels_of (slice_set w.chains at (carried_up (joined did w.next chain))))) (numbers_of (opened_by did w.next s.run.agent s.run.channels))
-    owned did = by_flag did (carried_up (joined did w.next chain)) refl
+      numbered_so : (did : Bool) → AreNumbered (after_number k) (after did) (all_channels (slice_set w.chains at (next_of did)))
+      numbered_so did =
+          let all = all_channels (slice_set w.chains at (next_of did)) in
+          record {
+            differ = set_differ k w.chains at c (next_of did) there (more did) numbered.below numbered.differ;
+            below = next_below k all (set_below k w.chains at c (next_of did) there (more did) numbered.below);
+            owned = opened_owned did k s.run.agent s.run.channels (all_channels w.chains) all (λ j has. set_contains k w.chains at c (next_of did) j there (more did) has)
+                (set_new k w.chains at c (next_of did) there (more did)) numbered.owned;
+          }
+
+      opened_so : (did : Bool) (a : AgentValue) → Reached images (opened_run did a) → Standing plans images adds (opened_world did a)
+      opened_so true a reached = record { run = opened_run true a; reached = reached; agent = refl; history = ap (λ h. h ++ Opened k ∷ []) s.history; chains = chains true; numbered = numbered_so true }
+      opened_so false a reached = record { run = opened_run false a; reached = reached; agent = refl; history = append-nil s.run.history ∙ s.history; chains = chains false; numbered = numbered_so false }
+
+      with_stands : Standing plans images adds (reached_with k at middle)
+      unfolding reached
+      with_stands =
+          let did = (agent_opened k w.agent).0 in
+          let a = (agent_opened k w.agent).1 in
+          let made : List ChainValue → WorldValue = λ chains. carried (with_input (opening did k) (record w { chains = chains; agent = a; next = after_number k })) in
+          let changed : reached_with k at middle ≡ made (slice_set w.chains at (next_of did)) = ap (λ o. reached_from k at o middle) found ∙ ap made (set_twice at w.chains d (next_of did)) in
+          let P : AgentValue → Type 0 = λ x. Standing plans images adds (opened_world (agent_opened k x).0 (agent_opened k x).1) in
+          let so : P w.agent = subst P s.agent (opened_so (agent_opened k s.run.agent).0 (agent_opened k s.run.agent).1 (reached_more images s.run (opens k ∷ []) s.reached)) in
+          subst (Standing plans images adds) (sym changed) (carried_stands laws plans images adds (opened_world did a) so)
+
+    by_next : (next : Option ℕ) → w.next ≡ next → Standing plans images adds (reached_by next at middle)
+    by_next None is = refused_stands
+    by_next (Some k) is = with_stands k is
+
+    reached_stands : Standing plans images adds (reached_at at (with_chain at d w))
+    reached_stands = by_next w.next refl
+
+  -- ---- The client connects
+
+  unopened : (channel : Option (EndValue ℕ)) → is_some channel ≡ false → channel ≡ None
+  unopened None closed = refl
+  unopened (Some e) closed = absurd cc
+
+  module _ (at : ℕ) (c : ChainValue) (w : WorldValue) (s : Standing plans images adds w) (there : slice_get w.chains at ≡ Some c) (closed : is_opened c ≡ false) where
+    abbrev asked : ChainValue
+    asked = record c { client = client_opened c.client }
+
+    client_is : called client_opens c.client ≡ client_opened c.client
+    client_is = ap (λ channel. opened_from channel c.client) (unopened c.client.channel closed)
+
+    -- the way wants a connection, and none was made
+    joins_now : (pasts : List Past) (count : ℕ) → (f : Fits (place_of plans at) pasts count c) → IsWay (place_of plans at) count (joined_by (connected 0 f.now.route) f.now.past)
+    joins_now pasts count f =
+        let next = joined_by (connected 0 f.now.route) f.now.past in
+        let idle : (f.now.past.is_wanted || f.now.past.is_joined) ≡ false = ap (λ b. b || f.now.past.is_joined) f.unwanted ∙ (sym f.opened ∙ closed) in
+        subst (IsWay (place_of plans at) count) (ap (λ b. cond {A = RouteRun} b f.now next) idle) (way_on (place_of plans at) count joins f.now tt f.way)
+
+    asked_agrees : (pasts : List Past) (count : ℕ) → (f : Fits (place_of plans at) pasts count c) → Agrees (place_of plans at) pasts asked (f.calls ++ client_opens ∷ []) f.now
+    asked_agrees pasts count f =
+        subst (λ x. Agrees (place_of plans at) pasts (record c { client = x }) (f.calls ++ client_opens ∷ []) f.now) client_is (client_agrees (place_of plans at) pasts c f.calls f.now client_opens tt (tt, tt) f.agrees)
+
+    connects : (q : RouteValue) → connected 0 c.route ≡ (true, q) → (pasts : List Past) (count : ℕ) → Fits (place_of plans at) pasts count c → Waits (place_of plans at) pasts count (record asked { route = q })
+    connects q is pasts count f =
+        let did : (connected 0 c.route).0 ≡ true = ap (λ (x : Bool × RouteValue). x.0) is in
+        let same : connected 0 f.now.route ≡ (true, f.now.route) = connected_last f.now.route (ap (λ r. (connected 0 r).0) (sym f.agrees.route) ∙ did) in
+        let route_is : q ≡ c.route = ap (λ (x : Bool × RouteValue). x.1) (sym is ∙ connected_last c.route did) in
+        let now : RouteRun = record { route = f.now.route; past = record f.now.past { is_wanted = true } } in
+        let a = asked_agrees pasts count f in
+        let wanted : Agrees (place_of plans at) pasts asked (f.calls ++ client_opens ∷ []) now = record {
+          client = a.client;
+          allowed = a.allowed;
+          route = a.route;
+          gave = a.gave;
+          got = a.got;
+          talks = talks_same c.channel f.now.past now.past pasts (record { reached = refl; agent = refl; earlier = refl }) a.talks;
+          talked = talked_same f.now.past now.past pasts c.earlier refl a.talked;
+        } in
+        record {
+          calls = f.calls ++ client_opens ∷ [];
+          now = now;
+          way = subst (IsWay (place_of plans at) count) (ap (λ x. joined_by x f.now.past) same) (joins_now pasts count f);
+          agrees = subst (λ r. Agrees (place_of plans at) pasts (record asked { route = r }) (f.calls ++ client_opens ∷ []) now) (sym route_is) wanted;
+          waiting = joined_waits f.now (ap (λ (x : Bool × RouteValue). x.0) same);
+          opened = refl;
+        }
+
+    joined_fits : (q : RouteValue) → connected 0 c.route ≡ (false, q) → (pasts : List Past) (count : ℕ) → Fits (place_of plans at) pasts count c → Fits (place_of plans at) pasts count (record asked { route = q })
+    joined_fits q is pasts count f =
+        let same : connected 0 f.now.route ≡ (false, q) = ap (connected 0) (sym f.agrees.route) ∙ is in
+        let now : RouteRun = record { route = q; past = record f.now.past { is_joined = true } } in
+        let a = asked_agrees pasts count f in
+        record {
+          calls = f.calls ++ client_opens ∷ [];
+          now = now;
+          way = subst (IsWay (place_of plans at) count) (ap (λ x. joined_by x f.now.past) same) (joins_now pasts count f);
+          agrees = record {
+            client = a.client;
+            allowed = a.allowed;
+            route = refl;
+            gave = a.gave;
+            got = a.got;
+            talks = talks_same c.channel f.now.past now.past pasts (record { reached = refl; agent = refl; earlier = refl }) a.talks;
+            talked = talked_same f.now.past now.past pasts c.earlier refl a.talked;
+          };
+          unwanted = f.unwanted;
+          opened = refl;
+        }
+
+    connected_stands : Standing plans images adds (connected_at at c w)
+    connected_stands = by_pair (connected 0 c.route) refl
       where
-        by_flag : (flag : Bool) (next : Chain) → next.channel ≡ Some w.next → AllByRecursion (IsOwned (channels_of (slice_set w.chains at next))) (numbers_of (opened_by flag w.next s.run.agent s.run.channels))
-        by_flag true next is =
-            let new : Past = record { number = w.next; position = s.run.agent.position + 1; calls = [] } in
-            let all = IsOwned (channels_of (slice_set w.chains at next)) in
-            subst (AllByRecursion all) (sym (map-append (λ p. p.number) s.run.channels (new ∷ [])))
-            (all_append all (numbers_of s.run.channels) (w.next ∷ []) (all_owned (numbers_of s.run.channels) w.chains at chain next there none.0 s.numbered.owned)
-            (new_owned w.next w.chains at chain next there is, tt))
-        by_flag false next is = all_owned (numbers_of s.run.channels) w.chains at chain next there none.0 s.numbered.owned
+        by_pair : (x : Bool × RouteValue) → connected 0 c.route ≡ x → Standing plans images adds (reached_if at (opened_by x asked) w)
+        by_pair (true, q) is = reached_stands at c (record asked { route = q }) w s there refl (connects q is)
+        by_pair (false, q) is =
+            chain_stands laws plans images adds at c (carried_up (record asked { route = q })) w there refl
+            (λ pasts count f. up_fits laws (place_of plans at) pasts count (record asked { route = q }) (joined_fits q is pasts count f)) s
 
-    fewer : (did : Bool) → unopened (channels_of w.chains) ≡ 1 + unopened (channels_of (slice_set w.chains at (carried_up (joined did w.next chain))))
-    fewer did = set_unopened w.next w.chains at chain (carried_up (joined did w.next chain)) there none.0 refl
-
-    next_is : after_next w.next ≡ w.next + 1
-    next_is =
-        let is = fewer true in
-        let room = s.numbered.room in
-        let within : w.next + 1 ≤ 2 ^ 64 - 1 = omega arith in min-eq_left within
-
-    numbered : (did : Bool) → AreNumbered (after_next w.next) (numbers_of (opened_by did w.next s.run.agent s.run.channels)) (channels_of (slice_set w.chains at (carried_up (joined did w.next chain)))) count
-    numbered did =
-        let now = channels_of (slice_set w.chains at (carried_up (joined did w.next chain))) in
-        let is : unopened (channels_of w.chains) ≡ 1 + unopened now = fewer did in
-        let room : w.next + unopened (channels_of w.chains) ≤ count = s.numbered.room in
-        subst (λ n. AreNumbered n (numbers_of (opened_by did w.next s.run.agent s.run.channels)) now count) (sym next_is)
-        (record {
-          pasts = numbers did;
-          owned = owned did;
-          below = set_below w.next w.chains at (carried_up (joined did w.next chain)) refl s.numbered.below;
-          differ = set_differ w.next w.chains at (carried_up (joined did w.next chain)) refl s.numbered.below s.numbered.differ;
-          room = omega arith;
-        })
-
-    opened_so : (did : Bool) (a : AgentValue) → Reached images (opened_run did a) → Stands images count (opened_world did a)
-    opened_so true a reached = record { run = opened_run true a; reached = reached; agent = refl; history = ap (λ h. h ++ Opened w.next ∷ []) s.history; chains = chains true; numbered = numbered true }
-    opened_so false a reached = record { run = opened_run false a; reached = reached; agent = refl; history = append-nil s.run.history ∙ s.history; chains = chains false; numbered = numbered false }
-
-    connected_stands : Stands images count (connected_at at chain w)
-    unfolding opened
-    connected_stands =
-        let P : AgentValue → Type 0 = λ a. Stands images count (opened_world (agent_opened w.next a).0 (agent_opened w.next a).1) in
-        carried_stands laws images count (opened_world (agent_opened w.next w.agent).0 (agent_opened w.next w.agent).1)
-        (subst P s.agent (opened_so (agent_opened w.next s.run.agent).0 (agent_opened w.next s.run.agent).1 (reached_more images s.run (opens w.next ∷ []) s.reached)))
-
-  pub opened_stands : (at : ℕ) (w : WorldValue) → Stands images count w → Stands images count (opened_at at w)
+  pub opened_stands : (at : ℕ) (w : WorldValue) → Standing plans images adds w → Standing plans images adds (opened_at at w)
   opened_stands at w s = by_place (slice_get w.chains at) refl
     where
-      by_flag : (chain : Chain) (flag : Bool) → slice_get w.chains at ≡ Some chain → is_opened chain ≡ flag → Stands images count (cond flag w (connected_at at chain w))
-      by_flag chain true there is = s
-      by_flag chain false there is = connected_stands at chain w s there is
+      by_flag : (c : ChainValue) (flag : Bool) → slice_get w.chains at ≡ Some c → is_opened c ≡ flag → Standing plans images adds (cond flag w (connected_at at c w))
+      by_flag c true there is = s
+      by_flag c false there is = connected_stands at c w s there is
 
-      by_place : (there : Option Chain) → slice_get w.chains at ≡ there → Stands images count (world_opened_from at there w)
+      by_place : (there : Option ChainValue) → slice_get w.chains at ≡ there → Standing plans images adds (world_opened_from at there w)
       by_place None is = s
-      by_place (Some chain) is = by_flag chain (is_opened chain) is refl
+      by_place (Some c) is = by_flag c (is_opened c) is refl
+
+  -- ---- A value-add takes an entry, and connects where it is redirected
+
+  pub add_stands : (at add : ℕ) (side : Side) (w : WorldValue) → Standing plans images adds w → Standing plans images adds (add_turned at add side (slice_get w.chains at) w)
+  add_stands at add side w s = by_place (slice_get w.chains at) refl
+    where
+      turned : (c : ChainValue) (q : RouteValue) (did : Bool) → way_turned side add c.route ≡ (did, q) → (pasts : List Past) (count : ℕ) → Fits (place_of plans at) pasts count c → Fits (place_of plans at) pasts count (record c { route = q })
+      turned c q did is pasts count f =
+          subst (λ (x : Bool × RouteValue). Fits (place_of plans at) pasts count (record c { route = x.1 })) is (inside_fits (place_of plans at) pasts count c (turns side add) (λ r. (way_turned side add r).1) tt (record { is = λ x. refl }) f)
+
+      waits : (c : ChainValue) (q : RouteValue) → way_turned side add c.route ≡ (true, q) → (pasts : List Past) (count : ℕ) → Fits (place_of plans at) pasts count c → Waits (place_of plans at) pasts count (record c { route = q })
+      waits c q is pasts count f =
+          let same : way_turned side add f.now.route ≡ (true, q) = ap (way_turned side add) (sym f.agrees.route) ∙ is in
+          let did : (way_turned side add f.now.route).0 ≡ true = ap (λ (x : Bool × RouteValue). x.0) same in
+          let holds = is_way_holds (place_of plans at) count f.now f.way in
+          record {
+            calls = f.calls;
+            now = after_call (turns side add) f.now;
+            way = way_on (place_of plans at) count (turns side add) f.now tt f.way;
+            agrees = subst (λ (x : Bool × RouteValue). Agrees (place_of plans at) pasts (record c { route = x.1 }) f.calls (after_call (turns side add) f.now)) is (inside_agrees (place_of plans at) pasts c f.calls f.now (λ r. (way_turned side add r).1) f.agrees);
+            waiting = turned_waits side add f.now holds did;
+            opened = f.opened ∙ turned_joined side add f.now holds did;
+          }
+
+      by_pair : (c : ChainValue) (x : Bool × RouteValue) → slice_get w.chains at ≡ Some c → way_turned side add c.route ≡ x → Standing plans images adds (reached_if at (with_route x c) w)
+      by_pair c (true, q) there is = reached_stands at c (record c { route = q }) w s there refl (waits c q is)
+      by_pair c (false, q) there is = chain_stands laws plans images adds at c (record c { route = q }) w there refl (turned c q false is) s
+
+      by_place : (there : Option ChainValue) → slice_get w.chains at ≡ there → Standing plans images adds (add_turned at add side there w)
+      by_place None is = s
+      by_place (Some c) is = by_pair c (way_turned side add c.route) is refl

@@ -13,7 +13,9 @@ use Rattle.tcf_values.specs.declared.event.EventData.{EventData}
 use Rattle.agent_node.specs.Agent.{done_by, going_tells, is_full, read_as}
 use Rattle.agent_node.specs.AgentValue.{AgentValue}
 use Rattle.agent_node.specs.Runs.{Past, answer_calls, answer_of, answered_by, asked_by, event_call, hearing, next_of, on_number, on_one, on_open, progress_call, run_of, ticked_by, took_by, turned_by, unless_over, with_calls}
-use Rattle.chain_world.proofs.Calls.{AreIdle, all_append}
+use Rattle.chain_world.specs.Standing.{past_at}
+use Rattle.chain_world.proofs.Calls.{AreIdle}
+use Rattle.chain_world.proofs.Lists.{all_append}
 
 pub apart_flag : (m n : ℕ) → (m ≡ n → ⊥) → (m == n) ≡ false
 apart_flag m n apart = by_flag (m == n) refl
@@ -21,11 +23,6 @@ apart_flag m n apart = by_flag (m == n) refl
     by_flag : (flag : Bool) → (m == n) ≡ flag → (m == n) ≡ false
     by_flag true is = absurd (apart (eqb-true m n is))
     by_flag false is = is
-
--- the past of this channel
-abbrev pub past_at : ℕ → List Past → Option Past
-past_at k [] = None
-past_at k (past ∷ pasts) = cond (past.number == k) (Some past) (past_at k pasts)
 
 pub at_number : (k : ℕ) (pasts : List Past) (past : Past) → past_at k pasts ≡ Some past → (past.number == k) ≡ true
 at_number k [] past is = absurd cc

@@ -1,76 +1,94 @@
--- The chain at a place of a world, and what becomes of it where the agent's part of it alone changes.
-use Rattle.std.proofs.Common.{◌≡◌, ℕ, zero, suc, Bool, true, false, cond, List, [], ◌∷◌, Option, Some, None, refl, sym, ap, ◌∙◌, subst}
+-- The chain at a place among all chains, and what becomes of the others where it changes.
+use Rattle.std.proofs.Common.{◌≡◌, ℕ, zero, suc, ◌+◌, List, [], ◌∷◌, Some, refl, sym, ap, subst, arith}
 use Rattle.std.specs.Prelude.{slice_get, slice_set}
-use Rattle.agent_node.specs.AgentValue.{AgentValue}
-use Rattle.client_node.specs.Client.{ended as client_ended, opened as client_opened}
-use Rattle.client_node.specs.ClientValue.{ClientValue}
-use Rattle.chain_world.specs.Chain.{Both, all_up, both, carried_down, carried_from, client_emptied, cut, delivered_to, delivered_up, ended_from, most_bytes, opened, pieces_up, takes_up}
-use Rattle.chain_world.specs.Hop.{cut as hop_cut}
-use Rattle.chain_world.specs.Lane.{size_in}
-use Rattle.chain_world.specs.World.{all_carried}
-use Rattle.chain_world.specs.declared.chain.Chain.{Chain}
+use Rattle.std.specs.List.{Contains}
+use Rattle.std.proofs.lemmas.List.Elements.{Contains-append_left, Contains-append_right}
+use Rattle.tcf_schedules.specs.Plan.{Plan}
+use Rattle.agent_node.specs.Runs.{Past}
+use Rattle.chain_world.specs.Chain.{channels_of}
+use Rattle.chain_world.specs.ChainValue.{ChainValue}
+use Rattle.chain_world.specs.Standing.{AllDiffer, AllStand}
+use Rattle.chain_world.proofs.Agents.{Laws}
+use Rattle.chain_world.proofs.Fitting.{Fits, Place, fits_of, stands_of}
+use Rattle.chain_world.proofs.Keeping.{fits_kept}
+use Rattle.chain_world.proofs.Numbers.{all_channels, at_contains, differ_parts}
+use Rattle.chain_world.proofs.Pasts.{Keeps}
 
--- it holds of the client of the chain at a place, if there is one
-abbrev pub AtPlace : (ClientValue → Type 0) → ℕ → List Chain → Type 0
-AtPlace P at [] = Unit {0}
-AtPlace P zero (c ∷ chains) = P c.client
-AtPlace P (suc at) (c ∷ chains) = AtPlace P at chains
+-- the place behind another
+abbrev from_place : ℕ → ℕ → ℕ
+from_place from zero = from
+from_place from (suc at) = from_place (suc from) at
 
-pub place_get : (P : ClientValue → Type 0) (at : ℕ) (chains : List Chain) (c : Chain) → slice_get chains at ≡ Some c → AtPlace P at chains → P c.client
-place_get P at [] c is there = absurd cc
-place_get P zero (x ∷ chains) c is there = let same : x ≡ c = cc in subst (λ y. P y.client) same there
-place_get P (suc at) (x ∷ chains) c is there = place_get P at chains c is there
+behind : (from at : ℕ) → from_place from at ≡ from + at
+behind from zero = omega arith
+behind from (suc at) = let rest = behind (suc from) at in omega (arith, rest)
 
--- the chain at a place, this one or another, becomes this one
-pub place_set : (P : ClientValue → Type 0) (at other : ℕ) (chains : List Chain) (c next : Chain) → slice_get chains other ≡ Some c → (other ≡ at → P c.client → P next.client) → AtPlace P at chains
-    → AtPlace P at (slice_set chains other next)
-place_set P at other [] c next is keep there = absurd cc
-place_set P zero zero (x ∷ chains) c next is keep there = let same : x ≡ c = cc in keep refl (subst (λ y. P y.client) same there)
-place_set P zero (suc other) (x ∷ chains) c next is keep there = there
-place_set P (suc at) zero (x ∷ chains) c next is keep there = there
-place_set P (suc at) (suc other) (x ∷ chains) c next is keep there = place_set P at other chains c next is (λ same. keep (ap (λ n. suc n) same)) there
+abbrev pub place_of : List Plan → ℕ → Place
+place_of plans at = record { plans = plans; at = at }
 
--- ---- The client stays as it is
+pub first_place : (plans : List Plan) (at : ℕ) → place_of plans (from_place 0 at) ≡ place_of plans at
+first_place plans at =
+    let first = behind 0 at in
+    let is : from_place 0 at ≡ at = omega (arith, first) in ap (place_of plans) is
 
-pub carried_client : (channel : Option ℕ) (chain : Chain) (a : AgentValue) → (carried_from channel chain a).chain.client ≡ chain.client
-carried_client None chain a = refl
-carried_client (Some k) chain a = refl
+-- the one at a place
+pub record StandsAt (p : Place) (pasts : List Past) (adds : List ℕ) (at : ℕ) (c : ChainValue) : Type 0 where
+  pub count : ℕ
+  pub there : slice_get adds at ≡ Some count
+  pub fits : Fits p pasts count c
 
-pub place_carried : (P : ClientValue → Type 0) (at : ℕ) (chains : List Chain) (a : AgentValue) → AtPlace P at chains → AtPlace P at (all_carried chains a).chains
-place_carried P at [] a there = tt
-place_carried P zero (c ∷ chains) a there = subst P (sym (carried_client c.channel c a)) there
-place_carried P (suc at) (c ∷ chains) a there = place_carried P at chains (carried_down c a).agent there
+from_stands : (plans : List Plan) (pasts : List Past) (from : ℕ) (adds : List ℕ) (chains : List ChainValue) (at : ℕ) (c : ChainValue) → slice_get chains at ≡ Some c → AllStand plans pasts from adds chains
+    → StandsAt (place_of plans (from_place from at)) pasts adds at c
+from_stands plans pasts from [] [] at c is all = absurd cc
+from_stands plans pasts from [] (x ∷ chains) at c is all = absurd all
+from_stands plans pasts from (n ∷ adds) [] at c is all = absurd all
+from_stands plans pasts from (n ∷ adds) (x ∷ chains) zero c is all =
+    let same : x ≡ c = cc in let p = place_of plans from in record { count = n; there = refl; fits = subst (Fits p pasts n) same (fits_of p pasts n x all.0) }
+from_stands plans pasts from (n ∷ adds) (x ∷ chains) (suc at) c is all =
+    let rest = from_stands plans pasts (suc from) adds chains at c is all.1 in record { count = rest.count; there = rest.there; fits = rest.fits }
 
-either_client : (flag : Bool) (one other : Both) (client : ClientValue) → one.chain.client ≡ client → other.chain.client ≡ client → (cond flag one other).chain.client ≡ client
-either_client true one other client is same = is
-either_client false one other client is same = same
+pub stands_at : (plans : List Plan) (pasts : List Past) (adds : List ℕ) (chains : List ChainValue) (at : ℕ) (c : ChainValue) → slice_get chains at ≡ Some c → AllStand plans pasts 0 adds chains
+    → StandsAt (place_of plans at) pasts adds at c
+stands_at plans pasts adds chains at c is all = subst (λ p. StandsAt p pasts adds at c) (first_place plans at) (from_stands plans pasts 0 adds chains at c is all)
 
-pub delivered_client : (count : ℕ) (chain : Chain) (a : AgentValue) → (delivered_up count chain a).chain.client ≡ chain.client
-delivered_client count chain a = by_channel chain.channel
-  where
-    by_channel : (channel : Option ℕ) → (delivered_to channel count chain a).chain.client ≡ chain.client
-    by_channel None = refl
-    by_channel (Some k) = either_client (takes_up k chain a) _ (both chain a) chain.client (carried_client chain.channel _ _) refl
+-- all of them, while the agent's channels are the same to them
+pub each_kept : Laws → (plans : List Plan) (pasts after : List Past) (from : ℕ) (adds : List ℕ) (chains : List ChainValue) → ((j : ℕ) → Contains (all_channels chains) j → Keeps j pasts after) → AllStand plans pasts from adds chains
+    → AllStand plans after from adds chains
+each_kept laws plans pasts after from [] [] keeps all = tt
+each_kept laws plans pasts after from [] (x ∷ chains) keeps all = absurd all
+each_kept laws plans pasts after from (n ∷ adds) [] keeps all = absurd all
+each_kept laws plans pasts after from (n ∷ adds) (x ∷ chains) keeps all =
+    let p = place_of plans from in (
+      stands_of p after n x (fits_kept laws p pasts after n x (λ j has. keeps j (Contains-append_left (channels_of x) (all_channels chains) j has)) (fits_of p pasts n x all.0)),
+      each_kept laws plans pasts after (suc from) adds chains (λ j has. keeps j (Contains-append_right (channels_of x) (all_channels chains) j has)) all.1,
+    )
 
-pieces_client : (n : ℕ) (b : Both) → (pieces_up n b).chain.client ≡ b.chain.client
-pieces_client zero b = refl
-pieces_client (suc n) b = pieces_client n (delivered_up most_bytes b.chain b.agent) ∙ delivered_client most_bytes b.chain b.agent
+-- the one at a place changes, and the agent goes on for it
+from_set : Laws → (plans : List Plan) (pasts after : List Past) (from : ℕ) (adds : List ℕ) (chains : List ChainValue) (at count : ℕ) (c next : ChainValue) → AllDiffer (all_channels chains) → slice_get chains at ≡ Some c
+    → slice_get adds at ≡ Some count → ((j : ℕ) → Contains (all_channels chains) j → (Contains (channels_of c) j → ⊥) → Keeps j pasts after) → Fits (place_of plans (from_place from at)) after count next
+    → AllStand plans pasts from adds chains → AllStand plans after from adds (slice_set chains at next)
+from_set laws plans pasts after from [] [] at count c next differ is there keeps f all = tt
+from_set laws plans pasts after from [] (x ∷ chains) at count c next differ is there keeps f all = absurd all
+from_set laws plans pasts after from (n ∷ adds) [] at count c next differ is there keeps f all = absurd all
+from_set laws plans pasts after from (n ∷ adds) (x ∷ chains) zero count c next differ is there keeps f all =
+    let same : x ≡ c = cc in
+    let counted : count ≡ n = cc in
+    let p = place_of plans from in
+    let parts = differ_parts (channels_of x) (all_channels chains) differ in (
+      stands_of p after n next (subst (λ m. Fits p after m next) counted f),
+      each_kept laws plans pasts after (suc from) adds chains
+          (λ j has. keeps j (Contains-append_right (channels_of x) (all_channels chains) j has) (λ own. parts.apart j (subst (λ y. Contains (channels_of y) j) (sym same) own) has)) all.1,
+    )
+from_set laws plans pasts after from (n ∷ adds) (x ∷ chains) (suc at) count c next differ is there keeps f all =
+    let p = place_of plans from in
+    let parts = differ_parts (channels_of x) (all_channels chains) differ in (
+      stands_of p after n x (fits_kept laws p pasts after n x
+          (λ j has. keeps j (Contains-append_left (channels_of x) (all_channels chains) j has) (λ own. parts.apart j has (at_contains chains at c j is own))) (fits_of p pasts n x all.0)),
+      from_set laws plans pasts after (suc from) adds chains at count c next parts.second is there (λ j has apart. keeps j (Contains-append_right (channels_of x) (all_channels chains) j has) apart) f all.1,
+    )
 
-pub all_up_client : (chain : Chain) (a : AgentValue) → (all_up chain a).chain.client ≡ chain.client
-all_up_client chain a = pieces_client (size_in chain.hop.up) (both chain a)
-
--- ---- The client that a cut and an opening leave
-
-pub cut_client : (P : ClientValue → Type 0) (chain : Chain) (a : AgentValue) → P chain.client → P (client_ended chain.client) → P (cut chain a).chain.client
-cut_client P chain a now then = by_flag chain.hop.is_live
-  where
-    ended : Chain
-    ended = record chain { client = client_ended chain.client; hop = hop_cut chain.hop }
-
-    by_flag : (flag : Bool) → P (cond flag (both ended (ended_from chain.channel a)) (both chain a)).chain.client
-    by_flag true = then
-    by_flag false = now
-
-pub opened_client : (k : ℕ) (chain : Chain) (a : AgentValue) → (opened k chain a).chain.client ≡ client_emptied (client_opened chain.client)
-unfolding opened
-opened_client k chain a = refl
+pub set_stands : Laws → (plans : List Plan) (pasts after : List Past) (adds : List ℕ) (chains : List ChainValue) (at count : ℕ) (c next : ChainValue) → AllDiffer (all_channels chains) → slice_get chains at ≡ Some c
+    → slice_get adds at ≡ Some count → ((j : ℕ) → Contains (all_channels chains) j → (Contains (channels_of c) j → ⊥) → Keeps j pasts after) → Fits (place_of plans at) after count next
+    → AllStand plans pasts 0 adds chains → AllStand plans after 0 adds (slice_set chains at next)
+set_stands laws plans pasts after adds chains at count c next differ is there keeps f all =
+    from_set laws plans pasts after 0 adds chains at count c next differ is there keeps (subst (λ p. Fits p after count next) (sym (first_place plans at)) f) all

@@ -1,123 +1,243 @@
 -- What holds of a world holds after every schedule.
-use Rattle.std.proofs.Common.{◌≡◌, ℕ, zero, suc, ◌+◌, ◌<◌, Bool, true, false, cond, List, [], ◌∷◌, length, Option, Some, None, refl, ap, ◌∙◌, arith}
-use Rattle.std.specs.Prelude.{slice_get, ◌^◌}
-use Rattle.std.specs.List.{AllByRecursion}
+use Rattle.std.proofs.Common.{◌≡◌, ℕ, zero, suc, ◌+◌, ◌-◌, ◌==◌, ◌||◌, ◌&&◌, Bool, true, false, cond, nat_lt, List, [], ◌∷◌, length, Option, Some, None, refl, sym, ap, ◌∙◌, subst, inl, eq-eqb}
+use Rattle.std.specs.Prelude.{slice_get}
+use Rattle.std.specs.List.{AllByRecursion, list_any}
+use Rattle.agent_node.specs.Runs.{Past, no_calls}
 use Rattle.target_contexts.specs.declared.process.Image.{Image}
 use Rattle.tcf_schedules.specs.Plan.{Plan, cached, close, cut as cut_plan, deliver, opens, rounds as rounds_plan, send, tick, times, turn}
-use Rattle.agent_node.specs.Runs.{no_calls}
-use Rattle.chain_world.specs.Chain.{all_down, all_taken_down, all_up, asked, closed, cut, delivered_down, delivered_up, is_opened, sent, turned_down}
-use Rattle.chain_world.specs.World.{IsPlayable, agent_turned, new_chains, new_world, played, repeated, round_all, round_at, round_from, round_of, rounds, run, turned_at, turns_up, up_taken, waiting_in_chain, with_agent}
+use Rattle.value_node.specs.declared.states.Side.{Side}
+use Rattle.value_node.specs.declared.states.Side.TheVariants.{Below, Above}
+use Rattle.client_node.specs.Client.{waiting_on}
+use Rattle.chain_route.specs.Lane.{size_in}
+use Rattle.chain_route.specs.Passing.{most_bytes}
+use Rattle.chain_route.specs.Route.{delivered_at as way_delivered, flight_down}
+use Rattle.chain_world.specs.Chain.{all_down, all_taken_down, all_up, asked, came_down, carried_up, channels_of, closed, cut, delivered_down, delivered_over, delivered_under, is_opened, pieces_down, sent, takes_down, turned_down, turning, turns_down}
+use Rattle.chain_world.specs.ChainValue.{ChainValue}
+use Rattle.chain_world.specs.Standing.{AllStand, AreNumbered, StandsAfterEverySchedule, closes_at, cuts_at}
+use Rattle.chain_world.specs.World.{IsPlayable, add_rounded, add_turned, adds_in, adds_rounded, agent_taken, agent_turned, all_round_down, all_to_add, delivered_at, new_chains, new_world, on_chain, played, repeated, round_all, round_at, round_from, round_of, rounded_down, rounded_up, rounds, run, turn_of_add, turn_of_agent, turned_at, turned_down_at, turned_up_at, waiting_at_add, waiting_in_chain}
 use Rattle.chain_world.specs.WorldValue.{WorldValue}
-use Rattle.chain_world.specs.declared.chain.Chain.{Chain}
 use Rattle.chain_world.proofs.Agents.{Laws}
-use Rattle.chain_world.proofs.Moves.{Carries, all_carries, asked_carries, closed_carries, delivered_carries, sent_carries, turned_carries}
-use Rattle.chain_world.proofs.Opening.{opened_stands}
-use Rattle.chain_world.proofs.Steps.{all_channel, all_up_move, cut_move, deliver_move, delivered_channel}
-use Rattle.chain_world.proofs.Worlds.{Differ, IsApart, IsBelow, Stands, carried_stands, channels_of, on_chain_stands, tick_stands, turn_stands, unopened, with_agent_stands}
+use Rattle.chain_world.proofs.Chains.{all_fits, all_to_add_fits, asked_fits, closed_fits, delivered_fits, delivers_fits, sent_fits, turned_fits}
+use Rattle.chain_world.proofs.Fitting.{Fits}
+use Rattle.chain_world.proofs.Lists.{all_map}
+use Rattle.chain_world.proofs.Numbers.{all_channels}
+use Rattle.chain_world.proofs.Opening.{add_stands, opened_stands}
+use Rattle.chain_world.proofs.Places.{place_of}
+use Rattle.chain_world.proofs.Steps.{all_up_move, cut_move, over_move}
+use Rattle.chain_world.proofs.Worlds.{Standing, carried_stands, on_chain_stands, stands_so, tick_stands, turn_stands, with_agent_stands}
 
-module _ (laws : Laws) (images : List Image) (count : ℕ) (few : count < 2 ^ 64) where
-  abbrev Standing : WorldValue → Type 0
-  Standing w = Stands images count w
+-- ---- A step of a schedule
 
-  pub turned_stands : (at : ℕ) (up : Bool) (w : WorldValue) → Standing w → Standing (turned_at at up w)
-  turned_stands at true w s = by_place (slice_get w.chains at)
+-- what it may call, some step of the schedule does
+pub record IsAmong (plans : List Plan) (plan : Plan) : Type 0 where
+  pub closing : (at : ℕ) → closes_at at plan ≡ true → list_any (closes_at at) plans ≡ true
+  pub cutting : (at hop : ℕ) → cuts_at at hop plan ≡ true → list_any (cuts_at at hop) plans ≡ true
+
+or_first : (a b : Bool) → a ≡ true → (a || b) ≡ true
+or_first a b is = ap (λ c. c || b) is
+
+or_later : (a b : Bool) → b ≡ true → (a || b) ≡ true
+or_later true b is = refl
+or_later false b is = is
+
+among_first : (plan : Plan) (plans : List Plan) → IsAmong (plan ∷ plans) plan
+among_first plan plans = record {
+  closing = λ at is. or_first (closes_at at plan) (list_any (closes_at at) plans) is;
+  cutting = λ at hop is. or_first (cuts_at at hop plan) (list_any (cuts_at at hop) plans) is;
+}
+
+among_later : (first : Plan) (plans : List Plan) (plan : Plan) → IsAmong plans plan → IsAmong (first ∷ plans) plan
+among_later first plans plan a = record {
+  closing = λ at is. or_later (closes_at at first) (list_any (closes_at at) plans) (a.closing at is);
+  cutting = λ at hop is. or_later (cuts_at at hop first) (list_any (cuts_at at hop) plans) (a.cutting at hop is);
+}
+
+pub all_among : (plans : List Plan) → AllByRecursion (IsAmong plans) plans
+all_among [] = tt
+all_among (plan ∷ plans) = (among_first plan plans, all_map (IsAmong plans) (IsAmong (plan ∷ plans)) plans (among_later plan plans) (all_among plans))
+
+-- ---- What stays the channels of a chain
+
+either_channels : (flag : Bool) (one other : ChainValue) → channels_of one ≡ channels_of other → channels_of (cond flag one other) ≡ channels_of other
+either_channels true one other same = same
+either_channels false one other same = refl
+
+down_channels : (count : ℕ) (c : ChainValue) → channels_of (delivered_down count c) ≡ channels_of c
+down_channels count c = either_channels (takes_down c) (carried_up (came_down count c)) c refl
+
+under_channels : (hop count : ℕ) (c : ChainValue) → channels_of (delivered_under hop count c) ≡ channels_of c
+under_channels hop count c =
+    let other = record c { route = way_delivered Above (hop - 1) count c.route } in either_channels (hop == 0) (delivered_down count c) other (down_channels count c)
+
+pieces_channels : (n : ℕ) (c : ChainValue) → channels_of (pieces_down n c) ≡ channels_of c
+pieces_channels zero c = refl
+pieces_channels (suc n) c = pieces_channels n (delivered_down most_bytes c) ∙ down_channels most_bytes c
+
+turns_channels : (n : ℕ) (c : ChainValue) → channels_of (turns_down n c) ≡ channels_of c
+turns_channels zero c = refl
+turns_channels (suc n) c = turns_channels n (turned_down c)
+
+taken_channels : (c : ChainValue) → channels_of (all_taken_down (all_down c)) ≡ channels_of c
+taken_channels c = turns_channels (waiting_on (all_down c).client.channel) (all_down c) ∙ pieces_channels (size_in (flight_down c.route)) c
+
+module _ (laws : Laws) (plans : List Plan) (images : List Image) (adds : List ℕ) where
+  abbrev Holds : WorldValue → Type 0
+  Holds w = Standing plans images adds w
+
+  either : (flag : Bool) (one other : WorldValue) → Holds one → Holds other → Holds (cond flag one other)
+  either true one other first second = first
+  either false one other first second = second
+
+  -- ---- Pieces
+
+  under_fits : (at hop count : ℕ) (pasts : List Past) (n : ℕ) (c : ChainValue) → Fits (place_of plans at) pasts n c → Fits (place_of plans at) pasts n (delivered_under hop count c)
+  under_fits at hop count pasts n c f = by_flag (hop == 0)
     where
-      by_place : (there : Option Chain) → Standing (agent_turned at there w)
-      by_place None = s
-      by_place (Some chain) = carried_stands laws images count _ (turn_stands laws images count chain.channel w s)
-  turned_stands at false w s = on_chain_stands laws images count turned_down (turned_carries laws images) (λ c. refl) at w s
+      by_flag : (flag : Bool) → Fits (place_of plans at) pasts n (cond flag (delivered_down count c) (record c { route = way_delivered Above (hop - 1) count c.route }))
+      by_flag true = delivered_fits laws (place_of plans at) pasts n count c f
+      by_flag false = delivers_fits (place_of plans at) pasts n Above (hop - 1) count c f
 
-  delivered_stands : (at : ℕ) (up : Bool) (size : ℕ) (w : WorldValue) → Standing w → Standing (played (deliver at 0 up size) w)
-  delivered_stands at true size w s = with_agent_stands laws images count (delivered_up size) (deliver_move laws images size) at w s
-  delivered_stands at false size w s = on_chain_stands laws images count (delivered_down size) (λ pasts c. delivered_carries laws images pasts size c) (delivered_channel size) at w s
+  delivered_stands : (at hop : ℕ) (up : Bool) (count : ℕ) (w : WorldValue) → Holds w → Holds (delivered_at at hop up count w)
+  delivered_stands at hop true count w s = with_agent_stands laws plans images adds (delivered_over hop count) at (over_move laws images (place_of plans at) hop count) w s
+  delivered_stands at hop false count w s = on_chain_stands laws plans images adds (delivered_under hop count) at (under_fits at hop count) (under_channels hop count) w s
+
+  -- ---- Turns
+
+  agent_stands : (at : ℕ) (w : WorldValue) → Holds w → Holds (turn_of_agent at w)
+  agent_stands at w s = by_place (slice_get w.chains at)
+    where
+      by_place : (there : Option ChainValue) → Holds (agent_turned at there w)
+      by_place None = s
+      by_place (Some c) = carried_stands laws plans images adds _ (turn_stands laws plans images adds (turning c.earlier c.channel w.agent) w s)
+
+  up_stands : (at node : ℕ) (w : WorldValue) → Holds w → Holds (turned_up_at at node w)
+  up_stands at node w s =
+      let there = slice_get w.chains at in
+      let add = add_turned at (node - 1) Below there w in
+      let last = agent_turned at there w in
+      either (node == 0) w (cond (nat_lt (node - 1) (adds_in there)) add last) s
+      (either (nat_lt (node - 1) (adds_in there)) add last (add_stands laws plans images adds at (node - 1) Below w s) (agent_stands at w s))
+
+  down_stands : (at node : ℕ) (w : WorldValue) → Holds w → Holds (turned_down_at at node w)
+  down_stands at node w s =
+      either (node == 0) (on_chain turned_down at w) (add_turned at (node - 1) Above (slice_get w.chains at) w)
+      (on_chain_stands laws plans images adds turned_down at (turned_fits laws (place_of plans at)) (λ c. refl) w s) (add_stands laws plans images adds at (node - 1) Above w s)
+
+  turned_stands : (at node : ℕ) (up : Bool) (w : WorldValue) → Holds w → Holds (turned_at at node up w)
+  turned_stands at node true w s = up_stands at node w s
+  turned_stands at node false w s = down_stands at node w s
 
   -- ---- Rounds
 
-  pub turns_stands : (n at : ℕ) (w : WorldValue) → Standing w → Standing (turns_up n at w)
-  turns_stands zero at w s = s
-  turns_stands (suc n) at w s = turns_stands n at (turned_at at true w) (turned_stands at true w s)
-
-  round_of_stands : (at : ℕ) (w : WorldValue) → Standing w → Standing (round_of at w)
-  round_of_stands at w s =
-      let up = with_agent all_up at w in
-      let taken = up_taken at up in
-      on_chain_stands laws images count (λ chain. all_taken_down (all_down chain)) (all_carries laws images) all_channel at taken
-      (turns_stands (waiting_in_chain (slice_get up.chains at) up) at up (with_agent_stands laws images count all_up (all_up_move laws images) at w s))
-
-  pub round_at_stands : (at : ℕ) (w : WorldValue) → Standing w → Standing (round_at at w)
-  round_at_stands at w s = by_place (slice_get w.chains at)
-    where
-      by_flag : (flag : Bool) → Standing (cond flag (round_of at w) w)
-      by_flag true = round_of_stands at w s
-      by_flag false = s
-
-      by_place : (there : Option Chain) → Standing (round_from at there w)
-      by_place None = s
-      by_place (Some chain) = by_flag (is_opened chain)
-
-  pub round_all_stands : (n at : ℕ) (w : WorldValue) → Standing w → Standing (round_all n at w)
-  round_all_stands zero at w s = s
-  round_all_stands (suc n) at w s = round_all_stands n (at + 1) (round_at at w) (round_at_stands at w s)
-
-  rounds_stands : (n : ℕ) (w : WorldValue) → Standing w → Standing (rounds n w)
-  rounds_stands zero w s = s
-  rounds_stands (suc n) w s = rounds_stands n (round_all (length w.chains) 0 w) (round_all_stands (length w.chains) 0 w s)
-
-  repeated_stands : (n : ℕ) (step : WorldValue → WorldValue) → ((w : WorldValue) → Standing w → Standing (step w)) → (w : WorldValue) → Standing w → Standing (repeated n step w)
+  repeated_stands : (n : ℕ) (step : WorldValue → WorldValue) → ((w : WorldValue) → Holds w → Holds (step w)) → (w : WorldValue) → Holds w → Holds (repeated n step w)
   repeated_stands zero step each w s = s
   repeated_stands (suc n) step each w s = repeated_stands n step each (step w) (each w s)
 
+  rounded_stands : (at add : ℕ) (side : Side) (w : WorldValue) → Holds w → Holds (add_rounded at add side w)
+  rounded_stands at add side w s =
+      let next : WorldValue = on_chain (all_to_add side add) at w in
+      repeated_stands (waiting_at_add side add (slice_get next.chains at)) (turn_of_add at add side) (λ v t. add_stands laws plans images adds at add side v t) next
+      (on_chain_stands laws plans images adds (all_to_add side add) at (λ pasts n c f. all_to_add_fits (place_of plans at) pasts n side add c f) (λ c. refl) w s)
+
+  ups_stand : (n add at : ℕ) (w : WorldValue) → Holds w → Holds (adds_rounded n add at w)
+  ups_stand zero add at w s = s
+  ups_stand (suc n) add at w s = ups_stand n (add + 1) at (add_rounded at add Below w) (rounded_stands at add Below w s)
+
+  downs_stand : (n at : ℕ) (w : WorldValue) → Holds w → Holds (rounded_down n at w)
+  downs_stand zero at w s = s
+  downs_stand (suc n) at w s = downs_stand n at (add_rounded at n Above w) (rounded_stands at n Above w s)
+
+  round_up_stands : (at : ℕ) (w : WorldValue) → Holds w → Holds (rounded_up at w)
+  round_up_stands at w s =
+      let n = adds_in (slice_get w.chains at) in with_agent_stands laws plans images adds all_up at (all_up_move laws images (place_of plans at)) (adds_rounded n 0 at w) (ups_stand n 0 at w s)
+
+  taken_stands : (at : ℕ) (w : WorldValue) → Holds w → Holds (agent_taken at w)
+  taken_stands at w s = repeated_stands (waiting_in_chain (slice_get w.chains at) w) (turn_of_agent at) (agent_stands at) w s
+
+  round_of_stands : (at : ℕ) (w : WorldValue) → Holds w → Holds (round_of at w)
+  round_of_stands at w s =
+      let up = rounded_up at w in
+      let taken = agent_taken at up in
+      on_chain_stands laws plans images adds (λ c. all_taken_down (all_down c)) at (all_fits laws (place_of plans at)) taken_channels (all_round_down at taken)
+      (downs_stand (adds_in (slice_get taken.chains at)) at taken (taken_stands at up (round_up_stands at w s)))
+
+  round_at_stands : (at : ℕ) (w : WorldValue) → Holds w → Holds (round_at at w)
+  round_at_stands at w s = by_place (slice_get w.chains at)
+    where
+      by_place : (there : Option ChainValue) → Holds (round_from at there w)
+      by_place None = s
+      by_place (Some c) = either (is_opened c) (round_of at w) w (round_of_stands at w s) s
+
+  round_all_stands : (n at : ℕ) (w : WorldValue) → Holds w → Holds (round_all n at w)
+  round_all_stands zero at w s = s
+  round_all_stands (suc n) at w s = round_all_stands n (at + 1) (round_at at w) (round_at_stands at w s)
+
+  rounds_stand : (n : ℕ) (w : WorldValue) → Holds w → Holds (rounds n w)
+  rounds_stand zero w s = s
+  rounds_stand (suc n) w s = rounds_stand n (round_all (length w.chains) 0 w) (round_all_stands (length w.chains) 0 w s)
+
   -- ---- Every step
 
-  pub played_stands : (chains : ℕ) (plan : Plan) → IsPlayable chains plan → (w : WorldValue) → Standing w → Standing (played plan w)
-  played_stands chains (opens at) playable w s = opened_stands laws images count few at w s
-  played_stands chains (send at service name body) playable w s =
-      on_chain_stands laws images count (sent service name body) (λ pasts c. sent_carries laws images pasts service name body c (playable.1, playable.2)) (λ c. refl) at w s
-  played_stands chains (deliver at hop up size) playable w s = delivered_stands at up size w s
-  played_stands chains (turn at node up) playable w s = turned_stands at up w s
-  played_stands chains (tick thread) playable w s = tick_stands laws images count thread w s
-  played_stands chains (close at) playable w s = on_chain_stands laws images count closed (closed_carries laws images) (λ c. refl) at w s
-  played_stands chains (cut_plan at hop) playable w s = with_agent_stands laws images count cut (cut_move laws images) at w s
-  played_stands chains (cached at what) playable w s = on_chain_stands laws images count (asked what) (λ pasts c. asked_carries pasts what c) (λ c. refl) at w s
-  played_stands chains (rounds_plan size) playable w s = rounds_stands size w s
-  played_stands chains (times size plan) playable w s = repeated_stands size (played plan) (played_stands chains plan playable.1) w s
+  played_stands : (plan : Plan) → IsAmong plans plan → IsPlayable plan → (w : WorldValue) → Holds w → Holds (played plan w)
+  played_stands (opens at) among playable w s = opened_stands laws plans images adds at w s
+  played_stands (send at service name body) among playable w s =
+      on_chain_stands laws plans images adds (sent service name body) at (λ pasts n c f. sent_fits laws (place_of plans at) pasts n service name body c playable f) (λ c. refl) w s
+  played_stands (deliver at hop up count) among playable w s = delivered_stands at hop up count w s
+  played_stands (turn at node up) among playable w s = turned_stands at node up w s
+  played_stands (tick thread) among playable w s = tick_stands laws plans images adds thread w s
+  played_stands (close at) among playable w s =
+      let may = among.closing at (eq-eqb at at refl) in
+      on_chain_stands laws plans images adds closed at (λ pasts n c f. closed_fits laws (place_of plans at) pasts n c may f) (λ c. refl) w s
+  played_stands (cut_plan at hop) among playable w s =
+      let is : cuts_at at hop (cut_plan at hop) ≡ true = ap (λ b. b && (hop == hop)) (eq-eqb at at refl) ∙ eq-eqb hop hop refl in
+      with_agent_stands laws plans images adds (cut hop) at (cut_move laws images (place_of plans at) hop (among.cutting at hop is)) w s
+  played_stands (cached at what) among playable w s =
+      on_chain_stands laws plans images adds (asked what) at (λ pasts n c f. asked_fits (place_of plans at) pasts n what c f) (λ c. refl) w s
+  played_stands (rounds_plan count) among playable w s = rounds_stand count w s
+  played_stands (times count plan) among playable w s =
+      repeated_stands count (played plan) (played_stands plan (record { closing = among.closing; cutting = among.cutting }) playable.1) w s
 
-  run_stands : (chains : ℕ) (plans : List Plan) → AllByRecursion (IsPlayable chains) plans → (w : WorldValue) → Standing w → Standing (run plans w)
-  run_stands chains [] playable w s = s
-  run_stands chains (plan ∷ plans) playable w s = run_stands chains plans playable.1 (played plan w) (played_stands chains plan playable.0 w s)
+  run_stands : (steps : List Plan) → AllByRecursion (IsAmong plans) steps → AllByRecursion IsPlayable steps → (w : WorldValue) → Holds w → Holds (run steps w)
+  run_stands [] among playable w s = s
+  run_stands (plan ∷ steps) among playable w s = run_stands steps among.1 playable.1 (played plan w) (played_stands plan among.0 playable.0 w s)
 
-  -- ---- The first world
+-- ---- The first world
 
-  first_carries : (n : ℕ) → AllByRecursion (Carries []) (new_chains n)
-  first_carries zero = tt
-  first_carries (suc n) = (record { calls = []; client = refl; names = tt; linked = record { dead = refl; unopened = refl } }, first_carries n)
+first_chains : (plans : List Plan) (from : ℕ) (adds : List ℕ) → AllStand plans [] from adds (new_chains adds)
+first_chains plans from [] = tt
+first_chains plans from (n ∷ adds) = (
+  record {
+    calls = [];
+    ways = [];
+    may_be_called = tt;
+    may_happen = tt;
+    client = refl;
+    names = tt;
+    way = refl;
+    unwanted = refl;
+    opened = refl;
+    gave = refl;
+    got = refl;
+    talks = inl refl;
+    talked = tt;
+  },
+  first_chains plans (suc from) adds,
+)
 
-  first_below : (n : ℕ) → AllByRecursion (IsBelow 0) (channels_of (new_chains n))
-  first_below zero = tt
-  first_below (suc n) = (tt, first_below n)
+no_channels : (adds : List ℕ) → all_channels (new_chains adds) ≡ []
+no_channels [] = refl
+no_channels (n ∷ adds) = no_channels adds
 
-  none_apart : (n : ℕ) → AllByRecursion (IsApart None) (channels_of (new_chains n))
-  none_apart zero = tt
-  none_apart (suc n) = (λ k one other. absurd cc, none_apart n)
+first_stands : (plans : List Plan) (images : List Image) (adds : List ℕ) → Standing plans images adds (new_world images adds)
+first_stands plans images adds = record {
+  run = no_calls images;
+  reached = record { calls = []; is = refl };
+  agent = refl;
+  history = refl;
+  chains = first_chains plans 0 adds;
+  numbered = subst (AreNumbered (Some 0) []) (sym (no_channels adds)) (record { differ = tt; below = tt; owned = tt });
+}
 
-  first_differ : (n : ℕ) → Differ (channels_of (new_chains n))
-  first_differ zero = tt
-  first_differ (suc n) = (none_apart n, first_differ n)
-
-  first_unopened : (n : ℕ) → unopened (channels_of (new_chains n)) ≡ n
-  first_unopened zero = refl
-  first_unopened (suc n) = ap (λ m. 1 + m) (first_unopened n) ∙ grind arith
-
-  pub first_stands : Standing (new_world images count)
-  first_stands = record {
-    run = no_calls images;
-    reached = record { calls = []; is = refl };
-    agent = refl;
-    history = refl;
-    chains = first_carries count;
-    numbered = record { pasts = tt; owned = tt; below = first_below count; differ = first_differ count; room = let is : unopened (channels_of (new_chains count)) ≡ count = first_unopened count in omega arith };
-  }
-
-  -- after every schedule
-  pub always_stands : (chains : ℕ) (plans : List Plan) → AllByRecursion (IsPlayable chains) plans → Standing (run plans (new_world images count))
-  always_stands chains plans playable = run_stands chains plans playable (new_world images count) first_stands
+pub always_stands : Laws → StandsAfterEverySchedule
+always_stands laws images adds plans playable =
+    stands_so plans images adds (run plans (new_world images adds)) (run_stands laws plans images adds plans (all_among plans) playable (new_world images adds) (first_stands plans images adds))

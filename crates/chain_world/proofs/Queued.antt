@@ -1,7 +1,9 @@
 -- What an agent has queued for a channel goes out, one message after the other.
-use Rattle.std.proofs.Common.{◌≡◌, ℕ, suc, ◌+◌, ◌<◌, ◌≤◌, ◌==◌, Bool, true, false, not, cond, nat_lt, List, [], ◌∷◌, length, Option, Some, None, refl, sym, ap, ◌∙◌, arith, subst, one-add, ltb-true, ltb-false, lt-ltb, le-ltb, append-nil, append_assoc}
-use Rattle.std.specs.Prelude.{drop, slice_get}
+use Rattle.std.proofs.Common.{◌≡◌, ℕ, suc, ◌+◌, ◌<◌, ◌≤◌, ◌==◌, Bool, true, false, not, cond, nat_lt, List, [], ◌∷◌, length, Option, Some, None, refl, sym, ap, ◌∙◌, arith, get_or, subst, one-add, ltb-true, ltb-false, lt-ltb, le-ltb}
+use Rattle.std.specs.Prelude.{drop, is_some, slice_get}
 use Rattle.std.specs.List.{position_or_len}
+use Rattle.std.proofs.lemmas.Bool.{false≢true}
+use Rattle.std.proofs.lemmas.List.{drop_more}
 use Rattle.std.proofs.lemmas.Option.{none-some, same_Some}
 use Rattle.channel_core.specs.EndValue.{unless_spent}
 use Rattle.channel_core.specs.declared.held.Outgoing.{Outgoing}
@@ -9,26 +11,7 @@ use Rattle.agent_node.specs.AgentValue.{AgentValue}
 use Rattle.agent_node.specs.Agent.{after_giving, channel_of, first_of, given}
 use Rattle.agent_node.specs.Channels.{End, changed, changed_at, channel_at, end_in, place_of, put_at, with_end}
 use Rattle.agent_node.specs.declared.channel.Channel.{Channel}
-use Rattle.chain_world.specs.Chain.{agent_emptied, emptied, queue_of}
-use Rattle.chain_world.specs.Hop.{sent_down}
-use Rattle.chain_world.specs.declared.hop.Hop.{Hop}
-
-sent_parts : (live : Bool) (up down : List Outgoing) (out : Outgoing) (outs : List Outgoing) →
-    sent_down outs (sent_down (out ∷ []) (record { is_live = live; up = up; down = down })) ≡ sent_down (out ∷ outs) (record { is_live = live; up = up; down = down })
-sent_parts true up down out outs =
-    let hop_of : List Outgoing → Hop = λ xs. record { is_live = true; up = up; down = xs } in ap hop_of (append_assoc down (out ∷ []) outs)
-sent_parts false up down out outs = refl
-
--- one message and then the others
-pub sent_down_on : (out : Outgoing) (outs : List Outgoing) (hop : Hop) → sent_down outs (sent_down (out ∷ []) hop) ≡ sent_down (out ∷ outs) hop
-sent_down_on out outs hop = sent_parts hop.is_live hop.up hop.down out outs
-
-none_parts : (live : Bool) (up down : List Outgoing) → sent_down [] (record { is_live = live; up = up; down = down }) ≡ record { is_live = live; up = up; down = down }
-none_parts true up down = let hop_of : List Outgoing → Hop = λ xs. record { is_live = true; up = up; down = xs } in ap hop_of (append-nil down)
-none_parts false up down = refl
-
-pub none_sent_down : (hop : Hop) → sent_down [] hop ≡ hop
-none_sent_down hop = none_parts hop.is_live hop.up hop.down
+use Rattle.chain_world.specs.Chain.{agent_emptied, all_dropped, emptied, queue_of}
 
 -- ---- The first channel of a number, by cases on the list
 
@@ -113,7 +96,7 @@ first_twice k change then (c ∷ cs) = by_flag (c.number == k) refl (first_twice
     by_flag false is rest =
         ap (in_first k then) (first_later k change c cs is) ∙ first_later k then c (in_first k change cs) is ∙ ap (λ xs. c ∷ xs) rest ∙ sym (first_later k (λ e. then (change e)) c cs is)
 
-abbrev mapped : (End → End) → Option Channel → Option Channel
+abbrev pub mapped : (End → End) → Option Channel → Option Channel
 mapped change None = None
 mapped change (Some c) = Some (with_end (change c.end) c)
 
@@ -250,6 +233,20 @@ done k a gives =
 pub agent_is_done : (k : ℕ) (a next : AgentValue) → given k a ≡ None → next ≡ after_giving k a → IsDone k a next
 agent_is_done k a next gives is = subst (λ x. IsDone k a x) (sym is) (done k a gives)
 
+-- ---- The same, where it is only known whether it gives one
+
+pub record Gives (k : ℕ) (a next : AgentValue) : Type 0 where
+  pub same : agent_emptied k next ≡ agent_emptied k a
+  pub fewer : length (queue_of (end_in (channel_of k next))) < length (queue_of (end_in (channel_of k a)))
+
+pub agent_gives : (k : ℕ) (a next : AgentValue) (out : Option Outgoing) → out ≡ given k a → next ≡ after_giving k a → is_some out ≡ true → Gives k a next
+agent_gives k a next None gives after some = absurd (false≢true some)
+agent_gives k a next (Some out) gives after some = let goes = agent_goes_on k a next out (sym gives) after in record { same = goes.same; fewer = goes.fewer }
+
+pub agent_gives_none : (k : ℕ) (a next : AgentValue) (out : Option Outgoing) → out ≡ given k a → next ≡ after_giving k a → is_some out ≡ false → IsDone k a next
+agent_gives_none k a next None gives after none = agent_is_done k a next (sym gives) after
+agent_gives_none k a next (Some out) gives after none = absurd (false≢true (sym none))
+
 -- ---- What is emptied has nothing queued, and stays
 
 pub agent_emptied_twice : (k : ℕ) (a : AgentValue) → agent_emptied k (agent_emptied k a) ≡ agent_emptied k a
@@ -268,3 +265,47 @@ agent_has_none k a =
     let cs = a.channels in
     ap (λ o. queue_of (end_in o)) (place_found k (changed k emptied cs) ∙ ap (found k) (changed_first k emptied cs) ∙ found_changed k emptied cs)
     ∙ nothing_in (found k cs)
+
+-- ---- What is queued for several channels is dropped, in any order
+
+-- the first channel of each of two numbers changes alike
+first_commutes : (j k : ℕ) (f : End → End) (cs : List Channel) → in_first j f (in_first k f cs) ≡ in_first k f (in_first j f cs)
+first_commutes j k f [] = refl
+first_commutes j k f (c ∷ cs) = by_flags (c.number == j) (c.number == k) refl refl (first_commutes j k f cs)
+  where
+    by_flags : (one other : Bool) → (c.number == j) ≡ one → (c.number == k) ≡ other → in_first j f (in_first k f cs) ≡ in_first k f (in_first j f cs)
+        → in_first j f (in_first k f (c ∷ cs)) ≡ in_first k f (in_first j f (c ∷ cs))
+    by_flags true true one other rest =
+        ap (in_first j f) (first_here k f c cs other) ∙ first_here j f (with_end (f c.end) c) cs one
+        ∙ sym (ap (in_first k f) (first_here j f c cs one) ∙ first_here k f (with_end (f c.end) c) cs other)
+    by_flags true false one other rest =
+        ap (in_first j f) (first_later k f c cs other) ∙ first_here j f c (in_first k f cs) one
+        ∙ sym (ap (in_first k f) (first_here j f c cs one) ∙ first_later k f (with_end (f c.end) c) cs other)
+    by_flags false true one other rest =
+        ap (in_first j f) (first_here k f c cs other) ∙ first_later j f (with_end (f c.end) c) cs one
+        ∙ sym (ap (in_first k f) (first_later j f c cs one) ∙ first_here k f c (in_first j f cs) other)
+    by_flags false false one other rest =
+        ap (in_first j f) (first_later k f c cs other) ∙ first_later j f c (in_first k f cs) one ∙ ap (λ xs. c ∷ xs) rest
+        ∙ sym (ap (in_first k f) (first_later j f c cs one) ∙ first_later k f c (in_first j f cs) other)
+
+emptied_commutes : (j k : ℕ) (a : AgentValue) → agent_emptied j (agent_emptied k a) ≡ agent_emptied k (agent_emptied j a)
+emptied_commutes j k a =
+    let cs = a.channels in
+    ap (λ xs. record a { channels = xs })
+    (changed_first j emptied (changed k emptied cs) ∙ ap (in_first j emptied) (changed_first k emptied cs) ∙ first_commutes j k emptied cs
+    ∙ sym (changed_first k emptied (changed j emptied cs) ∙ ap (in_first k emptied) (changed_first j emptied cs)))
+
+pub dropped_behind : (k : ℕ) (channels : List ℕ) (a : AgentValue) → all_dropped channels (agent_emptied k a) ≡ agent_emptied k (all_dropped channels a)
+dropped_behind k [] a = refl
+dropped_behind k (j ∷ channels) a = ap (all_dropped channels) (emptied_commutes j k a) ∙ dropped_behind k channels (agent_emptied j a)
+
+pub dropped_twice : (channels : List ℕ) (a : AgentValue) → all_dropped channels (all_dropped channels a) ≡ all_dropped channels a
+dropped_twice [] a = refl
+dropped_twice (j ∷ channels) a =
+    ap (all_dropped channels) (sym (dropped_behind j channels (agent_emptied j a)) ∙ ap (all_dropped channels) (agent_emptied_twice j a)) ∙ dropped_twice channels (agent_emptied j a)
+
+-- one more channel of a list
+pub dropped_more : (channels : List ℕ) (at : ℕ) (a next : AgentValue) → at < length channels → next ≡ agent_emptied (get_or channels at 0) a
+    → all_dropped (drop (at + 1) channels) next ≡ all_dropped (drop at channels) a
+dropped_more channels at a next within is =
+    ap (all_dropped (drop (at + 1) channels)) is ∙ sym (ap (λ ks. all_dropped ks a) (drop_more channels at 0 within))

@@ -1,205 +1,243 @@
--- The steps of a chain and its channel at the agent.
-use Rattle.std.proofs.Common.{◌≡◌, ℕ, zero, suc, Bool, true, false, not, cond, nat_lt, List, [], ◌∷◌, ◌++◌, map, Option, Some, None, refl, sym, ap, ◌∙◌, subst}
-use Rattle.channel_core.specs.Arrivals.{Marked}
+-- The steps of a chain and the agent.
+use Rattle.std.proofs.Common.{◌≡◌, ℕ, zero, suc, ◌==◌, Bool, true, false, not, cond, List, [], ◌∷◌, Option, Some, None, refl, sym, ap, ◌∙◌, subst, append-nil, eqb-true, eq-eqb, inl, inr}
+use Rattle.std.specs.Prelude.{option_to_list}
+use Rattle.std.specs.List.{Contains, list_any}
 use Rattle.channel_core.specs.Closing.{is_closed}
 use Rattle.channel_core.specs.Runs.{ending}
 use Rattle.channel_core.specs.declared.held.Outgoing.{Outgoing}
-use Rattle.client_node.specs.Client.{waiting_on}
 use Rattle.client_node.specs.Runs.{bytes_end as client_bytes_end, called}
 use Rattle.target_contexts.specs.declared.process.Image.{Image}
-use Rattle.agent_node.specs.Agent.{channel_of, waiting_at}
-use Rattle.agent_node.specs.AgentValue.{AgentValue}
 use Rattle.agent_node.specs.Channels.{channel_end}
-use Rattle.agent_node.specs.Runs.{AgentRun, Call, Past, after_all, run_of}
-use Rattle.chain_world.specs.Chain.{Both, agent_emptied, all_down, all_taken_down, all_up, both, came_down, came_up, carried_down, carried_up, carried_from, cut, delivered_down, delivered_to, delivered_up, ended_from, most_bytes, most_waiting, parts_delivered, pieces_down, pieces_up, queue_of, takes_down, takes_up, turned_down, turns_down}
-use Rattle.chain_world.specs.Hop.{no_hop, sent_down}
-use Rattle.chain_world.specs.Lane.{arriving, size_in, staying}
-use Rattle.chain_world.specs.declared.chain.Chain.{Chain}
-use Rattle.chain_world.specs.declared.hop.Hop.{Hop}
-use Rattle.chain_world.proofs.Agents.{Laws, Reached, Touch, after_more, an_end, calls_of, gifts, gifts_emptied, gifts_past, has_queue, leaves_others, pieces, pieces_agent, pieces_closed, pieces_none, pieces_open, reached_more}
-use Rattle.chain_world.proofs.Flows.{Flows, HasQueued, flows_cut, flows_dropped_up, flows_grown, flows_put, flows_taken_up}
-use Rattle.chain_world.proofs.Moves.{Carries, IsJoined, IsUnopened, Linked, and_first, quiet_carries}
-use Rattle.chain_world.proofs.Pasts.{Keeps, at_one, grows_then, keeps_same, past_at}
+use Rattle.agent_node.specs.Runs.{AgentRun, Past, after_all, after_call as agent_call, bytes_end, on_number, run_of}
+use Rattle.value_node.specs.declared.states.Side.TheVariants.{Below}
+use Rattle.chain_route.specs.Lane.{arriving, size_in}
+use Rattle.chain_route.specs.Passing.{most_bytes}
+use Rattle.chain_route.specs.Route as route
+use Rattle.chain_route.specs.Route.{arrived_up, delivered_at, flight_up, last_of, sent_down}
+use Rattle.chain_route.specs.RouteValue.{RouteValue}
+use Rattle.chain_route.specs.Runs.{RouteRun, Talk, arrives_up, cuts, gets, gives, sends_down, with_agent}
+use Rattle.chain_world.specs.Chain.{Both, all_dropped, all_up, both, came_up, carried_down, carried_from, channels_of, client_cut, cut, cut_by, delivered_over, delivered_to, delivered_up, ended_from, parts_delivered, pieces_up, queue_of, takes_up}
+use Rattle.chain_world.specs.ChainValue.{ChainValue}
+use Rattle.chain_world.specs.Standing.{AllDiffer, cuts_at, Talks, came_to, past_at}
+use Rattle.chain_world.proofs.Agents.{Laws, Reached, Touch, calls_of, gifts, gifts_emptied, gifts_past, has_queue, leaves_others, pieces, pieces_agent, pieces_closed, pieces_none, pieces_open, reached_more}
+use Rattle.chain_world.proofs.Chains.{client_fits, delivers_fits, inside_fits}
+use Rattle.chain_world.proofs.Fitting.{Fits, Place}
+use Rattle.chain_world.proofs.Keeping.{Goes, IsMove, IsSameTo, Moved, agent_fits, earlier_channel, fits_after, goes_none, goes_of, goes_then, is_reached, moved_then, own_channel, reached_goes, same_to, still}
+use Rattle.chain_world.proofs.Numbers.{differ_parts, first_or, here, later, none_in}
+use Rattle.chain_world.proofs.Pasts.{keeps_one, keeps_same, numbers_mapped, on_number_keeps}
+use Rattle.chain_world.proofs.Talks.{HasQueued, IsCameSame, came_put, talks_dropped, talks_put, talks_taken}
 
--- the agent and the chain have gone on, with calls of the agent that are of this channel
-pub record Moved (r : AgentRun) (channel : Option ℕ) (b : Both) : Type 0 where
-  pub calls : List Call
-  pub agent : (after_all calls r).agent ≡ b.agent
-  pub history : (after_all calls r).history ≡ r.history
-  pub numbers : map (λ p. p.number) (after_all calls r).channels ≡ map (λ p. p.number) r.channels
-  pub channel_is : b.chain.channel ≡ channel
-  pub others : (j : ℕ) → (channel ≡ Some j → ⊥) → Keeps j r.channels (after_all calls r).channels
-  pub carries : Carries (after_all calls r).channels b.chain
+-- ---- What a channel queued is given out
 
--- the agent does nothing
-pub still : (r : AgentRun) (channel : Option ℕ) (next : Chain) → next.channel ≡ channel → Carries r.channels next → Moved r channel (both next r.agent)
-still r channel next is carries = record {
-  calls = [];
-  agent = refl;
-  history = refl;
-  numbers = refl;
-  channel_is = is;
-  others = λ j apart. keeps_same j r.channels r.channels refl;
-  carries = carries;
-}
+came_gifts : (k j : ℕ) (queue : List Outgoing) (r : AgentRun) → IsCameSame r.channels (after_all (calls_of k (gifts queue)) r).channels j
+came_gifts k j queue r = by_flag (j == k) refl
+  where
+    by_flag : (flag : Bool) → (j == k) ≡ flag → IsCameSame r.channels (after_all (calls_of k (gifts queue)) r).channels j
+    by_flag true is =
+        let same : j ≡ k = eqb-true j k is in
+        subst (IsCameSame r.channels (after_all (calls_of k (gifts queue)) r).channels) (sym same) (ap came_to (gifts_past k queue r) ∙ came_put queue (past_at k r.channels))
+    by_flag false is = ap came_to ((leaves_others k (gifts queue) r).others j (λ same. let yes : (j == k) ≡ true = eq-eqb j k same in absurd cc))
 
-on_hop : (pasts later : List Past) (chain : Chain) (k : ℕ) (hop : Hop) → chain.channel ≡ Some k
-    → ((gave : List Outgoing) (got : List Marked) → Flows chain.hop gave got (past_at k pasts) → Flows hop gave got (past_at k later))
-    → Carries pasts chain → Carries later (record chain { hop = hop })
-on_hop pasts later chain k hop is flows c =
-    let l : IsJoined chain.client chain.hop c.calls (past_at k pasts) = subst (λ ch. Linked ch chain.client chain.hop c.calls pasts) is c.linked in
-    let next : IsJoined chain.client hop c.calls (past_at k later) = record { opened = l.opened; flows = flows _ _ l.flows } in
-    record { calls = c.calls; client = c.client; names = c.names; linked = subst (λ ch. Linked ch chain.client hop c.calls later) (sym is) next }
+-- what is queued for these channels is dropped
+record Dropped (r : AgentRun) (channels : List ℕ) : Type 0 where
+  next : AgentRun
+  goes : Goes r next channels
+  agent : next.agent ≡ all_dropped channels r.agent
+  others : (j : ℕ) → (Contains channels j → ⊥) → past_at j next.channels ≡ past_at j r.channels
+  came : (j : ℕ) → IsCameSame r.channels next.channels j
 
-touch_moved : (k : ℕ) (touches : List Touch) (r : AgentRun) (c : Chain) (hop : Hop) (agent : AgentValue) → c.channel ≡ Some k → (after_all (calls_of k touches) r).agent ≡ agent
-    → ((gave : List Outgoing) (got : List Marked) → Flows c.hop gave got (past_at k r.channels) → Flows hop gave got (past_at k (after_all (calls_of k touches) r).channels))
-    → Carries r.channels c → Moved r c.channel (both (record c { hop = hop }) agent)
-touch_moved k touches r c hop agent is agent_is flows carries =
+-- the agent's calls of one channel
+touched : (k : ℕ) (touches : List Touch) (r : AgentRun) → Goes r (after_all (calls_of k touches) r) (k ∷ [])
+touched k touches r =
+    let next = after_all (calls_of k touches) r in
     let l = leaves_others k touches r in
-    let later = after_all (calls_of k touches) r in
     record {
       calls = calls_of k touches;
-      agent = agent_is;
+      is = refl;
       history = l.history;
       numbers = l.numbers;
-      channel_is = refl;
-      others = λ j apart. keeps_same j r.channels later.channels (l.others j (λ same. apart (is ∙ ap Some (sym same))));
-      carries = on_hop r.channels later.channels c k hop is flows carries;
+      others = λ j apart. keeps_same j r.channels next.channels (l.others j (λ same. apart (subst (Contains (k ∷ [])) (sym same) (here k []))));
     }
 
-pub carries_kept : Laws → (pasts later : List Past) (d : Chain) → ((j : ℕ) → d.channel ≡ Some j → Keeps j pasts later) → Carries pasts d → Carries later d
-carries_kept laws pasts later d keeps c = record { calls = c.calls; client = c.client; names = c.names; linked = by_channel d.channel keeps c.linked }
-  where
-    by_channel : (ch : Option ℕ) → ((j : ℕ) → ch ≡ Some j → Keeps j pasts later) → Linked ch d.client d.hop c.calls pasts → Linked ch d.client d.hop c.calls later
-    by_channel None keep l = l
-    by_channel (Some k) keep l = record { opened = l.opened; flows = flows_grown laws d.hop _ _ (past_at k pasts) (past_at k later) (keep k refl) l.flows }
+one_of : (k : ℕ) (channels : List ℕ) → Contains channels k → (j : ℕ) → Contains (k ∷ []) j → Contains channels j
+one_of k channels has j one = elim (first_or k [] j one) as (λ _. Contains channels j) [
+  | inl same ↦ subst (Contains channels) same has
+  | inr none ↦ absurd (none_in j none)
+]
 
-module _ (laws : Laws) (images : List Image) where
-  abbrev pub IsMove : (Chain → AgentValue → Both) → Type 0
-  IsMove step = (r : AgentRun) (c : Chain) → Reached images r → Carries r.channels c → Moved r c.channel (step c r.agent)
-
-  pub moved_then : (r : AgentRun) (channel : Option ℕ) (b : Both) (step : Chain → AgentValue → Both) → IsMove step → Reached images r → Moved r channel b → Moved r channel (step b.chain b.agent)
-  moved_then r channel b step move reached m =
-      let next = after_all m.calls r in
-      let n : Moved next b.chain.channel (step b.chain b.agent) =
-      subst (λ a. Moved next b.chain.channel (step b.chain a)) m.agent (move next b.chain (reached_more images r m.calls reached) m.carries) in
-      let all : after_all (m.calls ++ n.calls) r ≡ after_all n.calls next = after_more m.calls n.calls r in
-      let P : AgentRun → Type 0 = λ x. Carries x.channels (step b.chain b.agent).chain in
+module _ (laws : Laws) (images : List Image) (p : Place) where
+  all_drop : (channels : List ℕ) (r : AgentRun) → Reached images r → Dropped r channels
+  all_drop [] r reached = record { next = r; goes = goes_none r []; agent = refl; others = λ j apart. refl; came = λ j. refl }
+  all_drop (k ∷ channels) r reached =
+      let queue = queue_of (channel_end k r.agent.channels) in
+      let next = after_all (calls_of k (gifts queue)) r in
+      let rest = all_drop channels next (reached_more images r (calls_of k (gifts queue)) reached) in
       record {
-        calls = m.calls ++ n.calls;
-        agent = ap (λ x. x.agent) all ∙ n.agent;
-        history = ap (λ x. x.history) all ∙ n.history ∙ m.history;
-        numbers = ap (λ x. map (λ p. p.number) x.channels) all ∙ n.numbers ∙ m.numbers;
-        channel_is = n.channel_is ∙ m.channel_is;
-        others = λ j apart. subst (λ x. Keeps j r.channels x.channels) (sym all)
-            (grows_then (past_at j r.channels) (past_at j next.channels) (past_at j (after_all n.calls next).channels) (m.others j apart) (n.others j (λ is. apart (sym m.channel_is ∙ is))));
-        carries = subst P (sym all) n.carries;
+        next = rest.next;
+        goes = goes_then r next rest.next (k ∷ channels) (goes_of r next (k ∷ []) (k ∷ channels) (one_of k (k ∷ channels) (here k channels)) (touched k (gifts queue) r))
+            (goes_of next rest.next channels (k ∷ channels) (λ j has. later k channels j has) rest.goes);
+        agent = rest.agent ∙ ap (all_dropped channels) (gifts_emptied k queue r (has_queue laws images k r reached).is);
+        others = λ j apart. rest.others j (λ has. apart (later k channels j has)) ∙ (leaves_others k (gifts queue) r).others j (λ same. apart (subst (Contains (k ∷ channels)) (sym same) (here k channels)));
+        came = λ j. rest.came j ∙ came_gifts k j queue r;
       }
 
   -- ---- What the agent queued is in flight
 
-  pub carry_move : IsMove carried_down
-  carry_move r c reached carries = by_channel c.channel refl
+  queued_at : (k : ℕ) (r : AgentRun) → Reached images r → HasQueued (past_at k r.channels) (queue_of (channel_end k r.agent.channels))
+  queued_at k r reached = by_past (past_at k r.channels) refl
     where
-      queued : (k : ℕ) (there : Option Past) → past_at k r.channels ≡ there → HasQueued there (queue_of (channel_end k r.agent.channels))
-      queued k None is = (has_queue laws images k r reached).none is
-      queued k (Some past) is = (has_queue laws images k r reached).past past is
+      by_past : (there : Option Past) → past_at k r.channels ≡ there → HasQueued there (queue_of (channel_end k r.agent.channels))
+      by_past None is = (has_queue laws images k r reached).none is
+      by_past (Some past) is = (has_queue laws images k r reached).past past is
 
-      by_channel : (ch : Option ℕ) → c.channel ≡ ch → Moved r c.channel (carried_from ch c r.agent)
-      by_channel None is = still r c.channel c refl carries
+  gives_move : (r : AgentRun) (adds : ℕ) (c : ChainValue) → Reached images r → Fits p r.channels adds c → Moved p r adds (channels_of c) (carried_from c.channel c r.agent)
+  gives_move r adds c reached f = by_channel c.channel refl
+    where
+      by_channel : (channel : Option ℕ) → c.channel ≡ channel → Moved p r adds (channels_of c) (carried_from channel c r.agent)
+      by_channel None is = still p r adds (channels_of c) c refl f
       by_channel (Some k) is =
           let queue = queue_of (channel_end k r.agent.channels) in
-          touch_moved k (gifts queue) r c (sent_down queue c.hop) (agent_emptied k r.agent) is (gifts_emptied k queue r (has_queue laws images k r reached).is)
-          (λ gave got f. subst (Flows (sent_down queue c.hop) gave got) (sym (gifts_past k queue r)) (flows_put queue c.hop gave got (past_at k r.channels) (queued k (past_at k r.channels) refl) f))
-          carries
+          let next = after_all (calls_of k (gifts queue)) r in
+          let past = with_agent (gives queue f.now.past.agent) f.now.past in
+          let reaches : f.now.past.is_reached ≡ true = is_reached c.channel k f.now r.channels is f.agrees.talks in
+          record {
+            next = next;
+            goes = goes_of r next (k ∷ []) (channels_of c) (one_of k (channels_of c) (own_channel c k is)) (touched k (gifts queue) r);
+            agent = gifts_emptied k queue r (has_queue laws images k r reached).is;
+            channels_are = refl;
+            fits = agent_fits p r.channels next.channels adds c k f (sends_down queue) (sent_down queue) (gives queue f.now.past.agent) is tt
+                (ap (λ b. cond {A = RouteRun} b (record { route = sent_down queue f.now.route; past = past }) f.now) reaches)
+                (λ t. subst (λ there. Talks there (gives queue f.now.past.agent)) (sym (gifts_past k queue r)) (talks_put queue (past_at k r.channels) f.now.past.agent (queued_at k r reached) t))
+                (λ j has. came_gifts k j queue r);
+          }
 
-  -- ---- The hop is cut
+  pub carry_move : IsMove images p carried_down
+  carry_move r adds c reached differ f =
+      let d = all_drop c.earlier r reached in
+      let apart = (differ_parts c.earlier (option_to_list c.channel) differ).apart in
+      let same : IsSameTo c r.channels d.next.channels = record {
+        keeps = λ j is. keeps_same j r.channels d.next.channels (d.others j (λ has. apart j has (subst (λ ch. Contains (option_to_list ch) j) (sym is) (here j []))));
+        came = λ j has. d.came j;
+      } in
+      let goes : Goes r d.next (channels_of c) = goes_of r d.next c.earlier (channels_of c) (earlier_channel c) d.goes in
+      let first : Fits p d.next.channels adds c = fits_after laws p r.channels d.next.channels adds c same f in
+      let m : Moved p d.next adds (channels_of c) (carried_from c.channel c (all_dropped c.earlier r.agent)) =
+      subst (λ a. Moved p d.next adds (channels_of c) (carried_from c.channel c a)) d.agent (gives_move d.next adds c (reached_goes images r d.next (channels_of c) reached goes) first) in
+      record { next = m.next; goes = goes_then r d.next m.next (channels_of c) goes m.goes; agent = m.agent; channels_are = m.channels_are; fits = m.fits }
 
-  pub cut_move : IsMove cut
-  cut_move r c reached carries = by_flag c.hop.is_live
+  -- ---- A hop is cut
+
+  -- a step cuts it
+  abbrev pub MayCut : ℕ → Type 0
+  MayCut hop = list_any (cuts_at p.at hop) p.plans ≡ true
+
+  gone_goes : (k : ℕ) (r : AgentRun) (channels : List ℕ) → Goes r (agent_call (bytes_end k) r) channels
+  gone_goes k r channels = record {
+    calls = bytes_end k ∷ [];
+    is = refl;
+    history = append-nil r.history;
+    numbers = numbers_mapped (on_number k (ending ∷ [])) (on_number_keeps k (ending ∷ [])) r.channels;
+    others = λ j apart. keeps_one k (ending ∷ []) (tt, tt) j r.channels;
+  }
+
+  gone_move : (r : AgentRun) (adds : ℕ) (c : ChainValue) (channel : Option ℕ) → Fits p r.channels adds c → Moved p r adds (channels_of c) (both c (ended_from channel r.agent))
+  gone_move r adds c None f = still p r adds (channels_of c) c refl f
+  gone_move r adds c (Some k) f =
+      let next = agent_call (bytes_end k) r in
+      record {
+        next = next;
+        goes = gone_goes k r (channels_of c);
+        agent = refl;
+        channels_are = refl;
+        fits = fits_after laws p r.channels next.channels adds c (same_to c r.channels next.channels (λ j has. keeps_one k (ending ∷ []) (tt, tt) j r.channels)) f;
+      }
+
+  client_gone : (pasts : List Past) (adds hop : ℕ) (c : ChainValue) → MayCut hop → Fits p pasts adds c → Fits p pasts adds (client_cut hop c)
+  client_gone pasts adds hop c may f = by_flag (hop == 0) refl
     where
-      ended : Chain
-      ended = record c { client = called client_bytes_end c.client }
+      by_flag : (flag : Bool) → (hop == 0) ≡ flag → Fits p pasts adds (cond flag (record c { client = called client_bytes_end c.client }) c)
+      by_flag true is = client_fits p pasts adds c client_bytes_end tt (tt, subst MayCut (eqb-true hop 0 is) may) tt f
+      by_flag false is = f
 
-      gone : Carries r.channels ended
-      gone = quiet_carries r.channels c client_bytes_end tt tt tt carries
+  client_channels : (hop : ℕ) (c : ChainValue) → channels_of (client_cut hop c) ≡ channels_of c
+  client_channels hop c = by_flag (hop == 0)
+    where
+      by_flag : (flag : Bool) → channels_of (cond flag (record c { client = called client_bytes_end c.client }) c) ≡ channels_of c
+      by_flag true = refl
+      by_flag false = refl
 
-      unlinked : c.channel ≡ None → Carries r.channels (record ended { hop = no_hop })
-      unlinked none =
-          let l : IsUnopened ended.client ended.hop = subst (λ ch. Linked ch ended.client ended.hop gone.calls r.channels) none gone.linked in
-          let next : IsUnopened ended.client no_hop = record { dead = refl; unopened = l.unopened } in
-          record { calls = gone.calls; client = gone.client; names = gone.names; linked = subst (λ ch. Linked ch ended.client no_hop gone.calls r.channels) (sym none) next }
+  pub cut_move : (hop : ℕ) → MayCut hop → IsMove images p (cut hop)
+  cut_move hop may r adds c reached differ f = by_pair (route.cut hop c.route) refl
+    where
+      lost : (last : Bool) (d : ChainValue) (channel : Option ℕ) → channels_of d ≡ channels_of c → Fits p r.channels adds d → Moved p r adds (channels_of c) (both d (cond last (ended_from channel r.agent) r.agent))
+      lost true d channel same g = subst (λ ks. Moved p r adds ks (both d (ended_from channel r.agent))) same (gone_move r adds d channel g)
+      lost false d channel same g = still p r adds (channels_of c) d same g
 
-      by_channel : (ch : Option ℕ) → c.channel ≡ ch → Moved r c.channel (both (record ended { hop = no_hop }) (ended_from ch r.agent))
-      by_channel None is = still r c.channel (record ended { hop = no_hop }) refl (unlinked is)
-      by_channel (Some k) is =
-          touch_moved k (an_end ∷ []) r ended no_hop _ is refl
-          (λ gave got f. flows_cut ended.hop gave got _ (flows_grown laws ended.hop gave got (past_at k r.channels) _ (ending ∷ [], (tt, tt), at_one k (ending ∷ []) r.channels) f))
-          gone
-
-      by_flag : (flag : Bool) → Moved r c.channel (cond flag (both (record ended { hop = no_hop }) (ended_from c.channel r.agent)) (both c r.agent))
-      by_flag true = by_channel c.channel refl
-      by_flag false = still r c.channel c refl carries
+      by_pair : (x : Bool × RouteValue) → route.cut hop c.route ≡ x → Moved p r adds (channels_of c) (cut_by hop x c r.agent)
+      by_pair (false, q) is = still p r adds (channels_of c) c refl f
+      by_pair (true, q) is =
+          let d : ChainValue = record c { route = q } in
+          let g : Fits p r.channels adds d = subst (λ (x : Bool × RouteValue). Fits p r.channels adds (record c { route = x.1 })) is (inside_fits p r.channels adds c (cuts hop) (λ x. (route.cut hop x).1) may (record { is = λ x. refl }) f) in
+          lost (hop == last_of q) (client_cut hop d) c.channel (client_channels hop d) (client_gone r.channels adds hop d may g)
 
   -- ---- What is in flight comes up
 
-  pub deliver_move : (count : ℕ) → IsMove (delivered_up count)
-  deliver_move count r c reached carries = by_channel c.channel refl
+  abbrev TalksThen : ℕ → AgentRun → List Outgoing → Talk → Type 0
+  TalksThen k r parts talk = Talks (past_at k (after_all (calls_of k (pieces parts)) r).channels) (gets parts talk)
+
+  came_talks : (k : ℕ) (r : AgentRun) (parts : List Outgoing) (talk : Talk) → Talks (past_at k r.channels) talk → TalksThen k r parts talk
+  came_talks k r parts talk t = by_past (past_at k r.channels) refl t
     where
-      parts : List Outgoing
-      parts = arriving count c.hop.up
+      by_state : (past : Past) (flag : Bool) → is_closed (run_of past).end.state ≡ flag → past_at k r.channels ≡ Some past → Talks (Some past) talk → TalksThen k r parts talk
+      by_state past true is there t = subst (λ o. Talks o (gets parts talk)) (sym (pieces_closed k parts r past is there)) (talks_dropped parts (Some past) talk (ap not is) t)
+      by_state past false is there t = subst (λ o. Talks o (gets parts talk)) (sym (pieces_open laws.closes k parts r past is there)) (talks_taken parts past talk is t)
 
-      hop : Hop
-      hop = record c.hop { up = staying count c.hop.up }
+      by_past : (there : Option Past) → past_at k r.channels ≡ there → Talks there talk → TalksThen k r parts talk
+      by_past None is t = subst (λ o. Talks o (gets parts talk)) (sym (pieces_none k parts r is)) (talks_dropped parts None talk refl t)
+      by_past (Some past) is t = by_state past (is_closed (run_of past).end.state) refl is t
 
-      by_state : (k : ℕ) (past : Past) (flag : Bool) → c.hop.is_live ≡ true → is_closed (run_of past).end.state ≡ flag → past_at k r.channels ≡ Some past → (gave : List Outgoing) (got : List Marked)
-          → Flows c.hop gave got (Some past) → Flows hop gave got (past_at k (after_all (calls_of k (pieces parts)) r).channels)
-      by_state k past true live is there gave got f =
-          subst (Flows hop gave got) (sym (pieces_closed k parts r past is there)) (flows_dropped_up (staying count c.hop.up) c.hop gave got (Some past) (ap not is) f)
-      by_state k past false live is there gave got f =
-          subst (Flows hop gave got) (sym (pieces_open laws.closes k parts r past is there)) (flows_taken_up count c.hop gave got past live is f)
+  came_move : (k count : ℕ) (r : AgentRun) (adds : ℕ) (c : ChainValue) → c.channel ≡ Some k → AllDiffer (channels_of c) → Fits p r.channels adds c
+      → Moved p r adds (channels_of c) (both (record c { route = arrived_up count c.route }) (parts_delivered k (arriving count (flight_up c.route)) r.agent))
+  came_move k count r adds c is differ f =
+      let parts = arriving count (flight_up c.route) in
+      let next = after_all (calls_of k (pieces parts)) r in
+      let apart = (differ_parts c.earlier (option_to_list c.channel) differ).apart in
+      let same : arriving count (flight_up f.now.route) ≡ parts = ap (λ x. arriving count (flight_up x)) (sym f.agrees.route) in
+      record {
+        next = next;
+        goes = goes_of r next (k ∷ []) (channels_of c) (one_of k (channels_of c) (own_channel c k is)) (touched k (pieces parts) r);
+        agent = pieces_agent k parts r;
+        channels_are = refl;
+        fits = agent_fits p r.channels next.channels adds c k f (arrives_up count) (arrived_up count) (gets parts f.now.past.agent) is tt
+            (ap (λ outs. record { route = arrived_up count f.now.route; past = with_agent (gets outs f.now.past.agent) f.now.past }) same)
+            (came_talks k r parts f.now.past.agent)
+            (λ j has. ap came_to ((leaves_others k (pieces parts) r).others j (λ equal. apart j has (subst (λ ch. Contains (option_to_list ch) j) (sym is) (subst (Contains (k ∷ [])) (sym equal) (here k []))))));
+      }
 
-      by_past : (k : ℕ) (there : Option Past) → c.hop.is_live ≡ true → past_at k r.channels ≡ there → (gave : List Outgoing) (got : List Marked)
-          → Flows c.hop gave got there → Flows hop gave got (past_at k (after_all (calls_of k (pieces parts)) r).channels)
-      by_past k None live is gave got f = subst (Flows hop gave got) (sym (pieces_none k parts r is)) (flows_dropped_up (staying count c.hop.up) c.hop gave got None refl f)
-      by_past k (Some past) live is gave got f = by_state k past (is_closed (run_of past).end.state) live refl is gave got f
+  pub deliver_move : (count : ℕ) → IsMove images p (delivered_up count)
+  deliver_move count r adds c reached differ f = by_channel c.channel refl
+    where
+      by_flag : (flag : Bool) (k : ℕ) → c.channel ≡ Some k → Moved p r adds (channels_of c) (cond flag (came_up k count c r.agent) (both c r.agent))
+      by_flag true k is =
+          moved_then images p r adds (channels_of c) (both (record c { route = arrived_up count c.route }) (parts_delivered k (arriving count (flight_up c.route)) r.agent)) carried_down carry_move reached differ
+          (came_move k count r adds c is differ f)
+      by_flag false k is = still p r adds (channels_of c) c refl f
 
-      by_flag : (flag : Bool) (k : ℕ) → c.channel ≡ Some k → takes_up k c r.agent ≡ flag → Moved r c.channel (cond flag (came_up k count c r.agent) (both c r.agent))
-      by_flag true k is takes =
-          let live : c.hop.is_live ≡ true = and_first c.hop.is_live (nat_lt (waiting_at (channel_of k r.agent)) most_waiting) takes in
-          let first = touch_moved k (pieces parts) r c hop (parts_delivered k parts r.agent) is (pieces_agent k parts r)
-          (λ gave got f. by_past k (past_at k r.channels) live refl gave got f) carries in
-          moved_then r c.channel (both (record c { hop = hop }) (parts_delivered k parts r.agent)) carried_down carry_move reached first
-      by_flag false k is takes = still r c.channel c refl carries
+      by_channel : (channel : Option ℕ) → c.channel ≡ channel → Moved p r adds (channels_of c) (delivered_to channel count c r.agent)
+      by_channel None is = still p r adds (channels_of c) c refl f
+      by_channel (Some k) is = by_flag (takes_up k c r.agent) k is
 
-      by_channel : (ch : Option ℕ) → c.channel ≡ ch → Moved r c.channel (delivered_to ch count c r.agent)
-      by_channel None is = still r c.channel c refl carries
-      by_channel (Some k) is = by_flag (takes_up k c r.agent) k is refl
+  pub over_move : (hop count : ℕ) → IsMove images p (delivered_over hop count)
+  over_move hop count r adds c reached differ f = by_flag (hop == last_of c.route)
+    where
+      by_flag : (flag : Bool) → Moved p r adds (channels_of c) (cond flag (delivered_up count c r.agent) (both (record c { route = delivered_at Below hop count c.route }) r.agent))
+      by_flag true = deliver_move count r adds c reached differ f
+      by_flag false = still p r adds (channels_of c) (record c { route = delivered_at Below hop count c.route }) refl (delivers_fits p r.channels adds Below hop count c f)
 
-  pieces_move : (n : ℕ) (r : AgentRun) (channel : Option ℕ) (b : Both) → Reached images r → Moved r channel b → Moved r channel (pieces_up n b)
-  pieces_move zero r channel b reached m = m
-  pieces_move (suc n) r channel b reached m =
-      pieces_move n r channel (delivered_up most_bytes b.chain b.agent) reached (moved_then r channel b (delivered_up most_bytes) (deliver_move most_bytes) reached m)
+  pieces_move : (n : ℕ) (r : AgentRun) (adds : ℕ) (channels : List ℕ) (b : Both) → Reached images r → AllDiffer channels → Moved p r adds channels b → Moved p r adds channels (pieces_up n b)
+  pieces_move zero r adds channels b reached differ m = m
+  pieces_move (suc n) r adds channels b reached differ m =
+      pieces_move n r adds channels (delivered_up most_bytes b.chain b.agent) reached differ (moved_then images p r adds channels b (delivered_up most_bytes) (deliver_move most_bytes) reached differ m)
 
-  pub all_up_move : IsMove all_up
-  all_up_move r c reached carries = pieces_move (size_in c.hop.up) r c.channel (both c r.agent) reached (still r c.channel c refl carries)
-
--- ---- What stays the chain's channel
-
-either_channel : (flag : Bool) (one other : Chain) → one.channel ≡ other.channel → (cond flag one other).channel ≡ other.channel
-either_channel true one other same = same
-either_channel false one other same = refl
-
-pub delivered_channel : (count : ℕ) (c : Chain) → (delivered_down count c).channel ≡ c.channel
-delivered_channel count c = either_channel (takes_down c) (carried_up (came_down count c)) c refl
-
-pieces_channel : (n : ℕ) (c : Chain) → (pieces_down n c).channel ≡ c.channel
-pieces_channel zero c = refl
-pieces_channel (suc n) c = pieces_channel n (delivered_down most_bytes c) ∙ delivered_channel most_bytes c
-
-turns_channel : (n : ℕ) (c : Chain) → (turns_down n c).channel ≡ c.channel
-turns_channel zero c = refl
-turns_channel (suc n) c = turns_channel n (turned_down c)
-
-pub all_channel : (c : Chain) → (all_taken_down (all_down c)).channel ≡ c.channel
-all_channel c = turns_channel (waiting_on (all_down c).client.channel) (all_down c) ∙ pieces_channel (size_in c.hop.down) c
+  pub all_up_move : IsMove images p all_up
+  all_up_move r adds c reached differ f = pieces_move (size_in (flight_up c.route)) r adds (channels_of c) (both c r.agent) reached differ (still p r adds (channels_of c) c refl f)

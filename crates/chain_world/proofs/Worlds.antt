@@ -1,233 +1,188 @@
--- What holds of a world after each step: every chain carries what its client and its channel gave out, and no two chains
--- have one channel.
-use Rattle.std.proofs.Common.{◌≡◌, ℕ, zero, suc, ◌+◌, ◌<◌, ◌≤◌, ◌==◌, Bool, true, false, List, [], ◌∷◌, ◌++◌, map, Option, Some, None, refl, sym, ap, ◌∙◌, subst, append-nil}
+-- What holds of a world after each step: every chain stands, and no two channels have one number.
+use Rattle.std.proofs.Common.{◌≡◌, ℕ, suc, Bool, true, false, List, [], ◌∷◌, ◌++◌, map, Option, Some, None, refl, sym, ap, ◌∙◌, subst, append-nil}
 use Rattle.std.specs.Prelude.{option_to_list, slice_get, slice_set}
-use Rattle.std.specs.List.{AllByRecursion, list_any}
+use Rattle.std.specs.List.{AllByRecursion, Contains}
+use Rattle.std.proofs.lemmas.List.Elements.{Contains-append_left, Contains-append_right}
 use Rattle.target_contexts.specs.declared.process.Image.{Image}
 use Rattle.target_hub.specs.declared.input.Input.{Input}
 use Rattle.target_hub.specs.declared.input.Input.TheVariants.{Ticked}
+use Rattle.tcf_schedules.specs.Plan.{Plan}
 use Rattle.tcf_values.specs.declared.ids.ContextId.{ContextId}
 use Rattle.agent_node.specs.Agent.{instruction_tells, ticked, turned}
 use Rattle.agent_node.specs.AgentValue.{AgentValue}
-use Rattle.agent_node.specs.Runs.{AgentRun, Call, Past, after_all, after_call, called, input_by, input_if, input_of as inputs_of, pasts_by, ticks, turns}
+use Rattle.agent_node.specs.Runs.{AgentRun, Call, Past, after_all, after_call, called, input_by, input_if, input_of as inputs_of, no_calls, pasts_by, ticks, turns}
 use Rattle.agent_node.specs.declared.agent.Turned.{Turned}
 use Rattle.agent_node.specs.declared.agent.Turned.TheVariants.{Nothing, Took}
-use Rattle.chain_world.specs.Chain.{Both, both, carried_down, input_of, turned_on}
-use Rattle.chain_world.specs.World.{All, all_carried, carried, on_some, tick_of, ticked_in, with_both, with_input, with_some}
+use Rattle.chain_world.specs.Chain.{Both, carried_down, channels_of, input_of, turned_on}
+use Rattle.chain_world.specs.ChainValue.{ChainValue}
+use Rattle.chain_world.specs.Standing.{AllDiffer, AllStand, AreNumbered, Stands}
+use Rattle.chain_world.specs.World.{All, all_carried, carried, on_chain, on_some, tick_of, ticked_in, with_agent, with_both, with_chain, with_input, with_some}
 use Rattle.chain_world.specs.WorldValue.{WorldValue}
-use Rattle.chain_world.specs.declared.chain.Chain.{Chain}
-use Rattle.chain_world.proofs.Agents.{Laws, Reached, after_more, reached_more}
-use Rattle.chain_world.proofs.Moves.{Carries}
-use Rattle.chain_world.proofs.Pasts.{Keeps, grows_none, grows_then, keeps_ticked, keeps_turned, past_at, ticked_numbers, turned_numbers}
-use Rattle.chain_world.proofs.Steps.{IsMove, Moved, carries_kept, carry_move, still}
+use Rattle.chain_world.proofs.Agents.{Laws, Reached, reached_more}
+use Rattle.chain_world.proofs.Fitting.{Fits, fits_of, stands_of}
+use Rattle.chain_world.proofs.Keeping.{Goes, IsMove, Moved, fits_kept, goes_none, goes_of, goes_then, reached_goes}
+use Rattle.chain_world.proofs.Numbers.{all_channels, at_differ, differ_parts, set_channels}
+use Rattle.chain_world.proofs.Pasts.{Keeps, keeps_same, keeps_ticked, keeps_turned, ticked_numbers, turned_numbers}
+use Rattle.chain_world.proofs.Steps.{carry_move}
+use Rattle.chain_world.proofs.Places.{each_kept, place_of, set_stands, stands_at}
 
--- ---- The channels of chains
+-- ---- The numbers
 
-abbrev pub IsApart : Option ℕ → Option ℕ → Type 0
-IsApart one other = (k : ℕ) → one ≡ Some k → other ≡ Some k → ⊥
+to_numbers : (P : ℕ → Type 0) (pasts : List Past) → AllByRecursion (λ past. P past.number) pasts → AllByRecursion P (map (λ p. p.number) pasts)
+to_numbers P [] all = tt
+to_numbers P (past ∷ pasts) all = (all.0, to_numbers P pasts all.1)
 
-abbrev pub Differ : List (Option ℕ) → Type 0
-Differ [] = Unit {0}
-Differ (ch ∷ chs) = AllByRecursion (IsApart ch) chs × Differ chs
+from_numbers : (P : ℕ → Type 0) (pasts : List Past) → AllByRecursion P (map (λ p. p.number) pasts) → AllByRecursion (λ past. P past.number) pasts
+from_numbers P [] all = tt
+from_numbers P (past ∷ pasts) all = (all.0, from_numbers P pasts all.1)
 
-abbrev pub IsBelow : ℕ → Option ℕ → Type 0
-IsBelow next None = Unit {0}
-IsBelow next (Some k) = k < next
-
-abbrev pub unopened : List (Option ℕ) → ℕ
-unopened [] = 0
-unopened (None ∷ chs) = 1 + unopened chs
-unopened (Some k ∷ chs) = unopened chs
-
-abbrev pub channels_of : List Chain → List (Option ℕ)
-channels_of chains = map (λ c. c.channel) chains
-
-abbrev pub numbers_of : List Past → List ℕ
-numbers_of pasts = map (λ p. p.number) pasts
-
-abbrev pub has_channel : ℕ → Option ℕ → Bool
-has_channel n None = false
-has_channel n (Some k) = k == n
-
--- a chain has the channel of this number
-abbrev pub IsOwned : List (Option ℕ) → ℕ → Type 0
-IsOwned channels n = list_any (has_channel n) channels ≡ true
-
--- the channels differ, and their numbers and those of the agent's pasts were given, each of these to a chain; and there are
--- numbers for the rest
-pub record AreNumbered (next : ℕ) (numbers : List ℕ) (channels : List (Option ℕ)) (count : ℕ) : Type 0 where
-  pub pasts : AllByRecursion (λ n. n < next) numbers
-  pub owned : AllByRecursion (IsOwned channels) numbers
-  pub below : AllByRecursion (IsBelow next) channels
-  pub differ : Differ channels
-  pub room : next + unopened channels ≤ count
-
--- ---- A chain at a place
-
-pub at_place : (P : Chain → Type 0) (chains : List Chain) (at : ℕ) (c : Chain) → slice_get chains at ≡ Some c → AllByRecursion P chains → P c
-at_place P [] at c is each = absurd cc
-at_place P (x ∷ chains) zero c is each = let same : x ≡ c = cc in subst P same each.0
-at_place P (x ∷ chains) (suc at) c is each = at_place P chains at c is each.1
-
-pub apart_from : (ch : Option ℕ) (chains : List Chain) (at : ℕ) (c : Chain) → slice_get chains at ≡ Some c → AllByRecursion (IsApart ch) (channels_of chains) → IsApart ch c.channel
-apart_from ch [] at c is each = absurd cc
-apart_from ch (x ∷ chains) zero c is each = let same : x ≡ c = cc in subst (λ y. IsApart ch y.channel) same each.0
-apart_from ch (x ∷ chains) (suc at) c is each = apart_from ch chains at c is each.1
-
--- each chain that is apart from one
-pub apart_each : (P Q : Chain → Type 0) (ch : Option ℕ) (chains : List Chain) → AllByRecursion (IsApart ch) (channels_of chains) → ((d : Chain) → IsApart ch d.channel → P d → Q d) → AllByRecursion P chains → AllByRecursion Q chains
-apart_each P Q ch [] apart then each = tt
-apart_each P Q ch (x ∷ chains) apart then each = (then x apart.0 each.0, apart_each P Q ch chains apart.1 then each.1)
-
-pub set_each : (P Q : Chain → Type 0) (chains : List Chain) (at : ℕ) (c next : Chain) → Differ (channels_of chains) → slice_get chains at ≡ Some c → AllByRecursion P chains
-    → ((d : Chain) → IsApart c.channel d.channel → P d → Q d) → Q next → AllByRecursion Q (slice_set chains at next)
-set_each P Q [] at c next differ is each then now = tt
-set_each P Q (x ∷ chains) zero c next differ is each then now =
-    let same : x ≡ c = cc in
-    let apart : AllByRecursion (IsApart c.channel) (channels_of chains) = subst (λ y. AllByRecursion (IsApart y.channel) (channels_of chains)) same differ.0 in
-    (now, apart_each P Q c.channel chains apart then each.1)
-set_each P Q (x ∷ chains) (suc at) c next differ is each then now =
-    let away = apart_from x.channel chains at c is differ.0 in
-    (then x (λ k one other. away k other one) each.0, set_each P Q chains at c next differ.1 is each.1 then now)
-
-pub channels_set : (chains : List Chain) (at : ℕ) (c next : Chain) → slice_get chains at ≡ Some c → next.channel ≡ c.channel → channels_of (slice_set chains at next) ≡ channels_of chains
-channels_set [] at c next is same = refl
-channels_set (x ∷ chains) zero c next is same = let first : x ≡ c = cc in ap (λ ch. ch ∷ channels_of chains) (same ∙ ap (λ y. y.channel) (sym first))
-channels_set (x ∷ chains) (suc at) c next is same = ap (λ chs. x.channel ∷ chs) (channels_set chains at c next is same)
+pub numbered_after : (next : Option ℕ) (pasts after : List Past) (numbers more : List ℕ) → map (λ p. p.number) after ≡ map (λ p. p.number) pasts → more ≡ numbers → AreNumbered next pasts numbers → AreNumbered next after more
+numbered_after next pasts after numbers more same is n =
+    subst (AreNumbered next after) (sym is)
+    (record {
+      differ = n.differ;
+      below = n.below;
+      owned = from_numbers (Contains numbers) after (subst (AllByRecursion (Contains numbers)) (sym same) (to_numbers (Contains numbers) pasts n.owned));
+    })
 
 -- ---- The world
 
-pub record Stands (images : List Image) (count : ℕ) (w : WorldValue) : Type 0 where
+pub record Standing (plans : List Plan) (images : List Image) (adds : List ℕ) (w : WorldValue) : Type 0 where
   pub run : AgentRun
   pub reached : Reached images run
   pub agent : run.agent ≡ w.agent
   pub history : run.history ≡ w.history
-  pub chains : AllByRecursion (Carries run.channels) w.chains
-  pub numbered : AreNumbered w.next (numbers_of run.channels) (channels_of w.chains) count
+  pub chains : AllStand plans run.channels 0 adds w.chains
+  pub numbered : AreNumbered w.next run.channels (all_channels w.chains)
 
-module _ (laws : Laws) (images : List Image) (count : ℕ) where
+pub stands_so : (plans : List Plan) (images : List Image) (adds : List ℕ) (w : WorldValue) → Standing plans images adds w → Stands plans images adds w
+stands_so plans images adds w s =
+    let is : after_all s.reached.calls (no_calls images) ≡ s.run = s.reached.is in
+    record {
+      calls = s.reached.calls;
+      agent = ap (λ x. x.agent) is ∙ s.agent;
+      history = ap (λ x. x.history) is ∙ s.history;
+      chains = subst (λ x. AllStand plans x.channels 0 adds w.chains) (sym is) s.chains;
+      numbered = subst (λ x. AreNumbered w.next x.channels (all_channels w.chains)) (sym is) s.numbered;
+    }
+
+module _ (laws : Laws) (plans : List Plan) (images : List Image) (adds : List ℕ) where
   -- ---- A step of one chain
 
-  placed : (step : Chain → AgentValue → Both) → IsMove laws images step → (at : ℕ) (c : Chain) (w : WorldValue) → slice_get w.chains at ≡ Some c → Stands images count w → Stands images count (with_both at (step c w.agent) w)
-  placed step move at c w is s =
-      let first : Moved s.run c.channel (step c s.run.agent) = move s.run c s.reached (at_place (Carries s.run.channels) w.chains at c is s.chains) in
-      let m : Moved s.run c.channel (step c w.agent) = subst (λ a. Moved s.run c.channel (step c a)) s.agent first in
-      let next = after_all m.calls s.run in
+  placed : (step : ChainValue → AgentValue → Both) (at : ℕ) → IsMove images (place_of plans at) step → (c : ChainValue) (w : WorldValue) → slice_get w.chains at ≡ Some c → Standing plans images adds w → Standing plans images adds (with_both at (step c w.agent) w)
+  placed step at move c w is s =
+      let here = stands_at plans s.run.channels adds w.chains at c is s.chains in
+      let first : Moved (place_of plans at) s.run here.count (channels_of c) (step c s.run.agent) = move s.run here.count c s.reached (at_differ w.chains at c is s.numbered.differ) here.fits in
+      let m : Moved (place_of plans at) s.run here.count (channels_of c) (step c w.agent) = subst (λ a. Moved (place_of plans at) s.run here.count (channels_of c) (step c a)) s.agent first in
       record {
-        run = next;
-        reached = reached_more images s.run m.calls s.reached;
+        run = m.next;
+        reached = reached_goes images s.run m.next (channels_of c) s.reached m.goes;
         agent = m.agent;
-        history = m.history ∙ s.history;
-        chains = set_each (Carries s.run.channels) (Carries next.channels) w.chains at c (step c w.agent).chain s.numbered.differ is s.chains
-            (λ d apart carries. carries_kept laws s.run.channels next.channels d (λ j there. m.others j (λ same. apart j same there)) carries) m.carries;
-        numbered = subst (λ ns. AreNumbered w.next ns (channels_of (slice_set w.chains at (step c w.agent).chain)) count) (sym m.numbers)
-            (subst (λ chs. AreNumbered w.next (numbers_of s.run.channels) chs count) (sym (channels_set w.chains at c (step c w.agent).chain is m.channel_is)) s.numbered);
+        history = m.goes.history ∙ s.history;
+        chains = set_stands laws plans s.run.channels m.next.channels adds w.chains at here.count c (step c w.agent).chain s.numbered.differ is here.there (λ j has apart. m.goes.others j apart) m.fits s.chains;
+        numbered = numbered_after w.next s.run.channels m.next.channels (all_channels w.chains) (all_channels (slice_set w.chains at (step c w.agent).chain)) m.goes.numbers
+            (set_channels w.chains at c (step c w.agent).chain is m.channels_are) s.numbered;
       }
 
-  pub with_agent_stands : (step : Chain → AgentValue → Both) → IsMove laws images step → (at : ℕ) (w : WorldValue) → Stands images count w → Stands images count (with_some step at (slice_get w.chains at) w)
-  with_agent_stands step move at w s = by_place (slice_get w.chains at) refl
+  pub with_agent_stands : (step : ChainValue → AgentValue → Both) (at : ℕ) → IsMove images (place_of plans at) step → (w : WorldValue) → Standing plans images adds w → Standing plans images adds (with_agent step at w)
+  with_agent_stands step at move w s = by_place (slice_get w.chains at) refl
     where
-      by_place : (there : Option Chain) → slice_get w.chains at ≡ there → Stands images count (with_some step at there w)
+      by_place : (there : Option ChainValue) → slice_get w.chains at ≡ there → Standing plans images adds (with_some step at there w)
       by_place None is = s
-      by_place (Some c) is = placed step move at c w is s
+      by_place (Some c) is = placed step at move c w is s
 
-  -- a step of the client alone
-  pub on_chain_stands : (change : Chain → Chain) → ((pasts : List Past) (c : Chain) → Carries pasts c → Carries pasts (change c)) → ((c : Chain) → (change c).channel ≡ c.channel)
-      → (at : ℕ) (w : WorldValue) → Stands images count w → Stands images count (on_some change at (slice_get w.chains at) w)
-  on_chain_stands change carry same at w s = by_place (slice_get w.chains at) refl
+  -- a step that the agent has no part in
+  pub chain_stands : (at : ℕ) (c next : ChainValue) (w : WorldValue) → slice_get w.chains at ≡ Some c → channels_of next ≡ channels_of c → ((pasts : List Past) (count : ℕ) → Fits (place_of plans at) pasts count c → Fits (place_of plans at) pasts count next)
+      → Standing plans images adds w → Standing plans images adds (with_chain at next w)
+  chain_stands at c next w is same fits s =
+      let here = stands_at plans s.run.channels adds w.chains at c is s.chains in
+      record {
+        run = s.run;
+        reached = s.reached;
+        agent = s.agent;
+        history = s.history;
+        chains = set_stands laws plans s.run.channels s.run.channels adds w.chains at here.count c next s.numbered.differ is here.there (λ j has apart. keeps_same j s.run.channels s.run.channels refl) (fits s.run.channels here.count here.fits) s.chains;
+        numbered = numbered_after w.next s.run.channels s.run.channels (all_channels w.chains) (all_channels (slice_set w.chains at next)) refl (set_channels w.chains at c next is same) s.numbered;
+      }
+
+  pub on_chain_stands : (change : ChainValue → ChainValue) (at : ℕ) → ((pasts : List Past) (count : ℕ) (c : ChainValue) → Fits (place_of plans at) pasts count c → Fits (place_of plans at) pasts count (change c))
+      → ((c : ChainValue) → channels_of (change c) ≡ channels_of c) → (w : WorldValue) → Standing plans images adds w → Standing plans images adds (on_chain change at w)
+  on_chain_stands change at fits same w s = by_place (slice_get w.chains at) refl
     where
-      by_place : (there : Option Chain) → slice_get w.chains at ≡ there → Stands images count (on_some change at there w)
+      by_place : (there : Option ChainValue) → slice_get w.chains at ≡ there → Standing plans images adds (on_some change at there w)
       by_place None is = s
-      by_place (Some c) is = placed (λ x a. both (change x) a) (λ r x reached carries. still r x.channel (change x) (same x) (carry r.channels x carries)) at c w is s
+      by_place (Some c) is = chain_stands at c (change c) w is (same c) (λ pasts count f. fits pasts count c f) s
 
   -- ---- What the agent queued for each chain is in flight
 
-  pub record AllMoved (r : AgentRun) (chains : List Chain) (all : All) : Type 0 where
-    pub calls : List Call
-    pub agent : (after_all calls r).agent ≡ all.agent
-    pub history : (after_all calls r).history ≡ r.history
-    pub numbers : numbers_of (after_all calls r).channels ≡ numbers_of r.channels
-    pub channels_are : channels_of all.chains ≡ channels_of chains
-    pub others : (j : ℕ) → AllByRecursion (IsApart (Some j)) (channels_of chains) → Keeps j r.channels (after_all calls r).channels
-    pub carries : AllByRecursion (Carries (after_all calls r).channels) all.chains
+  record AllMoved (from : ℕ) (r : AgentRun) (counts : List ℕ) (chains : List ChainValue) (all : All) : Type 0 where
+    next : AgentRun
+    goes : Goes r next (all_channels chains)
+    agent : next.agent ≡ all.agent
+    channels_are : all_channels all.chains ≡ all_channels chains
+    stands : AllStand plans next.channels from counts all.chains
 
-  apart_some : (j : ℕ) (ch : Option ℕ) (chs : List (Option ℕ)) → ch ≡ Some j → AllByRecursion (IsApart ch) chs → AllByRecursion (IsApart (Some j)) chs
-  apart_some j ch chs is each = subst (λ c. AllByRecursion (IsApart c) chs) is each
-
-  pub all_moved : (chains : List Chain) (r : AgentRun) → Reached images r → Differ (channels_of chains) → AllByRecursion (Carries r.channels) chains → AllMoved r chains (all_carried chains r.agent)
-  all_moved [] r reached differ each = record {
-    calls = [];
-    agent = refl;
-    history = refl;
-    numbers = refl;
-    channels_are = refl;
-    others = λ j apart. grows_none (past_at j r.channels);
-    carries = tt;
-  }
-  all_moved (c ∷ chains) r reached differ each =
+  all_moved : (from : ℕ) (counts : List ℕ) (chains : List ChainValue) (r : AgentRun) → Reached images r → AllDiffer (all_channels chains) → AllStand plans r.channels from counts chains → AllMoved from r counts chains (all_carried chains r.agent)
+  all_moved from [] [] r reached differ all = record { next = r; goes = goes_none r []; agent = refl; channels_are = refl; stands = tt }
+  all_moved from [] (c ∷ chains) r reached differ all = absurd all
+  all_moved from (n ∷ counts) [] r reached differ all = absurd all
+  all_moved from (n ∷ counts) (c ∷ chains) r reached differ all =
+      let p = place_of plans from in
+      let parts = differ_parts (channels_of c) (all_channels chains) differ in
       let b = carried_down c r.agent in
-      let m : Moved r c.channel b = carry_move laws images r c reached each.0 in
-      let mid = after_all m.calls r in
-      let rest : AllByRecursion (Carries mid.channels) chains = apart_each (Carries r.channels) (Carries mid.channels) c.channel chains differ.0
-      (λ d apart carries. carries_kept laws r.channels mid.channels d (λ j there. m.others j (λ same. apart j same there)) carries) each.1 in
-      let n : AllMoved mid chains (all_carried chains b.agent) =
-      subst (λ a. AllMoved mid chains (all_carried chains a)) m.agent (all_moved chains mid (reached_more images r m.calls reached) differ.1 rest) in
-      let last = after_all n.calls mid in
-      let all : after_all (m.calls ++ n.calls) r ≡ last = after_more m.calls n.calls r in
-      let first : Carries last.channels b.chain =
-      carries_kept laws mid.channels last.channels b.chain (λ j there. n.others j (apart_some j c.channel (channels_of chains) (sym m.channel_is ∙ there) differ.0)) m.carries in
-      let P : AgentRun → Type 0 = λ x. AllByRecursion (Carries x.channels) (b.chain ∷ (all_carried chains b.agent).chains) in
+      let m : Moved p r n (channels_of c) b = carry_move laws images p r n c reached parts.first (fits_of p r.channels n c all.0) in
+      let rest : AllStand plans m.next.channels (suc from) counts chains = each_kept laws plans r.channels m.next.channels (suc from) counts chains (λ j has. m.goes.others j (λ own. parts.apart j own has)) all.1 in
+      let further : AllMoved (suc from) m.next counts chains (all_carried chains b.agent) =
+      subst (λ a. AllMoved (suc from) m.next counts chains (all_carried chains a)) m.agent (all_moved (suc from) counts chains m.next (reached_goes images r m.next (channels_of c) reached m.goes) parts.second rest) in
       record {
-        calls = m.calls ++ n.calls;
-        agent = ap (λ x. x.agent) all ∙ n.agent;
-        history = ap (λ x. x.history) all ∙ n.history ∙ m.history;
-        numbers = ap (λ x. numbers_of x.channels) all ∙ n.numbers ∙ m.numbers;
-        channels_are = ap (λ ch. ch ∷ channels_of (all_carried chains b.agent).chains) m.channel_is ∙ ap (λ chs. c.channel ∷ chs) n.channels_are;
-        others = λ j apart. subst (λ x. Keeps j r.channels x.channels) (sym all)
-            (grows_then (past_at j r.channels) (past_at j mid.channels) (past_at j last.channels) (m.others j (λ same. apart.0 j refl same)) (n.others j apart.1));
-        carries = subst P (sym all) (first, n.carries);
+        next = further.next;
+        goes = goes_then r m.next further.next (all_channels (c ∷ chains))
+            (goes_of r m.next (channels_of c) (all_channels (c ∷ chains)) (λ j has. Contains-append_left (channels_of c) (all_channels chains) j has) m.goes)
+            (goes_of m.next further.next (all_channels chains) (all_channels (c ∷ chains)) (λ j has. Contains-append_right (channels_of c) (all_channels chains) j has) further.goes);
+        agent = further.agent;
+        channels_are = ap (λ ks. ks ++ all_channels (all_carried chains b.agent).chains) m.channels_are ∙ ap (λ ks. channels_of c ++ ks) further.channels_are;
+        stands = (
+          stands_of p further.next.channels n b.chain (fits_kept laws p m.next.channels further.next.channels n b.chain
+              (λ j has. further.goes.others j (λ other. parts.apart j (subst (λ ks. Contains ks j) m.channels_are has) other)) m.fits),
+          further.stands,
+        );
       }
 
-  pub carried_stands : (w : WorldValue) → Stands images count w → Stands images count (carried w)
+  pub carried_stands : (w : WorldValue) → Standing plans images adds w → Standing plans images adds (carried w)
   unfolding carried
   carried_stands w s =
-      let m : AllMoved s.run w.chains (all_carried w.chains w.agent) =
-      subst (λ a. AllMoved s.run w.chains (all_carried w.chains a)) s.agent (all_moved w.chains s.run s.reached s.numbered.differ s.chains) in
+      let m : AllMoved 0 s.run adds w.chains (all_carried w.chains w.agent) =
+      subst (λ a. AllMoved 0 s.run adds w.chains (all_carried w.chains a)) s.agent (all_moved 0 adds w.chains s.run s.reached s.numbered.differ s.chains) in
       record {
-        run = after_all m.calls s.run;
-        reached = reached_more images s.run m.calls s.reached;
+        run = m.next;
+        reached = reached_goes images s.run m.next (all_channels w.chains) s.reached m.goes;
         agent = m.agent;
-        history = m.history ∙ s.history;
-        chains = m.carries;
-        numbered = subst (λ ns. AreNumbered w.next ns (channels_of (all_carried w.chains w.agent).chains) count) (sym m.numbers)
-            (subst (λ chs. AreNumbered w.next (numbers_of s.run.channels) chs count) (sym m.channels_are) s.numbered);
+        history = m.goes.history ∙ s.history;
+        chains = m.stands;
+        numbered = numbered_after w.next s.run.channels m.next.channels (all_channels w.chains) (all_channels (all_carried w.chains w.agent).chains) m.goes.numbers m.channels_are s.numbered;
       }
 
   -- ---- A call of the agent that brings nothing and gives nothing out
 
-  pub record IsInput (w : WorldValue) (r : AgentRun) (call : Call) (input : Option Input) (agent : AgentValue) : Type 0 where
-    pub agent_is : called call r.agent ≡ agent
-    pub input_is : input_by call r.agent ≡ option_to_list input
-    pub keeps : (j : ℕ) → Keeps j r.channels (pasts_by call r.agent r.channels)
-    pub numbers : numbers_of (pasts_by call r.agent r.channels) ≡ numbers_of r.channels
+  record IsInput (w : WorldValue) (r : AgentRun) (call : Call) (input : Option Input) (agent : AgentValue) : Type 0 where
+    agent_is : called call r.agent ≡ agent
+    input_is : input_by call r.agent ≡ option_to_list input
+    keeps : (j : ℕ) → Keeps j r.channels (pasts_by call r.agent r.channels)
+    numbers : map (λ p. p.number) (pasts_by call r.agent r.channels) ≡ map (λ p. p.number) r.channels
 
-  each_kept : (pasts later : List Past) → ((j : ℕ) → Keeps j pasts later) → (chains : List Chain) → AllByRecursion (Carries pasts) chains → AllByRecursion (Carries later) chains
-  each_kept pasts later keeps [] each = tt
-  each_kept pasts later keeps (c ∷ chains) each = (carries_kept laws pasts later c (λ j there. keeps j) each.0, each_kept pasts later keeps chains each.1)
-
-  input_stands : (w : WorldValue) (call : Call) (input : Option Input) (agent : AgentValue) → (s : Stands images count w) → IsInput w s.run call input agent → Stands images count (with_input input (record w { agent = agent }))
+  input_stands : (w : WorldValue) (call : Call) (input : Option Input) (agent : AgentValue) → (s : Standing plans images adds w) → IsInput w s.run call input agent → Standing plans images adds (with_input input (record w { agent = agent }))
   input_stands w call input agent s i = by_input input i.input_is
     where
       next : AgentRun
       next = after_call call s.run
 
-      chains : AllByRecursion (Carries next.channels) w.chains
-      chains = each_kept s.run.channels next.channels i.keeps w.chains s.chains
+      chains : AllStand plans next.channels 0 adds w.chains
+      chains = each_kept laws plans s.run.channels next.channels 0 adds w.chains (λ j has. i.keeps j) s.chains
 
-      numbered : AreNumbered w.next (numbers_of next.channels) (channels_of w.chains) count
-      numbered = subst (λ ns. AreNumbered w.next ns (channels_of w.chains) count) (sym i.numbers) s.numbered
+      numbered : AreNumbered w.next next.channels (all_channels w.chains)
+      numbered = numbered_after w.next s.run.channels next.channels (all_channels w.chains) (all_channels w.chains) i.numbers refl s.numbered
 
-      by_input : (input : Option Input) → input_by call s.run.agent ≡ option_to_list input → Stands images count (with_input input (record w { agent = agent }))
+      by_input : (input : Option Input) → input_by call s.run.agent ≡ option_to_list input → Standing plans images adds (with_input input (record w { agent = agent }))
       by_input None is = record {
         run = next;
         reached = reached_more images s.run (call ∷ []) s.reached;
@@ -249,8 +204,7 @@ module _ (laws : Laws) (images : List Image) (count : ℕ) where
   turn_input Nothing = refl
   turn_input (Took input) = refl
 
-  pub turn_stands : (channel : Option ℕ) (w : WorldValue) → Stands images count w
-      → Stands images count (with_input (turned_on channel w.agent).0 (record w { agent = (turned_on channel w.agent).1 }))
+  pub turn_stands : (channel : Option ℕ) (w : WorldValue) → Standing plans images adds w → Standing plans images adds (with_input (turned_on channel w.agent).0 (record w { agent = (turned_on channel w.agent).1 }))
   turn_stands None w s = s
   turn_stands (Some k) w s =
       input_stands w (turns k) (input_of (turned k w.agent).0) (turned k w.agent).1 s
@@ -265,7 +219,7 @@ module _ (laws : Laws) (images : List Image) (count : ℕ) where
   tick_input true thread = refl
   tick_input false thread = refl
 
-  pub tick_stands : (thread : ContextId) (w : WorldValue) → Stands images count w → Stands images count (ticked_in thread w)
+  pub tick_stands : (thread : ContextId) (w : WorldValue) → Standing plans images adds w → Standing plans images adds (ticked_in thread w)
   tick_stands thread w s =
       carried_stands (with_input (tick_of (ticked thread w.agent).0 thread) (record w { agent = (ticked thread w.agent).1 }))
       (input_stands w (ticks thread) (tick_of (ticked thread w.agent).0 thread) (ticked thread w.agent).1 s

@@ -1,8 +1,5 @@
-pub mod Lane
-pub mod Hop
+pub mod ChainValue
 pub mod Chain
 pub mod WorldValue
 pub mod World
-pub mod WorldLaws
-pub mod EndLaws
-pub mod Playing
+pub mod Standing

@@ -1,5 +1,5 @@
 -- What each step of a schedule does to the world.
-use Rattle.std.specs.Prelude.{ℕ, ◌≡◌, ◌<◌, zero, suc, ◌+◌, ◌^◌, ◌-◌, min, Bool, true, false, if◌then◌else◌, List, [], ◌∷◌, ◌++◌, length, map, slice_get, slice_set, Option, Some, None}
+use Rattle.std.specs.Prelude.{ℕ, zero, suc, ◌+◌, ◌^◌, ◌-◌, ◌==◌, nat_lt, Bool, true, false, if◌then◌else◌, List, [], ◌∷◌, ◌++◌, length, map, slice_get, slice_set, Option, Some, None}
 use Rattle.agent_node.specs.AgentValue.{AgentValue}
 use Rattle.agent_node.specs.Agent.{new_agent, ticked}
 use Rattle.target_contexts.specs.declared.process.Image.{Image}
@@ -8,22 +8,31 @@ use Rattle.target_hub.specs.declared.input.Input.TheVariants.{Opened, Ticked}
 use Rattle.cached_lines.specs.Asked.{IsAsked}
 use Rattle.cached_lines.specs.declared.what.CachedWhat.{CachedWhat}
 use Rattle.tcf_values.specs.declared.ids.ContextId.{ContextId}
-use Rattle.chain_world.specs.Chain.{Both, all_down, all_taken_down, all_up, asked, carried_down, closed, cut, delivered_down, delivered_up, is_opened, is_quiet, new_chain, opened, sent, turned_down, turned_on, waiting_up}
+use Rattle.chain_route.specs.Route.{all_delivered_at, last_of, turned as route_turned, waiting_in}
+use Rattle.chain_route.specs.RouteValue.{RouteValue}
+use Rattle.value_node.specs.declared.states.Side.{Side}
+use Rattle.value_node.specs.declared.states.Side.TheVariants.{Below, Above}
+use Rattle.chain_world.specs.Chain.{Both, all_down, all_taken_down, all_up, asked, carried_down, closed, cut, delivered_over, delivered_under, is_opened, is_quiet, new_chain, none_reached, opened, reached, sent, turned_down, turned_on, turning, waiting_up}
 use Rattle.agent_node.specs.Agent as agent
 use Rattle.tcf_message.specs.Message.{HasNoZero}
 use Rattle.tcf_schedules.specs.Plan.{Plan, cached, close, cut as cut_plan, deliver, opens, rounds as rounds_plan, send, tick, times, turn}
+use Rattle.tcf_schedules.specs.declared.schedule.ChainHead.{ChainHead}
 use Rattle.tcf_schedules.specs.declared.schedule.NamedImage.{NamedImage}
 use Rattle.tcf_text.specs.declared.log.LogLine.{LogLine}
+use Rattle.chain_world.specs.ChainValue.{ChainValue}
 use Rattle.chain_world.specs.WorldValue.{WorldValue}
-use Rattle.chain_world.specs.declared.chain.Chain.{Chain}
 
-abbrev pub new_chains : ℕ → List Chain
-new_chains zero = []
-new_chains (suc n) = new_chain ∷ new_chains n
+-- chains with so many value-adds
+abbrev pub new_chains : List ℕ → List ChainValue
+new_chains adds = map new_chain adds
 
--- with these images and so many chains, and nothing opened
-abbrev pub new_world : List Image → ℕ → WorldValue
-new_world images count = record { agent = new_agent images; next = 0; chains = new_chains count; history = []; is_spent = false }
+-- with these images and these chains, and nothing opened
+abbrev pub new_world : List Image → List ℕ → WorldValue
+new_world images adds = record { agent = new_agent images; next = Some 0; chains = new_chains adds; history = []; is_spent = false }
+
+-- the value-adds of the chains of a header
+abbrev pub adds_of : List ChainHead → List ℕ
+adds_of heads = map (λ h. h.adds) heads
 
 -- the images of a schedule, as the target has them
 abbrev pub image_of : NamedImage → Image
@@ -34,34 +43,34 @@ images_of named = map image_of named
 
 -- ---- a chain at a place changes; where there is none, nothing does
 
-abbrev pub with_chain : ℕ → Chain → WorldValue → WorldValue
+abbrev pub with_chain : ℕ → ChainValue → WorldValue → WorldValue
 with_chain at chain w = record w { chains = slice_set w.chains at chain }
 
-abbrev pub on_some : (Chain → Chain) → ℕ → Option Chain → WorldValue → WorldValue
+abbrev pub on_some : (ChainValue → ChainValue) → ℕ → Option ChainValue → WorldValue → WorldValue
 on_some change at None w = w
 on_some change at (Some chain) w = with_chain at (change chain) w
 
-abbrev pub on_chain : (Chain → Chain) → ℕ → WorldValue → WorldValue
+abbrev pub on_chain : (ChainValue → ChainValue) → ℕ → WorldValue → WorldValue
 on_chain change at w = on_some change at (slice_get w.chains at) w
 
 -- and the agent with it
 abbrev pub with_both : ℕ → Both → WorldValue → WorldValue
 with_both at b w = record w { chains = slice_set w.chains at b.chain; agent = b.agent }
 
-abbrev pub with_some : (Chain → AgentValue → Both) → ℕ → Option Chain → WorldValue → WorldValue
+abbrev pub with_some : (ChainValue → AgentValue → Both) → ℕ → Option ChainValue → WorldValue → WorldValue
 with_some change at None w = w
 with_some change at (Some chain) w = with_both at (change chain w.agent) w
 
-abbrev pub with_agent : (Chain → AgentValue → Both) → ℕ → WorldValue → WorldValue
+abbrev pub with_agent : (ChainValue → AgentValue → Both) → ℕ → WorldValue → WorldValue
 with_agent change at w = with_some change at (slice_get w.chains at) w
 
 -- ---- what the agent queued for each chain is in flight at once
 
 pub record All : Type 0 where
-  pub chains : List Chain
+  pub chains : List ChainValue
   pub agent : AgentValue
 
-abbrev pub all_carried : List Chain → AgentValue → All
+abbrev pub all_carried : List ChainValue → AgentValue → All
 all_carried [] a = record { chains = []; agent = a }
 all_carried (chain ∷ chains) a =
     let b = carried_down chain a in
@@ -77,21 +86,41 @@ with_input (Some input) w = record w { history = w.history ++ input ∷ [] }
 
 -- ---- the steps
 
--- the next number, as far as a u64 counts
-abbrev pub after_next : ℕ → ℕ
-after_next next = min (next + 1) (2 ^ 64 - 1)
+-- the number behind this one, as far as a u64 counts
+abbrev pub after_number : ℕ → Option ℕ
+after_number k = if nat_lt (k + 1) (2 ^ 64) then Some (k + 1) else None
 
 abbrev pub opening : Bool → ℕ → Option Input
 opening true k = Some (Opened k)
 opening false k = None
 
--- the client connects, and the agent opens the next number; a second time nothing happens
-abbrev pub connected_at : ℕ → Chain → WorldValue → WorldValue
-connected_at at chain w =
-    let did = (agent.opened w.next w.agent).0 in
-    carried (with_input (opening did w.next) (record (with_both at (opened w.next chain w.agent) w) { next = after_next w.next }))
+-- the way of a chain has reached the agent, which opens the next number; where none is left the channel is refused
+abbrev pub reached_from : ℕ → ℕ → Option ChainValue → WorldValue → WorldValue
+reached_from k at None w = w
+reached_from k at (Some chain) w =
+    let did = (agent.opened k w.agent).0 in
+    carried (with_input (opening did k) (record (with_both at (reached k chain w.agent) w) { next = after_number k }))
 
-abbrev pub opened_from : ℕ → Option Chain → WorldValue → WorldValue
+abbrev pub reached_with : ℕ → ℕ → WorldValue → WorldValue
+reached_with k at w = reached_from k at (slice_get w.chains at) w
+
+abbrev pub reached_by : Option ℕ → ℕ → WorldValue → WorldValue
+reached_by None at w = on_chain none_reached at w
+reached_by (Some k) at w = reached_with k at w
+
+abbrev pub reached_at : ℕ → WorldValue → WorldValue
+reached_at at w = reached_by w.next at w
+
+-- what changed the chain at a place says whether it has reached the agent
+abbrev pub reached_if : ℕ → Bool × ChainValue → WorldValue → WorldValue
+reached_if at (false, chain) w = with_chain at chain w
+reached_if at (true, chain) w = reached_at at (with_chain at chain w)
+
+-- the client connects; a second time nothing happens
+abbrev pub connected_at : ℕ → ChainValue → WorldValue → WorldValue
+connected_at at chain w = reached_if at (opened chain) w
+
+abbrev pub opened_from : ℕ → Option ChainValue → WorldValue → WorldValue
 opened_from at None w = w
 opened_from at (Some chain) w = if is_opened chain then w else connected_at at chain w
 
@@ -101,18 +130,43 @@ opened_at at w = opened_from at (slice_get w.chains at) w
 abbrev pub sent_at : ℕ → List ℕ → List ℕ → List ℕ → WorldValue → WorldValue
 sent_at at service name body w = on_chain (sent service name body) at w
 
-abbrev pub delivered_at : ℕ → Bool → ℕ → WorldValue → WorldValue
-delivered_at at true count w = with_agent (delivered_up count) at w
-delivered_at at false count w = on_chain (delivered_down count) at w
+abbrev pub delivered_at : ℕ → ℕ → Bool → ℕ → WorldValue → WorldValue
+delivered_at at hop true count w = with_agent (delivered_over hop count) at w
+delivered_at at hop false count w = on_chain (delivered_under hop count) at w
 
-abbrev pub agent_turned : ℕ → Option Chain → WorldValue → WorldValue
+-- a value-add takes an entry
+abbrev pub with_route : Bool × RouteValue → ChainValue → Bool × ChainValue
+with_route next chain = (next.0, record chain { route = next.1 })
+
+abbrev pub add_turned : ℕ → ℕ → Side → Option ChainValue → WorldValue → WorldValue
+add_turned at add side None w = w
+add_turned at add side (Some chain) w = reached_if at (with_route (route_turned side add chain.route) chain) w
+
+-- the agent takes an entry, and what it told is in flight
+abbrev pub agent_turned : ℕ → Option ChainValue → WorldValue → WorldValue
 agent_turned at None w = w
 agent_turned at (Some chain) w =
-    let next = turned_on chain.channel w.agent in carried (with_input next.0 (record w { agent = next.1 }))
+    let next = turned_on (turning chain.earlier chain.channel w.agent) w.agent in carried (with_input next.0 (record w { agent = next.1 }))
 
-abbrev pub turned_at : ℕ → Bool → WorldValue → WorldValue
-turned_at at true w = agent_turned at (slice_get w.chains at) w
-turned_at at false w = on_chain turned_down at w
+-- how many value-adds the chain has
+abbrev pub adds_in : Option ChainValue → ℕ
+adds_in None = 0
+adds_in (Some chain) = last_of chain.route
+
+-- node 0 is the client, then come the value-adds, and behind them the agent
+abbrev pub turned_up_at : ℕ → ℕ → WorldValue → WorldValue
+turned_up_at at node w =
+    if node == 0 then w
+    else if nat_lt (node - 1) (adds_in (slice_get w.chains at)) then add_turned at (node - 1) Below (slice_get w.chains at) w
+    else agent_turned at (slice_get w.chains at) w
+
+abbrev pub turned_down_at : ℕ → ℕ → WorldValue → WorldValue
+turned_down_at at node w =
+    if node == 0 then on_chain turned_down at w else add_turned at (node - 1) Above (slice_get w.chains at) w
+
+abbrev pub turned_at : ℕ → ℕ → Bool → WorldValue → WorldValue
+turned_at at node true w = turned_up_at at node w
+turned_at at node false w = turned_down_at at node w
 
 abbrev pub tick_of : Bool → ContextId → Option Input
 tick_of true thread = Some (Ticked thread)
@@ -127,26 +181,62 @@ closed_at at w = on_chain closed at w
 abbrev pub asked_at : ℕ → CachedWhat → WorldValue → WorldValue
 asked_at at what w = on_chain (asked what) at w
 
-abbrev pub cut_at : ℕ → WorldValue → WorldValue
-cut_at at w = with_agent cut at w
+abbrev pub cut_at : ℕ → ℕ → WorldValue → WorldValue
+cut_at at hop w = with_agent (cut hop) at w
 
--- ---- rounds: on each opened chain, in order, all that is in flight arrives and is taken, first up and then down
+-- ---- rounds: on each opened chain, in order, all that is in flight arrives and is taken, hop by hop, first up and then down
 
-abbrev pub turns_up : ℕ → ℕ → WorldValue → WorldValue
-turns_up zero at w = w
-turns_up (suc n) at w = turns_up n at (turned_at at true w)
+abbrev pub repeated : {A : Type 0} → ℕ → (A → A) → A → A
+repeated zero step x = x
+repeated (suc n) step x = repeated n step (step x)
 
-abbrev pub waiting_in_chain : Option Chain → WorldValue → ℕ
+abbrev pub turn_of_add : ℕ → ℕ → Side → WorldValue → WorldValue
+turn_of_add at add side w = add_turned at add side (slice_get w.chains at) w
+
+abbrev pub turn_of_agent : ℕ → WorldValue → WorldValue
+turn_of_agent at w = agent_turned at (slice_get w.chains at) w
+
+abbrev pub all_to_add : Side → ℕ → ChainValue → ChainValue
+all_to_add side add chain = record chain { route = all_delivered_at side add chain.route }
+
+abbrev pub waiting_at_add : Side → ℕ → Option ChainValue → ℕ
+waiting_at_add side add None = 0
+waiting_at_add side add (Some chain) = waiting_in side add chain.route
+
+-- all that is in flight to a side of a value-add arrives, and it takes all that waits there
+abbrev pub add_taken : ℕ → ℕ → Side → WorldValue → WorldValue
+add_taken at add side w = repeated (waiting_at_add side add (slice_get w.chains at)) (turn_of_add at add side) w
+
+abbrev pub add_rounded : ℕ → ℕ → Side → WorldValue → WorldValue
+add_rounded at add side w = add_taken at add side (on_chain (all_to_add side add) at w)
+
+-- the value-adds from a place on, so many of them, and then the agent
+abbrev pub adds_rounded : ℕ → ℕ → ℕ → WorldValue → WorldValue
+adds_rounded zero add at w = w
+adds_rounded (suc n) add at w = adds_rounded n (add + 1) at (add_rounded at add Below w)
+
+abbrev pub rounded_up : ℕ → WorldValue → WorldValue
+rounded_up at w = with_agent all_up at (adds_rounded (adds_in (slice_get w.chains at)) 0 at w)
+
+-- the value-adds below a place, from the highest on
+abbrev pub rounded_down : ℕ → ℕ → WorldValue → WorldValue
+rounded_down zero at w = w
+rounded_down (suc n) at w = rounded_down n at (add_rounded at n Above w)
+
+abbrev pub waiting_in_chain : Option ChainValue → WorldValue → ℕ
 waiting_in_chain None w = 0
-waiting_in_chain (Some chain) w = waiting_up chain.channel w.agent
+waiting_in_chain (Some chain) w = waiting_up chain.earlier chain.channel w.agent
 
-abbrev pub up_taken : ℕ → WorldValue → WorldValue
-up_taken at w = turns_up (waiting_in_chain (slice_get w.chains at) w) at w
+abbrev pub agent_taken : ℕ → WorldValue → WorldValue
+agent_taken at w = repeated (waiting_in_chain (slice_get w.chains at) w) (turn_of_agent at) w
+
+abbrev pub all_round_down : ℕ → WorldValue → WorldValue
+all_round_down at w = rounded_down (adds_in (slice_get w.chains at)) at w
 
 abbrev pub round_of : ℕ → WorldValue → WorldValue
-round_of at w = on_chain (λ chain. all_taken_down (all_down chain)) at (up_taken at (with_agent all_up at w))
+round_of at w = on_chain (λ chain. all_taken_down (all_down chain)) at (all_round_down at (agent_taken at (rounded_up at w)))
 
-abbrev pub round_from : ℕ → Option Chain → WorldValue → WorldValue
+abbrev pub round_from : ℕ → Option ChainValue → WorldValue → WorldValue
 round_from at None w = w
 round_from at (Some chain) w = if is_opened chain then round_of at w else w
 
@@ -162,20 +252,16 @@ abbrev pub rounds : ℕ → WorldValue → WorldValue
 rounds zero w = w
 rounds (suc n) w = rounds n (round_all (length w.chains) 0 w)
 
--- ---- what a step of a schedule means; a chain has one hop, from its client to the agent
-
-abbrev pub repeated : {A : Type 0} → ℕ → (A → A) → A → A
-repeated zero step x = x
-repeated (suc n) step x = repeated n step (step x)
+-- ---- what a step of a schedule means
 
 abbrev pub played : Plan → WorldValue → WorldValue
 played (opens at) w = opened_at at w
 played (send at service name body) w = sent_at at service name body w
-played (deliver at hop up count) w = delivered_at at up count w
-played (turn at node up) w = turned_at at up w
+played (deliver at hop up count) w = delivered_at at hop up count w
+played (turn at node up) w = turned_at at node up w
 played (tick thread) w = ticked_in thread w
 played (close at) w = closed_at at w
-played (cut_plan at hop) w = cut_at at w
+played (cut_plan at hop) w = cut_at at hop w
 played (cached at what) w = asked_at at what w
 played (rounds_plan count) w = rounds count w
 played (times count plan) w = repeated count (played plan) w
@@ -189,19 +275,18 @@ IsSingle (rounds_plan count) = ⊥
 IsSingle (times count plan) = ⊥
 IsSingle plan = Unit {0}
 
--- the chain, the hop and the node are there, and what is asked has a form
-abbrev pub IsPlayable : ℕ → Plan → Type 0
-IsPlayable chains (opens at) = at < chains
-IsPlayable chains (send at service name body) = (at < chains) × HasNoZero service × HasNoZero name
-IsPlayable chains (deliver at hop up count) = (at < chains) × (hop ≡ 0)
-IsPlayable chains (turn at node true) = (at < chains) × (node ≡ 1)
-IsPlayable chains (turn at node false) = (at < chains) × (node ≡ 0)
-IsPlayable chains (tick thread) = Unit {0}
-IsPlayable chains (close at) = at < chains
-IsPlayable chains (cut_plan at hop) = (at < chains) × (hop ≡ 0)
-IsPlayable chains (cached at what) = (at < chains) × IsAsked what
-IsPlayable chains (rounds_plan count) = Unit {0}
-IsPlayable chains (times count plan) = IsSingle plan × IsPlayable chains plan
+-- what is sent has no zero byte, what is asked has a form, and what is repeated is a single step
+abbrev pub IsPlayable : Plan → Type 0
+IsPlayable (opens at) = Unit {0}
+IsPlayable (send at service name body) = HasNoZero service × HasNoZero name
+IsPlayable (deliver at hop up count) = Unit {0}
+IsPlayable (turn at node up) = Unit {0}
+IsPlayable (tick thread) = Unit {0}
+IsPlayable (close at) = Unit {0}
+IsPlayable (cut_plan at hop) = Unit {0}
+IsPlayable (cached at what) = IsAsked what
+IsPlayable (rounds_plan count) = Unit {0}
+IsPlayable (times count plan) = IsSingle plan × IsPlayable plan
 
 -- the steps in order
 abbrev pub run : List Plan → WorldValue → WorldValue
@@ -210,14 +295,14 @@ run (plan ∷ plans) w = run plans (played plan w)
 
 -- ---- what can be asked of a chain
 
-abbrev pub log_of : Option Chain → List LogLine
+abbrev pub log_of : Option ChainValue → List LogLine
 log_of None = []
 log_of (Some chain) = chain.client.log
 
 abbrev pub log_at : ℕ → WorldValue → List LogLine
 log_at at w = log_of (slice_get w.chains at)
 
-abbrev pub is_quiet_at : Option Chain → AgentValue → Bool
+abbrev pub is_quiet_at : Option ChainValue → AgentValue → Bool
 is_quiet_at None a = true
 is_quiet_at (Some chain) a = is_quiet chain a
 

@@ -4,8 +4,8 @@ ghost use Rattle.cached_lines.specs.Asked.{IsAsked};
 ghost use Rattle.tcf_message.specs.Message.{HasNoZero};
 ghost use Rattle.std.specs.List.{AllByRecursion};
 ghost use Rattle.tcf_schedules.specs.Plan.{plan_of, plans_of};
-ghost use Rattle.chain_world.specs.Chain.{all_down, all_taken_down, all_up, is_opened, turned_down};
-ghost use Rattle.chain_world.specs.World.{IsNotRepeated, IsPlayable, IsSingle, agent_turned, all_carried, asked_at, carried, closed_at, connected_at, cut_at, delivered_at, image_of, images_of, log_at, new_chains, new_world, on_chain, opened_at, opening, played, quiet_at, repeated, round_all, round_at, round_of, rounds, run, sent_at, tick_of, ticked_in, turned_at, up_taken, with_agent, with_input};
+ghost use Rattle.chain_world.specs.Chain.{all_down, all_taken_down, all_up, is_opened, none_reached, turned_down};
+ghost use Rattle.chain_world.specs.World.{IsNotRepeated, IsPlayable, IsSingle, add_rounded, add_turned, adds_in, adds_of, agent_taken, agent_turned, all_carried, all_round_down, asked_at, carried, closed_at, connected_at, cut_at, delivered_at, image_of, images_of, log_at, new_chains, new_world, on_chain, opened_at, opening, played, quiet_at, reached_at, reached_with, repeated, round_all, round_at, round_of, rounded_up, rounds, run, sent_at, tick_of, ticked_in, turned_at, turned_down_at, turned_up_at, with_agent, with_input};
 
 use crate::chain::Chain;
 use agent_node::{AgentNode, Image};
@@ -14,9 +14,10 @@ use std::alloc::{AllocError, Global};
 use std::marker::Model;
 use target_hub::Input;
 use tcf_outside::Duplicate;
-use tcf_schedules::{NamedImage, Schedule, ScheduleStep};
+use tcf_schedules::{ChainHead, NamedImage, Schedule, ScheduleStep};
 use tcf_text::LogLine;
 use tcf_values::ContextId;
+use value_node::Side;
 
 /// One agent and its chains. Contracts see them, the history of the target, and whether memory was wanting in a call: then
 /// the world is spent, and each later call answers want of memory again.
@@ -24,8 +25,8 @@ use tcf_values::ContextId;
 pub struct World {
     alloc: Global,
     agent: AgentNode,
-    /// The number of the next channel.
-    next: u64,
+    /// The number of the next channel, while one is left.
+    next: Option<u64>,
     chains: Vec<Chain>,
     history: Vec<Input>,
     spent: bool,
@@ -41,24 +42,24 @@ impl Model for World {
 
 impl World {
     /// Makes the world that a schedule begins with: its images and its chains, in which nothing is opened.
-    #[tactic(auto, using(crate::proofs::Sizes::new_length))]
     pub fn new(alloc: Global, schedule: &Schedule) -> Result<World, AllocError>
-        ensures begins { IfOk result (λ world. world ≡ new_world (images_of schedule.now.images) (length schedule.now.chains)) }
+        ensures begins { IfOk result (λ world. world ≡ new_world (images_of schedule.now.images) (adds_of schedule.now.chains)) }
         ensures chains { IfOk result (λ world. length world.chains ≡ length schedule.now.chains) }
     {
         Ok(World {
             alloc,
             agent: AgentNode::new(alloc, images_of(alloc, schedule.images.as_slice())?)?,
-            next: 0,
-            chains: new_chains(alloc, schedule.chains.len())?,
+            next: Some(0),
+            chains: new_chains(alloc, schedule.chains.as_slice())?,
             history: Vec::new(alloc),
             spent: false,
         })
     }
 
-    /// Plays a step. The chain, the hop and the node that it names are there, and what it asks has a form.
+    /// Plays a step. Where its chain, its hop or its node isn't there nothing happens. What it sends has no zero byte, and
+    /// what it asks has a form.
     pub fn play(&mut self, step: &ScheduleStep) -> Result<(), AllocError>
-        requires { IsPlayable (length self.old.chains) (plan_of step.now) }
+        requires { IsPlayable (plan_of step.now) }
         ensures played { OnOk result (self.new ≡ played (plan_of step.now) self.old) }
         ensures fresh { OnOk result (self.old.is_spent ≡ false) }
         ensures spent { OnErr result (self.new.is_spent ≡ true) }
@@ -75,7 +76,7 @@ impl World {
 
     /// Plays the steps, in order. There are as many chains as before.
     pub fn play_all(&mut self, steps: &[ScheduleStep]) -> Result<(), AllocError>
-        requires { AllByRecursion (IsPlayable (length self.old.chains)) (plans_of steps.now) }
+        requires { AllByRecursion IsPlayable (plans_of steps.now) }
         ensures played { OnOk result (self.new ≡ run (plans_of steps.now) self.old) }
         ensures chains { OnOk result (length self.new.chains ≡ length self.old.chains) }
     {
@@ -86,7 +87,7 @@ impl World {
     }
 
     fn try_play(&mut self, step: &ScheduleStep) -> Result<(), AllocError>
-        requires { IsPlayable (length self.old.chains) (plan_of step.now) }
+        requires { IsPlayable (plan_of step.now) }
         ensures { OnOk result (self.new ≡ played (plan_of step.now) self.old) }
     {
         match step {
@@ -96,10 +97,10 @@ impl World {
     }
 
     /// Plays the step so many times.
-    #[tactic(auto, using(crate::proofs::Repeats::once_more, crate::proofs::Kept::single_isnt_repeated, crate::proofs::Kept::chains_kept))]
+    #[tactic(auto, using(crate::proofs::Repeats::once_more, crate::proofs::Kept::single_isnt_repeated))]
     fn play_times(&mut self, count: u32, step: &ScheduleStep) -> Result<(), AllocError>
         requires single { IsSingle (plan_of step.now) }
-        requires playable { IsPlayable (length self.old.chains) (plan_of step.now) }
+        requires playable { IsPlayable (plan_of step.now) }
         ensures { OnOk result (self.new ≡ repeated count (played (plan_of step.now)) self.old) }
     {
         for counter in 0..count {
@@ -111,7 +112,7 @@ impl World {
     /// Plays a step that isn't one repeated.
     fn play_once(&mut self, step: &ScheduleStep) -> Result<(), AllocError>
         requires single { IsNotRepeated (plan_of step.now) }
-        requires playable { IsPlayable (length self.old.chains) (plan_of step.now) }
+        requires playable { IsPlayable (plan_of step.now) }
         ensures { OnOk result (self.new ≡ played (plan_of step.now) self.old) }
     {
         match step {
@@ -124,15 +125,15 @@ impl World {
             } => self.send(*chain, service.as_slice(), name.as_slice(), body.as_slice()),
             ScheduleStep::Deliver {
                 chain,
+                hop,
                 up,
                 count,
-                ..
-            } => self.deliver(*chain, *up, *count as usize),
-            ScheduleStep::Turn { chain, up, .. } => self.turn(*chain, *up),
+            } => self.deliver(*chain, *hop, *up, *count as usize),
+            ScheduleStep::Turn { chain, node, up } => self.turn(*chain, *node, *up),
             ScheduleStep::Tick { thread } => self.tick(*thread),
             ScheduleStep::Close { chain } => self.close(*chain),
-            ScheduleStep::Cut { chain, .. } => {
-                self.cut(*chain);
+            ScheduleStep::Cut { chain, hop } => {
+                self.cut(*chain, *hop);
                 Ok(())
             }
             ScheduleStep::Cached { chain, what } => self.ask(*chain, what),
@@ -151,8 +152,7 @@ impl World {
         }
     }
 
-    /// The client of an unopened chain connects, and the agent opens the next number.
-    #[tactic(auto, using(crate::proofs::Connected::connected_is))]
+    /// The client of an unopened chain connects; where that is to the agent, it opens the next number.
     fn connect(&mut self, at: usize) -> Result<(), AllocError>
         requires { IfSome (slice_get self.old.chains at) (λ chain. is_opened chain ≡ false) }
         ensures { OnOk result (IfSome (slice_get self.old.chains at) (λ chain. self.new ≡ connected_at at chain self.old)) }
@@ -160,10 +160,42 @@ impl World {
         let Some(chain) = self.chains.get_mut(at) else {
             return Ok(());
         };
-        let k = self.next;
-        self.next = k.saturating_add(1);
-        let did = chain.open(k, &mut self.agent)?;
+        if chain.open()? {
+            self.reach(at)?;
+        }
+        Ok(())
+    }
+
+    /// The way of the chain has reached the agent, which opens the next number; where none is left the channel is refused.
+    fn reach(&mut self, at: usize) -> Result<(), AllocError>
+        ensures { OnOk result (self.new ≡ reached_at at self.old) }
+    {
+        match self.next {
+            Some(k) => self.reach_with(at, k),
+            None => self.reach_none(at),
+        }
+    }
+
+    /// The agent opens this number for the chain, and what it told is in flight.
+    fn reach_with(&mut self, at: usize, k: u64) -> Result<(), AllocError>
+        ensures { OnOk result (self.new ≡ reached_with k at self.old) }
+    {
+        let Some(chain) = self.chains.get_mut(at) else {
+            return Ok(());
+        };
+        self.next = k.checked_add(1);
+        let did = chain.reach(k, &mut self.agent)?;
         self.tell_opened(did, k)
+    }
+
+    /// No number is left for the chain.
+    fn reach_none(&mut self, at: usize) -> Result<(), AllocError>
+        ensures { OnOk result (self.new ≡ on_chain none_reached at self.old) }
+    {
+        match self.chains.get_mut(at) {
+            Some(chain) => chain.reach_none(),
+            None => Ok(()),
+        }
     }
 
     /// The client of the chain sends a command.
@@ -184,30 +216,77 @@ impl World {
         }
     }
 
-    /// The next bytes in flight on the chain's hop arrive as one piece: up at the agent, or down at the client.
-    fn deliver(&mut self, at: usize, up: bool, count: usize) -> Result<(), AllocError>
-        ensures { OnOk result (self.new ≡ delivered_at at up count self.old) }
+    /// The next bytes in flight on a hop of the chain arrive as one piece, at the node above it or at the one below it.
+    fn deliver(&mut self, at: usize, hop: usize, up: bool, count: usize) -> Result<(), AllocError>
+        ensures { OnOk result (self.new ≡ delivered_at at hop up count self.old) }
     {
         match self.chains.get_mut(at) {
-            Some(chain) if up => chain.deliver_up(count, &mut self.agent),
-            Some(chain) => chain.deliver_down(count),
+            Some(chain) if up => chain.deliver_over(hop, count, &mut self.agent),
+            Some(chain) => chain.deliver_under(hop, count),
             None => Ok(()),
         }
     }
 
-    /// The agent takes an entry that came up on the chain, or the client one that came down.
-    fn turn(&mut self, at: usize, up: bool) -> Result<(), AllocError>
-        ensures { OnOk result (self.new ≡ turned_at at up self.old) }
+    /// A node of the chain takes an entry that travels up, or down.
+    fn turn(&mut self, at: usize, node: usize, up: bool) -> Result<(), AllocError>
+        ensures { OnOk result (self.new ≡ turned_at at node up self.old) }
     {
         if up {
-            self.turn_up(at)
+            self.turn_up(at, node)
         } else {
-            self.turn_down(at)
+            self.turn_down(at, node)
         }
     }
 
+    /// A node takes an entry that came up: a value-add, or the agent.
+    fn turn_up(&mut self, at: usize, node: usize) -> Result<(), AllocError>
+        ensures { OnOk result (self.new ≡ turned_up_at at node self.old) }
+    {
+        let Some(below) = node.checked_sub(1) else {
+            return Ok(());
+        };
+        if below < self.adds(at) {
+            self.turn_add(at, below, Side::Below)
+        } else {
+            self.turn_agent(at)
+        }
+    }
+
+    /// A node takes an entry that came down: a value-add, or the client.
+    fn turn_down(&mut self, at: usize, node: usize) -> Result<(), AllocError>
+        ensures { OnOk result (self.new ≡ turned_down_at at node self.old) }
+    {
+        match node.checked_sub(1) {
+            Some(below) => self.turn_add(at, below, Side::Above),
+            None => self.turn_client(at),
+        }
+    }
+
+    /// How many value-adds the chain has.
+    fn adds(&self, at: usize) -> usize
+        ensures { result ≡ adds_in (slice_get self.now.chains at) }
+    {
+        match self.chains.get(at) {
+            Some(chain) => chain.route.adds(),
+            None => 0,
+        }
+    }
+
+    /// A value-add of the chain takes an entry from a side; where it connects to the agent, that opens the next number.
+    fn turn_add(&mut self, at: usize, add: usize, side: Side) -> Result<(), AllocError>
+        ensures { OnOk result (self.new ≡ add_turned at add side (slice_get self.old.chains at) self.old) }
+    {
+        let Some(chain) = self.chains.get_mut(at) else {
+            return Ok(());
+        };
+        if chain.route.turn(add, side)? {
+            self.reach(at)?;
+        }
+        Ok(())
+    }
+
     /// The agent takes an entry that came up on the chain, and what it told is in flight.
-    fn turn_up(&mut self, at: usize) -> Result<(), AllocError>
+    fn turn_agent(&mut self, at: usize) -> Result<(), AllocError>
         ensures { OnOk result (self.new ≡ agent_turned at (slice_get self.old.chains at) self.old) }
     {
         let Some(chain) = self.chains.get(at) else {
@@ -218,7 +297,7 @@ impl World {
     }
 
     /// The client of the chain takes an entry that came down.
-    fn turn_down(&mut self, at: usize) -> Result<(), AllocError>
+    fn turn_client(&mut self, at: usize) -> Result<(), AllocError>
         ensures { OnOk result (self.new ≡ on_chain turned_down at self.old) }
     {
         match self.chains.get_mut(at) {
@@ -256,12 +335,12 @@ impl World {
         }
     }
 
-    /// The chain's hop is cut.
-    fn cut(&mut self, at: usize)
-        ensures { self.new ≡ cut_at at self.old }
+    /// A hop of the chain is cut.
+    fn cut(&mut self, at: usize, hop: usize)
+        ensures { self.new ≡ cut_at at hop self.old }
     {
         if let Some(chain) = self.chains.get_mut(at) {
-            chain.cut(&mut self.agent);
+            chain.cut(hop, &mut self.agent);
         }
     }
 
@@ -298,13 +377,57 @@ impl World {
         }
     }
 
-    /// All that is in flight on a chain arrives and is taken, first up and then down.
+    /// All that is in flight on a chain arrives and is taken, hop by hop, first up and then down.
     fn round_of(&mut self, at: usize) -> Result<(), AllocError>
         ensures { OnOk result (self.new ≡ round_of at self.old) }
     {
-        self.deliver_all_up(at)?;
-        self.take_all_up(at)?;
+        self.round_up(at)?;
+        self.turn_all_agent(at)?;
+        self.round_down(at)?;
         self.take_all_down(at)
+    }
+
+    /// What is in flight up to each value-add arrives and is taken, from the lowest on; and what is in flight up to the
+    /// agent arrives.
+    #[tactic(auto, using(crate::proofs::Repeats::one_add_up))]
+    fn round_up(&mut self, at: usize) -> Result<(), AllocError>
+        ensures { OnOk result (self.new ≡ rounded_up at self.old) }
+    {
+        let adds = self.adds(at);
+        for add in 0..adds {
+            self.round_add(at, add, Side::Below)?;
+        }
+        self.deliver_all_up(at)
+    }
+
+    /// What is in flight down to each value-add arrives and is taken, from the highest on.
+    #[tactic(auto, using(crate::proofs::Repeats::one_add_down))]
+    fn round_down(&mut self, at: usize) -> Result<(), AllocError>
+        ensures { OnOk result (self.new ≡ all_round_down at self.old) }
+    {
+        let adds = self.adds(at);
+        for counter in 0..adds {
+            self.round_add(at, adds - 1 - counter, Side::Above)?;
+        }
+        Ok(())
+    }
+
+    /// All that is in flight to a side of a value-add arrives, and is taken.
+    #[tactic(auto, using(crate::proofs::Repeats::one_turn_add))]
+    fn round_add(&mut self, at: usize, add: usize, side: Side) -> Result<(), AllocError>
+        ensures { OnOk result (self.new ≡ add_rounded at add side self.old) }
+    {
+        let waiting = match self.chains.get_mut(at) {
+            Some(chain) => {
+                chain.route.deliver_all(add, side)?;
+                chain.route.waiting(add, side)
+            }
+            None => 0,
+        };
+        for counter in 0..waiting {
+            self.turn_add(at, add, side)?;
+        }
+        Ok(())
     }
 
     /// All that is in flight up the chain arrives at the agent.
@@ -330,17 +453,17 @@ impl World {
         }
     }
 
-    /// The agent takes all that waits in the inbox of the chain's channel.
+    /// The agent takes all that waits in the inboxes of the chain's channels.
     #[tactic(auto, using(crate::proofs::Repeats::one_turn_up))]
-    fn take_all_up(&mut self, at: usize) -> Result<(), AllocError>
-        ensures { OnOk result (self.new ≡ up_taken at self.old) }
+    fn turn_all_agent(&mut self, at: usize) -> Result<(), AllocError>
+        ensures { OnOk result (self.new ≡ agent_taken at self.old) }
     {
         let waiting = match self.chains.get(at) {
             Some(chain) => chain.waiting_up(&self.agent),
             None => 0,
         };
         for counter in 0..waiting {
-            self.turn_up(at)?;
+            self.turn_agent(at)?;
         }
         Ok(())
     }
@@ -428,13 +551,13 @@ fn image_of(named: &NamedImage) -> Result<Image, AllocError>
     })
 }
 
-/// So many chains, in which nothing is opened.
-fn new_chains(alloc: Global, count: usize) -> Result<Vec<Chain>, AllocError>
-    ensures { IfOk result (λ chains. chains.items ≡ new_chains count) }
+/// The chains of a header, in which nothing is opened.
+fn new_chains(alloc: Global, heads: &[ChainHead]) -> Result<Vec<Chain>, AllocError>
+    ensures { IfOk result (λ chains. chains.items ≡ new_chains (adds_of heads.now)) }
 {
     let mut chains = Vec::new(alloc);
-    for counter in 0..count {
-        chains.push(Chain::new(alloc)?)?;
+    for head in heads {
+        chains.push(Chain::new(alloc, head.adds)?)?;
     }
     Ok(chains)
 }

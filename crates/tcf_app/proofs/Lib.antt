@@ -10,6 +10,5 @@ pub mod Hearing
 pub mod Noting
 pub mod Imaging
 pub mod Running
-pub mod Rising
 pub mod Tells
 pub mod Exits

@@ -9,7 +9,7 @@ use Rattle.tcf_schedules.specs.Schedule.{ScheduleValue, schedule_of}
 use Rattle.tcf_schedules.specs.Script.{script_of}
 use Rattle.tcf_schedules.specs.declared.script.ScriptLine.{ScriptLine}
 use Rattle.target_contexts.specs.declared.process.Image.{Image}
-use Rattle.chain_world.specs.Playing.{CoherentOfEveryFile, EndsOfEveryFile, HoldsOfEveryFile}
+use Rattle.world_laws.specs.Playing.{CoherentOfEveryFile, EndsOfEveryFile, HoldsOfEveryFile}
 use Rattle.tcf_text.specs.Once.{Once}
 use Rattle.tcf_wires.specs.declared.call.WireCall.{WireCall}
 use Rattle.tcf_wires.specs.declared.call.WireCall.TheVariants.{Connected, Gave, Listened}
@@ -39,7 +39,7 @@ use Rattle.tcf_app.specs.Ending.{Ending, IsEnding, IsRanEnding, images_with, usa
 use Rattle.tcf_app.specs.Run.{IsServed, IsDone, AreTaken, HasEnded, HaveFailed, IsBadText, IsBadStream, IsTooLong}
 use Rattle.tcf_app.proofs.Items.{shown_as}
 use Rattle.tcf_app.proofs.Hearing.{are_held, content_is, first_long, some_so}
-use Rattle.tcf_app.proofs.Rising.{last_rises}
+use Rattle.serving_wires.proofs.Rising.{last_rises}
 
 -- ---- what is known beside the run
 
@@ -50,6 +50,9 @@ pub record Laws : Type 0 where
   pub coherent : CoherentOfEveryFile
   pub once : OnceAfterAnyCalls
   pub serves : ServesAClient
+
+pub laws_of : HoldsOfEveryFile → EndsOfEveryFile → CoherentOfEveryFile → OnceAfterAnyCalls → ServesAClient → Laws
+laws_of faithful ends coherent once serves = record { faithful = faithful; ends = ends; coherent = coherent; once = once; serves = serves }
 
 -- in the log of a client that was run each command is answered once
 run_once : Laws → (script : List ScriptLine) (address : List ℕ) (turns : ℕ) (run : ClientRun) (calls : List WireCall) → RunsClient script address turns (Ok run) calls → Once false run.client.log

@@ -6,7 +6,7 @@ use Rattle.tcf_text.specs.Log.{log_text}
 use Rattle.tcf_text.specs.declared.log.LogLine.{LogLine}
 use Rattle.tcf_schedules.specs.Schedule.{ScheduleValue}
 use Rattle.chain_world.specs.WorldValue.{WorldValue}
-use Rattle.chain_world.specs.World.{images_of, log_at, new_world, run}
+use Rattle.chain_world.specs.World.{adds_of, images_of, log_at, new_world, run}
 
 unfoldable pub chain_front : List ℕ
 chain_front = codes "chain "
@@ -24,7 +24,7 @@ history_line count = history_front ++ decimal count ++ 10 ∷ []
 
 -- what playing the schedule brings about
 abbrev pub world_of : ScheduleValue → WorldValue
-world_of schedule = run schedule.plans (new_world (images_of schedule.images) (length schedule.chains))
+world_of schedule = run schedule.plans (new_world (images_of schedule.images) (adds_of schedule.chains))
 
 -- the chains from a place on, each with its log
 abbrev pub chains_text : ℕ → List ChainHead → WorldValue → List ℕ

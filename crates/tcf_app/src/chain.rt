@@ -11,11 +11,12 @@ ghost use Rattle.tcf_app.specs.Played.{printed, chain_line, history_line, chains
 use crate::exit::Exit;
 use crate::finish::{finish_made, push_line};
 use crate::refusing::refuse_line;
-use chain_world::{World, read_is_playable};
+use chain_world::World;
 use std::alloc::{AllocError, Global};
 use tcf_outside::{Octets, Sink};
 use tcf_schedules::{ChainHead, Schedule, TextRefusal, read_schedule};
 use tcf_text::write_log;
+use world_laws::read_is_playable;
 
 /// Appends the line before a chain's log.
 #[tactic(auto, unfolding(crate::specs::Played::chain_front))]
@@ -50,7 +51,7 @@ fn push_chains(out: &mut Octets, heads: &[ChainHead], world: &World) -> Result<(
 
 /// The text of the schedule, played.
 fn text_of(alloc: Global, schedule: &Schedule) -> Result<Octets, AllocError>
-    requires { AllByRecursion (IsPlayable (length schedule.now.chains)) (plans_of schedule.now.steps) }
+    requires { AllByRecursion IsPlayable (plans_of schedule.now.steps) }
     ensures { IfOk result (λ text. text ≡ printed (meaning schedule.now)) }
 {
     let mut world = World::new(alloc, schedule)?;

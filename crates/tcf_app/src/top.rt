@@ -22,12 +22,12 @@ use crate::order::{Order, read_words};
 use crate::reading::{read_file, read_images};
 use crate::refusing::{refuse_unread, refuse_words};
 use crate::show::show_file;
-use chain_world::every_file;
 use client_node::each_command_is_answered_once;
 use client_serving::what_is_served_is_a_client;
 use std::alloc::Global;
 use tcf_outside::{Files, Sink};
 use tcf_wires::Wires;
+use world_laws::every_file;
 
 /// Reads the schedule of this name, and plays it.
 fn run_chain<F: Files, S: Sink>(alloc: Global, name: &str, files: &mut F, out: &mut S) -> Exit

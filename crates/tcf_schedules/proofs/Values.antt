@@ -96,9 +96,9 @@ asking_exact law =
 imaging_exact : IsExact (List ℕ × List ℕ) imaging_of (λ i. Passes is_name i.0 × Passes is_hex_word i.1) (λ i. spaced i.0 i.1)
 imaging_exact = both_exact (List ℕ) (List ℕ) name_of hex_of (Passes is_name) (Passes is_hex_word) itself itself name_exact name_words hex_exact
 
-chaining_exact : IsExact (List ℕ × ℕ) chaining_of (λ c. Passes is_name c.0 × InRange 0 0 c.1) (λ c. spaced c.0 (decimal c.1))
+chaining_exact : IsExact (List ℕ × ℕ) chaining_of (λ c. Passes is_name c.0 × InRange 0 16 c.1) (λ c. spaced c.0 (decimal c.1))
 chaining_exact =
-    both_exact (List ℕ) ℕ name_of (number_of 0 0) (Passes is_name) (InRange 0 0) itself decimal name_exact name_words (number_exact 0 0 (lit< tt))
+    both_exact (List ℕ) ℕ name_of (number_of 0 16) (Passes is_name) (InRange 0 16) itself decimal name_exact name_words (number_exact 0 16 (lit< tt))
 
 -- ---- What is read is spelled so
 
@@ -229,7 +229,7 @@ behind_found law word rest value e =
       | inl w ↦ made (List ℕ × List ℕ) LineValue imaging_of (λ i. Passes is_name i.0 × Passes is_hex_word i.1) (λ i. spaced i.0 i.1) (λ i. head (imaging i)) IsLine spelling
           word image_word rest value imaging_exact (λ y g. g) (λ y. refl) w.0 w.1
       | inr e ↦ elim (two_ways (bytes_eq word chain_word) (option_map (λ c. head (chaining c)) (chaining_of rest)) _ value e) [
-        | inl w ↦ made (List ℕ × ℕ) LineValue chaining_of (λ c. Passes is_name c.0 × InRange 0 0 c.1) (λ c. spaced c.0 (decimal c.1)) (λ c. head (chaining c)) IsLine spelling
+        | inl w ↦ made (List ℕ × ℕ) LineValue chaining_of (λ c. Passes is_name c.0 × InRange 0 16 c.1) (λ c. spaced c.0 (decimal c.1)) (λ c. head (chaining c)) IsLine spelling
             word chain_word rest value chaining_exact (λ y g. (g.0, g.1.1)) (λ y. refl) w.0 w.1
         | inr e ↦
             let m = map_found step (step_behind word rest) value e in

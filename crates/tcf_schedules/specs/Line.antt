@@ -55,10 +55,10 @@ IsLineStep (once x) = IsPlainStep x
 IsLineStep (rounds count) = (1 ≤ count) × (count ≤ 10000)
 IsLineStep (times count x) = (1 ≤ count) × (count ≤ 10000) × IsPlainStep x
 
--- a chain has no value-adds
+-- a chain has at most 16 value-adds
 abbrev pub IsHead : LineHead → Type 0
 IsHead (image name digits) = IsTrue (is_name name) × IsTrue (is_hex_word digits)
-IsHead (chain name adds) = IsTrue (is_name name) × (adds ≤ 0)
+IsHead (chain name adds) = IsTrue (is_name name) × (adds ≤ 16)
 
 abbrev pub IsLine : LineValue → Type 0
 IsLine (head h) = IsHead h

@@ -66,7 +66,7 @@ imaging_of text = both name_of hex_of text
 
 -- NAME 0
 abbrev pub chaining_of : List ℕ → Option (List ℕ × ℕ)
-chaining_of text = both name_of (number_of 0 0) text
+chaining_of text = both name_of (number_of 0 16) text
 
 abbrev pub sending : List ℕ × (List ℕ × (List ℕ × List (List ℕ))) → PlainStep
 sending s = sends s.0 s.1.0 s.1.1.0 s.1.1.1

@@ -16,7 +16,7 @@ use line_words::{first_word, good_word};
 use tcf_values::{ContextId, number_within};
 
 /// The most value-adds of a chain.
-const MOST_ADDS: u32 = 0;
+const MOST_ADDS: u32 = 16;
 
 /// The most rounds, or repetitions, of one line.
 const MOST_TIMES: u32 = 10_000;

@@ -159,7 +159,7 @@ fn refuses_lines_of_no_form(rt: HostRuntime) -> Result<(), Fail> {
 #[test]
 fn refuses_a_line_for_the_first_of_its_reasons(rt: HostRuntime) -> Result<(), Fail> {
     let rows = [
-        (b"open A\nchain A 1".as_slice(), TextFault::Form),
+        (b"open A\nchain A 17".as_slice(), TextFault::Form),
         (b"open A\nchain A 0", TextFault::Late),
         (b"open A\nimage b 00", TextFault::Late),
         (b"image a -\nimage a 00", TextFault::Repeat),

@@ -323,6 +323,41 @@ fn each_client_hears_the_one_target(rt: HostRuntime) -> Result<(), Fail> {
     Ok(())
 }
 
+static FORWARDED: [Run; 2] = [
+    // Two value-adds, which redirects bind one after the other; the second is named V2.
+    (
+        &[
+            "chain A 2\nopen A\nrounds 1\nsend A Locator redirect \"nowhere\"\nrounds 1\nsend A Locator redirect \"V2\"\nrounds 1\nsend A Locator redirect \"Agent\"\nrounds 1\ncached A context P1\n",
+        ],
+        &[
+            "chain A\nhello - [\"Locator\"]\nsent 1 Locator redirect \"nowhere\"\nresult 1 - {\"Code\":7,\"Format\":\"unknown-peer\"}\nsent 2 Locator redirect \"V2\"\nresult 2 - -\nhello - [\"Locator\"]\nsent 3 Locator redirect \"Agent\"\nresult 3 - -\nhello 1 ",
+            HELLO,
+            "cached context P1 none\nhistory 1\n",
+        ],
+    ),
+    // The hop above a value-add is cut while it has forwarded commands: it ends the stream of its client.
+    (
+        &[
+            "chain A 1\nopen A\nrounds 1\nsend A Locator redirect \"Agent\"\nrounds 1\ntimes 3 send A Locator sync\ndeliver A 0 up 1000\ntimes 3 turn A 1 up\ncut A 1\nrounds 1\n",
+        ],
+        &[
+            "chain A\nhello - [\"Locator\"]\nsent 1 Locator redirect \"Agent\"\nresult 1 - -\nhello 1 ",
+            HELLO,
+            "sent 2 Locator sync\nsent 3 Locator sync\nsent 4 Locator sync\nclosed 2\nclosed 3\nclosed 4\nend eos\nhistory 2\n",
+        ],
+    ),
+];
+
+#[test]
+fn value_adds_forward(rt: HostRuntime) -> Result<(), Fail> {
+    for run in &FORWARDED {
+        let (exit, told, want) = outcome(&rt, run)?;
+        assert_eq!(rt; exit, Exit::Done);
+        assert_eq!(rt; told.as_slice(), want.as_slice());
+    }
+    Ok(())
+}
+
 const GET_4: &str = "send A Memory get \"P1\" 0 1 4 0\nrounds 1\ncached A state P1.1\n";
 
 static CACHES: [Run; 2] = [

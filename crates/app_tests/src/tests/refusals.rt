@@ -74,8 +74,8 @@ fn the_first_bad_line_is_named(rt: HostRuntime) -> Result<(), Fail> {
 }
 
 static FORMS: [Refusal; 8] = [
-    // Value-adds can't be asked for, nor more of a memory than there can be, or a thread's.
-    ("chain B 1\n", 2, TextFault::Form, "bad line 2: form\n"),
+    // More value-adds than a chain can have, more of a memory than there can be, or a thread's.
+    ("chain B 17\n", 2, TextFault::Form, "bad line 2: form\n"),
     (
         "cached A bytes P1 0 65537\n",
         2,
@@ -192,7 +192,7 @@ static BEHIND_64_CHAINS: [Refusal; 6] = [
         TextFault::Repeat,
         "bad line 65: repeat\n",
     ),
-    ("chain C64 1\n", 65, TextFault::Form, "bad line 65: form\n"),
+    ("chain C64 17\n", 65, TextFault::Form, "bad line 65: form\n"),
     (
         "open C0\nchain C64 0\n",
         66,

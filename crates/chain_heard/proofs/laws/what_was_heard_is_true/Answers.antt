@@ -1,7 +1,7 @@
-use Rattle.chain_heard.proofs.Coherent.{heard_coherent, nothing_coherent}
+use Rattle.chain_heard.proofs.Coherent.{heard_coherent, no_target_coherent}
 use Rattle.chain_heard.proofs.laws.what_was_heard_is_true.Goals as goal
 
 pub returns : goal.returns
 returns c =
     let kept = c.what_is_kept_was_learned.ensures in
-    record { heard = heard_coherent kept c.what_is_told_is_true.ensures; nothing = nothing_coherent kept }
+    record { heard = heard_coherent kept c.what_is_told_is_true.ensures; no_target = no_target_coherent kept }

@@ -4,7 +4,7 @@ use Rattle.chain_world.proofs.Sizes.{each_playable, one_step, sizes_kept}
 use Rattle.chain_world.proofs.world.World.play_all.Goals as goal
 
 pub play-requires : goal.play-requires
-play-requires c = each_playable _ _ _ _ _ c.requires c.loop-step.invariant.chains c.loop-step-test.true c.step-item.is
+play-requires c = each_playable _ _ _ c.requires c.loop-step-test.true c.step-item.is
 
 pub loop-step-preserved : goal.loop-step-preserved
 loop-step-preserved c = record {

@@ -1,0 +1,156 @@
+-- What becomes of a chain where the agent's channels go on: while they stay as they are to it, it stands as before.
+use Rattle.std.proofs.Common.{◌≡◌, ℕ, true, List, [], ◌++◌, map, Option, Some, None, refl, sym, ap, ◌∙◌, subst}
+use Rattle.std.specs.Prelude.{option_to_list}
+use Rattle.std.specs.List.{Contains}
+use Rattle.std.proofs.lemmas.List.Elements.{Contains-append_left, Contains-append_right}
+use Rattle.agent_node.specs.AgentValue.{AgentValue}
+use Rattle.agent_node.specs.Runs.{AgentRun, Call, Past, after_all, no_calls}
+use Rattle.client_node.specs.Runs.{Call as ClientCall}
+use Rattle.chain_route.specs.RouteValue.{RouteValue}
+use Rattle.chain_route.specs.Runs.{Call as WayCall, RouteRun, Talk, after_call as way_call, with_agent}
+use Rattle.target_contexts.specs.declared.process.Image.{Image}
+use Rattle.chain_world.specs.Chain.{Both, both, channels_of}
+use Rattle.chain_world.specs.ChainValue.{ChainValue}
+use Rattle.chain_world.specs.Standing.{AllDiffer, Talks, TalksOn, past_at}
+use Rattle.chain_world.proofs.Agents.{Laws, Reached, after_more}
+use Rattle.chain_world.proofs.Fitting.{Agrees, Fits, IsWay, MayGo, Place, way_on}
+use Rattle.chain_world.proofs.Numbers.{here}
+use Rattle.chain_world.proofs.Pasts.{Keeps, grows_none, grows_then}
+use Rattle.chain_world.proofs.Talks.{IsCameSame, came_grown, same_above, talked_kept, talks_kept}
+
+-- ---- The agent goes on
+
+-- by calls that are of these channels, but for idle ones, and that are no input
+pub record Goes (r next : AgentRun) (channels : List ℕ) : Type 0 where
+  pub calls : List Call
+  pub is : after_all calls r ≡ next
+  pub history : next.history ≡ r.history
+  pub numbers : map (λ p. p.number) next.channels ≡ map (λ p. p.number) r.channels
+  pub others : (j : ℕ) → (Contains channels j → ⊥) → Keeps j r.channels next.channels
+
+pub goes_none : (r : AgentRun) (channels : List ℕ) → Goes r r channels
+goes_none r channels = record { calls = []; is = refl; history = refl; numbers = refl; others = λ j apart. grows_none (past_at j r.channels) }
+
+pub goes_then : (r next last : AgentRun) (channels : List ℕ) → Goes r next channels → Goes next last channels → Goes r last channels
+goes_then r next last channels one two = record {
+  calls = one.calls ++ two.calls;
+  is = after_more one.calls two.calls r ∙ ap (after_all two.calls) one.is ∙ two.is;
+  history = two.history ∙ one.history;
+  numbers = two.numbers ∙ one.numbers;
+  others = λ j apart. grows_then (past_at j r.channels) (past_at j next.channels) (past_at j last.channels) (one.others j apart) (two.others j apart);
+}
+
+pub goes_of : (r next : AgentRun) (channels more : List ℕ) → ((j : ℕ) → Contains channels j → Contains more j) → Goes r next channels → Goes r next more
+goes_of r next channels more within g = record { calls = g.calls; is = g.is; history = g.history; numbers = g.numbers; others = λ j apart. g.others j (λ has. apart (within j has)) }
+
+pub reached_goes : (images : List Image) (r next : AgentRun) (channels : List ℕ) → Reached images r → Goes r next channels → Reached images next
+reached_goes images r next channels reached g = record {
+  calls = reached.calls ++ g.calls;
+  is = after_more reached.calls g.calls (no_calls images) ∙ ap (after_all g.calls) reached.is ∙ g.is;
+}
+
+-- ---- A chain to which its channels are the same
+
+pub own_channel : (chain : ChainValue) (j : ℕ) → chain.channel ≡ Some j → Contains (channels_of chain) j
+own_channel chain j is =
+    Contains-append_right chain.earlier (option_to_list chain.channel) j (subst (λ channel. Contains (option_to_list channel) j) (sym is) (here j []))
+
+pub earlier_channel : (chain : ChainValue) (j : ℕ) → Contains chain.earlier j → Contains (channels_of chain) j
+earlier_channel chain j has = Contains-append_left chain.earlier (option_to_list chain.channel) j has
+
+-- the last channel goes on by itself, and to the earlier ones nothing more came
+pub record IsSameTo (chain : ChainValue) (pasts after : List Past) : Type 0 where
+  pub keeps : (j : ℕ) → chain.channel ≡ Some j → Keeps j pasts after
+  pub came : (j : ℕ) → Contains chain.earlier j → IsCameSame pasts after j
+
+pub same_to : (chain : ChainValue) (pasts after : List Past) → ((j : ℕ) → Contains (channels_of chain) j → Keeps j pasts after) → IsSameTo chain pasts after
+same_to chain pasts after keeps = record {
+  keeps = λ j is. keeps j (own_channel chain j is);
+  came = λ j has. came_grown (past_at j pasts) (past_at j after) (keeps j (earlier_channel chain j has));
+}
+
+pub agrees_after : Laws → (p : Place) (pasts after : List Past) (chain : ChainValue) (calls : List ClientCall) (now : RouteRun) → IsSameTo chain pasts after → Agrees p pasts chain calls now → Agrees p after chain calls now
+agrees_after laws p pasts after chain calls now same a = record {
+  client = a.client;
+  allowed = a.allowed;
+  route = a.route;
+  gave = a.gave;
+  got = a.got;
+  talks = talks_kept laws chain.channel now.past now.past pasts after (same_above now.past) same.keeps a.talks;
+  talked = talked_kept now.past now.past pasts after chain.earlier (λ got has. has) same.came a.talked;
+}
+
+pub fits_after : Laws → (p : Place) (pasts after : List Past) (adds : ℕ) (chain : ChainValue) → IsSameTo chain pasts after → Fits p pasts adds chain → Fits p after adds chain
+fits_after laws p pasts after adds chain same f = record {
+  calls = f.calls;
+  now = f.now;
+  way = f.way;
+  agrees = agrees_after laws p pasts after chain f.calls f.now same f.agrees;
+  unwanted = f.unwanted;
+  opened = f.opened;
+}
+
+pub fits_kept : Laws → (p : Place) (pasts after : List Past) (adds : ℕ) (chain : ChainValue) → ((j : ℕ) → Contains (channels_of chain) j → Keeps j pasts after) → Fits p pasts adds chain → Fits p after adds chain
+fits_kept laws p pasts after adds chain keeps f = fits_after laws p pasts after adds chain (same_to chain pasts after keeps) f
+
+-- ---- A call of the way that the agent has a part in
+
+talks_on : (channel : Option ℕ) (k : ℕ) (now : RouteRun) (pasts after : List Past) (talk : Talk) → channel ≡ Some k → (Talks (past_at k pasts) now.past.agent → Talks (past_at k after) talk)
+    → TalksOn channel now.past pasts → TalksOn channel (with_agent talk now.past) after
+talks_on None k now pasts after talk is then t = absurd cc
+talks_on (Some i) k now pasts after talk is then t =
+    let same : i ≡ k = cc in (t.0, subst (λ n. Talks (past_at n after) talk) (sym same) (then (subst (λ n. Talks (past_at n pasts) now.past.agent) same t.1)))
+
+pub agent_fits : (p : Place) (pasts after : List Past) (adds : ℕ) (chain : ChainValue) (k : ℕ) (f : Fits p pasts adds chain) (call : WayCall) (change : RouteValue → RouteValue) (talk : Talk) → chain.channel ≡ Some k → MayGo p call
+    → way_call call f.now ≡ record { route = change f.now.route; past = with_agent talk f.now.past }
+    → (Talks (past_at k pasts) f.now.past.agent → Talks (past_at k after) talk) → ((j : ℕ) → Contains chain.earlier j → IsCameSame pasts after j)
+    → Fits p after adds (record chain { route = change chain.route })
+agent_fits p pasts after adds chain k f call change talk is may does talks same =
+    let past = with_agent talk f.now.past in
+    record {
+      calls = f.calls;
+      now = record { route = change f.now.route; past = past };
+      way = subst (IsWay p adds) does (way_on p adds call f.now may f.way);
+      agrees = record {
+        client = f.agrees.client;
+        allowed = f.agrees.allowed;
+        route = ap change f.agrees.route;
+        gave = f.agrees.gave;
+        got = f.agrees.got;
+        talks = talks_on chain.channel k f.now pasts after talk is talks f.agrees.talks;
+        talked = talked_kept f.now.past past pasts after chain.earlier (λ got has. has) same f.agrees.talked;
+      };
+      unwanted = f.unwanted;
+      opened = f.opened;
+    }
+
+-- the agent's hop was connected
+pub is_reached : (channel : Option ℕ) (k : ℕ) (now : RouteRun) (pasts : List Past) → channel ≡ Some k → TalksOn channel now.past pasts → now.past.is_reached ≡ true
+is_reached None k now pasts is t = absurd cc
+is_reached (Some i) k now pasts is t = t.0
+
+-- ---- A step of a chain and the agent
+
+pub record Moved (p : Place) (r : AgentRun) (adds : ℕ) (channels : List ℕ) (b : Both) : Type 0 where
+  pub next : AgentRun
+  pub goes : Goes r next channels
+  pub agent : next.agent ≡ b.agent
+  pub channels_are : channels_of b.chain ≡ channels
+  pub fits : Fits p next.channels adds b.chain
+
+-- the agent does nothing
+pub still : (p : Place) (r : AgentRun) (adds : ℕ) (channels : List ℕ) (next : ChainValue) → channels_of next ≡ channels → Fits p r.channels adds next → Moved p r adds channels (both next r.agent)
+still p r adds channels next is f = record { next = r; goes = goes_none r channels; agent = refl; channels_are = is; fits = f }
+
+module _ (images : List Image) (p : Place) where
+  abbrev pub IsMove : (ChainValue → AgentValue → Both) → Type 0
+  IsMove step = (r : AgentRun) (adds : ℕ) (c : ChainValue) → Reached images r → AllDiffer (channels_of c) → Fits p r.channels adds c → Moved p r adds (channels_of c) (step c r.agent)
+
+  pub moved_then : (r : AgentRun) (adds : ℕ) (channels : List ℕ) (b : Both) (step : ChainValue → AgentValue → Both) → IsMove step → Reached images r → AllDiffer channels → Moved p r adds channels b
+      → Moved p r adds channels (step b.chain b.agent)
+  moved_then r adds channels b step move reached differ m =
+      let first : Moved p m.next adds (channels_of b.chain) (step b.chain m.next.agent) =
+      move m.next adds b.chain (reached_goes images r m.next channels reached m.goes) (subst AllDiffer (sym m.channels_are) differ) m.fits in
+      let n : Moved p m.next adds channels (step b.chain b.agent) =
+      subst (λ a. Moved p m.next adds channels (step b.chain a)) m.agent (subst (λ ks. Moved p m.next adds ks (step b.chain m.next.agent)) m.channels_are first) in
+      record { next = n.next; goes = goes_then r m.next n.next channels m.goes n.goes; agent = n.agent; channels_are = n.channels_are; fits = n.fits }

@@ -1,0 +1,117 @@
+-- Each log of a world follows the one history, and what each client keeps is true of the target.
+use Rattle.std.proofs.Common.{◌≡◌, ℕ, suc, ◌⊎◌, inl, inr, false, List, [], ◌∷◌, Option, Some, None, refl, sym, ◌∙◌, subst}
+use Rattle.std.specs.Prelude.{option_to_list}
+use Rattle.std.specs.List.{AllByRecursion}
+use Rattle.agent_node.specs.AgentLaws.{AgentFollowsHistory}
+use Rattle.agent_node.specs.Runs.{AgentRun, after_all as agent_after, no_calls as agent_begun}
+use Rattle.chain_heard.specs.Coherent.{IsCoherent}
+use Rattle.chain_world.specs.Chain.{channels_of}
+use Rattle.chain_world.specs.ChainValue.{ChainValue}
+use Rattle.chain_world.specs.Standing.{AllStand, ChainStands, Stands}
+use Rattle.chain_world.specs.World.{new_world, run}
+use Rattle.chain_world.specs.WorldValue.{WorldValue}
+use Rattle.channel_core.specs.ReceivingLaws.{SendsReadable}
+use Rattle.client_log.specs.Shown.{ShowsKept}
+use Rattle.client_node.specs.Runs.{Past as ClientPast, TellsPast, no_past, past_of}
+use Rattle.target_contexts.specs.declared.process.Image.{Image}
+use Rattle.target_hub.specs.Ordered.{Ordered}
+use Rattle.target_hub.specs.Sent.{executed_on}
+use Rattle.target_truth.specs.Typed.{AreTyped}
+use Rattle.tcf_schedules.specs.Plan.{Plan}
+use Rattle.tcf_text.specs.Each.{Each}
+use Rattle.tcf_text.specs.Once.{Once}
+use Rattle.world_laws.specs.WorldLaws.{AreCoherent, ChainIsFaithful, CoherentAfterEverySchedule, FaithfulAfterEverySchedule, IsFaithful}
+use Rattle.world_laws.proofs.Chains.{HearsNone, HearsTarget, chain_hears, earlier_silent}
+use Rattle.world_laws.proofs.LowerLaws.{Laws}
+use Rattle.world_laws.proofs.Lists.{all_append}
+use Rattle.world_laws.proofs.Silent.{all_in}
+
+each_of : {A : Type 0} → (P Q : A → Type 0) → ((x : A) → P x → Q x) → (xs : List A) → AllByRecursion P xs → AllByRecursion Q xs
+each_of P Q so [] each = tt
+each_of P Q so (x ∷ xs) each = (so x each.0, each_of P Q so xs each.1)
+
+module _ (laws : Laws) (images : List Image) (r : AgentRun) (follows : AgentFollowsHistory images r) (readable : AllByRecursion (λ past. SendsReadable past.calls) r.channels) where
+  module _ (plans : List Plan) (at adds : ℕ) (chain : ChainValue) (s : ChainStands plans r.channels at adds chain) where
+    abbrev past_is : ClientPast
+    past_is = past_of s.calls no_past
+
+    once : Once false chain.client.log
+    once = subst (λ c. Once false c.log) (sym s.client) (laws.once s.calls)
+
+    tells : TellsPast chain.client past_is
+    tells = subst (λ c. TellsPast c past_is) (sym s.client) (laws.tells s.calls)
+
+    shown : Each ShowsKept chain.client.log
+    shown = subst (λ c. Each ShowsKept c.log) (sym s.client) (laws.shown s.calls)
+
+    abbrev Hears : Type 0
+    Hears = HearsTarget images r.history chain past_is ⊎ HearsNone r.history chain past_is
+
+    -- the channels that the chain had, but for this one, execute nothing
+    others : (P : ℕ → Type 0) → ((k : ℕ) → executed_on k r.history ≡ [] → P k) → ((k : ℕ) → chain.channel ≡ Some k → P k) → AllByRecursion P (channels_of chain)
+    others P silent current =
+        all_append P chain.earlier (option_to_list chain.channel) (each_of (λ k. executed_on k r.history ≡ []) P silent chain.earlier (earlier_silent laws images r follows readable plans at adds chain s))
+        (by_channel chain.channel current)
+      where
+        by_channel : (channel : Option ℕ) → ((k : ℕ) → channel ≡ Some k → P k) → AllByRecursion P (option_to_list channel)
+        by_channel None each = tt
+        by_channel (Some k) each = (each k refl, tt)
+
+    chain_ordered : Ordered false chain.client.log images r.history (channels_of chain)
+    chain_ordered = by_heard (chain_hears laws images r follows readable plans at adds chain s)
+      where
+        by_heard : Hears → Ordered false chain.client.log images r.history (channels_of chain)
+        by_heard (inl h) =
+            let P : ℕ → Type 0 = λ j. (j ≡ h.k → ⊥) → executed_on j r.history ≡ [] in
+            let all : AllByRecursion P (channels_of chain) =
+            others P (λ j none apart. none) (λ j is apart. let same : Some j ≡ Some h.k = sym is ∙ h.channel in let one : j ≡ h.k = cc in absurd (apart one)) in
+            laws.among images r.history h.k h.position chain.client past_is (channels_of chain) tells once h.heard (λ j there apart. all_in P (channels_of chain) j all there apart)
+        by_heard (inr h) =
+            let P : ℕ → Type 0 = λ j. executed_on j r.history ≡ [] in
+            laws.no_target images r.history chain.client past_is (channels_of chain) tells once h.heard (λ j there. all_in P (channels_of chain) j (others P (λ k none. none) h.silent) there)
+
+    chain_faithful : ChainIsFaithful images r.history chain
+    chain_faithful = record { once = once; ordered = chain_ordered }
+
+    chain_coherent : AreTyped images → IsCoherent chain.client.log images r.history
+    chain_coherent typed = by_heard (chain_hears laws images r follows readable plans at adds chain s)
+      where
+        by_heard : Hears → IsCoherent chain.client.log images r.history
+        by_heard (inl h) = laws.heard_true images r.history h.k h.position chain.client past_is typed tells once shown h.heard
+        by_heard (inr h) = laws.no_target_true images r.history chain.client past_is tells once shown h.heard
+
+  -- ---- All chains
+
+  pub all_of : (P : ChainValue → Type 0) (plans : List Plan) → ((at adds : ℕ) (chain : ChainValue) → ChainStands plans r.channels at adds chain → P chain) → (at : ℕ) (adds : List ℕ) (chains : List ChainValue)
+      → AllStand plans r.channels at adds chains → AllByRecursion P chains
+  all_of P plans so at [] [] all = tt
+  all_of P plans so at [] (chain ∷ chains) all = absurd all
+  all_of P plans so at (n ∷ adds) [] all = absurd all
+  all_of P plans so at (n ∷ adds) (chain ∷ chains) all = (so at n chain all.0, all_of P plans so (suc at) adds chains all.1)
+
+module _ (laws : Laws) (images : List Image) (adds : List ℕ) (plans : List Plan) (w : WorldValue) (s : Stands plans images adds w) where
+  abbrev agent_run : AgentRun
+  agent_run = agent_after s.calls (agent_begun images)
+
+  follows : AgentFollowsHistory images agent_run
+  follows = laws.truth images s.calls
+
+  readable : AllByRecursion (λ past. SendsReadable past.calls) agent_run.channels
+  readable = laws.pasts images s.calls
+
+  world_faithful : IsFaithful images w
+  world_faithful =
+      subst (λ h. IsFaithful images (record w { history = h })) s.history
+      (record { legal = follows.legal; chains = all_of laws images agent_run follows readable (ChainIsFaithful images agent_run.history) plans (chain_faithful laws images agent_run follows readable plans) 0 adds w.chains s.chains })
+
+  world_coherent : AreTyped images → AreCoherent images w
+  world_coherent typed =
+      subst (λ h. AreCoherent images (record w { history = h })) s.history
+      (all_of laws images agent_run follows readable (λ chain. IsCoherent chain.client.log images agent_run.history) plans
+      (λ at n chain stands. chain_coherent laws images agent_run follows readable plans at n chain stands typed) 0 adds w.chains s.chains)
+
+pub faithful : Laws → FaithfulAfterEverySchedule
+faithful laws images adds plans playable = world_faithful laws images adds plans (run plans (new_world images adds)) (laws.stands images adds plans playable)
+
+pub coherent : Laws → CoherentAfterEverySchedule
+coherent laws images adds plans typed playable = world_coherent laws images adds plans (run plans (new_world images adds)) (laws.stands images adds plans playable) typed

@@ -1,0 +1,11 @@
+use Rattle.world_laws.proofs.Playable.{file_coherent, file_ends, file_faithful}
+use Rattle.world_laws.proofs.laws.every_file.Goals as goal
+
+pub returns-clause-faithful : goal.returns-clause-faithful
+returns-clause-faithful c = file_faithful c.every_schedule.ensures.faithful c.read_is_playable.ensures
+
+pub returns-clause-ends : goal.returns-clause-ends
+returns-clause-ends c = file_ends c.every_schedule.ensures.ends c.read_is_playable.ensures
+
+pub returns-clause-coherent : goal.returns-clause-coherent
+returns-clause-coherent c = file_coherent c.every_schedule.ensures.coherent c.reads_what_is_said.ensures c.read_is_playable.ensures

@@ -1,0 +1,39 @@
+-- What the logs of a world's clients owe to the history of its target, after every schedule.
+use Rattle.std.specs.Prelude.{ℕ, false, List}
+use Rattle.std.specs.List.{AllByRecursion}
+use Rattle.chain_heard.specs.Coherent.{IsCoherent}
+use Rattle.target_contexts.specs.declared.process.Image.{Image}
+use Rattle.target_hub.specs.History.{IsLegal}
+use Rattle.target_hub.specs.Ordered.{Ordered}
+use Rattle.target_hub.specs.declared.input.Input.{Input}
+use Rattle.target_truth.specs.Typed.{AreTyped}
+use Rattle.tcf_schedules.specs.Plan.{Plan}
+use Rattle.tcf_text.specs.Once.{Once}
+use Rattle.chain_world.specs.World.{IsPlayable, new_world, run}
+use Rattle.chain_world.specs.WorldValue.{WorldValue}
+use Rattle.chain_world.specs.Chain.{channels_of}
+use Rattle.chain_world.specs.ChainValue.{ChainValue}
+
+-- each command is answered once, and the log is what the history says, on one of the channels that the chain had
+pub record ChainIsFaithful (images : List Image) (history : List Input) (chain : ChainValue) : Type 0 where
+  pub once : Once false chain.client.log
+  pub ordered : Ordered false chain.client.log images history (channels_of chain)
+
+pub record IsFaithful (images : List Image) (w : WorldValue) : Type 0 where
+  pub legal : IsLegal images w.history
+  pub chains : AllByRecursion (ChainIsFaithful images w.history) w.chains
+
+-- what the client of each chain keeps is true of the target, after each line of its log, and each line that asks the
+-- cache shows what is kept then
+abbrev pub AreCoherent : List Image → WorldValue → Type 0
+AreCoherent images w = AllByRecursion (λ chain. IsCoherent chain.client.log images w.history) w.chains
+
+-- Whatever the steps of these chains are, with so many value-adds each.
+abbrev pub FaithfulAfterEverySchedule : Type 0
+FaithfulAfterEverySchedule = (images : List Image) (adds : List ℕ) (plans : List Plan) → AllByRecursion IsPlayable plans →
+    IsFaithful images (run plans (new_world images adds))
+
+-- So it is with what the clients keep; the bytes of images are below 256.
+abbrev pub CoherentAfterEverySchedule : Type 0
+CoherentAfterEverySchedule = (images : List Image) (adds : List ℕ) (plans : List Plan) → AreTyped images → AllByRecursion IsPlayable plans →
+    AreCoherent images (run plans (new_world images adds))

@@ -1,0 +1,87 @@
+//! The laws of whole chains, over every schedule.
+ghost use Rattle.world_laws.specs.EndLaws.{EndsRightlyAfterEverySchedule};
+ghost use Rattle.world_laws.specs.Playing.{CoherentOfEveryFile, EndsOfEveryFile, HoldsOfEveryFile, ReadIsPlayable};
+ghost use Rattle.world_laws.specs.WorldLaws.{CoherentAfterEverySchedule, FaithfulAfterEverySchedule};
+
+use tcf_schedules::laws::{reads_what_is_said, what_is_read_is_within};
+use value_node::Forwarded;
+
+/// The law that after every schedule of so many chains, of any length, the history of the target is legal, and that the log
+/// of each client answers each command once and follows the history, on one of the channels that its chain had. And that
+/// ends close only so: a log ends by its own closing or by the loss of the connection only where a step closes the chain or
+/// cuts its first hop, by the end of the other side's stream only where a step cuts another hop, or where the agent refused
+/// the channel of a chain without value-adds, and never by a fault of the other side; an end of a value-add closes by no such
+/// fault, and one of the agent only since the bytes that came have ended or their stream has. And that what each client keeps
+/// is true: after each line of its log, of the target at the position of the last message.
+pub fn every_schedule()
+    ensures faithful { FaithfulAfterEverySchedule }
+    ensures ends { EndsRightlyAfterEverySchedule }
+    ensures coherent { CoherentAfterEverySchedule }
+{
+    tcf_message::read_back();
+    tcf_message::one_spelling();
+    tcf_message::decimal_token();
+    channel_core::calls_with_memory_spend_nothing::<u64>();
+    channel_core::calls_with_memory_spend_nothing::<()>();
+    channel_core::what_is_queued_goes_out_in_order::<u64>();
+    channel_core::what_is_queued_goes_out_in_order::<()>();
+    channel_core::what_is_queued_goes_out_in_order::<Forwarded>();
+    channel_core::what_is_queued_can_be_read::<u64>();
+    channel_core::what_is_queued_can_be_read::<()>();
+    channel_core::what_is_queued_can_be_read::<Forwarded>();
+    channel_core::what_was_queued_is_received::<u64>();
+    channel_core::what_was_queued_is_received::<()>();
+    channel_core::commands_are_sent_in_order::<u64>();
+    channel_core::each_answer_is_that_of_a_sent_command::<u64>();
+    channel_core::only_what_is_sent_is_queued::<u64>();
+    channel_core::only_what_is_sent_is_queued::<()>();
+    channel_core::only_what_is_sent_is_queued::<Forwarded>();
+    channel_core::no_command_goes_out_before_the_hello::<u64>();
+    channel_core::no_command_goes_out_before_the_hello::<Forwarded>();
+    channel_core::a_closed_end_stays_closed::<()>();
+    channel_redirects::a_redirect_holds_commands_back::<u64>();
+    channel_faults::an_end_closes_by_a_fault_only_so::<u64>();
+    channel_faults::an_end_closes_by_a_fault_only_so::<()>();
+    client_node::a_clients_end_is_a_run();
+    client_node::the_log_tells_what_was_taken();
+    client_node::each_command_is_answered_once();
+    client_node::the_cache_keeps_what_the_log_says();
+    command_tables::readings_are_legal();
+    target_hub::what_is_told_can_be_sent();
+    target_hub::every_history_is_bounded();
+    agent_node::an_agent_tells_the_truth();
+    agent_node::an_agent_has_no_strangers();
+    value_node::a_value_add_relays();
+    value_node::a_value_add_answers_itself();
+    chain_route::each_hop_carries();
+    chain_through::what_comes_through();
+    chain_through::no_fault_comes_through();
+    chain_through::what_is_answered_in_order_is_sound::<u64>();
+    chain_through::what_is_answered_in_order_is_sound::<()>();
+    chain_heard::commands_are_few();
+    chain_heard::unused_tokens_change_nothing();
+    chain_heard::no_target_heard_is_ordered();
+    chain_heard::what_was_heard_is_ordered();
+    chain_heard::what_was_heard_is_true();
+    chain_world::a_world_stands();
+}
+
+/// The law that each step of a schedule that is read can be played.
+pub fn read_is_playable()
+    ensures { ReadIsPlayable }
+{
+    reads_what_is_said();
+    what_is_read_is_within();
+}
+
+/// The law that the world is faithful that playing the schedule of a file brings about, that its ends close only as the
+/// schedule's steps say, and that what its clients keep is true.
+pub fn every_file()
+    ensures faithful { HoldsOfEveryFile }
+    ensures ends { EndsOfEveryFile }
+    ensures coherent { CoherentOfEveryFile }
+{
+    every_schedule();
+    reads_what_is_said();
+    read_is_playable();
+}

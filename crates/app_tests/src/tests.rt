@@ -8,9 +8,11 @@ use tcf_schedules::TextFault;
 use tcf_wires::WireScript;
 
 mod chains;
+mod load;
 mod refusals;
 mod serving;
 mod show;
+mod stored;
 
 /// The words of this text, which blanks separate.
 fn words_of(alloc: Global, text: &str) -> Result<Vec<String>, Fail> {
@@ -62,8 +64,15 @@ fn other_words_are_told_the_forms(rt: HostRuntime) -> Result<(), Fail> {
         "chains f",
         "show",
         "show f g",
-        "load 1",
-        "value here up 4",
+        "load",
+        "load +1",
+        "load -1",
+        "load 01",
+        "load 18446744073709551616",
+        "load 1 2",
+        "value here up",
+        "value here up 0",
+        "value here up 4 more",
         "agent here",
         "agent here 0",
         "agent here 01",

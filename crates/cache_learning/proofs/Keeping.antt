@@ -13,7 +13,7 @@ use Rattle.reply_tables.specs.Answers.{answer_read, known_or_bad}
 use Rattle.reply_tables.specs.declared.replies.ReadAnswer.TheVariants as read
 use Rattle.tcf_values.specs.declared.answer.Answer.{Answer}
 use Rattle.tcf_values.specs.declared.command.Command.{Command}
-use Rattle.cache_learning.specs.Kept.{KeepsToo, KeptIsLearned, blocks_from}
+use Rattle.cache_learning.specs.Kept.{KeepsToo, KeptIsLearned, Learns, blocks_from}
 use Rattle.cache_learning.specs.Lessons.{answer_by, answer_message, final_message}
 
 same_then : {known other last : Facts} → AreSame known other → AreSame other last → AreSame known last
@@ -67,6 +67,31 @@ empty_knows_nothing = record {
   properties = λ id. refl;
   statuses = λ id. refl;
 }
+
+-- what is learned
+pub event_learned : (message : Message) (before now : KnowledgeValue) → AreSame (facts_of now) (learn message (facts_of before)) → now.blocks ≡ blocks_learned message before
+    → Learns message before now
+event_learned message before now facts blocks = record { facts = facts; blocks = blocks }
+
+-- all is forgotten
+pub learned_nothing : (before now : KnowledgeValue) → now ≡ empty → Learns bad_event_taken before now
+learned_nothing before now is = record {
+  facts = same_then (same_as (ap facts_of is)) empty_knows_nothing;
+  blocks = ap (λ (value : KnowledgeValue). value.blocks) is;
+}
+
+-- what teaches nothing changes nothing
+pub learned_as_it_was : (now : KnowledgeValue) → Learns other_taken now now
+learned_as_it_was now = record { facts = same_as refl; blocks = refl }
+
+-- a message that is the same
+pub learned_as : {message other : Message} {before now : KnowledgeValue} → message ≡ other → Learns message before now → Learns other before now
+learned_as {message} {other} {before} {now} is learns = subst (λ (m : Message). Learns m before now) is learns
+
+pub answer_learned : {T E : Type 0} (result : Result T E) (message other : Message) (before now : KnowledgeValue) → message ≡ other
+    → OnOk result (AreSame (facts_of now) (learn message (facts_of before))) → OnOk result (now.blocks ≡ blocks_learned message before) → OnOk result (Learns other before now)
+answer_learned (Ok value) message other before now is facts blocks = learned_as is (record { facts = facts; blocks = blocks })
+answer_learned (Err error) message other before now is facts blocks = tt
 
 -- nothing is kept once all is forgotten
 pub kept_nothing : (before now : KnowledgeValue) → now ≡ empty → KeepsToo bad_event_taken before now

@@ -3,7 +3,7 @@
 use Rattle.std.specs.Prelude.{◌≡◌, List, [], ◌∷◌, ◌++◌}
 use Rattle.block_store.specs.declared.block.Block.{Block}
 use Rattle.knowledge.specs.Facts.{AreSame, Facts, IsPart, nothing}
-use Rattle.knowledge.specs.KnowledgeValue.{KnowledgeValue, blocks_after_all, facts_of, has_block_byte}
+use Rattle.knowledge.specs.KnowledgeValue.{KnowledgeValue, blocks_after_all, blocks_learned, facts_of, has_block_byte}
 use Rattle.knowledge.specs.Learning.{Message, changes_of, learn, learned}
 
 -- the blocks after these messages, one after another, where this is known and these blocks are kept before them
@@ -23,6 +23,11 @@ kept messages = record (learned messages) { bytes = has_block_byte (kept_blocks 
 pub record Keeps (messages : List Message) (cache : KnowledgeValue) : Type 0 where
   pub facts : AreSame (facts_of cache) (learned messages)
   pub blocks : cache.blocks ≡ kept_blocks messages
+
+-- the message makes the one cache of the other
+pub record Learns (message : Message) (before now : KnowledgeValue) : Type 0 where
+  pub facts : AreSame (facts_of now) (learn message (facts_of before))
+  pub blocks : now.blocks ≡ blocks_learned message before
 
 -- whatever messages the cache keeps, it keeps this one behind them too
 abbrev pub KeepsToo : Message → KnowledgeValue → KnowledgeValue → Type 0

@@ -1,8 +1,10 @@
 //! The learning from a message, by its service, its name and its data.
 ghost use Rattle.std.specs.Prelude.{Some, OnOk};
 ghost use Rattle.command_tables.specs.Reading.{reading_of};
-ghost use Rattle.cache_learning.specs.Kept.{KeepsToo};
+ghost use Rattle.cache_learning.specs.Kept.{KeepsToo, Learns};
+ghost use Rattle.knowledge.specs.KnowledgeValue.{facts_of};
 ghost use Rattle.cache_learning.specs.Lessons.{answer_message, event_message, final_message};
+ghost use Rattle.cache_learning.specs.Within.{AreWithin};
 
 use command_tables::{Reading, read_command};
 use knowledge::{Knowledge, the_same_learn_the_same};
@@ -19,7 +21,9 @@ pub fn hear_event(
     name: &[u8],
     body: &[u8],
 ) -> Result<(), AllocError>
-    ensures { OnOk result (KeepsToo (event_message service.now name.now body.now) cache.old cache.new) }
+    ensures kept { OnOk result (KeepsToo (event_message service.now name.now body.now) cache.old cache.new) }
+    ensures learned { OnOk result (Learns (event_message service.now name.now body.now) cache.old cache.new) }
+    ensures within { AreWithin (facts_of cache.old) → AreWithin (facts_of cache.new) }
 {
     the_same_learn_the_same();
     match read_event(alloc, service, name, body)? {
@@ -37,7 +41,9 @@ pub fn hear_answer(
     command: &Command,
     body: &[u8],
 ) -> Result<(), AllocError>
-    ensures { OnOk result (KeepsToo (answer_message command.now body.now) cache.old cache.new) }
+    ensures kept { OnOk result (KeepsToo (answer_message command.now body.now) cache.old cache.new) }
+    ensures learned { OnOk result (Learns (answer_message command.now body.now) cache.old cache.new) }
+    ensures within { AreWithin (facts_of cache.old) → AreWithin (facts_of cache.new) }
 {
     the_same_learn_the_same();
     match read_answer(alloc, command, body)? {
@@ -56,7 +62,9 @@ pub fn hear_final(
     asked: &[u8],
     body: &[u8],
 ) -> Result<(), AllocError>
-    ensures { OnOk result (KeepsToo (final_message (Some (reading_of service.now name.now asked.now)) body.now) cache.old cache.new) }
+    ensures kept { OnOk result (KeepsToo (final_message (Some (reading_of service.now name.now asked.now)) body.now) cache.old cache.new) }
+    ensures learned { OnOk result (Learns (final_message (Some (reading_of service.now name.now asked.now)) body.now) cache.old cache.new) }
+    ensures within { AreWithin (facts_of cache.old) → AreWithin (facts_of cache.new) }
 {
     match read_command(alloc, service, name, asked)? {
         Reading::Known(command) => hear_answer(alloc, cache, &command, body),

@@ -1,38 +1,44 @@
 -- What a client keeps of the messages that it took is true of the target.
-use Rattle.std.proofs.Common.{◌≡◌, ℕ, false, List, [], ◌∷◌, ◌++◌, length, map, filter, Option, Some, refl, ap, ap₂, sym, ◌∙◌, subst, append-nil}
-use Rattle.std.specs.List.{flat_map, range_with_len}
+use Rattle.std.proofs.Common.{◌≡◌, ℕ, ◌<◌, ◌^◌, false, List, [], ◌∷◌, ◌++◌, length, map, filter, Option, Some, None, refl, ap, sym, ◌∙◌, subst}
+use Rattle.std.specs.Prelude.{decimal, option_and_then}
+use Rattle.std.specs.List.{AllByRecursion}
 use Rattle.std.proofs.lemmas.List.{append_assoc}
 use Rattle.std.proofs.lemmas.List.Elements.{filter-append}
 use Rattle.cache_learning.specs.Kept.{KeptIsLearned, kept}
-use Rattle.client_log.specs.Lessons.{lessons, lessons_from}
+use Rattle.channel_core.specs.Arrivals.{Spoken}
+use Rattle.channel_core.specs.Wire.{locator}
+use Rattle.client_log.specs.Lessons as log_lessons
 use Rattle.client_node.specs.ClientValue.{ClientValue}
 use Rattle.client_node.specs.Runs.{Past, TellsPast, tells}
+use Rattle.command_tables.specs.Reading.{reading_of}
 use Rattle.knowledge.specs.Facts.{IsPart, byte_is, nothing}
-use Rattle.knowledge.specs.Learning.{Message, learn_all, learned}
+use Rattle.knowledge.specs.Learning.{Message, learned}
 use Rattle.target_contexts.specs.declared.process.Image.{Image}
 use Rattle.target_hub.specs.Fresh.{target_at}
-use Rattle.target_hub.specs.History.{IsLegal}
-use Rattle.target_hub.specs.Ordered.{IsPrefixOf}
-use Rattle.target_hub.specs.Received.{read}
-use Rattle.target_hub.specs.Sent.{Told, event_at, executed_on, final_at, hello_at, progress_at, sent, unknown_at}
 use Rattle.target_hub.specs.declared.input.Input.{Input}
 use Rattle.target_hub.specs.declared.target.Target.{Target}
 use Rattle.target_truth.specs.Holds.{Holds}
-use Rattle.target_truth.specs.Laws.{IsTrueAfterEachMessage}
-use Rattle.target_truth.specs.Taught.{position_of, taught}
 use Rattle.target_truth.specs.Typed.{AreTyped}
-use Rattle.tcf_text.specs.Lines.{Accepted, accepted, last_mark, later_or, mark_of}
-use Rattle.tcf_text.specs.Once.{Once, numbers}
+use Rattle.tcf_text.specs.Lines.{Accepted, accepted, last_mark}
+use Rattle.tcf_text.specs.Once.{Once}
 use Rattle.tcf_text.specs.declared.log.LogLine.{LogLine}
+use Rattle.value_node.specs.Asked.{Asked}
+use Rattle.value_node.specs.OwnMessages.{IsOwn, OwnStep, a_hello, a_result, an_unknown}
 use Rattle.chain_heard.specs.Coherent.{HeardIsCoherent, IsTrueThen, NoTargetHeardIsCoherent}
+use Rattle.chain_heard.specs.Heard.{asked_as, heard_in}
+use Rattle.chain_told.specs.Told.{AreToldRightly, AreTrueAt, IsToldRightly, command_under, lesson, lessons, mark_of}
+use Rattle.value_node.specs.Store as value
+use Rattle.value_node.specs.Deeds.{command_asked}
 use Rattle.chain_heard.proofs.Filtered.{last_mark_told}
-use Rattle.chain_heard.proofs.Heard.{nothing_left, taken_front, taken_own}
-use Rattle.chain_heard.proofs.Lessons.{Answering, lessons_taught}
-use Rattle.chain_heard.proofs.Lines.{commands_behind, lines_told, told_line}
-use Rattle.chain_heard.proofs.Lists.{CutAt, PartsOf, cut_at, cut_past, cut_within, first_nothing, front_flat, parts_of}
-use Rattle.chain_heard.proofs.Own.{AreOwnLines, last_bare, own_bare, own_front}
-use Rattle.chain_heard.proofs.OwnLessons.{LeavesNothing, learn_both, lessons_both, own_leaves}
-use Rattle.chain_heard.proofs.Flags.{flags_of, flags_sent}
+use Rattle.chain_heard.proofs.Heard.{FrontOf, front_of, none_asked, own_no_command, own_readable, taken_lines}
+use Rattle.chain_heard.proofs.Known.{Counted}
+use Rattle.chain_heard.proofs.Lessons.{Answering, AreAlike, final_by, found_under, front_taught}
+use Rattle.chain_heard.proofs.Lines.{AreLinesOf, IsNoCommand, IsReadable, LinesCut, MessagesCut, line_mark, lines_cut, messages_cut}
+use Rattle.agent_told.proofs.Lists.{all_front}
+use Rattle.chain_heard.proofs.Marks.{IsUnmarked, mark_now, own_unmarked}
+use Rattle.chain_heard.proofs.Own.{First, first_of}
+use Rattle.chain_heard.proofs.Placed.{bare_lines, last_bare, mark_pushed}
+use Rattle.chain_heard.proofs.Teaching.{AnswerTeaches, LeavesNothing, TeachesNothing, both_leave, hello_teaches, locator_teaches}
 
 -- ---- what is kept is a part of what was learned
 
@@ -43,220 +49,171 @@ kept_holds law messages target true_then = record {
   still = λ process addr byte known. true_then.still process addr byte (law messages (byte_is process addr byte) known);
 }
 
--- ---- nothing of the target
-
--- where nothing was learned, and the last message has no position
-nothing_true : KeptIsLearned → (images : List Image) (history : List Input) (front : List LogLine) → LeavesNothing (lessons front)
-    → ((position : ℕ) → last_mark front ≡ Some (Some position) → ⊥) → IsTrueThen front images history
-nothing_true law images history front none unmarked = record {
-  holds = λ position is. absurd (unmarked position is);
-  empty = λ without. subst (IsPart (kept (lessons front))) none (law (lessons front));
-}
-
-answering : (c : ClientValue) (p : Past) → TellsPast c p → Once false c.log → Answering c.log
-answering c p past once = record {
-  counted = subst (λ cs. numbers cs ≡ range_with_len 1 (length cs)) (sym past.commands) past.counted;
-  pending = once.answers;
-}
-
--- a front of the log that tells of what value-adds say alone
-own_true : KeptIsLearned → (images : List Image) (history : List Input) (log front back own : List LogLine) (commands left further : List Accepted) → Answering log → front ++ back ≡ log
-    → commands ++ further ≡ accepted log → filter tells front ≡ own → AreOwnLines commands own left → IsTrueThen front images history
-own_true law images history log front back own commands left further facts whole all messages are =
-    let none : LeavesNothing (lessons front) = own_leaves front log [] back facts commands left own (record {
-      split = sym whole;
-      done = [];
-      further = further;
-      whole = all;
-      messages = messages;
-      are = are;
-    }) in
-    nothing_true law images history front none
-    (λ position is. last_bare own position (own_bare own commands left are) (ap last_mark (sym messages) ∙ last_mark_told front ∙ is))
-
 -- ---- the last message
 
-told_mark : (commands : List Accepted) (told : Told) → mark_of (told_line commands told) ≡ Some (Some (position_of told))
-told_mark commands (hello_at place body) = refl
-told_mark commands (event_at place service name body) = refl
-told_mark commands (progress_at place body) = refl
-told_mark commands (final_at place through body) = refl
-told_mark commands (unknown_at place through) = refl
+-- a list is empty, or has a last element
+data Ending {A : Type 0} (xs : List A) : Type 0 where
+  empty_list : xs ≡ [] → Ending xs
+  last_is : (before : List A) (x : A) → xs ≡ before ++ x ∷ [] → Ending xs
 
-record Ending (commands : List Accepted) (told : List Told) : Type 0 where
-  pub before : List Told
-  pub last : Told
-  pub split : told ≡ before ++ last ∷ []
-  pub mark : last_mark (lines_told commands told) ≡ Some (Some (position_of last))
+later_end : {A : Type 0} → (y : A) (xs : List A) → Ending xs → Ending (y ∷ xs)
+later_end y xs (empty_list is) = last_is [] y (ap (λ l. y ∷ l) is)
+later_end y xs (last_is before x is) = last_is (y ∷ before) x (ap (λ l. y ∷ l) is)
 
-ending : (told : List Told) (commands : List Accepted) (now : Told) → Ending commands (now ∷ told)
-ending [] commands now = record { before = []; last = now; split = refl; mark = told_mark commands now }
-ending (next ∷ told) commands now =
-    let further : Ending (commands_behind commands now) (next ∷ told) = ending told (commands_behind commands now) next in
+ending : {A : Type 0} → (xs : List A) → Ending xs
+ending [] = empty_list refl
+ending (x ∷ xs) = later_end x xs (ending xs)
+
+-- what is learned up to the last message is true at its position
+record Reached (images : List Image) (history : List Input) (commands : List Asked) (heard : List Spoken) (messages : List LogLine) : Type 0 where
+  true_here : AreTrueAt images history (mark_of heard) (learned (lessons commands heard))
+  marked : (position : ℕ) → last_mark messages ≡ Some (Some position) → mark_of heard ≡ Some position
+  last : (position : ℕ) → mark_of heard ≡ Some position → last_mark messages ≡ Some (Some position)
+
+nothing_reached : (images : List Image) (history : List Input) (commands : List Asked) (messages : List LogLine) → AreLinesOf [] messages → Reached images history commands [] messages
+nothing_reached images history commands [] are = record {
+  true_here = λ fact known. known;
+  marked = λ position is. absurd cc;
+  last = λ position is. absurd cc;
+}
+nothing_reached images history commands (x ∷ messages) are = absurd are
+
+one_reached : (images : List Image) (history : List Input) (commands : List Asked) (before : List Spoken) (s : Spoken) (messages first rest : List LogLine)
+    → IsToldRightly images history commands before s → messages ≡ first ++ rest → AreLinesOf (s ∷ []) rest → Reached images history commands (before ++ s ∷ []) messages
+one_reached images history commands before s messages first [] right split are = absurd are
+one_reached images history commands before s messages first (x ∷ []) right split are =
+    let here : mark_of (before ++ s ∷ []) ≡ s.mark = mark_now images history commands before s right in
+    let line : last_mark messages ≡ Some s.mark = ap last_mark split ∙ mark_pushed first x s.mark (line_mark s.message s.mark x are.0) in
     record {
-      before = now ∷ further.before;
-      last = further.last;
-      split = ap (λ l. now ∷ l) further.split;
-      mark = ap (λ mark. later_or mark (mark_of (told_line commands now))) further.mark;
+      true_here = right.true;
+      marked = λ position is. let both : Some s.mark ≡ Some (Some position) = sym line ∙ is in let same : s.mark ≡ Some position = cc in here ∙ same;
+      last = λ position is. line ∙ ap (λ m. Some m) (sym here ∙ is);
     }
+one_reached images history commands before s messages first (x ∷ y ∷ rest) right split are = absurd are.1
 
-same_mark : (one two : ℕ) → Some (Some one) ≡ Some (Some two) → one ≡ two
-same_mark one two e = cc
-
-later_last : (xs ys : List LogLine) (mark : Option ℕ) → last_mark ys ≡ Some mark → last_mark (xs ++ ys) ≡ Some mark
-later_last [] ys mark is = is
-later_last (x ∷ xs) ys mark is = ap (λ m. later_or m (mark_of x)) (later_last xs ys mark is)
+reached_by : (images : List Image) (history : List Input) (commands : List Asked) (all heard rest : List Spoken) (messages : List LogLine) → AreToldRightly images history commands all
+    → all ≡ heard ++ rest → AreLinesOf heard messages → Ending heard → Reached images history commands heard messages
+reached_by images history commands all heard rest messages right split are (empty_list is) =
+    subst (λ l. Reached images history commands l messages) (sym is) (nothing_reached images history commands messages (subst (λ l. AreLinesOf l messages) is are))
+reached_by images history commands all heard rest messages right split are (last_is before s is) =
+    let cut : MessagesCut before (s ∷ []) messages = messages_cut before (s ∷ []) messages (subst (λ l. AreLinesOf l messages) is are) in
+    subst (λ l. Reached images history commands l messages) (sym is)
+    (one_reached images history commands before s messages cut.front cut.rest
+    (right before rest s (split ∙ ap (λ l. l ++ rest) is ∙ append_assoc before (s ∷ []) rest)) cut.split cut.second)
 
 -- ---- a front of the log
 
--- a front of the log teaches what is taught by the first of what is told
-record Teaches (front : List LogLine) (images : List Image) (history : List Input) (k : ℕ) (commands : List Accepted) (own : List LogLine) (told rest : List Told) : Type 0 where
-  pub split : told ++ rest ≡ sent images k history
-  pub learned_is : learned (lessons front) ≡ learned (taught (executed_on k history) told)
-  pub messages : filter tells front ≡ own ++ lines_told commands told
-
-taught_true : KeptIsLearned → IsTrueAfterEachMessage → (images : List Image) (history : List Input) (k : ℕ) (front : List LogLine) (commands : List Accepted) (own : List LogLine)
-    (now : Told) (told rest : List Told) → IsLegal images history → AreTyped images → Teaches front images history k commands own (now ∷ told) rest → IsTrueThen front images history
-taught_true law truth images history k front commands own now told rest legal typed teaches =
-    let final : Ending commands (now ∷ told) = ending told commands now in
-    let whole : sent images k history ≡ final.before ++ final.last ∷ rest =
-    sym teaches.split ∙ ap (λ l. l ++ rest) final.split ∙ append_assoc final.before (final.last ∷ []) rest in
-    let mark : last_mark front ≡ Some (Some (position_of final.last)) =
-    sym (last_mark_told front) ∙ ap last_mark teaches.messages ∙ later_last own (lines_told commands (now ∷ told)) (Some (position_of final.last)) final.mark in
-    let learned_here : learned (lessons front) ≡ learned (taught (executed_on k history) (final.before ++ final.last ∷ [])) =
-    teaches.learned_is ∙ ap (λ all. learned (taught (executed_on k history) all)) final.split in
-    let place : Target = target_at images history (position_of final.last) in
-    let holds : Holds (kept (lessons front)) place =
-    kept_holds law (lessons front) place
-    (subst (λ known. Holds known place) (sym learned_here) (truth images history legal typed k final.before rest final.last whole)) in
-    record {
-      holds = λ position is.
-          subst (λ n. Holds (kept (lessons front)) (target_at images history n)) (same_mark (position_of final.last) position (sym mark ∙ is)) holds;
-      empty = λ without. absurd (without (position_of final.last) mark);
-    }
-
--- the first of these lines are those of the first of what is told
-record Cut (commands : List Accepted) (told : List Told) (xs : List LogLine) : Type 0 where
-  pub front : List Told
-  pub rest : List Told
-  pub split : front ++ rest ≡ told
-  pub lines_are : xs ≡ lines_told commands front
-
-cut : (xs ys : List LogLine) (commands : List Accepted) (told : List Told) → xs ++ ys ≡ lines_told commands told → Cut commands told xs
-cut [] ys commands told are = record { front = []; rest = told; split = refl; lines_are = refl }
-cut (x ∷ xs) ys commands [] are = absurd cc
-cut (x ∷ xs) ys commands (now ∷ told) are =
-    let head : x ≡ told_line commands now = cc in
-    let tail : xs ++ ys ≡ lines_told (commands_behind commands now) told = cc in
-    let further : Cut (commands_behind commands now) told xs = cut xs ys (commands_behind commands now) told tail in
-    record {
-      front = now ∷ further.front;
-      rest = further.rest;
-      split = ap (λ l. now ∷ l) further.split;
-      lines_are = ap₂ (λ l ls. l ∷ ls) head further.lines_are;
-    }
-
--- what is known of a log whose client heard the target: what value-adds said, and a front of what is told
-record Hearing (log : List LogLine) (images : List Image) (history : List Input) (k : ℕ) (answered later : List Accepted) : Type 0 where
-  pub legal : IsLegal images history
-  pub typed : AreTyped images
-  pub facts : Answering log
-  pub commands : answered ++ later ≡ accepted log
-  pub asked : IsPrefixOf (executed_on k history) (map read later)
-
--- the front of a log that tells so much
-told_true : KeptIsLearned → IsTrueAfterEachMessage → (images : List Image) (history : List Input) (k : ℕ) (log front back : List LogLine) (answered later : List Accepted)
-    → Hearing log images history k answered later → front ++ back ≡ log → (own : List LogLine) → AreOwnLines answered own [] → (now : Told) (told rest : List Told)
-    → (now ∷ told) ++ rest ≡ sent images k history → filter tells front ≡ own ++ lines_told later (now ∷ told) → IsTrueThen front images history
-told_true law truth images history k log front back answered later hearing whole own are now told rest split messages =
-    let parts : PartsOf tells front own (lines_told later (now ∷ told)) = parts_of tells front own (lines_told later (now ∷ told)) messages in
-    let place : log ≡ parts.front ++ (parts.back ++ back) = sym whole ∙ ap (λ l. l ++ back) (sym parts.whole) ∙ append_assoc parts.front parts.back back in
-    let before : LeavesNothing (lessons parts.front) = own_leaves parts.front log [] (parts.back ++ back) hearing.facts answered [] own (record {
-      split = place;
-      done = [];
-      further = later;
-      whole = hearing.commands;
-      messages = parts.first;
-      are = are;
-    }) in
-    let behind : lessons_from (accepted parts.front) parts.back ≡ taught (executed_on k history) (now ∷ told) =
-    lessons_taught parts.back log parts.front back hearing.facts later (executed_on k history) (now ∷ told) (record {
-      split = place;
-      done = answered;
-      commands = hearing.commands;
-      front = hearing.asked;
-      flags = subst (IsPrefixOf (flat_map flags_of (now ∷ told))) (flags_sent images history k hearing.legal)
-          (front_flat flags_of (now ∷ told) (sent images k history) (rest, split));
-      messages = parts.second;
-    }) in
-    let lessons_are : lessons front ≡ lessons parts.front ++ lessons_from (accepted parts.front) parts.back =
-    ap lessons (sym parts.whole) ∙ lessons_both parts.front parts.back [] in
-    taught_true law truth images history k front later own now told rest hearing.legal hearing.typed (record {
-      split = split;
-      learned_is =
-          ap learned lessons_are ∙ learn_both (lessons parts.front) (lessons_from (accepted parts.front) parts.back) nothing
-          ∙ ap (learn_all (lessons_from (accepted parts.front) parts.back)) before ∙ ap learned behind;
-      messages = messages;
-    })
-
--- by how much of what is told it tells
-cut_true : KeptIsLearned → IsTrueAfterEachMessage → (images : List Image) (history : List Input) (k : ℕ) (log front back : List LogLine) (answered later left : List Accepted)
-    → Hearing log images history k answered later → front ++ back ≡ log → (own : List LogLine) → AreOwnLines answered own left
-    → (told rest : List Told) → told ++ rest ≡ sent images k history → ((told ≡ [] → ⊥) → left ≡ [])
-    → (ws : List LogLine) → filter tells front ≡ own ++ ws → Cut later told ws → IsTrueThen front images history
-cut_true law truth images history k log front back answered later left hearing whole own are told rest split all ws messages part =
-    by_part part.front part.rest part.split (messages ∙ ap (λ l. own ++ l) part.lines_are)
+then_true : KeptIsLearned → (images : List Image) (history : List Input) (commands : List Asked) (front : List LogLine) (heard : List Spoken) → AreTyped images
+    → learned (log_lessons.lessons front) ≡ learned (lessons commands heard) → Reached images history commands heard (filter tells front) → IsTrueThen front images history
+then_true law images history commands front heard typed same reached = record {
+  holds = λ position is.
+      let mark : mark_of heard ≡ Some position = reached.marked position (last_mark_told front ∙ is) in
+      let here : AreTrueAt images history (Some position) (learned (lessons commands heard)) =
+      subst (λ m. AreTrueAt images history m (learned (lessons commands heard))) mark reached.true_here in
+      kept_holds law (log_lessons.lessons front) (target_at images history position)
+      (subst (λ known. Holds known (target_at images history position)) (sym same) (here.1 typed));
+  empty = λ without. by_mark (mark_of heard) refl (λ position is. without position (sym (last_mark_told front) ∙ reached.last position is));
+}
   where
-    some_told : (now : Told) (first more : List Told) → (now ∷ first) ++ more ≡ told → told ≡ [] → ⊥
-    some_told now first more is none = let empty : now ∷ (first ++ more) ≡ [] = is ∙ none in absurd cc
+    by_mark : (mark : Option ℕ) → mark_of heard ≡ mark → ((position : ℕ) → mark_of heard ≡ Some position → ⊥) → IsPart (kept (log_lessons.lessons front)) nothing
+    by_mark None is none =
+        let here : IsPart (learned (lessons commands heard)) nothing = subst (λ m. AreTrueAt images history m (learned (lessons commands heard))) is reached.true_here in
+        λ fact known. subst (λ facts. IsPart facts nothing) (sym same) here fact (law (log_lessons.lessons front) fact known)
+    by_mark (Some position) is none = absurd (none position is)
 
-    by_part : (first more : List Told) → first ++ more ≡ told → filter tells front ≡ own ++ lines_told later first → IsTrueThen front images history
-    by_part [] more is so =
-        own_true law images history log front back own answered left later hearing.facts whole hearing.commands (so ∙ append-nil own) are
-    by_part (now ∷ first) more is so =
-        told_true law truth images history k log front back answered later hearing whole own (subst (AreOwnLines answered own) (all (some_told now first more is)) are)
-        now first (more ++ rest) (sym (append_assoc (now ∷ first) more rest) ∙ ap (λ l. l ++ rest) is ∙ split) so
+answering : (c : ClientValue) (p : Past) → TellsPast c p → Once false c.log → length p.commands < 2 ^ 64 → Answering c.log
+answering c p past once few = record {
+  counted = subst Counted (sym past.commands) (record { counted = past.counted; few = few });
+  pending = once.answers;
+}
 
-front_true : KeptIsLearned → IsTrueAfterEachMessage → (images : List Image) (history : List Input) (k : ℕ) (log front back : List LogLine) (answered later left : List Accepted)
-    → Hearing log images history k answered later → front ++ back ≡ log → (own : List LogLine) → AreOwnLines answered own left
-    → (told rest : List Told) → told ++ rest ≡ sent images k history → ((told ≡ [] → ⊥) → left ≡ [])
-    → CutAt (filter tells front) (filter tells back) own (lines_told later told) → IsTrueThen front images history
-front_true law truth images history k log front back answered later left hearing whole own are told rest split all (cut_within ws is) =
-    let first = own_front (filter tells front) ws answered left (subst (λ l. AreOwnLines answered l left) (sym is) are) in
-    own_true law images history log front back (filter tells front) answered first.0 later hearing.facts whole hearing.commands refl first.1
-front_true law truth images history k log front back answered later left hearing whole own are told rest split all (cut_past ws is further) =
-    cut_true law truth images history k log front back answered later left hearing whole own are told rest split all ws is (cut ws (filter tells back) later told further)
+told_parts : (log front back : List LogLine) → front ++ back ≡ log → filter tells log ≡ filter tells front ++ filter tells back
+told_parts log front back whole = ap (filter tells) (sym whole) ∙ filter-append tells front back
 
--- ---- the laws
-
-pub heard_coherent : KeptIsLearned → IsTrueAfterEachMessage → HeardIsCoherent
-heard_coherent law truth images history k position c p typed past once shown heard = record {
+pub heard_coherent : KeptIsLearned → HeardIsCoherent
+heard_coherent law images history k position c p typed past once shown heard = record {
   shown = shown;
   always = λ front back whole.
-      let f = taken_front images history k position c p past once heard in
-      let hearing : Hearing c.log images history k heard.answered heard.later = record {
-        legal = heard.legal;
-        typed = typed;
-        facts = answering c p past once;
-        commands = sym heard.commands ∙ sym past.commands;
-        asked = heard.asked;
-      } in
-      front_true law truth images history k c.log front back heard.answered heard.later f.left hearing whole f.own_lines f.are f.front f.rest f.split
-      (λ some. nothing_left f.left (f.all some))
-      (cut_at (filter tells front) (filter tells back) f.own_lines (lines_told heard.later f.front)
-      (sym (filter-append tells front back) ∙ ap (filter tells) whole ∙ past.messages ∙ f.lines_are));
+      let commands : List Asked = map asked_as p.commands in
+      let are = taken_lines c p past once heard.few heard.heard heard.are heard.readable (none_asked images history commands heard.heard heard.told) in
+      let cut : LinesCut heard.heard (filter tells front) (filter tells back) =
+      lines_cut heard.heard (filter tells front) (filter tells back) (subst (AreLinesOf heard.heard) (told_parts c.log front back whole) are) in
+      let alike : AreAlike (log_lessons.lessons front) (lessons (map asked_as (accepted c.log)) cut.front) =
+      front_taught c.log front back (answering c p past once heard.few) whole cut.front cut.first in
+      then_true law images history commands front cut.front typed (alike nothing ∙ ap (λ cs. learned (lessons (map asked_as cs) cut.front)) past.commands)
+      (reached_by images history commands heard.heard cut.front cut.rest (filter tells front) heard.told cut.split cut.first (ending cut.front));
+}
+
+-- ---- nothing of the target
+
+-- what value-adds say themselves teaches nothing
+own_teach : (all done commands : List Accepted) (own : List Spoken) (asked left : List Asked) → Counted all → all ≡ done ++ commands → map asked_as commands ≡ asked → IsOwn asked own left
+    → AllByRecursion (λ s. LeavesNothing (lesson (map asked_as all) s.message)) own
+own_teach all done commands [] asked left counted split are is = tt
+own_teach all done commands (s ∷ own) asked left counted split are is =
+    by_step (subst (λ cs. OwnStep cs s.message is.1.0) (sym are) is.1.1)
+    (λ further rest place same. own_teach all further rest own is.1.0 left counted place same is.1.2)
+  where
+    by_step : OwnStep (map asked_as commands) s.message is.1.0
+        → ((further rest : List Accepted) → all ≡ further ++ rest → map asked_as rest ≡ is.1.0 → AllByRecursion (λ t. LeavesNothing (lesson (map asked_as all) t.message)) own)
+        → AllByRecursion (λ t. LeavesNothing (lesson (map asked_as all) t.message)) (s ∷ own)
+    by_step (a_hello body named same) behind =
+        (subst (λ m. LeavesNothing (lesson (map asked_as all) m)) (sym named) (hello_teaches body), behind done commands split (sym same))
+    by_step (a_result d body named at parts) behind =
+        let first : First commands d is.1.0 = first_of commands d is.1.0 parts in
+        let place : all ≡ done ++ first.command ∷ first.rest = split ∙ ap (λ l. done ++ l) first.split in
+        let token : decimal first.command.number ≡ d.token = ap (λ (a : Asked). a.token) first.same in
+        let service : first.command.service ≡ locator = ap (λ (a : Asked). a.service) first.same ∙ at in
+        let under : command_under d.token (map asked_as all) ≡ Some (asked_as first.command) =
+        subst (λ t. command_under t (map asked_as all) ≡ Some (asked_as first.command)) token (found_under all done first.rest first.command counted place) in
+        let taught : TeachesNothing (value.lesson_of (command_asked (asked_as first.command)) body) =
+        subst TeachesNothing (final_by (reading_of first.command.service first.command.name first.command.body) body)
+        (subst (λ name. AnswerTeaches body (reading_of name first.command.name first.command.body)) (sym service) (locator_teaches first.command.name first.command.body body)) in (
+          subst (λ m. LeavesNothing (lesson (map asked_as all) m)) (sym named)
+              (subst (λ c. TeachesNothing (value.lesson_of (option_and_then command_asked c) body)) (sym under) taught),
+          behind (done ++ first.command ∷ []) first.rest (place ∙ sym (append_assoc done (first.command ∷ []) first.rest)) first.behind,
+        )
+    by_step (an_unknown d named parts) behind =
+        let first : First commands d is.1.0 = first_of commands d is.1.0 parts in
+        let place : all ≡ done ++ first.command ∷ first.rest = split ∙ ap (λ l. done ++ l) first.split in (
+          subst (λ m. LeavesNothing (lesson (map asked_as all) m)) (sym named) refl,
+          behind (done ++ first.command ∷ []) first.rest (place ∙ sym (append_assoc done (first.command ∷ []) first.rest)) first.behind,
+        )
+
+all_leave : (commands : List Asked) (heard : List Spoken) → AllByRecursion (λ s. LeavesNothing (lesson commands s.message)) heard → LeavesNothing (lessons commands heard)
+all_leave commands [] all = refl
+all_leave commands (s ∷ heard) all = both_leave (lesson commands s.message) (lessons commands heard) all.0 (all_leave commands heard all.1)
+
+-- where nothing was learned, and the last message has no position
+nothing_true : KeptIsLearned → (images : List Image) (history : List Input) (front : List LogLine) → LeavesNothing (log_lessons.lessons front)
+    → ((position : ℕ) → last_mark front ≡ Some (Some position) → ⊥) → IsTrueThen front images history
+nothing_true law images history front none unmarked = record {
+  holds = λ position is. absurd (unmarked position is);
+  empty = λ without. subst (IsPart (kept (log_lessons.lessons front))) none (law (log_lessons.lessons front));
 }
 
 pub no_target_coherent : KeptIsLearned → NoTargetHeardIsCoherent
 no_target_coherent law images history c p past once shown heard = record {
   shown = shown;
   always = λ front back whole.
-      let f = taken_own c p past once heard in
-      let alone : f.own_lines ++ lines_told [] f.front ≡ f.own_lines =
-      ap (λ told. f.own_lines ++ lines_told [] told) (first_nothing f.front f.rest f.split) ∙ append-nil f.own_lines in
-      let both : filter tells front ++ filter tells back ≡ f.own_lines =
-      sym (filter-append tells front back) ∙ ap (filter tells) whole ∙ past.messages ∙ f.lines_are ∙ alone in
-      let first = own_front (filter tells front) (filter tells back) p.commands f.left (subst (λ l. AreOwnLines p.commands l f.left) (sym both) f.are) in
-      own_true law images history c.log front back (filter tells front) p.commands first.0 [] (answering c p past once) whole
-      (append-nil p.commands ∙ sym past.commands) refl first.1;
+      let f : FrontOf (heard_in p) heard.own = front_of (heard_in p) heard.own heard.told in
+      let readable = all_front IsReadable f.heard f.rest (subst (AllByRecursion IsReadable) f.split (own_readable heard.own heard.readable)) in
+      let no_commands =
+      all_front (λ s. IsNoCommand s.message) f.heard f.rest (subst (AllByRecursion (λ s. IsNoCommand s.message)) f.split (own_no_command heard.own (map asked_as p.commands) heard.left heard.is_own)) in
+      let are = taken_lines c p past once heard.few f.heard f.are readable no_commands in
+      let cut : LinesCut f.heard (filter tells front) (filter tells back) =
+      lines_cut f.heard (filter tells front) (filter tells back) (subst (AreLinesOf f.heard) (told_parts c.log front back whole) are) in
+      let split : heard.own ≡ cut.front ++ (cut.rest ++ f.rest) = f.split ∙ ap (λ l. l ++ f.rest) cut.split ∙ append_assoc cut.front cut.rest f.rest in
+      let bare = all_front IsUnmarked cut.front (cut.rest ++ f.rest) (subst (AllByRecursion IsUnmarked) split (own_unmarked heard.own (map asked_as p.commands) heard.left heard.is_own)) in
+      let counted : Counted p.commands = record { counted = past.counted; few = heard.few } in
+      let teach =
+      all_front (λ (s : Spoken). LeavesNothing (lesson (map asked_as p.commands) s.message)) cut.front (cut.rest ++ f.rest)
+      (subst (AllByRecursion (λ (s : Spoken). LeavesNothing (lesson (map asked_as p.commands) s.message))) split
+      (own_teach p.commands [] p.commands heard.own (map asked_as p.commands) heard.left counted refl refl heard.is_own)) in
+      let alike : AreAlike (log_lessons.lessons front) (lessons (map asked_as (accepted c.log)) cut.front) =
+      front_taught c.log front back (answering c p past once heard.few) whole cut.front cut.first in
+      let none : LeavesNothing (log_lessons.lessons front) =
+      alike nothing ∙ ap (λ cs. learned (lessons (map asked_as cs) cut.front)) past.commands ∙ all_leave (map asked_as p.commands) cut.front teach in
+      nothing_true law images history front none
+      (λ position is. last_bare (filter tells front) position (bare_lines cut.front (filter tells front) bare cut.first) (last_mark_told front ∙ is));
 }

@@ -1,52 +1,151 @@
--- What the lines of a log teach is what is taught by the messages that they tell.
-use Rattle.std.proofs.Common.{◌≡◌, ℕ, ◌+◌, ◌-◌, ◌<◌, zero, suc, Bool, true, false, true≢false, cond, List, [], ◌∷◌, ◌++◌, length, map, filter, Some, refl, ap, ap₂, sym, ◌∙◌, subst, arith, append-nil}
-use Rattle.std.specs.Prelude.{codes, slice_get}
-use Rattle.std.specs.List.{Contains, flat_map, range_with_len}
+-- What the lines of a log teach is what is learned of the messages that they tell.
+use Rattle.std.proofs.Common.{◌≡◌, ℕ, ◌+◌, ◌-◌, ◌<◌, ◌^◌, zero, suc, Bool, true, false, true≢false, cond, List, [], ◌∷◌, ◌++◌, length, map, filter, Option, Some, refl, ap, ap₂, sym, ◌∙◌, subst, arith, append-nil}
+use Rattle.std.specs.Prelude.{bytes_eq, decimal, option_and_then, slice_get}
+use Rattle.std.specs.List.{AllByRecursion, Contains, range_with_len}
 use Rattle.std.proofs.lemmas.List.{append_assoc}
 use Rattle.std.proofs.lemmas.List.Concat.{flat_map-append}
-use Rattle.channel_core.specs.Wire.{hello, locator}
+use Rattle.cache_learning.specs.Lessons.{final_message}
+use Rattle.channel_core.specs.Arrivals.{Spoken}
+use Rattle.client_log.specs.Lessons as log_lessons
 use Rattle.client_log.specs.Lessons.{lesson_of, lessons_from, numbered, reading_as}
 use Rattle.client_node.specs.Runs.{tells}
-use Rattle.target_hub.specs.Ordered.{IsPrefixOf}
-use Rattle.target_hub.specs.Received.{read}
-use Rattle.target_hub.specs.Sent.{ReadCommand, Told, event_at, final_at, hello_at, progress_at, unknown_at}
-use Rattle.target_truth.specs.Taught.{event_message, final_message, message_of, next_of, open_after, taught}
+use Rattle.command_tables.specs.Reading.{reading_of}
+use Rattle.command_tables.specs.declared.reading.Reading.{Reading}
+use Rattle.command_tables.specs.declared.reading.Reading.TheVariants as readings
+use Rattle.knowledge.specs.Facts.{Facts}
+use Rattle.knowledge.specs.Learning.{Message, learn_all}
+use Rattle.tcf_message.specs.Message.{MessageValue, final}
 use Rattle.tcf_text.specs.Each.{Each}
 use Rattle.tcf_text.specs.Lines.{Accepted, accepted, accepted_by}
 use Rattle.tcf_text.specs.Once.{AnswersPending, IsPending, numbers}
 use Rattle.tcf_text.specs.declared.log.LogLine.{LogLine}
 use Rattle.tcf_text.specs.declared.log.LogLine.TheVariants as lines
-use Rattle.chain_heard.proofs.Lines.{commands_behind, first_number, later_commands, lines_told, told_line}
-use Rattle.chain_heard.proofs.Lists.{front_first, front_rest, no_front}
-use Rattle.chain_heard.proofs.Flags.{flag_of, flags_of}
+use Rattle.value_node.specs.Asked.{Asked}
+use Rattle.chain_heard.specs.Heard.{asked_as}
+use Rattle.chain_told.specs.Told.{command_under, lesson, lessons}
+use Rattle.value_node.specs.Store as value
+use Rattle.value_node.specs.Barriers.{command_in}
+use Rattle.value_node.specs.Deeds.{command_asked}
+use Rattle.chain_heard.proofs.Known.{Counted, apart, counted_few, number_at, same_token}
+use Rattle.chain_heard.proofs.Lines.{AreFew, AreLinesOf, IsLineOf, IsOfFew, says_event, says_final, says_hello, says_progress, says_unknown}
+use Rattle.agent_told.proofs.Lists.{all_front}
+use Rattle.chain_heard.proofs.Numbers.{InParts, in_parts, numbers_below}
+use Rattle.chain_heard.proofs.Teaching.{learn_both}
+use Rattle.chain_heard.proofs.Elements.{all_two}
 
--- ---- one message
+-- ---- a command by its number
 
-pub locator_is : locator ≡ codes "Locator"
-unfolding locator
-locator_is = refl
+-- a log of which the commands are numbered from 1 on, and each answer stands behind its command
+pub record Answering (log : List LogLine) : Type 0 where
+  pub counted : Counted (accepted log)
+  pub pending : Each AnswersPending log
 
-pub hello_is : hello ≡ codes "Hello"
-unfolding hello
-hello_is = refl
+record Numbered (commands : List Accepted) (number : ℕ) : Type 0 where
+  done : List Accepted
+  command : Accepted
+  left : List Accepted
+  split : commands ≡ done ++ command ∷ left
+  number_is : number ≡ command.number
 
-hello_taught : (body : List ℕ) → event_message locator hello body ≡ event_message (codes "Locator") (codes "Hello") body
-hello_taught body = ap₂ (λ service name. event_message service name body) locator_is hello_is
+numbered_in : (commands : List Accepted) (number : ℕ) → Contains (numbers commands) number → Numbered commands number
+numbered_in [] number (k, within, is) = absurd (omega arith)
+numbered_in (c ∷ commands) number (zero, within, is) = record { done = []; command = c; left = commands; split = refl; number_is = sym is }
+numbered_in (c ∷ commands) number (suc k, within, is) =
+    let less : k < length (numbers commands) = omega arith in
+    let more : Numbered commands number = numbered_in commands number (k, less, is) in
+    record { done = c ∷ more.done; command = more.command; left = more.left; split = ap (λ l. c ∷ l) more.split; number_is = more.number_is }
 
--- the command that is answered next, found among the accepted ones by its number, is the one that was executed
-abbrev IsFound : List Accepted → List Accepted → List ReadCommand → Told → Type 0
-IsFound commands left asked (final_at place through body) = reading_as (numbered (first_number left) commands) ≡ next_of asked
-IsFound commands left asked told = Unit {0}
+got_at : (done left : List Accepted) (c : Accepted) → slice_get (done ++ c ∷ left) (length done) ≡ Some c
+got_at [] left c = refl
+got_at (d ∷ done) left c = got_at done left c
 
-lesson_told : (commands left : List Accepted) (asked : List ReadCommand) (told : Told) → IsFound commands left asked told
-    → lesson_of commands (told_line left told) ≡ message_of asked told ∷ []
-lesson_told commands left asked (hello_at place body) found = ap (λ m. m ∷ []) (hello_taught body)
-lesson_told commands left asked (event_at place service name body) found = refl
-lesson_told commands left asked (progress_at place body) found = refl
-lesson_told commands left asked (final_at place through body) found = ap (λ reading. final_message reading body ∷ []) found
-lesson_told commands left asked (unknown_at place through) found = refl
+under_at : (done left : List Accepted) (c : Accepted) (token : List ℕ) → AllByRecursion (λ d. bytes_eq token (decimal d.number) ≡ false) done → token ≡ decimal c.number
+    → command_under token (map asked_as (done ++ c ∷ left)) ≡ Some (asked_as c)
+under_at [] left c token others named =
+    ap (λ b. cond b (Some (asked_as c)) (command_under token (map asked_as left))) (ap (λ t. bytes_eq t (decimal c.number)) named ∙ same_token (decimal c.number))
+under_at (d ∷ done) left c token others named =
+    ap (λ b. cond b (Some (asked_as d)) (command_under token (map asked_as (done ++ c ∷ left)))) others.0 ∙ under_at done left c token others.1 named
 
-pub silent_lesson : (commands : List Accepted) (x : LogLine) → tells x ≡ false → lesson_of commands x ≡ []
+-- it is found under its token
+pub found_under : (all done left : List Accepted) (c : Accepted) → Counted all → all ≡ done ++ c ∷ left → command_under (decimal c.number) (map asked_as all) ≡ Some (asked_as c)
+found_under all done left c counted split =
+    let numbered_all : numbers (done ++ c ∷ left) ≡ range_with_len 1 (length (done ++ c ∷ left)) = subst (λ cs. numbers cs ≡ range_with_len 1 (length cs)) split counted.counted in
+    let parts : InParts done (c ∷ left) 1 = in_parts done (c ∷ left) 1 numbered_all in
+    let at : c.number ≡ 1 + length done = number_at done left c 1 (length (done ++ c ∷ left)) numbered_all in
+    let few : AreFew (done ++ c ∷ left) = subst AreFew split (counted_few all counted) in
+    let small : c.number < 2 ^ 64 = few_here done few in
+    ap (λ cs. command_under (decimal c.number) (map asked_as cs)) split
+    ∙ under_at done left c (decimal c.number)
+    (all_two (λ d. d.number < 1 + length done) IsOfFew (λ d. bytes_eq (decimal c.number) (decimal d.number) ≡ false) done
+    (λ d below tiny. apart c.number d.number small tiny (λ same. omega arith)) (numbers_below done 1 (length done) parts.first) (all_front IsOfFew done (c ∷ left) few))
+    refl
+  where
+    few_here : (done : List Accepted) → AreFew (done ++ c ∷ left) → c.number < 2 ^ 64
+    few_here [] few = few.0
+    few_here (d ∷ more) few = few_here more few.1
+
+record Found (log before : List LogLine) (number : ℕ) : Type 0 where
+  command : Accepted
+  there : numbered number (accepted before) ≡ Some command
+  sent_as : command_under (decimal number) (map asked_as (accepted log)) ≡ Some (asked_as command)
+
+found : (log before after : List LogLine) (x : LogLine) (number : ℕ) → Answering log → log ≡ before ++ x ∷ after → IsPending before number → Found log before number
+found log before after x number facts split waits =
+    let n : Numbered (accepted before) number = numbered_in (accepted before) number waits.accepted in
+    let further : List Accepted = accepted (x ∷ after) in
+    let all : accepted log ≡ n.done ++ n.command ∷ (n.left ++ further) =
+    ap accepted split ∙ flat_map-append accepted_by before (x ∷ after) ∙ ap (λ l. l ++ further) n.split ∙ append_assoc n.done (n.command ∷ n.left) further in
+    let at : n.command.number ≡ 1 + length n.done =
+    number_at n.done (n.left ++ further) n.command 1 (length (accepted log)) (subst (λ cs. numbers cs ≡ range_with_len 1 (length (accepted log))) all facts.counted.counted) in
+    let same : number ≡ n.command.number = n.number_is in
+    let place : number - 1 ≡ length n.done = omega arith in
+    record {
+      command = n.command;
+      there = ap₂ slice_get n.split place ∙ got_at n.done n.left n.command;
+      sent_as =
+          ap (λ m. command_under (decimal m) (map asked_as (accepted log))) same
+          ∙ found_under (accepted log) n.done (n.left ++ further) n.command facts.counted all;
+    }
+
+-- ---- one line
+
+-- both teach the same
+abbrev pub AreAlike : List Message → List Message → Type 0
+AreAlike xs ys = (known : Facts) → learn_all xs known ≡ learn_all ys known
+
+same_alike : (xs ys : List Message) → xs ≡ ys → AreAlike xs ys
+same_alike xs ys same known = ap (λ l. learn_all l known) same
+
+pub final_by : (reading : Reading) (body : List ℕ) → final_message (Some reading) body ≡ value.lesson_of (command_in reading) body
+final_by (readings.Known command) body = refl
+final_by readings.Unknown body = refl
+final_by (readings.Bad index code) body = refl
+
+final_alike : (log before after : List LogLine) (number : ℕ) (mark : Option ℕ) (body : List ℕ) → Answering log → log ≡ before ++ lines.Final number mark body ∷ after
+    → lesson_of (accepted before) (lines.Final number mark body) ≡ lesson (map asked_as (accepted log)) (final (decimal number) body)
+final_alike log before after number mark body facts split =
+    let f : Found log before number = found log before after (lines.Final number mark body) number facts split (facts.pending before after (lines.Final number mark body) split) in
+    ap (λ c. final_message (reading_as c) body ∷ []) f.there
+    ∙ ap (λ m. m ∷ []) (final_by (reading_of f.command.service f.command.name f.command.body) body)
+    ∙ ap (λ c. value.lesson_of (option_and_then command_asked c) body ∷ []) (sym f.sent_as)
+
+line_alike : (log before after : List LogLine) (m : MessageValue) (mark : Option ℕ) (x : LogLine) → Answering log → log ≡ before ++ x ∷ after → IsLineOf m mark x
+    → AreAlike (lesson_of (accepted before) x) (lesson (map asked_as (accepted log)) m)
+line_alike log before after m mark x facts split (says_hello body is says) =
+    same_alike (lesson_of (accepted before) x) (lesson (map asked_as (accepted log)) m) (ap (lesson_of (accepted before)) says ∙ sym (ap (lesson (map asked_as (accepted log))) is))
+line_alike log before after m mark x facts split (says_event service name body is plain says) =
+    same_alike (lesson_of (accepted before) x) (lesson (map asked_as (accepted log)) m) (ap (lesson_of (accepted before)) says ∙ sym (ap (lesson (map asked_as (accepted log))) is))
+line_alike log before after m mark x facts split (says_progress number body few is says) = λ known.
+    ap (λ l. learn_all (lesson_of (accepted before) l) known) says ∙ sym (ap (λ n. learn_all (lesson (map asked_as (accepted log)) n) known) is)
+line_alike log before after m mark x facts split (says_unknown number few is says) = λ known.
+    ap (λ l. learn_all (lesson_of (accepted before) l) known) says ∙ sym (ap (λ n. learn_all (lesson (map asked_as (accepted log)) n) known) is)
+line_alike log before after m mark x facts split (says_final number body few is says) =
+    same_alike (lesson_of (accepted before) x) (lesson (map asked_as (accepted log)) m)
+    (ap (lesson_of (accepted before)) says
+    ∙ final_alike log before after number mark body facts (split ∙ ap (λ l. before ++ l ∷ after) says)
+    ∙ sym (ap (lesson (map asked_as (accepted log))) is))
+
+silent_lesson : (commands : List Accepted) (x : LogLine) → tells x ≡ false → lesson_of commands x ≡ []
 silent_lesson commands (lines.Sent number service name body) silent = refl
 silent_lesson commands (lines.Refused why) silent = refl
 silent_lesson commands (lines.Closed number) silent = refl
@@ -54,177 +153,50 @@ silent_lesson commands (lines.Ended why) silent = refl
 silent_lesson commands (lines.Cached what value) silent = refl
 silent_lesson commands x silent = absurd (true≢false silent)
 
--- ---- a command by its number
-
-number_at : (done left : List Accepted) (c : Accepted) (low count : ℕ) → numbers (done ++ c ∷ left) ≡ range_with_len low count → c.number ≡ low + length done
-number_at [] left c low zero are = absurd cc
-number_at [] left c low (suc count) are = let same : c.number ≡ low = cc in omega arith
-number_at (d ∷ done) left c low zero are = absurd cc
-number_at (d ∷ done) left c low (suc count) are =
-    let tail : numbers (done ++ c ∷ left) ≡ range_with_len (low + 1) count = cc in
-    let rest : c.number ≡ (low + 1) + length done = number_at done left c (low + 1) count tail in omega arith
-
-found_at : (xs ys done left : List Accepted) (c : Accepted) (low count : ℕ) → xs ++ ys ≡ done ++ c ∷ left → numbers (xs ++ ys) ≡ range_with_len low count
-    → Contains (numbers xs) c.number → slice_get xs (c.number - low) ≡ Some c
-found_at [] ys done left c low count split are (k, within, is) = absurd (omega arith)
-found_at (x ∷ xs) ys done left c low zero split are there = absurd cc
-found_at (x ∷ xs) ys [] left c low (suc count) split are there =
-    let same : x ≡ c = cc in
-    let head : x.number ≡ low = cc in
-    let number : c.number ≡ low = sym (ap (λ (a : Accepted). a.number) same) ∙ head in
-    let none : c.number - low ≡ 0 = omega arith in
-    ap (slice_get (x ∷ xs)) none ∙ ap (λ a. Some a) same
-found_at (x ∷ xs) ys (d ∷ done) left c low (suc count) split are (zero, within, is) =
-    let behind : xs ++ ys ≡ done ++ c ∷ left = cc in
-    let head : x.number ≡ low = cc in
-    let tail : numbers (xs ++ ys) ≡ range_with_len (low + 1) count = cc in
-    let over : c.number ≡ (low + 1) + length done = number_at done left c (low + 1) count (subst (λ cs. numbers cs ≡ range_with_len (low + 1) count) behind tail) in
-    let same : x.number ≡ c.number = is in
-    absurd (omega arith)
-found_at (x ∷ xs) ys (d ∷ done) left c low (suc count) split are (suc k, within, is) =
-    let behind : xs ++ ys ≡ done ++ c ∷ left = cc in
-    let tail : numbers (xs ++ ys) ≡ range_with_len (low + 1) count = cc in
-    let over : c.number ≡ (low + 1) + length done = number_at done left c (low + 1) count (subst (λ cs. numbers cs ≡ range_with_len (low + 1) count) behind tail) in
-    let less : k < length (numbers xs) = omega arith in
-    let further : slice_get xs (c.number - (low + 1)) ≡ Some c = found_at xs ys done left c (low + 1) count behind tail (k, less, is) in
-    let next : c.number - low ≡ suc (c.number - (low + 1)) = omega arith in
-    ap (slice_get (x ∷ xs)) next ∙ further
-
--- a log of which the commands are numbered from 1 on, and each answer stands behind its command
-pub record Answering (log : List LogLine) : Type 0 where
-  pub counted : numbers (accepted log) ≡ range_with_len 1 (length (accepted log))
-  pub pending : Each AnswersPending log
-
--- the command of a line that answers it is found among those that were accepted before
-pub found_command : (log before after : List LogLine) (line : LogLine) (done left : List Accepted) (c : Accepted) → Answering log → log ≡ before ++ line ∷ after
-    → done ++ c ∷ left ≡ accepted log → IsPending before c.number → slice_get (accepted before) (c.number - 1) ≡ Some c
-found_command log before after line done left c facts split commands waits =
-    let parts : accepted log ≡ accepted before ++ accepted (line ∷ after) = ap accepted split ∙ flat_map-append accepted_by before (line ∷ after) in
-    found_at (accepted before) (accepted (line ∷ after)) done left c 1 (length (accepted log)) (sym parts ∙ sym commands)
-    (subst (λ cs. numbers cs ≡ range_with_len 1 (length (accepted log))) parts facts.counted) waits.accepted
-
-found_now : (log before after : List LogLine) (done left : List Accepted) (asked : List ReadCommand) (now : Told) (told : List Told) → Answering log
-    → log ≡ before ++ told_line left now ∷ after → done ++ left ≡ accepted log → IsPrefixOf asked (map read left)
-    → IsPrefixOf (flat_map flags_of (now ∷ told)) (map flag_of asked) → IsFound (accepted before) left asked now
-found_now log before after done left asked (hello_at place body) told facts split commands front flags = tt
-found_now log before after done left asked (event_at place service name body) told facts split commands front flags = tt
-found_now log before after done left asked (progress_at place body) told facts split commands front flags = tt
-found_now log before after done left asked (unknown_at place through) told facts split commands front flags = tt
-found_now log before after done left [] (final_at place through body) told facts split commands front flags =
-    absurd (no_front through (flat_map flags_of told) flags)
-found_now log before after done [] (a ∷ asked) (final_at place through body) told facts split commands front flags = absurd (no_front a asked front)
-found_now log before after done (c ∷ left) (a ∷ asked) (final_at place through body) told facts split commands front flags =
-    let line : LogLine = lines.Final c.number (Some place) body in
-    let same : a ≡ read c = front_first a (read c) asked (map read left) front in
-    let there = found_command log before after line done left c facts split commands (facts.pending before after line split) in
-    ap reading_as there ∙ ap (λ (d : ReadCommand). Some d.reading) (sym same)
-
--- ---- behind a message
-
-split_behind : (done left all : List Accepted) (now : Told) → done ++ left ≡ all → (more : List Accepted) × (more ++ commands_behind left now ≡ all)
-split_behind done left all (hello_at place body) split = (done, split)
-split_behind done left all (event_at place service name body) split = (done, split)
-split_behind done left all (progress_at place body) split = (done, split)
-split_behind done [] all (final_at place through body) split = (done, split)
-split_behind done (c ∷ left) all (final_at place through body) split = (done ++ c ∷ [], append_assoc done (c ∷ []) left ∙ split)
-split_behind done [] all (unknown_at place through) split = (done, split)
-split_behind done (c ∷ left) all (unknown_at place through) split = (done ++ c ∷ [], append_assoc done (c ∷ []) left ∙ split)
-
-asked_behind : (left : List Accepted) (asked : List ReadCommand) (now : Told) → IsPrefixOf asked (map read left)
-    → IsPrefixOf (open_after now asked) (map read (commands_behind left now))
-asked_behind left asked (hello_at place body) front = front
-asked_behind left asked (event_at place service name body) front = front
-asked_behind left asked (progress_at place body) front = front
-asked_behind left [] (final_at place through body) front = (map read (later_commands left), refl)
-asked_behind [] (a ∷ asked) (final_at place through body) front = absurd (no_front a asked front)
-asked_behind (c ∷ left) (a ∷ asked) (final_at place through body) front = front_rest a (read c) asked (map read left) front
-asked_behind left [] (unknown_at place through) front = (map read (later_commands left), refl)
-asked_behind [] (a ∷ asked) (unknown_at place through) front = absurd (no_front a asked front)
-asked_behind (c ∷ left) (a ∷ asked) (unknown_at place through) front = front_rest a (read c) asked (map read left) front
-
-flags_behind : (asked : List ReadCommand) (now : Told) (told : List Told) → IsPrefixOf (flat_map flags_of (now ∷ told)) (map flag_of asked)
-    → IsPrefixOf (flat_map flags_of told) (map flag_of (open_after now asked))
-flags_behind asked (hello_at place body) told front = front
-flags_behind asked (event_at place service name body) told front = front
-flags_behind asked (progress_at place body) told front = front
-flags_behind [] (final_at place through body) told front = absurd (no_front through (flat_map flags_of told) front)
-flags_behind (a ∷ asked) (final_at place through body) told front = front_rest through (flag_of a) (flat_map flags_of told) (map flag_of asked) front
-flags_behind [] (unknown_at place through) told front = absurd (no_front through (flat_map flags_of told) front)
-flags_behind (a ∷ asked) (unknown_at place through) told front = front_rest through (flag_of a) (flat_map flags_of told) (map flag_of asked) front
-
 -- ---- the lines of a log
 
--- these lines of the log tell what is told, where these commands are left, of which these are executed
-pub record Telling (log before xs after : List LogLine) (left : List Accepted) (asked : List ReadCommand) (told : List Told) : Type 0 where
-  pub split : log ≡ before ++ (xs ++ after)
-  pub done : List Accepted
-  pub commands : done ++ left ≡ accepted log
-  pub front : IsPrefixOf asked (map read left)
-  pub flags : IsPrefixOf (flat_map flags_of told) (map flag_of asked)
-  pub messages : filter tells xs ≡ lines_told left told
-
-abbrev pub AreTaught : (log before xs after : List LogLine) → Type 0
-AreTaught log before xs after = (left : List Accepted) (asked : List ReadCommand) (told : List Told) → Telling log before xs after left asked told
-    → lessons_from (accepted before) xs ≡ taught asked told
-
-pub telling_first : (x : LogLine) (xs : List LogLine) → tells x ≡ true → filter tells (x ∷ xs) ≡ x ∷ filter tells xs
-telling_first x xs telling = ap (λ t. cond t (x ∷ filter tells xs) (filter tells xs)) telling
-
-pub silent_first : (x : LogLine) (xs : List LogLine) → tells x ≡ false → filter tells (x ∷ xs) ≡ filter tells xs
-silent_first x xs silent = ap (λ t. cond t (x ∷ filter tells xs) (filter tells xs)) silent
-
-pub no_first : (x : LogLine) (xs : List LogLine) → x ∷ xs ≡ [] → ⊥
-no_first x xs e = cc
-
-pub accepted_push : (before : List LogLine) (x : LogLine) → accepted (before ++ x ∷ []) ≡ accepted before ++ accepted_by x
-accepted_push before x = flat_map-append accepted_by before (x ∷ []) ∙ ap (λ cs. accepted before ++ cs) (append-nil (accepted_by x))
-
-pub lessons_first : (before : List LogLine) (x : LogLine) (xs : List LogLine)
+lessons_first : (before : List LogLine) (x : LogLine) (xs : List LogLine)
     → lessons_from (accepted before) (x ∷ xs) ≡ lesson_of (accepted before) x ++ lessons_from (accepted (before ++ x ∷ [])) xs
-lessons_first before x xs = ap (λ cs. lesson_of (accepted before) x ++ lessons_from cs xs) (sym (accepted_push before x))
+lessons_first before x xs =
+    ap (λ cs. lesson_of (accepted before) x ++ lessons_from cs xs)
+    (sym (flat_map-append accepted_by before (x ∷ []) ∙ ap (λ cs. accepted before ++ cs) (append-nil (accepted_by x))))
 
-on_silent : (x : LogLine) (xs log before after : List LogLine) → tells x ≡ false → AreTaught log (before ++ x ∷ []) xs after → AreTaught log before (x ∷ xs) after
-on_silent x xs log before after silent further left asked told t =
-    let rest : lessons_from (accepted (before ++ x ∷ [])) xs ≡ taught asked told = further left asked told (record {
-      split = t.split ∙ sym (append_assoc before (x ∷ []) (xs ++ after));
-      done = t.done;
-      commands = t.commands;
-      front = t.front;
-      flags = t.flags;
-      messages = sym (silent_first x xs silent) ∙ t.messages;
-    }) in
-    lessons_first before x xs ∙ ap₂ (λ here behind. here ++ behind) (silent_lesson (accepted before) x silent) rest
+both_alike : (xs us ys vs : List Message) → AreAlike xs ys → AreAlike us vs → AreAlike (xs ++ us) (ys ++ vs)
+both_alike xs us ys vs first second known =
+    learn_both xs us known ∙ ap (learn_all us) (first known) ∙ second (learn_all ys known) ∙ sym (learn_both ys vs known)
 
-on_telling : (x : LogLine) (xs log before after : List LogLine) → Answering log → tells x ≡ true → AreTaught log (before ++ x ∷ []) xs after
-    → AreTaught log before (x ∷ xs) after
-on_telling x xs log before after facts telling further left asked [] t =
-    absurd (no_first x (filter tells xs) (sym (telling_first x xs telling) ∙ t.messages))
-on_telling x xs log before after facts telling further left asked (now ∷ told) t =
-    let whole : x ∷ filter tells xs ≡ told_line left now ∷ lines_told (commands_behind left now) told = sym (telling_first x xs telling) ∙ t.messages in
-    let head : x ≡ told_line left now = cc in
-    let tail : filter tells xs ≡ lines_told (commands_behind left now) told = cc in
-    let place : log ≡ before ++ told_line left now ∷ (xs ++ after) = subst (λ l. log ≡ before ++ l ∷ (xs ++ after)) head t.split in
-    let found : IsFound (accepted before) left asked now = found_now log before (xs ++ after) t.done left asked now told facts place t.commands t.front t.flags in
-    let lesson : lesson_of (accepted before) x ≡ message_of asked now ∷ [] = ap (lesson_of (accepted before)) head ∙ lesson_told (accepted before) left asked now found in
-    let more = split_behind t.done left (accepted log) now t.commands in
-    let rest : lessons_from (accepted (before ++ x ∷ [])) xs ≡ taught (open_after now asked) told =
-    further (commands_behind left now) (open_after now asked) told (record {
-      split = t.split ∙ sym (append_assoc before (x ∷ []) (xs ++ after));
-      done = more.0;
-      commands = more.1;
-      front = asked_behind left asked now t.front;
-      flags = flags_behind asked now told t.flags;
-      messages = tail;
-    }) in
-    lessons_first before x xs ∙ ap₂ (λ here behind. here ++ behind) lesson rest
+-- these lines of the log tell these messages
+abbrev AreTaught : (log before xs after : List LogLine) → Type 0
+AreTaught log before xs after = (heard : List Spoken) → AreLinesOf heard (filter tells xs) → log ≡ before ++ (xs ++ after)
+    → AreAlike (lessons_from (accepted before) xs) (lessons (map asked_as (accepted log)) heard)
 
-by_flag : (flag : Bool) (x : LogLine) (xs log before after : List LogLine) → Answering log → tells x ≡ flag → AreTaught log (before ++ x ∷ []) xs after
-    → AreTaught log before (x ∷ xs) after
-by_flag true x xs log before after facts telling further = on_telling x xs log before after facts telling further
-by_flag false x xs log before after facts silent further = on_silent x xs log before after silent further
+told_first : (log before xs after : List LogLine) (x : LogLine) (heard : List Spoken) → Answering log → AreTaught log (before ++ x ∷ []) xs after
+    → AreLinesOf heard (x ∷ filter tells xs) → log ≡ before ++ (x ∷ (xs ++ after))
+    → AreAlike (lessons_from (accepted before) (x ∷ xs)) (lessons (map asked_as (accepted log)) heard)
+told_first log before xs after x [] facts further are split = absurd are
+told_first log before xs after x (s ∷ heard) facts further are split =
+    let commands : List Asked = map asked_as (accepted log) in
+    subst (λ messages. AreAlike messages (lesson commands s.message ++ lessons commands heard)) (sym (lessons_first before x xs))
+    (both_alike (lesson_of (accepted before) x) (lessons_from (accepted (before ++ x ∷ [])) xs) (lesson commands s.message) (lessons commands heard)
+    (line_alike log before (xs ++ after) s.message s.mark x facts split are.0)
+    (further heard are.1 (split ∙ sym (append_assoc before (x ∷ []) (xs ++ after)))))
 
-pub lessons_taught : (xs log before after : List LogLine) → Answering log → AreTaught log before xs after
-lessons_taught [] log before after facts left asked [] t = refl
-lessons_taught [] log before after facts left asked (now ∷ told) t = absurd (no_first (told_line left now) (lines_told (commands_behind left now) told) (sym t.messages))
-lessons_taught (x ∷ xs) log before after facts left asked told t =
-    by_flag (tells x) x xs log before after facts refl (lessons_taught xs log (before ++ x ∷ []) after facts) left asked told t
+by_flag : (flag : Bool) (log before xs after : List LogLine) (x : LogLine) → Answering log → tells x ≡ flag → AreTaught log (before ++ x ∷ []) xs after
+    → (heard : List Spoken) → AreLinesOf heard (cond flag (x ∷ filter tells xs) (filter tells xs)) → log ≡ before ++ (x ∷ (xs ++ after))
+    → AreAlike (lessons_from (accepted before) (x ∷ xs)) (lessons (map asked_as (accepted log)) heard)
+by_flag true log before xs after x facts is further heard are split = told_first log before xs after x heard facts further are split
+by_flag false log before xs after x facts is further heard are split =
+    subst (λ messages. AreAlike messages (lessons (map asked_as (accepted log)) heard))
+    (sym (lessons_first before x xs ∙ ap (λ here. here ++ lessons_from (accepted (before ++ x ∷ [])) xs) (silent_lesson (accepted before) x is)))
+    (further heard are (split ∙ sym (append_assoc before (x ∷ []) (xs ++ after))))
+
+taught : (xs log before after : List LogLine) → Answering log → AreTaught log before xs after
+taught [] log before after facts [] are split = λ known. refl
+taught [] log before after facts (s ∷ heard) are split = absurd are
+taught (x ∷ xs) log before after facts heard are split =
+    by_flag (tells x) log before xs after x facts refl (taught xs log (before ++ x ∷ []) after facts) heard are split
+
+-- what the front of a log teaches is what is learned of its messages
+pub front_taught : (log front back : List LogLine) → Answering log → front ++ back ≡ log → (heard : List Spoken) → AreLinesOf heard (filter tells front)
+    → AreAlike (log_lessons.lessons front) (lessons (map asked_as (accepted log)) heard)
+front_taught log front back facts whole heard are = taught front log [] back facts heard are (sym whole)

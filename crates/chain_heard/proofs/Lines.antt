@@ -1,81 +1,24 @@
--- The lines of what a client took, where that is a front of what its channel is told.
-use Rattle.std.proofs.Common.{◌≡◌, ℕ, ◌<◌, ◌^◌, true, false, true≢false, List, [], ◌∷◌, ◌++◌, length, map, Option, Some, None, Ok, filter_map, refl, ap, ap₂, sym, ◌∙◌, subst, subst₂, arith}
-use Rattle.std.specs.Prelude.{IfSome, decimal}
+-- The lines of what a client took: one for each message, with its mark, and under the number that its token is.
+use Rattle.std.proofs.Common.{◌≡◌, ℕ, ◌<◌, ◌^◌, Bool, true, false, ◌&&◌, true≢false, List, [], ◌∷◌, ◌++◌, map, filter, Option, Some, None, Ok, filter_map, refl, ap, ap₂, sym, ◌∙◌, subst}
+use Rattle.std.specs.Prelude.{IfSome, bytes_eq, cond, decimal}
 use Rattle.std.specs.List.{AllByRecursion, cons_option, flat_map}
-use Rattle.std.proofs.lemmas.Fmt.{decimal_injective, decimal_nonempty}
+use Rattle.std.proofs.lemmas.List.Elements.{filter-append}
+use Rattle.std.proofs.lemmas.Slice.Eq.{bytes_eq-Decides}
+use Rattle.channel_core.specs.Arrivals.{Spoken}
+use Rattle.channel_core.specs.ReceivingLaws.{incoming_of}
 use Rattle.channel_core.specs.Wire.{hello, locator}
 use Rattle.channel_core.specs.declared.held.Incoming.{Incoming}
 use Rattle.channel_core.specs.declared.taking.Taken.{Taken}
 use Rattle.channel_core.specs.declared.taking.Taken.TheVariants as taken
 use Rattle.client_node.specs.Lines.{event_line, final_line, hello_line, progress_line}
-use Rattle.client_node.specs.Runs.{FitsMessage, IsAnswerTo, IsCommand, IsHello, IsOtherEvent, IsProgressOf, is_hello, line_of}
-use Rattle.target_hub.specs.Ordered.{IsPrefixOf}
-use Rattle.target_hub.specs.Sent.{Told, event_at, final_at, hello_at, progress_at, unknown_at}
-use Rattle.tcf_message.specs.Message.{MessageValue, event, final, not_known, progress, reading, spelling}
-use Rattle.tcf_text.specs.Lines.{Accepted}
+use Rattle.client_node.specs.Runs.{FitsMessage, IsAnswerTo, IsCommand, IsHello, IsOtherEvent, IsProgressOf, is_hello, line_of, tells}
+use Rattle.tcf_message.specs.Message.{MessageValue, command, event, final, flow, not_known, progress, reading, spelling}
+use Rattle.tcf_text.specs.Lines.{Accepted, mark_of}
 use Rattle.tcf_text.specs.declared.log.LogLine.{LogLine}
 use Rattle.tcf_text.specs.declared.log.LogLine.TheVariants as lines
-use Rattle.chain_heard.specs.Heard.{first_token, incoming, incoming_of, later_tokens, messages_told, tokens_of}
-use Rattle.chain_heard.proofs.Lists.{front_first, front_rest, no_front}
+use Rattle.chain_told.specs.TellsOn.{comes_as}
 
--- ---- what is told, as lines: answers and progress under the number of their command
-
-abbrev pub first_number : List Accepted → ℕ
-first_number [] = 0
-first_number (c ∷ commands) = c.number
-
-abbrev pub later_commands : List Accepted → List Accepted
-later_commands [] = []
-later_commands (c ∷ commands) = commands
-
-abbrev pub told_line : List Accepted → Told → LogLine
-told_line commands (hello_at place body) = lines.Hello (Some place) body
-told_line commands (event_at place service name body) = lines.Event (Some place) service name body
-told_line commands (progress_at place body) = lines.Progress (first_number commands) (Some place) body
-told_line commands (final_at place through body) = lines.Final (first_number commands) (Some place) body
-told_line commands (unknown_at place through) = lines.Unknown (first_number commands) (Some place)
-
--- the commands that aren't answered behind it
-abbrev pub commands_behind : List Accepted → Told → List Accepted
-commands_behind commands (hello_at place body) = commands
-commands_behind commands (event_at place service name body) = commands
-commands_behind commands (progress_at place body) = commands
-commands_behind commands (final_at place through body) = later_commands commands
-commands_behind commands (unknown_at place through) = later_commands commands
-
-abbrev pub lines_told : List Accepted → List Told → List LogLine
-lines_told commands [] = []
-lines_told commands (told ∷ rest) = told_line commands told ∷ lines_told (commands_behind commands told) rest
-
--- ---- and as messages, one at a time
-
-abbrev message_told : List (List ℕ) → Told → MessageValue × Option ℕ
-message_told names (hello_at place body) = (event locator hello body, Some place)
-message_told names (event_at place service name body) = (event service name body, Some place)
-message_told names (progress_at place body) = (progress (first_token names) body, Some place)
-message_told names (final_at place through body) = (final (first_token names) body, Some place)
-message_told names (unknown_at place through) = (not_known (first_token names), Some place)
-
-later_behind : (commands : List Accepted) → later_tokens (tokens_of commands) ≡ tokens_of (later_commands commands)
-later_behind [] = refl
-later_behind (c ∷ commands) = refl
-
-messages_step : (commands : List Accepted) (told : Told) (rest : List Told)
-    → messages_told (tokens_of commands) (told ∷ rest) ≡ message_told (tokens_of commands) told ∷ messages_told (tokens_of (commands_behind commands told)) rest
-messages_step commands (hello_at place body) rest = refl
-messages_step commands (event_at place service name body) rest = refl
-messages_step commands (progress_at place body) rest = refl
-messages_step commands (final_at place through body) rest =
-    ap (λ names. (final (first_token (tokens_of commands)) body, Some place) ∷ messages_told names rest) (later_behind commands)
-messages_step commands (unknown_at place through) rest =
-    ap (λ names. (not_known (first_token (tokens_of commands)), Some place) ∷ messages_told names rest) (later_behind commands)
-
--- ---- the line of a message that was taken
-
--- the event that it tells isn't `Locator Hello`
-abbrev pub IsPlain : Told → Type 0
-IsPlain (event_at place service name body) = is_hello service name ≡ false
-IsPlain told = Unit {0}
+-- ---- numbers
 
 -- a number that one token has alone
 abbrev pub IsFew : LogLine → Type 0
@@ -90,187 +33,207 @@ IsOfFew c = c.number < 2 ^ 64
 abbrev pub AreFew : List Accepted → Type 0
 AreFew commands = AllByRecursion IsOfFew commands
 
-few_behind : (commands : List Accepted) (told : Told) → AreFew commands → AreFew (commands_behind commands told)
-few_behind commands (hello_at place body) few = few
-few_behind commands (event_at place service name body) few = few
-few_behind commands (progress_at place body) few = few
-few_behind [] (final_at place through body) few = tt
-few_behind (c ∷ commands) (final_at place through body) few = few.1
-few_behind [] (unknown_at place through) few = tt
-few_behind (c ∷ commands) (unknown_at place through) few = few.1
+-- ---- the line of a message
 
-numbered : (number : ℕ) (commands : List Accepted) → first_token (tokens_of commands) ≡ decimal number → number < 2 ^ 64 → AreFew commands → number ≡ first_number commands
-numbered number [] named bound few =
-    let some : 0 < length (decimal number) = decimal_nonempty number bound in
-    let none : 0 ≡ length (decimal number) = ap length named in absurd (omega arith)
-numbered number (c ∷ commands) named bound few = decimal_injective number c.number bound few.0 (sym named)
+-- the line says the message
+pub data IsLineOf (m : MessageValue) (mark : Option ℕ) (line : LogLine) : Type 0 where
+  says_hello : (body : List ℕ) → m ≡ event locator hello body → line ≡ lines.Hello mark body → IsLineOf m mark line
+  says_event : (service name body : List ℕ) → m ≡ event service name body → is_hello service name ≡ false → line ≡ lines.Event mark service name body → IsLineOf m mark line
+  says_progress : (number : ℕ) (body : List ℕ) → number < 2 ^ 64 → m ≡ progress (decimal number) body → line ≡ lines.Progress number mark body → IsLineOf m mark line
+  says_final : (number : ℕ) (body : List ℕ) → number < 2 ^ 64 → m ≡ final (decimal number) body → line ≡ lines.Final number mark body → IsLineOf m mark line
+  says_unknown : (number : ℕ) → number < 2 ^ 64 → m ≡ not_known (decimal number) → line ≡ lines.Unknown number mark → IsLineOf m mark line
 
-pub is_greeting : is_hello locator hello ≡ true
-unfolding hello locator
-is_greeting = refl
+abbrev pub AreLinesOf : List Spoken → List LogLine → Type 0
+AreLinesOf [] [] = Unit {0}
+AreLinesOf [] (x ∷ xs) = ⊥
+AreLinesOf (s ∷ heard) [] = ⊥
+AreLinesOf (s ∷ heard) (x ∷ xs) = IsLineOf s.message s.mark x × AreLinesOf heard xs
 
-hello_said : (names : List (List ℕ)) (commands : List Accepted) (told : Told) → IsHello (Ok (message_told names told).0) → IsPlain told
-    → hello_line (message_told names told).1 (Ok (message_told names told).0) ≡ Some (told_line commands told)
-hello_said names commands (hello_at place body) fits plain = refl
-hello_said names commands (event_at place service name body) fits plain = absurd (true≢false (sym fits ∙ plain))
-hello_said names commands (progress_at place body) fits plain = absurd fits
-hello_said names commands (final_at place through body) fits plain = absurd fits
-hello_said names commands (unknown_at place through) fits plain = absurd fits
+pub line_mark : (m : MessageValue) (mark : Option ℕ) (line : LogLine) → IsLineOf m mark line → mark_of line ≡ Some mark
+line_mark m mark line (says_hello body is says) = ap mark_of says
+line_mark m mark line (says_event service name body is other says) = ap mark_of says
+line_mark m mark line (says_progress number body few is says) = ap mark_of says
+line_mark m mark line (says_final number body few is says) = ap mark_of says
+line_mark m mark line (says_unknown number few is says) = ap mark_of says
 
-event_said : (names : List (List ℕ)) (commands : List Accepted) (told : Told) → IsOtherEvent (Ok (message_told names told).0)
-    → event_line (message_told names told).1 (Ok (message_told names told).0) ≡ Some (told_line commands told)
-event_said names commands (hello_at place body) fits = absurd (true≢false (sym is_greeting ∙ fits))
-event_said names commands (event_at place service name body) fits = refl
-event_said names commands (progress_at place body) fits = absurd fits
-event_said names commands (final_at place through body) fits = absurd fits
-event_said names commands (unknown_at place through) fits = absurd fits
+-- a message that a client hears
+abbrev pub IsNoCommand : MessageValue → Type 0
+IsNoCommand (command token service name body) = ⊥
+IsNoCommand (flow level) = ⊥
+IsNoCommand m = Unit {0}
 
-not_asked : (names : List (List ℕ)) (told : Told) → IsCommand (Ok (message_told names told).0) → ⊥
-not_asked names (hello_at place body) asks = asks
-not_asked names (event_at place service name body) asks = asks
-not_asked names (progress_at place body) asks = asks
-not_asked names (final_at place through body) asks = asks
-not_asked names (unknown_at place through) asks = asks
+abbrev pub IsReadable : Spoken → Type 0
+IsReadable s = reading (spelling s.message) ≡ Ok s.message
 
-abbrev message_of : List Accepted → Told → MessageValue × Option ℕ
-message_of commands told = message_told (tokens_of commands) told
+-- ---- of what was taken
 
-progress_said : (number : ℕ) (commands : List Accepted) (told : Told) → IsProgressOf number (Ok (message_of commands told).0)
-    → IfSome (progress_line number (message_of commands told).1 (Ok (message_of commands told).0)) IsFew → AreFew commands
-    → progress_line number (message_of commands told).1 (Ok (message_of commands told).0) ≡ Some (told_line commands told)
-progress_said number commands (hello_at place body) fits bound few = absurd fits
-progress_said number commands (event_at place service name body) fits bound few = absurd fits
-progress_said number commands (progress_at place body) fits bound few =
-    ap (λ n. Some (lines.Progress n (Some place) body)) (numbered number commands fits bound few)
-progress_said number commands (final_at place through body) fits bound few = absurd fits
-progress_said number commands (unknown_at place through) fits bound few = absurd fits
+-- the message has a line
+record Has (m : MessageValue) (mark : Option ℕ) (said : Option LogLine) : Type 0 where
+  pub line : LogLine
+  pub is : said ≡ Some line
+  pub of : IsLineOf m mark line
 
-final_said : (number : ℕ) (commands : List Accepted) (told : Told) → IsAnswerTo number (Ok (message_of commands told).0)
-    → IfSome (final_line number (message_of commands told).1 (Ok (message_of commands told).0)) IsFew → AreFew commands
-    → final_line number (message_of commands told).1 (Ok (message_of commands told).0) ≡ Some (told_line commands told)
-final_said number commands (hello_at place body) fits bound few = absurd fits
-final_said number commands (event_at place service name body) fits bound few = absurd fits
-final_said number commands (progress_at place body) fits bound few = absurd fits
-final_said number commands (final_at place through body) fits bound few =
-    ap (λ n. Some (lines.Final n (Some place) body)) (numbered number commands fits bound few)
-final_said number commands (unknown_at place through) fits bound few =
-    ap (λ n. Some (lines.Unknown n (Some place))) (numbered number commands fits bound few)
+pub both : (a b : Bool) → (a && b) ≡ true → (a ≡ true) × (b ≡ true)
+both true b is = (refl, is)
+both false b is = absurd (true≢false (sym is))
 
-abbrev pub IsReadAgain : MessageValue × Option ℕ → Type 0
-IsReadAgain m = reading (spelling m.0) ≡ Ok m.0
+pub hello_is : (service name : List ℕ) → is_hello service name ≡ true → (service ≡ locator) × (name ≡ hello)
+hello_is service name is =
+    let two = both (bytes_eq service locator) (bytes_eq name hello) is in
+    ((bytes_eq-Decides service locator).0 two.0, (bytes_eq-Decides name hello).0 two.1)
+
+hello_has : (m : MessageValue) (mark : Option ℕ) → IsHello (Ok m) → Has m mark (hello_line mark (Ok m))
+hello_has (event service name body) mark fits =
+    let named = hello_is service name fits in
+    record { line = lines.Hello mark body; is = refl; of = says_hello body (ap₂ (λ s n. event s n body) named.0 named.1) refl }
+hello_has m mark fits = absurd fits
+
+event_has : (m : MessageValue) (mark : Option ℕ) → IsOtherEvent (Ok m) → Has m mark (event_line mark (Ok m))
+event_has (event service name body) mark fits = record { line = lines.Event mark service name body; is = refl; of = says_event service name body refl fits refl }
+event_has m mark fits = absurd fits
+
+progress_has : (number : ℕ) (m : MessageValue) (mark : Option ℕ) → IsProgressOf number (Ok m) → IfSome (progress_line number mark (Ok m)) IsFew → Has m mark (progress_line number mark (Ok m))
+progress_has number (progress token body) mark fits few =
+    record { line = lines.Progress number mark body; is = refl; of = says_progress number body few (ap (λ t. progress t body) fits) refl }
+progress_has number m mark fits few = absurd fits
+
+final_has : (number : ℕ) (m : MessageValue) (mark : Option ℕ) → IsAnswerTo number (Ok m) → IfSome (final_line number mark (Ok m)) IsFew → Has m mark (final_line number mark (Ok m))
+final_has number (final token body) mark fits few =
+    record { line = lines.Final number mark body; is = refl; of = says_final number body few (ap (λ t. final t body) fits) refl }
+final_has number (not_known token) mark fits few =
+    record { line = lines.Unknown number mark; is = refl; of = says_unknown number few (ap not_known fits) refl }
+final_has number m mark fits few = absurd fits
+
+no_command : (m : MessageValue) → IsNoCommand m → IsCommand (Ok m) → ⊥
+no_command (command token service name body) none is = none
+no_command m none is = is
 
 -- what came says the message, with its mark
-pub record Conveys (came : Incoming) (m : MessageValue × Option ℕ) : Type 0 where
-  pub says : reading came.raw ≡ Ok m.0
-  pub mark : came.mark ≡ m.1
+record Conveys (came : Incoming) (s : Spoken) : Type 0 where
+  pub says : reading came.raw ≡ Ok s.message
+  pub mark : came.mark ≡ s.mark
 
-pub conveys : (came : Incoming) (m : MessageValue × Option ℕ) → came ∷ [] ≡ incoming m ∷ [] → IsReadAgain m → Conveys came m
-conveys came m is again =
-    let same : came ≡ incoming m = cc in
-    record {
-      says = ap (λ (i : Incoming). reading i.raw) same ∙ again;
-      mark = ap (λ (i : Incoming). i.mark) same;
-    }
+conveys : (came : Incoming) (s : Spoken) → came ≡ comes_as s → IsReadable s → Conveys came s
+conveys came s same again = record {
+  says = ap (λ (i : Incoming). reading i.raw) same ∙ again;
+  mark = ap (λ (i : Incoming). i.mark) same;
+}
 
--- a message that was taken, which is the one that was told
-heard_line : (what : Taken ℕ) (commands : List Accepted) (told : Told) → incoming_of what ≡ incoming (message_of commands told) ∷ []
-    → IsReadAgain (message_of commands told) → FitsMessage what → IsPlain told → IfSome (line_of what) IsFew → AreFew commands
-    → line_of what ≡ Some (told_line commands told)
-heard_line (taken.Hello came) commands told is again fits plain bound few =
-    let it = conveys came (message_of commands told) is again in
-    ap₂ hello_line it.mark it.says ∙ hello_said (tokens_of commands) commands told (subst IsHello it.says fits) plain
-heard_line (taken.Event came) commands told is again fits plain bound few =
-    let it = conveys came (message_of commands told) is again in
-    ap₂ event_line it.mark it.says ∙ event_said (tokens_of commands) commands told (subst IsOtherEvent it.says fits)
-heard_line (taken.Command came) commands told is again fits plain bound few =
-    let it = conveys came (message_of commands told) is again in
-    absurd (not_asked (tokens_of commands) told (subst IsCommand it.says fits))
-heard_line (taken.Progress number came) commands told is again fits plain bound few =
-    let it = conveys came (message_of commands told) is again in
+taken_has : (what : Taken ℕ) (came : Incoming) (s : Spoken) → incoming_of what ≡ came ∷ [] → came ≡ comes_as s → IsReadable s → IsNoCommand s.message → FitsMessage what
+    → IfSome (line_of what) IsFew → Has s.message s.mark (line_of what)
+taken_has (taken.Hello here) came s one same again none fits few =
+    let it = conveys here s (first_one one ∙ same) again in
+    let line = ap₂ hello_line it.mark it.says in
+    subst (Has s.message s.mark) (sym line) (hello_has s.message s.mark (subst IsHello it.says fits))
+  where
+    first_one : here ∷ [] ≡ came ∷ [] → here ≡ came
+    first_one e = cc
+taken_has (taken.Event here) came s one same again none fits few =
+    let first : here ≡ came = cc in
+    let it = conveys here s (first ∙ same) again in
+    let line = ap₂ event_line it.mark it.says in
+    subst (Has s.message s.mark) (sym line) (event_has s.message s.mark (subst IsOtherEvent it.says fits))
+taken_has (taken.Command here) came s one same again none fits few =
+    let first : here ≡ came = cc in
+    let it = conveys here s (first ∙ same) again in
+    absurd (no_command s.message none (subst IsCommand it.says fits))
+taken_has (taken.Progress number here) came s one same again none fits few =
+    let first : here ≡ came = cc in
+    let it = conveys here s (first ∙ same) again in
     let line = ap₂ (progress_line number) it.mark it.says in
-    line ∙ progress_said number commands told (subst (IsProgressOf number) it.says fits) (subst (λ l. IfSome l IsFew) line bound) few
-heard_line (taken.Final number came) commands told is again fits plain bound few =
-    let it = conveys came (message_of commands told) is again in
+    subst (Has s.message s.mark) (sym line)
+    (progress_has number s.message s.mark (subst (IsProgressOf number) it.says fits) (subst (λ l. IfSome l IsFew) line few))
+taken_has (taken.Final number here) came s one same again none fits few =
+    let first : here ≡ came = cc in
+    let it = conveys here s (first ∙ same) again in
     let line = ap₂ (final_line number) it.mark it.says in
-    line ∙ final_said number commands told (subst (IsAnswerTo number) it.says fits) (subst (λ l. IfSome l IsFew) line bound) few
-heard_line (taken.Closed cause) commands told is again fits plain bound few = absurd cc
+    subst (Has s.message s.mark) (sym line)
+    (final_has number s.message s.mark (subst (IsAnswerTo number) it.says fits) (subst (λ l. IfSome l IsFew) line few))
+taken_has (taken.Closed cause) came s one same again none fits few = absurd cc
 
--- ---- the lines of all that was taken
-
-pub record Facts (commands : List Accepted) (told : List Told) (what : List (Taken ℕ)) : Type 0 where
-  pub few : AreFew commands
-  pub fitting : AllByRecursion FitsMessage what
-  pub bounded : AllByRecursion IsFew (filter_map line_of what)
-  pub plain : AllByRecursion IsPlain told
-  pub readable : AllByRecursion IsReadAgain (messages_told (tokens_of commands) told)
-  pub heard : IsPrefixOf (flat_map incoming_of what) (map incoming (messages_told (tokens_of commands) told))
-
--- they are those of a front of what was told, and where that is nothing, no message was taken
-pub record Front (commands : List Accepted) (told : List Told) (what : List (Taken ℕ)) : Type 0 where
-  pub front : List Told
-  pub rest : List Told
-  pub split : front ++ rest ≡ told
-  pub lines_are : filter_map line_of what ≡ lines_told commands front
-  pub silent : front ≡ [] → flat_map incoming_of what ≡ []
-
-pub few_first : (line : Option LogLine) (further : List LogLine) → AllByRecursion IsFew (cons_option line further) → IfSome line IsFew × AllByRecursion IsFew further
+few_first : (line : Option LogLine) (further : List LogLine) → AllByRecursion IsFew (cons_option line further) → IfSome line IsFew × AllByRecursion IsFew further
 few_first None further all = (tt, all)
 few_first (Some line) further all = all
 
-grown : (here : Taken ℕ) (came : Incoming) (commands : List Accepted) (told : List Told) (what : List (Taken ℕ)) → incoming_of here ≡ came ∷ []
-    → Facts commands told (here ∷ what) → ((left : List Accepted) (further : List Told) → Facts left further what → Front left further what)
-    → Front commands told (here ∷ what)
-grown here came commands [] what one facts behind =
-    absurd (no_front came (flat_map incoming_of what) (subst (λ is. IsPrefixOf (is ++ flat_map incoming_of what) []) one facts.heard))
-grown here came commands (now ∷ told) what one facts behind =
-    let m = message_of commands now in
-    let left = commands_behind commands now in
-    let step = messages_step commands now told in
-    let heard : IsPrefixOf (came ∷ flat_map incoming_of what) (incoming m ∷ map incoming (messages_told (tokens_of left) told)) =
-    subst₂ IsPrefixOf (ap (λ is. is ++ flat_map incoming_of what) one) (ap (map incoming) step) facts.heard in
-    let same : came ≡ incoming m = front_first came (incoming m) (flat_map incoming_of what) (map incoming (messages_told (tokens_of left) told)) heard in
-    let readable : AllByRecursion IsReadAgain (m ∷ messages_told (tokens_of left) told) = subst (AllByRecursion IsReadAgain) step facts.readable in
-    let bounded = few_first (line_of here) (filter_map line_of what) facts.bounded in
-    let line = heard_line here commands now (one ∙ ap (λ i. i ∷ []) same) readable.0 facts.fitting.0 facts.plain.0 bounded.0 facts.few in
-    let more : Front left told what = behind left told (record {
-      few = few_behind commands now facts.few;
-      fitting = facts.fitting.1;
-      bounded = bounded.1;
-      plain = facts.plain.1;
-      readable = readable.1;
-      heard = front_rest came (incoming m) (flat_map incoming_of what) (map incoming (messages_told (tokens_of left) told)) heard;
-    }) in
-    record {
-      front = now ∷ more.front;
-      rest = more.rest;
-      split = ap (λ l. now ∷ l) more.split;
-      lines_are = ap (λ l. cons_option l (filter_map line_of what)) line ∙ ap (λ l. told_line commands now ∷ l) more.lines_are;
-      silent = λ none. absurd cc;
-    }
+abbrev AreHeard : List (Taken ℕ) → List Spoken → Type 0
+AreHeard what heard = AllByRecursion IsReadable heard → AllByRecursion (λ s. IsNoCommand s.message) heard → AllByRecursion FitsMessage what
+    → AllByRecursion IsFew (filter_map line_of what) → AreLinesOf heard (filter_map line_of what)
 
-passed_over : (cause : Taken ℕ) (commands : List Accepted) (told : List Told) (what : List (Taken ℕ)) → incoming_of cause ≡ [] → line_of cause ≡ None
-    → Front commands told what → Front commands told (cause ∷ what)
-passed_over cause commands told what none unsaid same = record {
-  front = same.front;
-  rest = same.rest;
-  split = same.split;
-  lines_are = ap (λ l. cons_option l (filter_map line_of what)) unsaid ∙ same.lines_are;
-  silent = λ empty. ap (λ is. is ++ flat_map incoming_of what) none ∙ same.silent empty;
-}
+grown : (here : Taken ℕ) (came : Incoming) (what : List (Taken ℕ)) (heard : List Spoken) → incoming_of here ≡ came ∷ [] → came ∷ flat_map incoming_of what ≡ map comes_as heard
+    → ((further : List Spoken) → flat_map incoming_of what ≡ map comes_as further → AreHeard what further) → AreHeard (here ∷ what) heard
+grown here came what [] one are further again none fits few = absurd cc
+grown here came what (s ∷ heard) one are further again none fits few =
+    let head : came ≡ comes_as s = cc in
+    let tail : flat_map incoming_of what ≡ map comes_as heard = cc in
+    let parts = few_first (line_of here) (filter_map line_of what) few in
+    let has = taken_has here came s one head again.0 none.0 fits.0 parts.0 in
+    subst (λ l. AreLinesOf (s ∷ heard) (cons_option l (filter_map line_of what))) (sym has.is)
+    (has.of, further heard tail again.1 none.1 fits.1 parts.1)
 
-pub fronts : (what : List (Taken ℕ)) (commands : List Accepted) (told : List Told) → Facts commands told what → Front commands told what
-fronts [] commands told facts = record { front = []; rest = told; split = refl; lines_are = refl; silent = λ none. refl }
-fronts (taken.Hello came ∷ what) commands told facts = grown (taken.Hello came) came commands told what refl facts (fronts what)
-fronts (taken.Event came ∷ what) commands told facts = grown (taken.Event came) came commands told what refl facts (fronts what)
-fronts (taken.Command came ∷ what) commands told facts = grown (taken.Command came) came commands told what refl facts (fronts what)
-fronts (taken.Progress number came ∷ what) commands told facts = grown (taken.Progress number came) came commands told what refl facts (fronts what)
-fronts (taken.Final number came ∷ what) commands told facts = grown (taken.Final number came) came commands told what refl facts (fronts what)
-fronts (taken.Closed cause ∷ what) commands told facts =
-    passed_over (taken.Closed cause) commands told what refl refl (fronts what commands told (record {
-      few = facts.few;
-      fitting = facts.fitting.1;
-      bounded = facts.bounded;
-      plain = facts.plain;
-      readable = facts.readable;
-      heard = facts.heard;
-    }))
+-- the lines of what was taken are those of the messages
+pub lines_heard : (what : List (Taken ℕ)) (heard : List Spoken) → flat_map incoming_of what ≡ map comes_as heard → AreHeard what heard
+lines_heard [] [] are again none fits few = tt
+lines_heard [] (s ∷ heard) are again none fits few = absurd cc
+lines_heard (taken.Hello came ∷ what) heard are again none fits few = grown (taken.Hello came) came what heard refl are (lines_heard what) again none fits few
+lines_heard (taken.Event came ∷ what) heard are again none fits few = grown (taken.Event came) came what heard refl are (lines_heard what) again none fits few
+lines_heard (taken.Command came ∷ what) heard are again none fits few = grown (taken.Command came) came what heard refl are (lines_heard what) again none fits few
+lines_heard (taken.Progress number came ∷ what) heard are again none fits few =
+    grown (taken.Progress number came) came what heard refl are (lines_heard what) again none fits few
+lines_heard (taken.Final number came ∷ what) heard are again none fits few = grown (taken.Final number came) came what heard refl are (lines_heard what) again none fits few
+lines_heard (taken.Closed cause ∷ what) heard are again none fits few = lines_heard what heard are again none fits.1 few
+
+-- ---- parts of them
+
+-- the messages of the first lines, and those of the others
+pub record LinesCut (heard : List Spoken) (xs ys : List LogLine) : Type 0 where
+  pub front : List Spoken
+  pub rest : List Spoken
+  pub split : heard ≡ front ++ rest
+  pub first : AreLinesOf front xs
+  pub second : AreLinesOf rest ys
+
+pub lines_cut : (heard : List Spoken) (xs ys : List LogLine) → AreLinesOf heard (xs ++ ys) → LinesCut heard xs ys
+lines_cut heard [] ys are = record { front = []; rest = heard; split = refl; first = tt; second = are }
+lines_cut [] (x ∷ xs) ys are = absurd are
+lines_cut (s ∷ heard) (x ∷ xs) ys are =
+    let more : LinesCut heard xs ys = lines_cut heard xs ys are.1 in
+    record { front = s ∷ more.front; rest = more.rest; split = ap (λ l. s ∷ l) more.split; first = (are.0, more.first); second = more.second }
+
+-- the lines of the first messages, and those of the others
+pub record MessagesCut (us vs : List Spoken) (xs : List LogLine) : Type 0 where
+  pub front : List LogLine
+  pub rest : List LogLine
+  pub split : xs ≡ front ++ rest
+  pub first : AreLinesOf us front
+  pub second : AreLinesOf vs rest
+
+pub messages_cut : (us vs : List Spoken) (xs : List LogLine) → AreLinesOf (us ++ vs) xs → MessagesCut us vs xs
+messages_cut [] vs xs are = record { front = []; rest = xs; split = refl; first = tt; second = are }
+messages_cut (s ∷ us) vs [] are = absurd are
+messages_cut (s ∷ us) vs (x ∷ xs) are =
+    let more : MessagesCut us vs xs = messages_cut us vs xs are.1 in
+    record { front = x ∷ more.front; rest = more.rest; split = ap (λ l. x ∷ l) more.split; first = (are.0, more.first); second = more.second }
+
+-- the message of a line
+pub record AtLine (heard : List Spoken) (prior : List LogLine) (x : LogLine) : Type 0 where
+  pub before : List Spoken
+  pub s : Spoken
+  pub rest : List Spoken
+  pub split : heard ≡ before ++ s ∷ rest
+  pub lines_before : AreLinesOf before prior
+  pub is : IsLineOf s.message s.mark x
+
+at_first : (heard front rest : List Spoken) (prior : List LogLine) (x : LogLine) (xs : List LogLine) → heard ≡ front ++ rest → AreLinesOf front prior → AreLinesOf rest (x ∷ xs)
+    → AtLine heard prior x
+at_first heard front [] prior x xs split first second = absurd second
+at_first heard front (s ∷ rest) prior x xs split first second =
+    record { before = front; s = s; rest = rest; split = split; lines_before = first; is = second.0 }
+
+pub at_line : (log before after : List LogLine) (x : LogLine) (heard : List Spoken) → AreLinesOf heard (filter tells log) → log ≡ before ++ x ∷ after → tells x ≡ true
+    → AtLine heard (filter tells before) x
+at_line log before after x heard are split telling =
+    let here : filter tells (x ∷ after) ≡ x ∷ filter tells after = ap (λ t. cond t (x ∷ filter tells after) (filter tells after)) telling in
+    let parts : filter tells log ≡ filter tells before ++ x ∷ filter tells after =
+    ap (filter tells) split ∙ filter-append tells before (x ∷ after) ∙ ap (λ l. filter tells before ++ l) here in
+    let cut = lines_cut heard (filter tells before) (x ∷ filter tells after) (subst (AreLinesOf heard) parts are) in
+    at_first heard cut.front cut.rest (filter tells before) x (filter tells after) cut.split cut.first cut.second

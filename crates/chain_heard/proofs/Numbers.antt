@@ -12,7 +12,7 @@ use Rattle.tcf_text.specs.Once.{AnswersPending, IsPending, numbers}
 use Rattle.tcf_text.specs.declared.log.LogLine.{LogLine}
 use Rattle.tcf_text.specs.declared.log.LogLine.TheVariants as lines
 use Rattle.chain_heard.proofs.Lines.{AreFew, IsFew}
-use Rattle.chain_heard.proofs.Lists.{all_filter, all_weaker, filter_each, filter_nothing, or_true}
+use Rattle.agent_told.proofs.Lists.{all_filter, all_weaker, filter_each, filter_nothing, or_true}
 
 -- ---- the numbers of commands
 
@@ -24,7 +24,7 @@ numbers_from (c ∷ commands) low (suc count) are =
     let tail : numbers commands ≡ range_with_len (low + 1) count = cc in
     (omega arith, all_weaker (λ d. low + 1 ≤ d.number) (λ d. low ≤ d.number) commands (λ d above. omega arith) (numbers_from commands (low + 1) count tail))
 
-numbers_below : (commands : List Accepted) (low count : ℕ) → numbers commands ≡ range_with_len low count → AllByRecursion (λ c. c.number < low + count) commands
+pub numbers_below : (commands : List Accepted) (low count : ℕ) → numbers commands ≡ range_with_len low count → AllByRecursion (λ c. c.number < low + count) commands
 numbers_below [] low count are = tt
 numbers_below (c ∷ commands) low zero are = absurd cc
 numbers_below (c ∷ commands) low (suc count) are =

@@ -1,18 +1,23 @@
 -- What a client heard of the target, and what its log owes to the history by it.
-use Rattle.std.specs.Prelude.{ℕ, ◌≡◌, ◌^◌, ◌<◌, false, List, [], ◌∷◌, ◌++◌, length, map, decimal, Option, None, Ok}
+use Rattle.std.specs.Prelude.{ℕ, ◌≡◌, ◌^◌, ◌<◌, false, List, [], ◌∷◌, ◌++◌, length, map, decimal, filter, Option, None, Ok}
 use Rattle.std.specs.List.{AllByRecursion, Contains, flat_map}
-pub use Rattle.agent_node.specs.AgentLaws.{first_token, later_tokens, messages_told}
-use Rattle.channel_core.specs.Arrivals.{Spoken}
+use Rattle.agent_told.specs.Sent.{owed_by}
+use Rattle.chain_through.specs.Through.{ComeDown}
+use Rattle.chain_told.specs.TellsOn.{comes_as}
+use Rattle.chain_told.specs.Told.{AreToldRightly, owed_in}
+use Rattle.channel_core.specs.Arrivals.{IsFront, Spoken}
 pub use Rattle.channel_core.specs.ReceivingLaws.{incoming_of}
 use Rattle.channel_core.specs.declared.held.Incoming.{Incoming}
 use Rattle.client_node.specs.ClientValue.{ClientValue}
 use Rattle.client_node.specs.Runs.{Call, Past, TellsPast, no_past, past_of}
 use Rattle.target_contexts.specs.declared.process.Image.{Image}
 use Rattle.target_hub.specs.History.{IsLegal}
-use Rattle.target_hub.specs.Ordered.{IsPrefixOf, OpensAt, Ordered}
+use Rattle.target_hub.specs.Fresh.{Fresh}
+use Rattle.target_hub.specs.Ordered.{IsPrefixOf, IsSubsequenceOf, OpensAt, Ordered}
 use Rattle.target_hub.specs.Received.{read}
-use Rattle.target_hub.specs.Sent.{executed_on, sent}
+use Rattle.target_hub.specs.Sent.{ReadCommand, executed_on, is_through}
 use Rattle.target_hub.specs.declared.input.Input.{Input}
+use Rattle.target_truth.specs.Typed.{AreTyped}
 use Rattle.tcf_message.specs.Message.{MessageValue, reading, spelling}
 use Rattle.tcf_text.specs.Lines.{Accepted}
 use Rattle.tcf_text.specs.Once.{Once}
@@ -33,15 +38,11 @@ heard_in p = flat_map incoming_of p.taken
 abbrev pub tokens_of : List Accepted → List (List ℕ)
 tokens_of commands = map (λ c. decimal c.number) commands
 
--- all that the history tells the channel k, to a peer that sends these commands there
-abbrev pub owed_to : List Accepted → List Image → ℕ → List Input → List (MessageValue × Option ℕ)
-owed_to commands images k history = messages_told (tokens_of commands) (sent images k history)
-
 -- a command of a client, as it is taken from it
 abbrev pub asked_as : Accepted → Asked
 asked_as c = record { token = decimal c.number; service = c.service; name = c.name; body = c.body; mark = None }
 
--- what value-adds say themselves, as messages
+-- a message of value-adds, without a position
 abbrev pub messages_of : List Spoken → List (MessageValue × Option ℕ)
 messages_of own = map (λ s. (s.message, s.mark)) own
 
@@ -49,9 +50,14 @@ messages_of own = map (λ s. (s.message, s.mark)) own
 abbrev pub AreReadable : List (MessageValue × Option ℕ) → Type 0
 AreReadable messages = AllByRecursion (λ m. reading (spelling m.0) ≡ Ok m.0) messages
 
+-- the commands that go through all value-adds
+abbrev pub through_of : List ReadCommand → List ReadCommand
+through_of commands = filter (λ c. is_through c.reading) commands
+
 -- What a client heard of the target, on the channel k that the history opens at this position. First come messages of the
--- value-adds on the way, which answered its first commands themselves. Behind them its messages are, in order, a front of
--- what the history tells k, and what k executes are, in order, the first of its other commands.
+-- value-adds on the way, which answered its first commands themselves; behind them each one has a position. Each is told rightly.
+-- But for answers to storable commands they are, in order, a front of what the history owes to k. What k executes are, in order,
+-- commands of the others, and those that go through are the first ones of these.
 pub record Heard (images : List Image) (history : List Input) (k position : ℕ) (p : Past) : Type 0 where
   pub own : List Spoken  -- what the value-adds said themselves
   pub answered : List Accepted  -- the commands that they answered
@@ -61,11 +67,16 @@ pub record Heard (images : List Image) (history : List Input) (k position : ℕ)
   pub begins : BeginsWithHello own  -- as each channel does
   pub legal : IsLegal images history
   pub opened : OpensAt history position k
-  pub asked : IsPrefixOf (executed_on k history) (map read later)
-  pub told : IsPrefixOf (heard_in p) (map incoming (messages_of own ++ owed_to later images k history))
-  pub readable : AreReadable (messages_of own ++ owed_to later images k history)
+  pub heard : List Spoken
+  pub are : heard_in p ≡ map comes_as heard
+  pub readable : AllByRecursion (λ s. reading (spelling s.message) ≡ Ok s.message) heard
+  pub parts : ComeDown own heard
+  pub told : AreToldRightly images history (map asked_as p.commands) heard
+  pub owed : IsFront (owed_in (map asked_as p.commands) heard) (owed_by images k history)
+  pub asked : IsSubsequenceOf (executed_on k history) (map read later)
+  pub through : IsPrefixOf (through_of (executed_on k history)) (through_of (map read later))
   -- nothing is executed before the target's Hello was taken
-  pub greeted_first : IsPrefixOf (heard_in p) (map incoming (messages_of own)) → executed_on k history ≡ []
+  pub greeted_first : IsFront heard own → executed_on k history ≡ []
   pub few : length p.commands < 2 ^ 64  -- so no two tokens are the same
 
 -- A client heard nothing of the target: its messages are, in order, a front of what the value-adds on the way said
@@ -98,13 +109,18 @@ HeardIsOrdered = (images : List Image) (history : List Input) (k position : ℕ)
 abbrev pub CommandsAreFew : Type 0
 CommandsAreFew = (calls : List Call) → length (past_of calls no_past).commands < 2 ^ 64
 
--- Of the tokens no more are used than k executes commands: what it is told is the same under these and under more.
-abbrev pub UnusedTokensChangeNothing : Type 0
-UnusedTokensChangeNothing = (images : List Image) (history : List Input) (k : ℕ) (names more : List (List ℕ)) → IsLegal images history
-    → length names ≡ length (executed_on k history) → messages_told (names ++ more) (sent images k history) ≡ messages_told names (sent images k history)
-
 -- The log of a client that heard nothing of the target follows the history, where its channels execute nothing.
 abbrev pub NoTargetHeardIsOrdered : Type 0
 NoTargetHeardIsOrdered = (images : List Image) (history : List Input) (c : ClientValue) (p : Past) (channels : List ℕ)
     → TellsPast c p → Once false c.log → HeardNoTarget p → ((j : ℕ) → Contains channels j → executed_on j history ≡ [])
     → Ordered false c.log images history channels
+
+-- Each answer with a position, of the target or from a store, to a storable command is what the target answers there.
+abbrev pub HeardIsFresh : Type 0
+HeardIsFresh = (images : List Image) (history : List Input) (k position : ℕ) (c : ClientValue) (p : Past) → AreTyped images
+    → TellsPast c p → Once false c.log → Heard images history k position p → Fresh c.log images history
+
+-- A client that heard nothing of the target was given no answer with a position.
+abbrev pub NoTargetHeardIsFresh : Type 0
+NoTargetHeardIsFresh = (images : List Image) (history : List Input) (c : ClientValue) (p : Past)
+    → TellsPast c p → Once false c.log → HeardNoTarget p → Fresh c.log images history

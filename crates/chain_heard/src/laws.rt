@@ -1,14 +1,14 @@
 //! The laws of what a client heard, whatever it was.
 ghost use Rattle.chain_heard.specs.Coherent.{HeardIsCoherent, NoTargetHeardIsCoherent};
-ghost use Rattle.chain_heard.specs.Heard.{CommandsAreFew, HeardAmongIsOrdered, HeardIsOrdered, NoTargetHeardIsOrdered, UnusedTokensChangeNothing};
+ghost use Rattle.chain_heard.specs.Heard.{CommandsAreFew, HeardAmongIsOrdered, HeardIsFresh, HeardIsOrdered, NoTargetHeardIsFresh, NoTargetHeardIsOrdered};
 
 use cache_learning::what_is_kept_was_learned;
 use client_node::the_log_tells_what_was_taken;
-use target_truth::what_is_told_is_true;
 
 /// The law that the log of a client follows the history of the target, where its messages are, in order, what the value-adds
-/// on the way said themselves and then a front of what the history tells its channel, and the commands that the channel
-/// executes are, in order, the first of those that the value-adds didn't answer.
+/// on the way said themselves and then messages with positions, each told rightly, which are, but for answers to storable commands,
+/// a front of what the history owes to its channel; and the commands that the channel executes are, in order, some of those that
+/// the value-adds didn't answer before they were bound, with all that go through.
 pub fn what_was_heard_is_ordered()
     ensures among { HeardAmongIsOrdered }
     ensures alone { HeardIsOrdered }
@@ -27,9 +27,11 @@ pub fn commands_are_few()
     the_log_tells_what_was_taken();
 }
 
-/// The law that what a channel is told uses no more tokens than it executes commands.
-pub fn unused_tokens_change_nothing()
-    ensures { UnusedTokensChangeNothing }
+/// The law that each answer with a position to a storable command, of the target or from a store on the way, is what the target
+/// answers at that position, which comes behind all commands before it that may change the target.
+pub fn what_was_heard_is_fresh()
+    ensures heard { HeardIsFresh }
+    ensures no_target { NoTargetHeardIsFresh }
 {}
 
 /// The law that what a client keeps is true: after each line of its log, of the target at the position of the last
@@ -39,5 +41,4 @@ pub fn what_was_heard_is_true()
     ensures no_target { NoTargetHeardIsCoherent }
 {
     what_is_kept_was_learned();
-    what_is_told_is_true();
 }

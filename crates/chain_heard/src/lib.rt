@@ -4,6 +4,6 @@
 pub mod laws;
 
 pub use laws::{
-    commands_are_few, no_target_heard_is_ordered, unused_tokens_change_nothing,
+    commands_are_few, no_target_heard_is_ordered, what_was_heard_is_fresh,
     what_was_heard_is_ordered, what_was_heard_is_true,
 };

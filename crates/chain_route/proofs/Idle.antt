@@ -11,7 +11,7 @@ use Rattle.tcf_message.specs.declared.message.MessageFault.{MessageFault}
 use Rattle.value_node.specs.ForwardedValue.{ForwardedValue}
 use Rattle.value_node.specs.Own.{own_reply, redirect_done, redirect_failed}
 use Rattle.value_node.specs.Passing.{Upper}
-use Rattle.value_node.specs.Runs.{LowerCall, UpperCall, answering, asked_above, asked_above_in, asked_below, asked_below_in, before_hello_below, bytes_end, closing_if, closing_in, ended_below, event_calls, final_calls, own_by, own_calls, passing_any, passing_by, passing_from, passing_on, progress_calls, refused_by, refusing, took_above_above, took_above_below, took_below_above, took_below_below, turns, upper_by, upper_from}
+use Rattle.value_node.specs.Runs.{LowerCall, UpperCall, answering, asked_above, asked_above_in, asked_below, asked_below_in, before_hello_below, bound_above, bound_below, bytes_end, closing_if, closing_in, ended_below, event_calls, final_calls, own_by, own_calls, passing_any, passing_by, passing_from, passing_on, progress_calls, refused_by, refusing, stored_for, took_above_above, took_above_below, took_below_above, took_below_below, turns, upper_by, upper_from}
 use Rattle.value_node.specs.Value.{pending_above, takes_above, takes_below}
 use Rattle.value_node.specs.declared.own.Own.{Own}
 use Rattle.value_node.specs.declared.own.Own.TheVariants as own
@@ -41,10 +41,14 @@ refused_idle : (upper : Option Upper) (service name body : List ℕ) → AreIdle
 refused_idle None service name body = (tt, tt)
 refused_idle (Some e) service name body = closing_idle Unit (refusal_of (length service + length name + length body) e)
 
+bound_idle : (reply : Option (List ℕ)) (token service name body : List ℕ) (v : Relay) → AreIdle (bound_below reply token service name body v)
+bound_idle None token service name body v = refused_idle v.upper service name body
+bound_idle (Some reply) token service name body v = (tt, tt)
+
 asked_in_idle : (bind : Bind) (token service name body : List ℕ) (v : Relay) → AreIdle (asked_below_in bind token service name body v)
 asked_in_idle Unbound token service name body v = own_idle token (own_reply v.peer service name body)
 asked_in_idle Opening token service name body v = tt
-asked_in_idle Bound token service name body v = refused_idle v.upper service name body
+asked_in_idle Bound token service name body v = bound_idle (stored_for service name body v) token service name body v
 asked_in_idle Closed token service name body v = tt
 
 asked_idle : (m : Result MessageValue MessageFault) (v : Relay) → AreIdle (asked_below m v)
@@ -144,29 +148,33 @@ from_idle (Some e) bind = any_idle (next_taken e) bind
 
 -- ---- Its upper end
 
-above_in_idle : (bind : Bind) (token service name body : List ℕ) (mark : Option ℕ) (e : Upper) → AreIdle (asked_above_in bind token service name body mark e)
-above_in_idle Unbound token service name body mark e = tt
-above_in_idle Opening token service name body mark e = tt
-above_in_idle Bound token service name body mark e = (tt, closing_idle ForwardedValue (refusal_of (length service + length name + length body) e))
-above_in_idle Closed token service name body mark e = tt
+bound_above_idle : (reply : Option (List ℕ)) (token service name body : List ℕ) (mark : Option ℕ) (e : Upper) → AreIdle (bound_above reply token service name body mark e)
+bound_above_idle None token service name body mark e = (tt, closing_idle ForwardedValue (refusal_of (length service + length name + length body) e))
+bound_above_idle (Some reply) token service name body mark e = tt
 
-above_idle : (m : Result MessageValue MessageFault) (mark : Option ℕ) (bind : Bind) (e : Upper) → AreIdle (asked_above m mark bind e)
-above_idle (Ok (command token service name body)) mark bind e = above_in_idle bind token service name body mark e
-above_idle (Ok (final token body)) mark bind e = tt
-above_idle (Ok (progress token body)) mark bind e = tt
-above_idle (Ok (not_known token)) mark bind e = tt
-above_idle (Ok (event service name body)) mark bind e = tt
-above_idle (Ok (flow level)) mark bind e = tt
-above_idle (Err fault) mark bind e = tt
+above_in_idle : (bind : Bind) (token service name body : List ℕ) (mark : Option ℕ) (v : Relay) (e : Upper) → AreIdle (asked_above_in bind token service name body mark v e)
+above_in_idle Unbound token service name body mark v e = tt
+above_in_idle Opening token service name body mark v e = tt
+above_in_idle Bound token service name body mark v e = bound_above_idle (stored_for service name body v) token service name body mark e
+above_in_idle Closed token service name body mark v e = tt
 
-below_above : (what : Option (Taken Unit)) (bind : Bind) (e : Upper) → AreIdle (took_below_above what bind e)
-below_above None bind e = tt
-below_above (Some (taken.Hello incoming)) bind e = tt
-below_above (Some (taken.Command incoming)) bind e = above_idle (reading incoming.raw) incoming.mark bind e
-below_above (Some (taken.Event incoming)) bind e = tt
-below_above (Some (taken.Progress token incoming)) bind e = tt
-below_above (Some (taken.Final tag incoming)) bind e = tt
-below_above (Some (taken.Closed cause)) bind e = (tt, tt)
+above_idle : (m : Result MessageValue MessageFault) (mark : Option ℕ) (v : Relay) (e : Upper) → AreIdle (asked_above m mark v e)
+above_idle (Ok (command token service name body)) mark v e = above_in_idle v.bind token service name body mark v e
+above_idle (Ok (final token body)) mark v e = tt
+above_idle (Ok (progress token body)) mark v e = tt
+above_idle (Ok (not_known token)) mark v e = tt
+above_idle (Ok (event service name body)) mark v e = tt
+above_idle (Ok (flow level)) mark v e = tt
+above_idle (Err fault) mark v e = tt
+
+below_above : (what : Option (Taken Unit)) (v : Relay) (e : Upper) → AreIdle (took_below_above what v e)
+below_above None v e = tt
+below_above (Some (taken.Hello incoming)) v e = tt
+below_above (Some (taken.Command incoming)) v e = above_idle (reading incoming.raw) incoming.mark v e
+below_above (Some (taken.Event incoming)) v e = tt
+below_above (Some (taken.Progress token incoming)) v e = tt
+below_above (Some (taken.Final tag incoming)) v e = tt
+below_above (Some (taken.Closed cause)) v e = (tt, tt)
 
 refusing_idle : (m : Result MessageValue MessageFault) → AreIdle (refusing m)
 refusing_idle (Ok (command token service name body)) = (tt, tt)
@@ -198,7 +206,7 @@ lower_turn Above v =
 
 upper_turn : (side : Side) (v : Relay) (upper : Option Upper) → AreIdle (upper_from (turns side) v upper)
 upper_turn side v None = tt
-upper_turn Below v (Some e) = if_idle (takes_below v.bind v.upper) (took_below_above (next_taken v.lower).0 v.bind e) (below_above (next_taken v.lower).0 v.bind e)
+upper_turn Below v (Some e) = if_idle (takes_below v.bind v.upper) (took_below_above (next_taken v.lower).0 v e) (below_above (next_taken v.lower).0 v e)
 upper_turn Above v (Some e) = if_idle (takes_above v.bind) (_ ∷ took_above_above (next_taken e).0 v.bind) (tt, above_above (next_taken e).0 v.bind)
 
 upper_end : (side : Side) (v : Relay) (upper : Option Upper) → AreIdle (upper_from (bytes_end side) v upper)

@@ -6,7 +6,7 @@ use Rattle.std.proofs.lemmas.Bool.{or_parts}
 use Rattle.std.proofs.lemmas.List.Concat.{flat_map-append}
 use Rattle.std.proofs.lemmas.List.Folds.{list_any-append}
 use Rattle.channel_core.specs.Beginning.{new_end}
-use Rattle.channel_core.specs.Closing.{closed_for, is_closed}
+use Rattle.channel_core.specs.Closing.{is_closed}
 use Rattle.channel_core.specs.EndValue.{EndValue}
 use Rattle.channel_core.specs.Greeting.{is_greeting}
 use Rattle.channel_core.specs.Holding.{is_free, is_live, let_out, released, sent_out}
@@ -24,7 +24,6 @@ use Rattle.channel_core.specs.declared.held.Held.{Held}
 use Rattle.channel_core.specs.declared.held.Incoming.{Incoming}
 use Rattle.channel_core.specs.declared.sending.SendRefusal.{SendRefusal}
 use Rattle.channel_core.specs.declared.states.Cause.{Cause}
-use Rattle.channel_core.specs.declared.states.Cause.TheVariants.{Own}
 use Rattle.channel_core.specs.declared.states.EndState.{EndState}
 use Rattle.channel_core.specs.declared.states.EndState.TheVariants.{Closed, Live, Opening, Reopening}
 use Rattle.channel_core.specs.declared.taking.Judged.{Judged}

@@ -6,7 +6,6 @@ use Rattle.std.proofs.lemmas.Bool.{or_parts}
 use Rattle.std.proofs.lemmas.List.Concat.{flat_map-append}
 use Rattle.std.proofs.lemmas.List.Folds.{list_any-append}
 use Rattle.channel_core.specs.Beginning.{new_end}
-use Rattle.channel_core.specs.EndValue.{EndValue}
 use Rattle.channel_core.specs.Greeting.{is_greeting}
 use Rattle.channel_core.specs.Laws.{listed}
 use Rattle.channel_core.specs.QueueLaws.{sent_in}
@@ -24,7 +23,7 @@ use Rattle.tcf_message.specs.declared.message.MessageFault.{MessageFault}
 use Rattle.value_node.specs.ForwardedValue.{ForwardedValue}
 use Rattle.value_node.specs.Passing.{Upper}
 use Rattle.value_node.specs.RelayLaws.{AfterAllCalls, EndsAreRuns}
-use Rattle.value_node.specs.Runs.{Call, Past, UpperCall, ValueRun, after_all, after_call, asked_above, bytes_end, closing_if, comes, connects, fails, gives, no_calls, reconnected, refusing, took_above_above, took_below_above, turns, upper_after, upper_from, upper_on}
+use Rattle.value_node.specs.Runs.{Call, Past, UpperCall, ValueRun, after_all, after_call, asked_above, bytes_end, closing_if, comes, connects, fails, gives, no_calls, reconnected, took_above_above, took_below_above, turns, upper_after, upper_from, upper_on, asked_above_in, bound_above, stored_for}
 use Rattle.value_node.specs.Value.{awaits, takes_above, takes_below, value_services}
 use Rattle.value_node.specs.declared.relay.Relay.{Relay}
 use Rattle.value_node.specs.declared.states.Bind.{Bind}
@@ -91,30 +90,37 @@ above_unsent (Some (taken.Closed cause)) Opening none = tt
 above_unsent (Some (taken.Closed cause)) Bound none = (tt, tt)
 above_unsent (Some (taken.Closed cause)) Closed none = tt
 
-below_unsent : (what : Option (Taken Unit)) (bind : Bind) (e : Upper) → AreUnsent (took_below_above what bind e)
-below_unsent None bind e = tt
-below_unsent (Some (taken.Command incoming)) bind e = by_reading (reading incoming.raw) bind
+below_unsent : (what : Option (Taken Unit)) (v : Relay) (e : Upper) → AreUnsent (took_below_above what v e)
+below_unsent None v e = tt
+below_unsent (Some (taken.Command incoming)) v e = by_reading (reading incoming.raw)
   where
     by_refusal : (refusal : Option SendRefusal) → AreUnsent (closing_if refusal)
     by_refusal None = tt
     by_refusal (Some why) = (tt, tt)
 
-    by_reading : (r : Result MessageValue MessageFault) (bind : Bind) → AreUnsent (asked_above r incoming.mark bind e)
-    by_reading (Ok (command token service name body)) Unbound = tt
-    by_reading (Ok (command token service name body)) Opening = tt
-    by_reading (Ok (command token service name body)) Bound = (tt, by_refusal (refusal_of (length service + length name + length body) e))
-    by_reading (Ok (command token service name body)) Closed = tt
-    by_reading (Ok (final token body)) bind = tt
-    by_reading (Ok (progress token body)) bind = tt
-    by_reading (Ok (not_known token)) bind = tt
-    by_reading (Ok (event service name body)) bind = tt
-    by_reading (Ok (flow level)) bind = tt
-    by_reading (Err fault) bind = tt
-below_unsent (Some (taken.Hello incoming)) bind e = tt
-below_unsent (Some (taken.Event incoming)) bind e = tt
-below_unsent (Some (taken.Progress token incoming)) bind e = tt
-below_unsent (Some (taken.Final tag incoming)) bind e = tt
-below_unsent (Some (taken.Closed cause)) bind e = (tt, tt)
+    by_answer : (reply : Option (List ℕ)) (token service name body : List ℕ) → AreUnsent (bound_above reply token service name body incoming.mark e)
+    by_answer None token service name body = (tt, by_refusal (refusal_of (length service + length name + length body) e))
+    by_answer (Some reply) token service name body = tt
+
+    by_bind : (bind : Bind) (token service name body : List ℕ) → AreUnsent (asked_above_in bind token service name body incoming.mark v e)
+    by_bind Unbound token service name body = tt
+    by_bind Opening token service name body = tt
+    by_bind Bound token service name body = by_answer (stored_for service name body v) token service name body
+    by_bind Closed token service name body = tt
+
+    by_reading : (r : Result MessageValue MessageFault) → AreUnsent (asked_above r incoming.mark v e)
+    by_reading (Ok (command token service name body)) = by_bind v.bind token service name body
+    by_reading (Ok (final token body)) = tt
+    by_reading (Ok (progress token body)) = tt
+    by_reading (Ok (not_known token)) = tt
+    by_reading (Ok (event service name body)) = tt
+    by_reading (Ok (flow level)) = tt
+    by_reading (Err fault) = tt
+below_unsent (Some (taken.Hello incoming)) v e = tt
+below_unsent (Some (taken.Event incoming)) v e = tt
+below_unsent (Some (taken.Progress token incoming)) v e = tt
+below_unsent (Some (taken.Final tag incoming)) v e = tt
+below_unsent (Some (taken.Closed cause)) v e = (tt, tt)
 
 unsent_if : (flag : Bool) (calls : List UpperCall) → (flag ≡ true → AreUnsent calls) → AreUnsent (cond flag calls [])
 unsent_if true calls each = each refl
@@ -130,7 +136,7 @@ on_unsent (comes Below piece mark) v e none = tt
 on_unsent (comes Above piece mark) v e none = (tt, tt)
 on_unsent (bytes_end Below) v e none = tt
 on_unsent (bytes_end Above) v e none = (tt, tt)
-on_unsent (turns Below) v e none = unsent_if (takes_below v.bind v.upper) (took_below_above (next_taken v.lower).0 v.bind e) (λ takes. below_unsent (next_taken v.lower).0 v.bind e)
+on_unsent (turns Below) v e none = unsent_if (takes_below v.bind v.upper) (took_below_above (next_taken v.lower).0 v e) (λ takes. below_unsent (next_taken v.lower).0 v e)
 on_unsent (turns Above) v e none = unsent_if (takes_above v.bind) (taking ∷ took_above_above (next_taken e).0 v.bind) (λ takes. (tt, above_unsent (next_taken e).0 v.bind (none takes)))
 on_unsent connects v e none = tt
 on_unsent fails v e none = tt

@@ -1,4 +1,5 @@
-use Rattle.std.specs.Prelude.{List}
+use Rattle.std.specs.Prelude.{List, refl}
+use Rattle.std.specs.Coded.{Coded, code_by, coded×, coded_list}
 use Rattle.value_node.specs.ValueValue.{ValueValue}
 use Rattle.chain_route.specs.declared.hop.Hop.{Hop}
 
@@ -7,3 +8,7 @@ use Rattle.chain_route.specs.declared.hop.Hop.{Hop}
 pub record RouteValue : Type 0 where
   pub hops : List Hop
   pub adds : List ValueValue
+
+-- how the logic stores a way, by how it stores its hops and its value-adds
+abbrev pub route_code : Coded Hop → Coded ValueValue → Coded RouteValue
+route_code hop value = code_by (List Hop × List ValueValue) (coded× (coded_list hop) (coded_list value)) (λ r. (r.hops, r.adds)) (λ p. record { hops = p.0; adds = p.1 }) (λ _. refl)

@@ -4,7 +4,7 @@ ghost use Rattle.std.specs.List.{list_all};
 ghost use Rattle.value_node.specs.Value.{ended};
 ghost use Rattle.chain_route.specs.Hop.{cut as hop_cut};
 ghost use Rattle.chain_route.specs.Lane.{arriving};
-ghost use Rattle.chain_route.specs.Route.{all_delivered_at, arrived_down, arrived_up, connected, cut, delivered_at, beside, ended_below, flight_down, flight_up, hops_of, is_add_quiet, is_hop_quiet, is_live, is_quiet, joined, last_of, new_route, on_add, on_hop, peer_of, reached, refused, sent_down, sent_up, turned, waiting_in, with_carried, with_upper};
+ghost use Rattle.chain_route.specs.Route.{all_delivered_at, arrived_down, arrived_up, beside, connected, cut, delivered_at, ended_below, flight_down, flight_up, hops_of, is_add_quiet, is_hop_quiet, is_live, is_quiet, joined, last_of, made_at, new_route, on_add, on_hop, peer_of, reached, refused, sent_down, sent_up, turned, waiting_in, with_carried, with_upper};
 
 use crate::hop::Hop;
 use crate::passing::{carry, deliver, deliver_all};
@@ -25,9 +25,13 @@ pub struct Route {
 }
 
 impl Model for Route {
-    ghost use Rattle.chain_route.specs.RouteValue.{RouteValue};
+    ghost use Rattle.chain_route.specs.RouteValue.{RouteValue, route_code};
+    ghost use Rattle.chain_route.specs.contracts.hop.Hop as hop;
+    ghost use Rattle.value_node.specs.contracts.value.ValueNode as value;
 
     ghost Value = { RouteValue };
+
+    ghost coded = { route_code hop.the_row.coded value.the_row.coded };
 
     ghost view = { λ r. record { hops = r.hops.items; adds = r.adds.items } };
 }
@@ -54,12 +58,20 @@ impl Route {
         if hop >= self.last() {
             return Ok(true);
         }
-        let add = ValueNode::new(self.alloc, self.peer(hop)?)?;
-        self.adds.truncate(hop);
-        self.adds.push(add)?;
+        self.make(hop)?;
         self.join(hop)?;
         self.carry(hop, Side::Below)?;
         Ok(false)
+    }
+
+    /// The value-add above a hop is made anew, and those that an earlier one had above it are gone.
+    fn make(&mut self, hop: usize) -> Result<(), AllocError>
+        ensures { OnOk result (self.new ≡ made_at hop self.old) }
+    {
+        let add = ValueNode::new(self.alloc, self.peer(hop)?)?;
+        self.adds.truncate(hop);
+        self.adds.push(add)?;
+        Ok(())
     }
 
     /// The agent opened a channel for the node below the last hop, or refused it: then the end of the stream comes down.

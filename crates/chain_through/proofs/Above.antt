@@ -1,12 +1,11 @@
 -- What the upper end of a value-add gives is a Hello and the commands that it took since it was bound, where nothing from
 -- above asks; and what its lower end gives asks nothing.
-use Rattle.std.proofs.Common.{◌≡◌, ℕ, suc, ◌+◌, ◌^◌, ◌≤◌, Bool, true, false, cond, List, [], ◌∷◌, ◌++◌, length, map, None, Ok, refl, sym, ap, ◌∙◌, subst, arith, append_assoc, append-nil}
+use Rattle.std.proofs.Common.{◌≡◌, ℕ, ◌+◌, Bool, false, List, [], ◌∷◌, ◌++◌, map, None, Ok, refl, sym, ap, ◌∙◌, subst, append_assoc, append-nil}
 use Rattle.std.specs.Prelude.{decimal}
 use Rattle.std.specs.List.{AllByRecursion, filter, flat_map}
-use Rattle.std.proofs.lemmas.List.{length-map}
 use Rattle.tcf_message.specs.Fault.{IsReadBack}
 use Rattle.tcf_message.specs.Message.{MessageValue, command, event, final, flow, not_known, progress, reading}
-use Rattle.channel_core.specs.Arrivals.{AreSpoken, IsFront, Spoken, arrived, bytes_of, enters, marked, messages_in, queue_of}
+use Rattle.channel_core.specs.Arrivals.{AreSpoken, IsFront, Spoken, arrived, bytes_of, marked, messages_in, queue_of}
 use Rattle.channel_core.specs.Beginning.{new_end}
 use Rattle.channel_core.specs.QueueLaws.{is_message, is_plain}
 use Rattle.channel_core.specs.ReceivingLaws.{incoming_of}
@@ -15,30 +14,23 @@ use Rattle.channel_core.specs.Runs.{Call, Run, after_call, after_calls, begun}
 use Rattle.channel_core.specs.Wire.{hello, locator, said}
 use Rattle.channel_core.specs.declared.held.Outgoing.{Outgoing}
 use Rattle.value_node.specs.Asked.{Asked}
-use Rattle.value_node.specs.RelayLaws.{asked_since, held_in, sent_above}
+use Rattle.value_node.specs.Deeds.{asked_in, sent_in}
+use Rattle.value_node.specs.RelayLaws.{held_in, sent_above}
 use Rattle.value_node.specs.Runs.{above, below, below_since_bound}
 use Rattle.value_node.specs.Value.{value_services}
 use Rattle.chain_route.specs.Carrying.{AllCarry, End, HopCarries, IsUnused, Made, end_above, end_below, past_of}
 use Rattle.chain_route.specs.declared.hop.Hop.{Hop}
 use Rattle.chain_through.specs.Calling.{AskNothing, Calls, Says, all_asking, asks, entering, greeting}
-use Rattle.chain_through.proofs.Decimals.{decimal_plain}
-use Rattle.chain_through.proofs.Few.{few_accepted, few_queued, most_tokens}
+use Rattle.chain_told.proofs.Decimals.{decimal_plain}
+use Rattle.chain_through.proofs.Doing.{all_sent}
 use Rattle.chain_through.proofs.Fronts.{front_each, front_flat, front_then}
-use Rattle.chain_through.proofs.Facts.{Laws, above_read, below_read, calls_above, run_of}
-use Rattle.chain_through.proofs.Queues.{GreetsFirst, commanding, greets_first, nothing_asked, queue_commands, queue_messages, queue_plain}
+use Rattle.chain_through.proofs.Facts.{Laws, above_read, below_read, calls_above, deeds_of, run_of}
+use Rattle.chain_through.proofs.Queues.{GreetsFirst, commanding, entering_formed, greets_first, nothing_asked, queue_commands, queue_messages, queue_plain}
 use Rattle.chain_through.proofs.Refusing.{none_refused, none_sent, refused_in, sends_refusals, sent_with}
 use Rattle.chain_through.proofs.Spelling.{AreSpelled, IsSpelled, front_said, said_so}
 use Rattle.chain_through.proofs.Taking.{IsWritten, all_written, come_as, received_front}
 
 -- ---- What can be read
-
-pub entering_formed : (spoken : List Spoken) → AreSpoken spoken → AreSpoken (entering spoken)
-entering_formed [] formed = tt
-entering_formed (s ∷ spoken) formed = by_flag (enters s.message) (entering_formed spoken formed.1)
-  where
-    by_flag : (flag : Bool) → AreSpoken (entering spoken) → AreSpoken (cond flag (s ∷ entering spoken) (entering spoken))
-    by_flag true rest = (formed.0, rest)
-    by_flag false rest = rest
 
 unasked : (m : MessageValue) → asks m ≡ false → refused_in (Ok m) ≡ []
 unasked (command token service name body) none = absurd cc
@@ -102,8 +94,7 @@ none_mapped (s ∷ spoken) none = absurd cc
 -- ---- The ends of a value-add
 
 pub record CallsUp (m : Made) : Type 0 where
-  pub calls : Calls (asked_since (past_of m)) (end_above (past_of m)).gave
-  pub few : length (entering calls.spoken) ≤ 2 ^ 64
+  pub calls : Calls (sent_in (deeds_of m)) (end_above (past_of m)).gave
 
 pub record SaysNothing (m : Made) : Type 0 where
   pub down : List Spoken
@@ -150,8 +141,14 @@ module _ (laws : Laws) where
       sends_refusals laws.runs m.peer m.calls
       ∙ none_refused r.past.taken (front_each (λ i. refused_in (reading i.raw) ≡ []) (flat_map incoming_of r.past.taken) (messages_in says.spoken) got each)
 
+  pub asked_written : (m : Made) → AllByRecursion IsWritten (asked_in (deeds_of m))
+  asked_written m = subst (AllByRecursion IsWritten) (laws.forwards m.peer m.calls).asked (all_written laws.read_back (below_since_bound (past_of m)).past.taken)
+
+  pub sent_written : (m : Made) → AllByRecursion IsWritten (sent_in (deeds_of m))
+  sent_written m = all_sent IsWritten (deeds_of m) (asked_written m)
+
   -- the commands that it queues
-  forwarded : (m : Made) → IsFront (map said_so (commanding (above_read laws m).spoken)) (map said_so (all_asking 1 (asked_since (past_of m))))
+  forwarded : (m : Made) → IsFront (map said_so (commanding (above_read laws m).spoken)) (map said_so (all_asking 1 (sent_in (deeds_of m))))
   forwarded m =
       let r = above (past_of m) in
       let can = above_read laws m in
@@ -159,17 +156,8 @@ module _ (laws : Laws) where
       let sent : filter is_command r.past.queued ≡ map said_so (commanding can.spoken) = ap (filter is_command) can.queue ∙ queue_commands can.spoken can.is_ended in
       let f = (laws.forwards m.peer m.calls).front in (
         held ++ f.0,
-        sym (sent_asking 1 (asked_since (past_of m))) ∙ f.1 ∙ append_assoc (filter is_command r.past.queued) held f.0 ∙ ap (λ os. os ++ (held ++ f.0)) sent,
+        sym (sent_asking 1 (sent_in (deeds_of m))) ∙ f.1 ∙ append_assoc (filter is_command r.past.queued) held f.0 ∙ ap (λ os. os ++ (held ++ f.0)) sent,
       )
-
-  few_commands : (m : Made) → length (commanding (above_read laws m).spoken) ≤ most_tokens
-  few_commands m =
-      let r = above (past_of m) in
-      let can = above_read laws m in
-      let sent : filter is_command r.past.queued ≡ map said_so (commanding can.spoken) = ap (filter is_command) can.queue ∙ queue_commands can.spoken can.is_ended in
-      let many : length (filter is_command r.past.queued) ≡ length (commanding can.spoken) = ap length sent ∙ length-map (commanding can.spoken) said_so in
-      let few = few_queued r (laws.upper_sends value_services None (calls_above m)) (few_accepted laws.upper_counts value_services None (calls_above m)) in
-      omega arith
 
   calls_up : (m : Made) (next : Hop) (upper : End) (said : List Spoken) → HopCarries next (end_above (past_of m)) upper → Says said upper.gave → AskNothing said → CallsUp m
   calls_up m next upper said carries says quiet =
@@ -178,8 +166,6 @@ module _ (laws : Laws) where
       laws.upper_plain value_services None (calls_above m)
       ∙ ap (λ os. said_so (greeting value_services) ∷ os) (none_sent (calls_above m) (new_end value_services None) (none_above m next upper said carries says quiet)) in
       let greets = greets_so can.spoken can.is_ended (above (past_of m)).past.queued value_services can.queue (queued_more (calls_above m) (begun (new_end value_services None))) alone in
-      let many : length (entering can.spoken) ≡ suc (length (commanding can.spoken)) = ap length greets.are in
-      let few = few_commands m in
       record {
         calls = record {
           spoken = can.spoken;
@@ -187,9 +173,8 @@ module _ (laws : Laws) where
           formed = can.well_formed;
           front = above_gives m;
           services = value_services;
-          says = calls_so can.spoken value_services (asked_since (past_of m)) can.well_formed (all_written laws.read_back (below_since_bound (past_of m)).past.taken) greets (forwarded m);
+          says = calls_so can.spoken value_services (sent_in (deeds_of m)) can.well_formed (sent_written m) greets (forwarded m);
         };
-        few = omega arith;
       }
 
   calls_unused : (m : Made) → IsUnused (end_above (past_of m)) → CallsUp m
@@ -201,9 +186,8 @@ module _ (laws : Laws) where
           formed = tt;
           front = ([], sym (append-nil (end_above (past_of m)).gave ∙ unused.0));
           services = [];
-          says = (greeting [] ∷ all_asking 1 (asked_since (past_of m)), refl);
+          says = (greeting [] ∷ all_asking 1 (sent_in (deeds_of m)), refl);
         };
-        few = omega arith;
       }
 
   pub calls_on : (m : Made) (hops : List Hop) (made : List Made) (agent : End) (said : List Spoken) → AllCarry (end_above (past_of m)) hops made agent → Says said agent.gave → AskNothing said → CallsUp m

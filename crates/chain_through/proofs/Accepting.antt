@@ -13,6 +13,7 @@ use Rattle.channel_core.specs.Sending.{last_token, most_pending, refusal_of}
 use Rattle.channel_core.specs.declared.sending.SendRefusal.TheVariants.{Full, NotOpen, Spent, TooLong}
 use Rattle.channel_faults.specs.Faults.{is_closing}
 use Rattle.value_node.specs.Asked.{Asked}
+use Rattle.value_node.specs.Deeds.{Deed, asked_in, sent_in}
 use Rattle.value_node.specs.ForwardedValue.{ForwardedValue}
 use Rattle.value_node.specs.OwnLaws.{AnswersItself, asked_until}
 use Rattle.value_node.specs.Passing.{Upper}
@@ -20,6 +21,7 @@ use Rattle.value_node.specs.RelayLaws.{EndsAreRuns, ForwardsInOrder, StandsWell,
 use Rattle.value_node.specs.Runs.{UpperCall, ValueRun, closing_if, refused_by, upper_after}
 use Rattle.value_node.specs.Value.{has_room, is_free, takes_below, value_services}
 use Rattle.value_node.specs.declared.states.Bind.TheVariants.{Bound}
+use Rattle.chain_through.proofs.Doing.{few_sent}
 use Rattle.chain_through.proofs.LastToken.{last_counts}
 
 -- ---- Where a command is accepted
@@ -53,9 +55,9 @@ sent_many : (n : ℕ) (commands : List Asked) → length (sent_above n commands)
 sent_many n [] = refl
 sent_many n (c ∷ commands) = ap suc (sent_many (n + 1) commands)
 
--- it accepted the commands that were taken from below since it was bound
-accepted_many : AfterEndCalls {T = ForwardedValue} SendsInOrder → (r : ValueRun) → ForwardsInOrder r → r.value.relay.bind ≡ Bound → (u : HasUpper r) → length (upper_after u.calls).past.accepted ≡ length (asked_since r.past)
-accepted_many sends r forwards bound u =
+-- it accepted the commands that it sends above
+accepted_many : AfterEndCalls {T = ForwardedValue} SendsInOrder → (r : ValueRun) (deeds : List Deed) → ForwardsInOrder r deeds → r.value.relay.bind ≡ Bound → (u : HasUpper r) → length (upper_after u.calls).past.accepted ≡ length (sent_in deeds)
+accepted_many sends r deeds forwards bound u =
     let end = upper_after u.calls in
     let in_order = sends value_services None u.calls in
     let queued = filter is_command end.past.queued in
@@ -63,8 +65,8 @@ accepted_many sends r forwards bound u =
     let above_is : accepted_above r ≡ queued ++ held =
     ap (λ connection. filter is_command (upper_after (unwrap_or connection [])).past.queued ++ map (λ h. h.outgoing) (held_in r.value.relay.upper)) u.connection_is
     ∙ ap (λ upper. queued ++ map (λ h. h.outgoing) (held_in upper)) u.upper_is in
-    let one : length queued + length held ≡ length (asked_since r.past) =
-    sym (length-append queued held) ∙ ap length (sym above_is ∙ forwards.all bound) ∙ sent_many 1 (asked_since r.past) in
+    let one : length queued + length held ≡ length (sent_in deeds) =
+    sym (length-append queued held) ∙ ap length (sym above_is ∙ forwards.all bound) ∙ sent_many 1 (sent_in deeds) in
     let two : length queued ≡ length (sent_of end) = ap length in_order.are_sent ∙ length-map (sent_of end) (λ i. i.command.outgoing) in
     let three : length held ≡ length end.end.held = length-map end.end.held (λ h. h.outgoing) in
     let four : length end.past.accepted ≡ length (sent_of end) + length end.end.held =
@@ -74,10 +76,10 @@ accepted_many sends r forwards bound u =
 
 -- ---- No command is refused
 
-pub none_refused : AfterEndCalls {T = ForwardedValue} SendsInOrder → (r : ValueRun) → EndsAreRuns r → ForwardsInOrder r → AnswersItself r → r.value.relay.bind ≡ Bound → takes_below r.value.relay.bind r.value.relay.upper ≡ true
+pub none_refused : AfterEndCalls {T = ForwardedValue} SendsInOrder → (r : ValueRun) (deeds : List Deed) → EndsAreRuns r → ForwardsInOrder r deeds → AnswersItself r → r.value.relay.bind ≡ Bound → takes_below r.value.relay.bind r.value.relay.upper ≡ true
     → length (asked_until r.past) + length (asked_since r.past) < 2 ^ 64 → (service name body : List ℕ) → length service + length name + length body ≤ most_body
     → list_any is_closing (refused_by r.value.relay.upper service name body) ≡ false
-none_refused sends r runs forwards answers bound takes few service name body short =
+none_refused sends r deeds runs forwards answers bound takes few service name body short =
     let v = r.value.relay in
     let stands : StandsWell Bound v r.past = subst (λ bind. StandsWell bind v r.past) bound runs.stands in
     let u = has_upper r runs stands.1 in
@@ -87,6 +89,8 @@ none_refused sends r runs forwards answers bound takes few service name body sho
     let by = answers.bound_by stands.2 in
     let some : length (asked_until r.past) ≡ length by.earlier + 1 = ap length by.commands_are ∙ length-append by.earlier (by.redirect ∷ []) in
     let counts : e.last ≡ length (upper_after u.calls).past.accepted = last_counts u.calls (begun (new_end value_services None)) refl in
-    let many = accepted_many sends r forwards bound u in
+    let many = accepted_many sends r deeds forwards bound u in
+    let sent = few_sent deeds in
+    let asked : length (asked_since r.past) ≡ length (asked_in deeds) = ap length forwards.asked in
     let unspent : e.last ≡ last_token → ⊥ = λ is. omega arith in
     ap (λ upper. list_any is_closing (refused_by upper service name body)) u.upper_is ∙ ap (λ refusal. list_any (is_closing {T = Unit}) (closing_if refusal)) (accepts size e u.opened short room unspent)

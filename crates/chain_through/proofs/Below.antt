@@ -1,37 +1,40 @@
 -- The lower end of a value-add: the commands that it took, and the messages that it says.
-use Rattle.std.proofs.Common.{◌≡◌, ℕ, suc, ◌+◌, ◌-◌, ◌≤◌, Bool, false, List, [], ◌∷◌, ◌++◌, length, map, None, Ok, refl, sym, ap, ◌∙◌, subst, arith, append_assoc, append-nil, length-append}
+use Rattle.std.proofs.Common.{◌≡◌, ℕ, suc, ◌+◌, ◌-◌, ◌≤◌, Bool, false, List, [], ◌∷◌, ◌++◌, length, map, None, refl, sym, ap, ◌∙◌, subst, arith, append_assoc, append-nil, length-append}
 use Rattle.std.specs.Prelude.{decimal}
 use Rattle.std.specs.List.{AllByRecursion, filter, flat_map}
 use Rattle.std.proofs.lemmas.List.{map-append}
 use Rattle.std.proofs.lemmas.List.Concat.{flat_map-append}
-use Rattle.tcf_message.specs.Message.{IsWellFormed, MessageValue, command, event, reading}
+use Rattle.tcf_message.specs.Message.{IsWellFormed, command, event, reading}
 use Rattle.tcf_message.specs.Fault.{IsReadBack}
 use Rattle.channel_core.specs.Arrivals.{AreSpoken, IsFront, Spoken, arrived, bytes_of, marked, messages_in, queue_of}
 use Rattle.channel_core.specs.Beginning.{new_end}
 use Rattle.channel_core.specs.QueueLaws.{is_message}
 use Rattle.channel_core.specs.ReceivingLaws.{incoming_of}
 use Rattle.channel_core.specs.Runs.{after_calls, begun}
-use Rattle.channel_core.specs.Wire.{hello, locator, said}
+use Rattle.channel_core.specs.Wire.{hello, locator}
 use Rattle.channel_core.specs.declared.held.Outgoing.{Outgoing}
 use Rattle.value_node.specs.Asked.{Asked}
 use Rattle.value_node.specs.OwnLaws.{AnswersItself, asked_until}
 use Rattle.value_node.specs.OwnMessages.{BeginsWithHello}
-use Rattle.value_node.specs.RelayLaws.{asked_by, asked_in, asked_since, passed_by, passed_in, passed_on}
+use Rattle.value_node.specs.Deeds.{heard_in}
+use Rattle.value_node.specs.RelayLaws.{asked_by, asked_in, asked_since, told_from}
 use Rattle.value_node.specs.Runs.{Past, above, below, below_since_bound, below_until_bound, lower_after}
 use Rattle.value_node.specs.Value.{value_services}
 use Rattle.chain_route.specs.Carrying.{End, HopCarries, Made, end_above, end_below, past_of}
 use Rattle.chain_route.specs.declared.hop.Hop.{Hop}
+use Rattle.chain_told.specs.Told.{numbered}
+use Rattle.chain_told.specs.TellsOn.{tells}
 use Rattle.chain_through.specs.Calling.{Calls, all_asking, entering, greeting}
-use Rattle.chain_through.specs.Through.{numbered, passed}
-use Rattle.chain_through.proofs.Above.{entering_formed, hello_enters, queued_more}
+use Rattle.chain_through.proofs.Above.{asked_written, hello_enters, queued_more}
 use Rattle.chain_through.proofs.Fronts.{IsMapped, front_each, front_flat, front_mapped, front_same, front_then}
-use Rattle.chain_through.proofs.Facts.{Laws, below_read, calls_above, facts_of, run_of, value_hello}
-use Rattle.chain_through.proofs.Numbered.{numbered_parts, under}
+use Rattle.chain_through.proofs.Facts.{Laws, below_read, calls_above, deeds_of, facts_of, run_of, value_hello}
+use Rattle.chain_through.proofs.Hearing.{AreReadable}
+use Rattle.chain_told.proofs.Numbered.{numbered_parts, under}
 use Rattle.chain_through.proofs.Owning.{own_spelled}
-use Rattle.chain_through.proofs.Queues.{queue_messages}
-use Rattle.chain_through.proofs.Renaming.{passed_spelled, renamed, say}
+use Rattle.chain_through.proofs.Queues.{entering_formed, queue_messages}
 use Rattle.chain_through.proofs.Spelling.{AreSpelled, IsSpelled, one_said, said_so, same_said}
 use Rattle.chain_through.proofs.Taking.{IsWritten, all_append, all_written, asked_of, calls_fit, come_as, commands_in, commands_read, received_front, taken_split}
+use Rattle.chain_through.proofs.Telling.{tells_spelled, told_said}
 
 -- ---- The commands that it took are the first of those that were sent
 
@@ -136,27 +139,21 @@ begins_own own g = subst BeginsWithHello (sym g.are) (g.services, g.says)
 pub begins_more : (own more : List Spoken) → Greets own → BeginsWithHello (own ++ more)
 begins_more own more g = subst (λ xs. BeginsWithHello (xs ++ more)) (sym g.are) (g.services, g.says)
 
--- those that it says itself, and those that it passes on, of the ones that come to it
+-- those that it says itself, and those that it tells of its deeds, where it heard the first of the ones that come to it
 pub record SaysBelow (m : Made) (come : List Spoken) (down : List Spoken) : Type 0 where
   pub own : AnswersItself (run_of m)
   pub own_formed : AreSpoken own.own
   pub greets : Greets own.own
-  pub written : AllByRecursion IsWritten (asked_since (past_of m))
   pub heard : List Spoken
   pub front : IsFront heard come
-  pub says : down ≡ own.own ++ passed (asked_since (past_of m)) heard
+  pub are : heard_in (deeds_of m) ≡ map come_as heard
+  pub formed : AreSpoken heard
+  pub readable : AreReadable heard
+  pub says : down ≡ own.own ++ tells (deeds_of m)
 
-passed_so : IsReadBack → (commands : List Asked) (heard : List Spoken) → AreSpoken heard → flat_map (passed_by commands) (map come_as heard) ≡ map said_so (passed commands heard)
-passed_so back commands [] formed = refl
-passed_so back commands (s ∷ heard) formed =
-    ap (λ r. map (λ m. said m s.mark) (passed_in commands r) ++ flat_map (passed_by commands) (map come_as heard)) (back.1 s.message formed.0)
-    ∙ ap (λ os. map (λ m. said m s.mark) (passed_in commands (Ok s.message)) ++ os) (passed_so back commands heard formed.1)
-    ∙ ap (λ os. os ++ map said_so (passed commands heard)) (said_with (passed_in commands (Ok s.message)))
-    ∙ sym (map-append said_so (renamed commands s.message s.mark) (passed commands heard))
-  where
-    said_with : (ms : List MessageValue) → map (λ m. said m s.mark) ms ≡ map said_so (map (λ m. say m s.mark) ms)
-    said_with [] = refl
-    said_with (m ∷ ms) = ap (λ os. said m s.mark ∷ os) (said_with ms)
+are_readable : IsReadBack → (heard : List Spoken) → AreSpoken heard → AreReadable heard
+are_readable back [] formed = tt
+are_readable back (s ∷ heard) formed = (back.1 s.message formed.0, are_readable back heard formed.1)
 
 module _ (laws : Laws) where
   pub took : (hop : Hop) (lower : End) (m : Made) (commands : List Asked) → HopCarries hop lower (end_below (past_of m)) → (calls : Calls commands lower.gave)
@@ -199,6 +196,7 @@ module _ (laws : Laws) where
   pub says_below : (m : Made) (come : List Spoken) (is_ended : Bool) → AreSpoken come → IsFront (end_above (past_of m)).came (bytes_of (queue_of come is_ended)) → SaysBelow m (entering come) (entering (below_read laws m).spoken)
   says_below m come is_ended formed came =
       let p = past_of m in
+      let deeds = deeds_of m in
       let r = above p in
       let can = below_read laws m in
       let own = laws.answers m.peer m.calls in
@@ -206,23 +204,25 @@ module _ (laws : Laws) where
       let got : IsFront (flat_map incoming_of r.past.taken) (messages_in come) = received_front r (messages_in come) order.front in
       let h : IsMapped come_as (entering come) (flat_map incoming_of r.past.taken) = front_mapped come_as (entering come) (flat_map incoming_of r.past.taken) got in
       let heard_formed : AreSpoken h.origin = front_each (λ s. IsWellFormed s.message) h.origin (entering come) h.front (entering_formed come formed) in
-      let written = all_written laws.read_back (below_since_bound p).past.taken in
-      let passes : filter is_message (below p).past.queued ≡ filter is_message (below_until_bound p).past.queued ++ passed_on (asked_since p) r.past.taken = laws.passes m.peer m.calls in
-      let passed_are : passed_on (asked_since p) r.past.taken ≡ map said_so (passed (asked_since p) h.origin) =
-      ap (flat_map (passed_by (asked_since p))) h.are ∙ passed_so laws.read_back (asked_since p) h.origin heard_formed in
-      let said_are : map said_so (entering can.spoken) ≡ map said_so (own.own ++ passed (asked_since p) h.origin) =
-      says_queued m ∙ passes ∙ ap (λ os. os ++ passed_on (asked_since p) r.past.taken) own.queue ∙ ap (λ os. map said_so own.own ++ os) passed_are
-      ∙ sym (map-append said_so own.own (passed (asked_since p) h.origin)) in
-      let says : entering can.spoken ≡ own.own ++ passed (asked_since p) h.origin =
-      same_said (entering can.spoken) (own.own ++ passed (asked_since p) h.origin) (entering_formed can.spoken can.well_formed)
-      (all_append (λ s. IsSpelled s.message) own.own (passed (asked_since p) h.origin) (own_spelled (asked_until p) own.left own.own (written_until m) own.is_own) (passed_spelled (asked_since p) h.origin written heard_formed)) said_are in
+      let readable = are_readable laws.read_back h.origin heard_formed in
+      let passes = laws.passes m.peer m.calls in
+      let are : heard_in deeds ≡ map come_as h.origin = passes.heard ∙ h.are in
+      let said_are : map said_so (entering can.spoken) ≡ map said_so (own.own ++ tells deeds) =
+      says_queued m ∙ passes.told ∙ ap (λ os. os ++ told_from [] deeds) own.queue ∙ ap (λ os. map said_so own.own ++ os) (told_said [] deeds)
+      ∙ sym (map-append said_so own.own (tells deeds)) in
+      let says : entering can.spoken ≡ own.own ++ tells deeds =
+      same_said (entering can.spoken) (own.own ++ tells deeds) (entering_formed can.spoken can.well_formed)
+      (all_append (λ s. IsSpelled s.message) own.own (tells deeds) (own_spelled (asked_until p) own.left own.own (written_until m) own.is_own)
+      (tells_spelled [] deeds h.origin tt (asked_written laws m) are heard_formed readable)) said_are in
       record {
         own = own;
-        own_formed = front_each (λ s. IsWellFormed s.message) own.own (entering can.spoken) (passed (asked_since p) h.origin, says) (entering_formed can.spoken can.well_formed);
+        own_formed = front_each (λ s. IsWellFormed s.message) own.own (entering can.spoken) (tells deeds, says) (entering_formed can.spoken can.well_formed);
         greets = own_greets m;
-        written = written;
         heard = h.origin;
         front = h.front;
+        are = are;
+        formed = heard_formed;
+        readable = readable;
         says = says;
       }
 

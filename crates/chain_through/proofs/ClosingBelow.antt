@@ -20,12 +20,13 @@ use Rattle.channel_core.specs.declared.states.EndState.TheVariants.{Closed as Is
 use Rattle.channel_core.specs.declared.taking.Taken.{Taken}
 use Rattle.channel_core.specs.declared.taking.Taken.TheVariants as taken
 use Rattle.channel_faults.specs.Faults.{is_closing}
+use Rattle.value_node.specs.Deeds.{deeds_from}
 use Rattle.value_node.specs.ForwardedValue.{ForwardedValue}
 use Rattle.value_node.specs.Own.{own_reply, redirect_failed}
 use Rattle.value_node.specs.OwnLaws.{asked_until}
 use Rattle.value_node.specs.Passing.{Upper}
 use Rattle.value_node.specs.RelayLaws.{EndsAreRuns, StandsWell, asked_since}
-use Rattle.value_node.specs.Runs.{Call, LowerCall, Past, UpperCall, ValueRun, above, after_all, after_call, answering, asked_below, asked_below_in, before_hello_below, below, bytes_end, comes, connects, ended_below, event_calls, fails, final_calls, gives, is_binding, lower_after, next_above, no_calls, only_if, own_by, own_calls, passing_any, passing_by, passing_from, progress_calls, reconnected, took_above_above, took_above_below, took_below_below, turns, upper_after, upper_by, upper_from, with_calls}
+use Rattle.value_node.specs.Runs.{Call, LowerCall, Past, UpperCall, ValueRun, above, after_all, after_call, answering, asked_below, asked_below_in, before_hello_below, below, bound_below, bytes_end, comes, connects, ended_below, event_calls, fails, final_calls, gives, is_binding, lower_after, next_above, no_calls, only_if, own_by, own_calls, passing_any, passing_by, passing_from, progress_calls, reconnected, stored_for, took_above_above, took_above_below, took_below_below, turns, upper_after, upper_by, upper_from, with_calls}
 use Rattle.value_node.specs.Value.{awaits, is_free, is_opening, pending_above, takes_above, takes_below, value_services}
 use Rattle.value_node.specs.declared.own.Own.TheVariants as own
 use Rattle.value_node.specs.declared.own.Own.{Own as OwnReply}
@@ -257,8 +258,11 @@ module _ (laws : Laws) (ends : EndLaws) where
         → NoneCloses (asked_below_in bind token service name body relay)
     quiet_asked token service name body takes short Unbound is = own_open token (own_reply relay.peer service name body)
     quiet_asked token service name body takes short Opening is = refl
-    quiet_asked token service name body takes short Bound is =
-        none_refused laws.upper_sends run (laws.runs peer before) (laws.forwards peer before) (laws.answers peer before) is takes few service name body short
+    quiet_asked token service name body takes short Bound is = by_store (stored_for service name body relay)
+      where
+        by_store : (stored : Option (List ℕ)) → NoneCloses (bound_below stored token service name body relay)
+        by_store None = none_refused laws.upper_sends run (deeds_from before (no_calls peer)) (laws.runs peer before) (laws.forwards peer before) (laws.answers peer before) is takes few service name body short
+        by_store (Some reply) = refl
     quiet_asked token service name body takes short Closed is = refl
 
     quiet_read : (raw : List ℕ) → takes_below relay.bind relay.upper ≡ true → (read : Result MessageValue MessageFault) → reading raw ≡ read → NoneCloses (asked_below read relay)

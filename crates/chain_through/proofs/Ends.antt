@@ -1,11 +1,11 @@
 -- No end of a way closes by a fault of its other side, and the end of the stream comes down it only where the agent gave it,
 -- or where a value-add lost its upper side: by recursion over the value-adds, from the bottom.
-use Rattle.std.proofs.Common.{◌≡◌, ℕ, ◌+◌, ◌-◌, ◌^◌, ◌<◌, ◌≤◌, Bool, true, false, ⊎_elim, inl, inr, List, [], ◌∷◌, ◌++◌, length, map, None, refl, sym, ap, ◌∙◌, subst, arith, append-nil}
+use Rattle.std.proofs.Common.{◌≡◌, ℕ, zero, suc, take, ◌+◌, ◌-◌, ◌^◌, ◌<◌, ◌≤◌, Bool, true, false, inl, inr, List, [], ◌∷◌, ◌++◌, length, map, None, refl, sym, ap, ◌∙◌, subst, arith, append-nil}
 use Rattle.std.specs.Prelude.{Contains}
-use Rattle.std.specs.List.{filter, flat_map, list_any}
+use Rattle.std.specs.List.{AllByRecursion, filter, flat_map, list_any}
 use Rattle.std.proofs.lemmas.Bool.{or_left, or_right}
 use Rattle.std.proofs.lemmas.List.Elements.{filter-append}
-use Rattle.channel_core.specs.Arrivals.{IsFront, Spoken, arrived, arrived_in, bytes_of, marked, queue_of}
+use Rattle.channel_core.specs.Arrivals.{IsFront, Spoken, arrived, arrived_in, bytes_of, marked as marked_bytes, queue_of}
 use Rattle.channel_core.specs.Closing.{is_closed}
 use Rattle.channel_core.specs.Greeting.{is_greeting}
 use Rattle.channel_core.specs.ReceivingLaws.{incoming_of}
@@ -20,53 +20,80 @@ use Rattle.channel_core.specs.declared.states.Reason.{Reason}
 use Rattle.channel_core.specs.declared.taking.Taken.{Taken}
 use Rattle.channel_core.specs.declared.taking.Taken.TheVariants as taken
 use Rattle.stream_escape.specs.declared.stream.StreamFault.{StreamFault}
+use Rattle.target_contexts.specs.declared.process.Image.{Image}
+use Rattle.target_hub.specs.History.{IsLegal}
+use Rattle.target_hub.specs.declared.input.Input.{Input}
+use Rattle.tcf_message.specs.Message.{MessageValue, command, event, final, flow, not_known, progress}
 use Rattle.value_node.specs.Asked.{Asked}
 use Rattle.value_node.specs.OwnLaws.{asked_until}
 use Rattle.value_node.specs.OwnMessages.{BeginsWithHello}
+use Rattle.value_node.specs.Deeds.{sent_in}
 use Rattle.value_node.specs.RelayLaws.{asked_since}
 use Rattle.value_node.specs.Runs.{Past, above, below, no_calls}
 use Rattle.value_node.specs.Value.{value_services}
 use Rattle.chain_route.specs.Carrying.{AllCarry, End, HopCarries, Made, end_above, end_below, past_after, past_of, was_lost_above}
 use Rattle.chain_route.specs.Hop.{no_hop}
 use Rattle.chain_route.specs.declared.hop.Hop.{Hop}
-use Rattle.chain_through.specs.Calling.{Answering, AskNothing, Calls, Says, entering}
+use Rattle.chain_told.specs.Told.{AreToldRightly, IsOpen, IsOwed, numbered}
+use Rattle.chain_through.specs.Calling.{Answering, AskNothing, Calls, IsAnswering, IsAwaited, Says, entering, given_of}
 use Rattle.chain_through.specs.Endings.{AddIsSound, ComesToSoundEnds, EndsSoundly, IsSound}
-use Rattle.chain_through.specs.Through.{numbered, passed, top_end}
+use Rattle.chain_through.specs.Through.{IsMarked, IsSaidRightly}
 use Rattle.chain_through.proofs.Above.{below_gives, calls_on}
 use Rattle.chain_through.proofs.Below.{Took, took}
 use Rattle.chain_through.proofs.ClosingBelow.{AreFew, IsEndedAbove, calls_below, calls_front, closed_so}
-use Rattle.chain_through.proofs.Facts.{Laws, below_read, calls_above, facts_of}
+use Rattle.chain_through.proofs.Facts.{Laws, below_read, calls_above, deeds_of, facts_of}
+use Rattle.chain_through.proofs.Found.{found_number}
 use Rattle.chain_through.proofs.Fronts.{front_flat, front_then}
 use Rattle.chain_through.proofs.Given.{IsGiven, given_few, given_so}
 use Rattle.chain_through.proofs.Lost.{ended_lost}
-use Rattle.chain_through.proofs.Numbered.{length_numbered}
+use Rattle.chain_told.proofs.Numbered.{length_numbered}
 use Rattle.chain_through.proofs.OwnClosing.{EndLaws}
-use Rattle.chain_through.proofs.Renaming.{answering_more, renamed}
 use Rattle.chain_through.proofs.Spelling.{said_so}
 use Rattle.chain_through.proofs.Taking.{come_as}
-use Rattle.chain_through.proofs.Through.{way, way_down}
-use Rattle.chain_through.proofs.Ways.{Way, are_bound, calls_few}
+use Rattle.chain_through.proofs.Through.{few_above, way, way_down}
+use Rattle.chain_through.proofs.Ways.{calls_few}
 
--- ---- What comes down begins with a Hello
+-- ---- What is told rightly answers the commands that were sent
 
-begins_front : (xs ys : List Spoken) → IsFront xs ys → BeginsWithHello ys → BeginsWithHello xs
-begins_front [] ys p begins = tt
-begins_front (x ∷ xs) ys p begins = subst BeginsWithHello p.1 begins
+awaited_in : (given : List Asked) (count : ℕ) (before : List Spoken) (token : List ℕ) → length given ≤ count → IsOpen (numbered 1 given) before token → IsAwaited count before token
+awaited_in given count before token few o =
+    let n = found_number 1 token given o.command o.sent in
+    let below : n.number < 1 + length given = n.below in
+    record { number = n.number; numbered = n.is; counted = n.from; sent = omega arith; unanswered = o.unanswered }
 
-begins_behind : (own more : List Spoken) → BeginsWithHello own → (own ≡ [] → BeginsWithHello more) → BeginsWithHello (own ++ more)
-begins_behind [] more first begins = begins refl
-begins_behind (s ∷ own) more first begins = first
+owed_answers : (given : List Asked) (count : ℕ) (before : List Spoken) (m : MessageValue) → length given ≤ count → IsOwed (numbered 1 given) before m → IsAnswering count before m
+owed_answers given count before (command token service name body) few owed = owed
+owed_answers given count before (final token body) few owed = awaited_in given count before token few owed
+owed_answers given count before (progress token body) few owed = awaited_in given count before token few owed
+owed_answers given count before (not_known token) few owed = awaited_in given count before token few owed
+owed_answers given count before (event service name body) few owed = owed
+owed_answers given count before (flow level) few owed = owed
 
-begins_passed : (commands : List Asked) (said : List Spoken) → BeginsWithHello said → BeginsWithHello (passed commands said)
-begins_passed commands [] begins = tt
-begins_passed commands (s ∷ said) begins = subst (λ m. BeginsWithHello (renamed commands m s.mark ++ passed commands said)) (sym begins.1) (begins.0, refl)
+take_most : {A : Type 0} → (count : ℕ) (xs : List A) → length (take count xs) ≤ count
+take_most zero xs = omega arith
+take_most (suc count) [] = omega arith
+take_most (suc count) (x ∷ xs) = let rest = take_most count xs in omega arith
 
-heard_begins : (commands : List Asked) (lower : End) (calls : Calls commands lower.gave) (made : List Made) (said : List Spoken) → BeginsWithHello said → (w : Way commands lower calls made said) → BeginsWithHello (entering w.down)
-heard_begins commands lower calls made said begins w = ⊎_elim
-    (λ all. let others = passed (numbered (length w.took + 1) w.behind) said in
-    begins_front (entering w.down) (w.own ++ others) (w.bound all).comes_down (begins_behind w.own others w.begins (λ none. begins_passed (numbered (length w.took + 1) w.behind) said begins)))
-    (λ none. begins_front (entering w.down) w.own (w.unbound none).comes_down w.begins)
-    (are_bound made)
+told_answers : (images : List Image) (history : List Input) (commands : List Asked) (spoken told : List Spoken) → AreToldRightly images history (numbered 1 (given_of commands spoken)) told
+    → Answering (length (entering spoken) - 1) told
+told_answers images history commands spoken told each before rest s is =
+    owed_answers (given_of commands spoken) (length (entering spoken) - 1) before s.message (take_most (length (entering spoken) - 1) commands) (each before rest s is).owed
+
+-- and so many commands or more
+answers_more : (count most : ℕ) (before : List Spoken) (m : MessageValue) → count ≤ most → IsAnswering count before m → IsAnswering most before m
+answers_more count most before (command token service name body) few a = a
+answers_more count most before (final token body) few a = let sent : a.number ≤ count = a.sent in record { number = a.number; numbered = a.numbered; counted = a.counted; sent = omega arith; unanswered = a.unanswered }
+answers_more count most before (progress token body) few a = let sent : a.number ≤ count = a.sent in record { number = a.number; numbered = a.numbered; counted = a.counted; sent = omega arith; unanswered = a.unanswered }
+answers_more count most before (not_known token) few a = let sent : a.number ≤ count = a.sent in record { number = a.number; numbered = a.numbered; counted = a.counted; sent = omega arith; unanswered = a.unanswered }
+answers_more count most before (event service name body) few a = a
+answers_more count most before (flow level) few a = a
+
+pub answering_more : (count most : ℕ) (told : List Spoken) → count ≤ most → Answering count told → Answering most told
+answering_more count most told few answering before rest s is = answers_more count most before s.message few (answering before rest s is)
+
+answers_nothing : (count : ℕ) → Answering count []
+answers_nothing count [] rest s is = absurd cc
+answers_nothing count (x ∷ before) rest s is = absurd cc
 
 -- ---- An end that gave the end of the stream closed by its own side, where no fault closed it
 
@@ -122,23 +149,23 @@ record SoundWay (commands : List Asked) (lower : End) (calls : Calls commands lo
   comes : EndsSoundly commands lower calls made agent_ended
   silent : made ≡ [] → comes.is_ended ≡ true → entering comes.down ≡ []
 
-module _ (laws : Laws) (ends : EndLaws) where
+module _ (laws : Laws) (ends : EndLaws) (images : List Image) (history : List Input) (legal : IsLegal images history) where
   -- ---- The ends of a value-add
 
   lower_sound : (hop : Hop) (lower : End) (m : Made) (commands : List Asked) → HopCarries hop lower (end_below (past_of m)) → Calls commands lower.gave → IsSound (below (past_of m))
   lower_sound hop lower m commands carries calls =
       let all = calls_below (past_of m) in
       let queue = queue_of calls.spoken calls.is_ended in
-      let gave : IsFront (bytes_of lower.gave) (bytes_of queue) = front_flat (λ o. marked o.bytes o.mark) lower.gave queue calls.front in
+      let gave : IsFront (bytes_of lower.gave) (bytes_of queue) = front_flat (λ o. marked_bytes o.bytes o.mark) lower.gave queue calls.front in
       let came : IsFront (arrived all) (bytes_of queue) = front_then (arrived all) (bytes_of lower.gave) (bytes_of queue) carries.up_front gave in
       ends.lower_asked value_services None all calls.spoken calls.is_ended calls.services commands calls.formed came calls.says
 
-  upper_sound : (m : Made) (made : List Made) (agent_ended : Bool) (g : IsGiven (asked_since (past_of m)) (end_above (past_of m)).gave)
-      → EndsSoundly (asked_since (past_of m)) (end_above (past_of m)) g.calls made agent_ended → IsSound (above (past_of m))
+  upper_sound : (m : Made) (made : List Made) (agent_ended : Bool) (g : IsGiven (sent_in (deeds_of m)) (end_above (past_of m)).gave)
+      → EndsSoundly (sent_in (deeds_of m)) (end_above (past_of m)) g.calls made agent_ended → IsSound (above (past_of m))
   upper_sound m made agent_ended g rest =
       let r = above (past_of m) in
-      let few = given_few r (asked_since (past_of m)) (laws.upper_order value_services None (calls_above m)) (laws.upper_sends value_services None (calls_above m)) g in
-      let answering = answering_more 1 (length (entering g.calls.spoken) - 1) (length (sent_of r)) (entering rest.down) few rest.answering in
+      let few = given_few r (sent_in (deeds_of m)) (laws.upper_order value_services None (calls_above m)) (laws.upper_sends value_services None (calls_above m)) g in
+      let answering = answering_more (length (entering g.calls.spoken) - 1) (length (sent_of r)) (entering rest.down) few rest.answering in
       ends.upper_answered value_services None (calls_above m) rest.down rest.is_ended rest.formed rest.comes_down rest.begins answering
 
   -- ---- The commands that it takes
@@ -161,9 +188,6 @@ module _ (laws : Laws) (ends : EndLaws) where
       let most = calls_few commands lower calls in
       omega arith
 
-  few_since : (m : Made) → AreFew laws ends m.peer m.calls → length (asked_since (past_of m)) < 2 ^ 64
-  few_since m few = let both = few m.calls [] (sym (append-nil m.calls)) in omega arith
-
   -- ---- The end of the stream
 
   own_closing : (m : Made) → AddIsSound m → (below_read laws m).is_ended ≡ true → (below (past_of m)).end.state ≡ IsClosed Own
@@ -175,7 +199,7 @@ module _ (laws : Laws) (ends : EndLaws) where
       (λ number reason closed. sound.lower.protocol number reason (inr (inl closed))) (λ fault closed. sound.lower.stream fault (inr (inl closed)))
 
   -- that from above goes down
-  came_above : (m : Made) (made : List Made) (agent_ended : Bool) (calls : Calls (asked_since (past_of m)) (end_above (past_of m)).gave) (rest : SoundWay (asked_since (past_of m)) (end_above (past_of m)) calls made agent_ended)
+  came_above : (m : Made) (made : List Made) (agent_ended : Bool) (calls : Calls (sent_in (deeds_of m)) (end_above (past_of m)).gave) (rest : SoundWay (sent_in (deeds_of m)) (end_above (past_of m)) calls made agent_ended)
       → (past_of m).is_bound ≡ true → Contains (above (past_of m)).past.taken (taken.Closed Eos) → list_any was_lost_above (m ∷ made) ≡ true
   came_above m (n ∷ made) agent_ended calls rest bound among =
       let from = rest.comes in
@@ -190,7 +214,7 @@ module _ (laws : Laws) (ends : EndLaws) where
       let heard : list_any is_greeting r.past.taken ≡ (past_of m).is_bound = (facts_of laws m).heard in
       absurd cc
 
-  goes_down : (m : Made) (made : List Made) (agent_ended : Bool) (calls : Calls (asked_since (past_of m)) (end_above (past_of m)).gave) → SoundWay (asked_since (past_of m)) (end_above (past_of m)) calls made agent_ended → AddIsSound m → IsEndedAbove (past_of m) → list_any was_lost_above (m ∷ made) ≡ true
+  goes_down : (m : Made) (made : List Made) (agent_ended : Bool) (calls : Calls (sent_in (deeds_of m)) (end_above (past_of m)).gave) → SoundWay (sent_in (deeds_of m)) (end_above (past_of m)) calls made agent_ended → AddIsSound m → IsEndedAbove (past_of m) → list_any was_lost_above (m ∷ made) ≡ true
   goes_down m made agent_ended calls rest sound e = by_cause e.cause e.among e.other
     where
       by_cause : (cause : Cause) → Contains (above (past_of m)).past.taken (taken.Closed cause) → (cause ≡ Own → ⊥) → list_any was_lost_above (m ∷ made) ≡ true
@@ -204,12 +228,12 @@ module _ (laws : Laws) (ends : EndLaws) where
   -- ---- The whole way
 
   sound_way : (made : List Made) (lower agent : End) (hops : List Hop) (commands : List Asked) (said : List Spoken) → AllCarry lower hops made agent → (calls : Calls commands lower.gave) → length commands < 2 ^ 64
-      → (says : Says said agent.gave) → AskNothing said → ((top : List Asked) (up : Calls top (top_end lower made).gave) → Answering 1 (length (entering up.spoken) - 1) said) → BeginsWithHello said → (says.is_ended ≡ true → said ≡ [])
+      → (says : Says said agent.gave) → AskNothing said → AllByRecursion IsMarked said → IsSaidRightly images history lower made said → BeginsWithHello said → (says.is_ended ≡ true → said ≡ [])
       → SoundWay commands lower calls made says.is_ended
-  sound_way [] lower agent [] commands said carry calls few says quiet answers begins ended = absurd carry
-  sound_way [] lower agent (hop ∷ []) commands said carry calls few says quiet answers begins ended =
+  sound_way [] lower agent [] commands said carry calls few says quiet marked rightly begins ended = absurd carry
+  sound_way [] lower agent (hop ∷ []) commands said carry calls few says quiet marked rightly begins ended =
       let queue = queue_of says.spoken says.is_ended in
-      let gave : IsFront (bytes_of agent.gave) (bytes_of queue) = front_flat (λ o. marked o.bytes o.mark) agent.gave queue says.front in
+      let gave : IsFront (bytes_of agent.gave) (bytes_of queue) = front_flat (λ o. marked_bytes o.bytes o.mark) agent.gave queue says.front in
       record {
         comes = record {
           adds = tt;
@@ -218,12 +242,12 @@ module _ (laws : Laws) (ends : EndLaws) where
           formed = says.formed;
           comes_down = front_then lower.came (bytes_of agent.gave) (bytes_of queue) carry.down_front gave;
           begins = subst BeginsWithHello (sym says.says) begins;
-          answering = subst (λ xs. Answering 1 (length (entering calls.spoken) - 1) xs) (sym says.says) (answers commands calls);
+          answering = subst (Answering (length (entering calls.spoken) - 1)) (sym says.says) (told_answers images history commands calls.spoken said (rightly commands few calls));
           ended = λ is. is;
         };
         silent = λ none is. says.says ∙ ended is;
       }
-  sound_way [] lower agent (hop ∷ next ∷ hops) commands said carry calls few says quiet answers begins ended = record {
+  sound_way [] lower agent (hop ∷ next ∷ hops) commands said carry calls few says quiet marked rightly begins ended = record {
     comes = record {
       adds = tt;
       down = [];
@@ -231,40 +255,41 @@ module _ (laws : Laws) (ends : EndLaws) where
       formed = tt;
       comes_down = ([], sym (append-nil lower.came ∙ carry.0.1));
       begins = tt;
-      answering = tt;
+      answering = answers_nothing (length (entering calls.spoken) - 1);
       ended = λ is. absurd cc;
     };
     silent = λ none is. refl;
   }
-  sound_way (m ∷ made) lower agent [] commands said carry calls few says quiet answers begins ended = absurd carry
-  sound_way (m ∷ made) lower agent (hop ∷ hops) commands said carry calls few says quiet answers begins ended =
+  sound_way (m ∷ made) lower agent [] commands said carry calls few says quiet marked rightly begins ended = absurd carry
+  sound_way (m ∷ made) lower agent (hop ∷ hops) commands said carry calls few says quiet marked rightly begins ended =
       let p = past_of m in
       let can = below_read laws m in
       let queue = queue_of can.spoken can.is_ended in
       let up = calls_on laws m hops made agent said carry.1 says quiet in
-      let given = given_so (asked_since p) (end_above p).gave up.calls in
+      let given = given_so (sent_in (deeds_of m)) (end_above p).gave up.calls in
       let few_all = few_taken hop lower m commands carry.0 calls few in
-      let rest = sound_way made (end_above p) agent hops (asked_since p) said carry.1 given.calls (few_since m few_all) says quiet answers begins ended in
+      let few_up = few_above laws images history legal hop lower m commands carry.0 calls few in
+      let rest = sound_way made (end_above p) agent hops (sent_in (deeds_of m)) said carry.1 given.calls few_up says quiet marked rightly begins ended in
       let sound : AddIsSound m = record {
         lower = lower_sound hop lower m commands carry.0 calls;
         upper = upper_sound m made says.is_ended given rest.comes;
       } in
-      let through = way laws (m ∷ made) lower agent (hop ∷ hops) commands said carry calls says quiet answers in
-      let down : through.down ≡ can.spoken = way_down laws m made lower agent hop hops commands said carry calls says quiet answers in
+      let through = way laws images history legal (m ∷ made) lower agent (hop ∷ hops) commands said carry calls few says quiet marked rightly in
+      let down : through.down ≡ can.spoken = way_down laws images history legal m made lower agent hop hops commands said carry calls few says quiet marked rightly in
       record {
         comes = record {
           adds = (sound, rest.comes.adds);
           down = can.spoken;
           is_ended = can.is_ended;
           formed = can.well_formed;
-          comes_down = front_then lower.came (bytes_of (end_below p).gave) (bytes_of queue) carry.0.down_front (front_flat (λ o. marked o.bytes o.mark) (end_below p).gave queue (below_gives laws m));
-          begins = subst (λ spoken. BeginsWithHello (entering spoken)) down (heard_begins commands lower calls (m ∷ made) said begins through);
-          answering = subst (λ spoken. Answering 1 (length (entering calls.spoken) - 1) (entering spoken)) down through.answering;
+          comes_down = front_then lower.came (bytes_of (end_below p).gave) (bytes_of queue) carry.0.down_front (front_flat (λ o. marked_bytes o.bytes o.mark) (end_below p).gave queue (below_gives laws m));
+          begins = subst (λ spoken. BeginsWithHello (entering spoken)) down (through.greets begins);
+          answering = subst (λ spoken. Answering (length (entering calls.spoken) - 1) (entering spoken)) down (told_answers images history commands calls.spoken (entering through.down) through.told);
           ended = λ is. goes_down m made says.is_ended given.calls rest sound (closed_so laws ends m.peer m.calls few_all (own_closing m sound is));
         };
         silent = λ none is. absurd cc;
       }
 
-  pub comes_to_sound_ends : ComesToSoundEnds
-  comes_to_sound_ends lower agent hops made commands said carry calls few says quiet answers begins ended =
-      (sound_way made lower agent hops commands said carry calls few says quiet answers begins ended).comes
+pub comes_to_sound_ends : Laws → EndLaws → ComesToSoundEnds
+comes_to_sound_ends laws ends images history legal lower agent hops made commands said carry calls few says quiet marked rightly begins ended =
+    (sound_way laws ends images history legal made lower agent hops commands said carry calls few says quiet marked rightly begins ended).comes

@@ -5,14 +5,17 @@ use Rattle.tcf_message.specs.Fault.{IsReadBack}
 use Rattle.tcf_message.specs.Message.{IsWellFormed, event}
 use Rattle.channel_core.specs.QueueLaws.{QueuesNoCommand, QueuesWhatIsSent}
 use Rattle.channel_core.specs.ReceivingLaws.{CanBeRead, QueuesReadable, ReceivesInOrder, SendsReadable, WhereAQueueComes}
-use Rattle.channel_core.specs.RunLaws.{AfterAllCalls as AfterEndCalls, CountsAnswers, QueuesInOrder, SendsInOrder}
+use Rattle.channel_core.specs.RunLaws.{AfterAllCalls as AfterEndCalls, QueuesInOrder, SendsInOrder}
 use Rattle.channel_core.specs.Wire.{hello, locator}
 use Rattle.value_node.specs.ForwardedValue.{ForwardedValue}
 use Rattle.value_node.specs.OwnLaws.{AnswersItself, AsksNothingBelow}
-use Rattle.value_node.specs.RelayLaws.{AfterAllCalls, EndsAreRuns, ForwardsInOrder, PassesAllOn}
+use Rattle.knowledge.specs.Laws.{ReadIsKnown, RepliesStaySame}
+use Rattle.value_node.specs.Deeds.{Deed, deeds_from}
+use Rattle.value_node.specs.RelayLaws.{AfterAllCalls, AfterAllDeeds, AnswersRightly, EndsAreRuns, ForwardsInOrder, KnowsWhatItHeard, PassesAllOn}
 use Rattle.value_node.specs.Runs.{UpperCall, ValueRun, above, after_all, below, no_calls}
 use Rattle.value_node.specs.Value.{value_services}
 use Rattle.chain_route.specs.Carrying.{Made, past_of}
+use Rattle.chain_told.specs.TellsOn.{TellsOn}
 
 pub record Laws : Type 0 where
   pub lower_order : AfterEndCalls {T = Unit} QueuesInOrder
@@ -24,18 +27,26 @@ pub record Laws : Type 0 where
   pub lower_none : QueuesNoCommand Unit
   pub upper_plain : QueuesWhatIsSent ForwardedValue
   pub upper_sends : AfterEndCalls {T = ForwardedValue} SendsInOrder
-  pub upper_counts : AfterEndCalls {T = ForwardedValue} CountsAnswers
   pub read_back : IsReadBack
   pub runs : AfterAllCalls EndsAreRuns
-  pub forwards : AfterAllCalls ForwardsInOrder
-  pub passes : AfterAllCalls PassesAllOn
+  pub forwards : AfterAllDeeds ForwardsInOrder
+  pub passes : AfterAllDeeds PassesAllOn
   pub answers : AfterAllCalls AnswersItself
   pub asks_nothing : AfterAllCalls AsksNothingBelow
+  pub rightly : AfterAllDeeds AnswersRightly
+  pub knows : AfterAllDeeds KnowsWhatItHeard
+  pub tells_on : TellsOn
+  pub same_replies : RepliesStaySame
+  pub reads_known : ReadIsKnown
 
 -- ---- A value-add that was made
 
 abbrev pub run_of : Made → ValueRun
 run_of m = after_all m.calls (no_calls m.peer)
+
+-- what it has done since it was bound
+abbrev pub deeds_of : Made → List Deed
+deeds_of m = deeds_from m.calls (no_calls m.peer)
 
 -- the calls of its upper end since its last connection
 abbrev pub calls_above : Made → List UpperCall

@@ -14,7 +14,7 @@ use Rattle.channel_core.specs.declared.taking.Taken.TheVariants as taken
 use Rattle.channel_faults.specs.Faults.{is_ending}
 use Rattle.value_node.specs.ForwardedValue.{ForwardedValue}
 use Rattle.value_node.specs.Passing.{Upper}
-use Rattle.value_node.specs.Runs.{Call, Past, UpperCall, ValueRun, after_all, after_call, asked_above, bytes_end, closing_if, closing_in, comes, connects, fails, gives, reconnected, refusing, took_above_above, took_below_above, turns, upper_by, upper_from}
+use Rattle.value_node.specs.Runs.{Call, Past, UpperCall, ValueRun, after_all, after_call, asked_above, asked_above_in, bound_above, bytes_end, closing_if, closing_in, comes, connects, fails, gives, reconnected, refusing, stored_for, took_above_above, took_below_above, turns, upper_by, upper_from}
 use Rattle.value_node.specs.Value.{awaits, takes_above, takes_below}
 use Rattle.value_node.specs.declared.relay.Relay.{Relay}
 use Rattle.value_node.specs.declared.states.Bind.{Bind}
@@ -35,26 +35,33 @@ refusal_going : (refusal : Option SendRefusal) → AreGoing (closing_if refusal)
 refusal_going None = refl
 refusal_going (Some why) = refl
 
-asked_going : (r : Result MessageValue MessageFault) (mark : Option ℕ) (bind : Bind) (e : Upper) → AreGoing (asked_above r mark bind e)
-asked_going (Ok (command token service name body)) mark Unbound e = refl
-asked_going (Ok (command token service name body)) mark Opening e = refl
-asked_going (Ok (command token service name body)) mark Bound e = refusal_going (refusal_of _ e)
-asked_going (Ok (command token service name body)) mark Closed e = refl
-asked_going (Ok (final token body)) mark bind e = refl
-asked_going (Ok (progress token body)) mark bind e = refl
-asked_going (Ok (not_known token)) mark bind e = refl
-asked_going (Ok (event service name body)) mark bind e = refl
-asked_going (Ok (flow level)) mark bind e = refl
-asked_going (Err fault) mark bind e = refl
+stored_going : (stored : Option (List ℕ)) (token service name body : List ℕ) (mark : Option ℕ) (e : Upper) → AreGoing (bound_above stored token service name body mark e)
+stored_going None token service name body mark e = refusal_going (refusal_of _ e)
+stored_going (Some reply) token service name body mark e = refl
 
-below_going : (what : Option (Taken Unit)) (bind : Bind) (e : Upper) → AreGoing (took_below_above what bind e)
-below_going None bind e = refl
-below_going (Some (taken.Hello incoming)) bind e = refl
-below_going (Some (taken.Command incoming)) bind e = asked_going (reading incoming.raw) incoming.mark bind e
-below_going (Some (taken.Event incoming)) bind e = refl
-below_going (Some (taken.Progress token incoming)) bind e = refl
-below_going (Some (taken.Final tag incoming)) bind e = refl
-below_going (Some (taken.Closed cause)) bind e = refl
+bind_going : (bind : Bind) (token service name body : List ℕ) (mark : Option ℕ) (v : Relay) (e : Upper) → AreGoing (asked_above_in bind token service name body mark v e)
+bind_going Unbound token service name body mark v e = refl
+bind_going Opening token service name body mark v e = refl
+bind_going Bound token service name body mark v e = stored_going (stored_for service name body v) token service name body mark e
+bind_going Closed token service name body mark v e = refl
+
+asked_going : (r : Result MessageValue MessageFault) (mark : Option ℕ) (v : Relay) (e : Upper) → AreGoing (asked_above r mark v e)
+asked_going (Ok (command token service name body)) mark v e = bind_going v.bind token service name body mark v e
+asked_going (Ok (final token body)) mark v e = refl
+asked_going (Ok (progress token body)) mark v e = refl
+asked_going (Ok (not_known token)) mark v e = refl
+asked_going (Ok (event service name body)) mark v e = refl
+asked_going (Ok (flow level)) mark v e = refl
+asked_going (Err fault) mark v e = refl
+
+below_going : (what : Option (Taken Unit)) (v : Relay) (e : Upper) → AreGoing (took_below_above what v e)
+below_going None v e = refl
+below_going (Some (taken.Hello incoming)) v e = refl
+below_going (Some (taken.Command incoming)) v e = asked_going (reading incoming.raw) incoming.mark v e
+below_going (Some (taken.Event incoming)) v e = refl
+below_going (Some (taken.Progress token incoming)) v e = refl
+below_going (Some (taken.Final tag incoming)) v e = refl
+below_going (Some (taken.Closed cause)) v e = refl
 
 refusing_going : (r : Result MessageValue MessageFault) → AreGoing (refusing r)
 refusing_going (Ok (command token service name body)) = refl
@@ -86,7 +93,7 @@ calls_going (comes Below piece mark) v (Some e) none = refl
 calls_going (comes Above piece mark) v (Some e) none = refl
 calls_going (bytes_end Below) v (Some e) none = refl
 calls_going (bytes_end Above) v (Some e) none = absurd cc
-calls_going (turns Below) v (Some e) none = either_going (takes_below v.bind v.upper) (took_below_above (next_taken v.lower).0 v.bind e) (below_going (next_taken v.lower).0 v.bind e)
+calls_going (turns Below) v (Some e) none = either_going (takes_below v.bind v.upper) (took_below_above (next_taken v.lower).0 v e) (below_going (next_taken v.lower).0 v e)
 calls_going (turns Above) v (Some e) none = either_going (takes_above v.bind) _ (above_going (next_taken e).0 v.bind)
 calls_going connects v (Some e) none = refl
 calls_going fails v (Some e) none = refl

@@ -1,5 +1,5 @@
 -- What value-adds say themselves: it answers, in order, the commands that they took, also as others pass it on.
-use Rattle.std.proofs.Common.{◌≡◌, ℕ, suc, ◌+◌, ◌^◌, ◌<◌, ◌≤◌, List, [], ◌∷◌, ◌++◌, length, map, Option, Some, None, refl, sym, ap, ◌∙◌, subst, arith, append_assoc, append-nil, length-append}
+use Rattle.std.proofs.Common.{◌≡◌, ℕ, suc, ◌+◌, ◌^◌, ◌<◌, ◌≤◌, List, [], ◌∷◌, ◌++◌, length, map, Option, Some, None, refl, sym, ap, ◌∙◌, subst, arith, append_assoc, length-append}
 use Rattle.std.specs.Prelude.{decimal, option_to_list}
 use Rattle.std.specs.List.{AllByRecursion}
 use Rattle.tcf_message.specs.Message.{MessageValue, event, final, not_known}
@@ -10,11 +10,10 @@ use Rattle.value_node.specs.Own.{redirect_done}
 use Rattle.value_node.specs.OwnLaws.{IsBoundBy}
 use Rattle.value_node.specs.OwnMessages.{IsOwn, OwnStep, a_hello, a_result, an_unknown}
 use Rattle.value_node.specs.RelayLaws.{token_below}
-use Rattle.chain_through.specs.Calling.{Answering}
-use Rattle.chain_through.specs.Through.{numbered, passed}
-use Rattle.chain_through.proofs.Decimals.{decimal_next, last_same}
-use Rattle.chain_through.proofs.Numbered.{AreNext, numbered_append, numbered_first, numbered_next, numbered_parts, token_at, under}
-use Rattle.chain_through.proofs.Renaming.{AnsweringOne, passed_more, renamed, say}
+use Rattle.chain_told.specs.Told.{numbered}
+use Rattle.chain_told.proofs.Decimals.{decimal_next, last_same}
+use Rattle.chain_told.proofs.Numbered.{AreNext, numbered_append, numbered_first, numbered_next, numbered_parts, token_at, under}
+use Rattle.chain_through.proofs.Renaming.{passed, passed_more, renamed, say}
 use Rattle.chain_through.proofs.Spelling.{AreSpelled, IsSpelled}
 use Rattle.chain_through.proofs.Taking.{IsWritten}
 
@@ -49,51 +48,6 @@ pub own_spelled : (commands left : List Asked) (own : List Spoken) → AllByRecu
 own_spelled commands left [] written is = tt
 own_spelled commands left (s ∷ own) written is =
     let step = step_spelled commands s.message is.1.0 written is.1.1 in (step.0, own_spelled is.1.0 left own step.1 is.1.2)
-
--- ---- It answers the commands, and what answers those behind them may follow
-
--- what follows answers the commands that are left, which are those from this number on
-abbrev Follows : ℕ → ℕ → List Asked → List Spoken → Type 0
-Follows end count left said = (k : ℕ) (rest : List Asked) → left ≡ numbered k rest → k + length rest ≡ end → Answering k count said
-
-step_answers : (n count end : ℕ) (commands left next : List Asked) (m : MessageValue) (said : List Spoken) → n + length commands ≡ end → end ≤ count + 1 → OwnStep (numbered n commands) m next
-    → ((k : ℕ) (rest : List Asked) → k + length rest ≡ end → next ≡ numbered k rest → Answering k count said) → AnsweringOne n count m said
-step_answers n count end commands left next m said ends few (a_hello body is same) rest =
-    subst (λ x. AnsweringOne n count x said) (sym is) (rest n commands ends same)
-step_answers n count end commands left next m said ends few (a_result c body is at own) rest =
-    let f = numbered_first n commands c next own in
-    let many : length commands ≡ suc (length f.rest) = ap length f.are in
-    let within : n ≤ count = omega arith in
-    let further : (n + 1) + length f.rest ≡ end = omega arith in
-    subst (λ x. AnsweringOne n count x said) (sym is) (ap (λ x. x.token) f.is, within, rest (n + 1) f.rest further f.others)
-step_answers n count end commands left next m said ends few (an_unknown c is own) rest =
-    let f = numbered_first n commands c next own in
-    let many : length commands ≡ suc (length f.rest) = ap length f.are in
-    let within : n ≤ count = omega arith in
-    let further : (n + 1) + length f.rest ≡ end = omega arith in
-    subst (λ x. AnsweringOne n count x said) (sym is) (ap (λ x. x.token) f.is, within, rest (n + 1) f.rest further f.others)
-
-own_follows : (n count end : ℕ) (commands left : List Asked) (own said : List Spoken) → n + length commands ≡ end → end ≤ count + 1 → IsOwn (numbered n commands) own left → Follows end count left said
-    → Answering n count (own ++ said)
-own_follows n count end commands left [] said ends few is follows = follows n commands (sym is) ends
-own_follows n count end commands left (s ∷ own) said ends few is follows =
-    step_answers n count end commands left is.1.0 s.message (own ++ said) ends few is.1.1
-    (λ k rest e same. own_follows k count end rest left own said e few (subst (λ cs. IsOwn cs own left) same is.1.2) follows)
-
--- where nothing follows
-pub own_answers : (n count : ℕ) (commands left : List Asked) (own : List Spoken) → n + length commands ≤ count + 1 → IsOwn (numbered n commands) own left → Answering n count own
-own_answers n count commands left own few is =
-    subst (λ xs. Answering n count xs) (append-nil own) (own_follows n count (n + length commands) commands left own [] refl few is (λ k rest same e. tt))
-
--- where all of them are answered
-pub own_answered : (n count : ℕ) (commands : List Asked) (own said : List Spoken) → n + length commands ≤ count + 1 → IsOwn (numbered n commands) own [] → Answering (n + length commands) count said
-    → Answering n count (own ++ said)
-own_answered n count commands own said few is answering =
-    own_follows n count (n + length commands) commands [] own said refl few is (λ k rest same e. subst (λ j. Answering j count said) (ends k rest same e) answering)
-  where
-    ends : (k : ℕ) (rest : List Asked) → [] ≡ numbered k rest → k + length rest ≡ n + length commands → n + length commands ≡ k
-    ends k [] same e = omega arith
-    ends k (c ∷ rest) same e = absurd cc
 
 -- ---- It is passed on as what is said to the same commands, under the tokens that they have below
 

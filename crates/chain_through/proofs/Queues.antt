@@ -3,7 +3,7 @@ use Rattle.std.proofs.Common.{◌≡◌, ℕ, ◌&&◌, Bool, true, false, cond,
 use Rattle.std.specs.List.{filter}
 use Rattle.std.proofs.lemmas.List.Elements.{filter-append}
 use Rattle.tcf_message.specs.Message.{MessageValue, command, event, final, flow, not_known, progress}
-use Rattle.channel_core.specs.Arrivals.{Spoken, enters, queue_of}
+use Rattle.channel_core.specs.Arrivals.{AreSpoken, Spoken, enters, queue_of}
 use Rattle.channel_core.specs.Farewell.{leaving_behind}
 use Rattle.channel_core.specs.QueueLaws.{is_message, is_plain}
 use Rattle.channel_core.specs.RunLaws.{is_command}
@@ -11,6 +11,16 @@ use Rattle.channel_core.specs.Wire.{said}
 use Rattle.channel_core.specs.declared.held.Outgoing.{Outgoing}
 use Rattle.chain_through.specs.Calling.{AskNothing, asks, entering, greeting}
 use Rattle.chain_through.proofs.Spelling.{said_so}
+
+-- ---- What enters the inbox can be read too
+
+pub entering_formed : (spoken : List Spoken) → AreSpoken spoken → AreSpoken (entering spoken)
+entering_formed [] formed = tt
+entering_formed (s ∷ spoken) formed = by_flag (enters s.message) (entering_formed spoken formed.1)
+  where
+    by_flag : (flag : Bool) → AreSpoken (entering spoken) → AreSpoken (cond flag (s ∷ entering spoken) (entering spoken))
+    by_flag true rest = (formed.0, rest)
+    by_flag false rest = rest
 
 -- ---- What a queue says, by what it is
 

@@ -20,7 +20,7 @@ use Rattle.channel_core.specs.declared.taking.Taken.TheVariants as taken
 use Rattle.value_node.specs.ForwardedValue.{ForwardedValue}
 use Rattle.value_node.specs.Passing.{Upper}
 use Rattle.value_node.specs.RelayLaws.{AfterAllCalls, EndsAreRuns}
-use Rattle.value_node.specs.Runs.{Call, Past, UpperCall, ValueRun, above, after_all, after_call, asked_above, bytes_end, closing_if, comes, connects, fails, gives, no_calls, reconnected, refusing, took_above_above, took_below_above, turns, upper_after, upper_from, upper_on}
+use Rattle.value_node.specs.Runs.{Call, Past, UpperCall, ValueRun, above, after_all, after_call, asked_above, asked_above_in, bound_above, bytes_end, closing_if, comes, connects, fails, gives, no_calls, reconnected, refusing, stored_for, took_above_above, took_below_above, turns, upper_after, upper_from, upper_on}
 use Rattle.value_node.specs.Value.{awaits, takes_above, takes_below, value_services}
 use Rattle.value_node.specs.declared.relay.Relay.{Relay}
 use Rattle.value_node.specs.declared.states.Bind.{Bind}
@@ -123,30 +123,37 @@ SendsFor calls e = SendsRefusals calls (after_calls calls (begun e))
 quiet_for : (calls : List UpperCall) (e : Upper) → AreQuiet calls → SendsFor calls e
 quiet_for calls e quiet = quiet_sends calls quiet ∙ sym (ap (flat_map refused_by) (untaken calls (begun e) (quiet_untaking calls quiet)))
 
-below_quiet : (what : Option (Taken Unit)) (bind : Bind) (e : Upper) → AreQuiet (took_below_above what bind e)
-below_quiet None bind e = tt
-below_quiet (Some (taken.Command incoming)) bind e = by_reading (reading incoming.raw) bind
+below_quiet : (what : Option (Taken Unit)) (v : Relay) (e : Upper) → AreQuiet (took_below_above what v e)
+below_quiet None v e = tt
+below_quiet (Some (taken.Command incoming)) v e = by_reading (reading incoming.raw)
   where
     by_refusal : (refusal : Option SendRefusal) → AreQuiet (closing_if refusal)
     by_refusal None = tt
     by_refusal (Some why) = (tt, tt)
 
-    by_reading : (r : Result MessageValue MessageFault) (bind : Bind) → AreQuiet (asked_above r incoming.mark bind e)
-    by_reading (Ok (command token service name body)) Unbound = tt
-    by_reading (Ok (command token service name body)) Opening = tt
-    by_reading (Ok (command token service name body)) Bound = (tt, by_refusal (refusal_of (length service + length name + length body) e))
-    by_reading (Ok (command token service name body)) Closed = tt
-    by_reading (Ok (final token body)) bind = tt
-    by_reading (Ok (progress token body)) bind = tt
-    by_reading (Ok (not_known token)) bind = tt
-    by_reading (Ok (event service name body)) bind = tt
-    by_reading (Ok (flow level)) bind = tt
-    by_reading (Err fault) bind = tt
-below_quiet (Some (taken.Hello incoming)) bind e = tt
-below_quiet (Some (taken.Event incoming)) bind e = tt
-below_quiet (Some (taken.Progress token incoming)) bind e = tt
-below_quiet (Some (taken.Final tag incoming)) bind e = tt
-below_quiet (Some (taken.Closed cause)) bind e = (tt, tt)
+    by_store : (stored : Option (List ℕ)) (token service name body : List ℕ) → AreQuiet (bound_above stored token service name body incoming.mark e)
+    by_store None token service name body = (tt, by_refusal (refusal_of (length service + length name + length body) e))
+    by_store (Some reply) token service name body = tt
+
+    by_bind : (bind : Bind) (token service name body : List ℕ) → AreQuiet (asked_above_in bind token service name body incoming.mark v e)
+    by_bind Unbound token service name body = tt
+    by_bind Opening token service name body = tt
+    by_bind Bound token service name body = by_store (stored_for service name body v) token service name body
+    by_bind Closed token service name body = tt
+
+    by_reading : (r : Result MessageValue MessageFault) → AreQuiet (asked_above r incoming.mark v e)
+    by_reading (Ok (command token service name body)) = by_bind v.bind token service name body
+    by_reading (Ok (final token body)) = tt
+    by_reading (Ok (progress token body)) = tt
+    by_reading (Ok (not_known token)) = tt
+    by_reading (Ok (event service name body)) = tt
+    by_reading (Ok (flow level)) = tt
+    by_reading (Err fault) = tt
+below_quiet (Some (taken.Hello incoming)) v e = tt
+below_quiet (Some (taken.Event incoming)) v e = tt
+below_quiet (Some (taken.Progress token incoming)) v e = tt
+below_quiet (Some (taken.Final tag incoming)) v e = tt
+below_quiet (Some (taken.Closed cause)) v e = (tt, tt)
 
 -- behind an entry that was taken
 record AnswersIt (calls : List UpperCall) (what : Option (Taken ForwardedValue)) : Type 0 where
@@ -185,9 +192,9 @@ upper_sends (comes Below piece mark) v e = refl
 upper_sends (comes Above piece mark) v e = refl
 upper_sends (bytes_end Below) v e = refl
 upper_sends (bytes_end Above) v e = refl
-upper_sends (turns Below) v e = by_flag (takes_below v.bind v.upper) (quiet_for (took_below_above (next_taken v.lower).0 v.bind e) e (below_quiet (next_taken v.lower).0 v.bind e))
+upper_sends (turns Below) v e = by_flag (takes_below v.bind v.upper) (quiet_for (took_below_above (next_taken v.lower).0 v e) e (below_quiet (next_taken v.lower).0 v e))
   where
-    by_flag : (flag : Bool) → SendsFor (took_below_above (next_taken v.lower).0 v.bind e) e → SendsFor (cond flag (took_below_above (next_taken v.lower).0 v.bind e) []) e
+    by_flag : (flag : Bool) → SendsFor (took_below_above (next_taken v.lower).0 v e) e → SendsFor (cond flag (took_below_above (next_taken v.lower).0 v e) []) e
     by_flag true sends = sends
     by_flag false sends = refl
 upper_sends (turns Above) v e = by_flag (takes_above v.bind) (above_sends v.bind e)

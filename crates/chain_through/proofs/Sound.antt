@@ -1,10 +1,9 @@
--- An end to which a Hello and answers to its commands come, in order, closes by no fault of its other side, and neither does
--- one to which a Hello and commands come.
-use Rattle.std.proofs.Common.{◌≡◌, ℕ, zero, suc, ◌+◌, ◌-◌, ◌^◌, ◌<◌, ◌≤◌, ◌==◌, ◌&&◌, ◌||◌, Bool, true, false, List, [], ◌∷◌, ◌++◌, length, map, take, Option, ⊎_elim, refl, sym, ap, ◌∙◌, subst, arith, eqb-true, length-take}
+-- An end to which a Hello and answers to its commands come closes by no fault of its other side, and neither does one to which a
+-- Hello and commands come.
+use Rattle.std.proofs.Common.{◌≡◌, ℕ, zero, suc, ◌+◌, ◌-◌, ◌<◌, ◌≤◌, ◌==◌, ◌&&◌, ◌||◌, Bool, true, false, List, [], ◌∷◌, ◌++◌, length, map, take, Option, ⊎_elim, refl, sym, ap, ◌∙◌, subst, arith, eqb-true}
 use Rattle.std.specs.Prelude.{Contains, bytes_eq, decimal}
 use Rattle.std.specs.List.{AllByRecursion, flat_map, list_any, range_with_len}
 use Rattle.std.proofs.lemmas.Bool.{eqb-false}
-use Rattle.std.proofs.lemmas.Slice.Eq.{bytes_eq-Decides}
 use Rattle.tcf_message.specs.Fault.{IsReadBack}
 use Rattle.tcf_message.specs.Message.{IsWellFormed, MessageValue, command, event, final, flow, not_known, progress}
 use Rattle.channel_core.specs.Arrivals.{AreSpoken, IsFront, Spoken, arrived, bytes_of, queue_of}
@@ -22,13 +21,12 @@ use Rattle.channel_core.specs.declared.taking.Taken.TheVariants as taken
 use Rattle.channel_faults.specs.Faults.{FaultsAreThere, IsAwaited, IsFault, IsUnder}
 use Rattle.value_node.specs.Asked.{Asked}
 use Rattle.value_node.specs.OwnMessages.{BeginsWithHello}
-use Rattle.chain_through.specs.Calling.{Answering, all_asking, entering, greeting}
+use Rattle.chain_told.specs.Told.{ends, is_ended}
+use Rattle.chain_through.specs.Calling as calling
+use Rattle.chain_through.specs.Calling.{Answering, IsAnswering, all_asking, entering, greeting}
 use Rattle.chain_through.specs.Endings.{AnsweredIsSound, AskedIsSound, IsSound}
-use Rattle.chain_through.proofs.Above.{entering_formed}
-use Rattle.chain_through.proofs.Decimals.{decimal_one}
-use Rattle.chain_through.proofs.Few.{few_accepted}
 use Rattle.chain_through.proofs.Fronts.{front_each}
-use Rattle.chain_through.proofs.Renaming.{AnsweringOne}
+use Rattle.chain_through.proofs.Queues.{entering_formed}
 use Rattle.chain_through.proofs.Taking.{come_as}
 
 -- ---- The message that is the fault
@@ -154,41 +152,7 @@ asked_sound {T = T} back faults causes services mark calls spoken is_ended names
 
 -- ---- Where a Hello and answers come
 
--- the token of a final answer is that of an earlier command
-abbrev AnswersBelow : ℕ → MessageValue → Type 0
-AnswersBelow number (command token service name body) = Unit {0}
-AnswersBelow number (final token body) = (k : ℕ) × (token ≡ decimal k) × (k < number)
-AnswersBelow number (progress token body) = Unit {0}
-AnswersBelow number (not_known token) = (k : ℕ) × (token ≡ decimal k) × (k < number)
-AnswersBelow number (event service name body) = Unit {0}
-AnswersBelow number (flow level) = Unit {0}
-
--- behind the answers to the commands before one
-record IsReached (next count : ℕ) (before : List Spoken) (here : Spoken) (behind : List Spoken) : Type 0 where
-  number : ℕ
-  from : next ≤ number
-  answering : AnsweringOne number count here.message behind
-  earlier : AllByRecursion (λ s. AnswersBelow number s.message) before
-
-reached : (next count : ℕ) (before : List Spoken) (here : Spoken) (behind : List Spoken) → Answering next count (before ++ here ∷ behind) → IsReached next count before here behind
-reached next count [] here behind a = record { number = next; from = omega arith; answering = a; earlier = tt }
-reached next count (s ∷ before) here behind a =
-    let both = by_message s.message a (λ n rest. reached n count before here behind rest) in
-    record { number = both.0.number; from = both.0.from; answering = both.0.answering; earlier = (both.1, both.0.earlier) }
-  where
-    later : IsReached (next + 1) count before here behind → IsReached next count before here behind
-    later r = let more : next + 1 ≤ r.number = r.from in record { number = r.number; from = omega arith; answering = r.answering; earlier = r.earlier }
-
-    by_message : (m : MessageValue) → AnsweringOne next count m (before ++ here ∷ behind) → ((n : ℕ) → Answering n count (before ++ here ∷ behind) → IsReached n count before here behind)
-        → (r : IsReached next count before here behind) × AnswersBelow r.number m
-    by_message (command token service name body) a rest = absurd a
-    by_message (final token body) a rest = let r = rest (next + 1) a.2 in let more : next + 1 ≤ r.number = r.from in (later r, (next, a.0, omega arith))
-    by_message (progress token body) a rest = (rest next a.2, tt)
-    by_message (not_known token) a rest = let r = rest (next + 1) a.2 in let more : next + 1 ≤ r.number = r.from in (later r, (next, a.0, omega arith))
-    by_message (event service name body) a rest = (rest next a, tt)
-    by_message (flow level) a rest = absurd a
-
--- none of these is the answer to the command with this token
+-- a message that isn't the answer under a token has no such token
 abbrev is_its : ℕ → List ℕ → Bool
 is_its number text = bytes_eq text (decimal number)
 
@@ -196,29 +160,24 @@ no_event_token : (number : ℕ) (is_hello : Bool) → list_any (is_its number) (
 no_event_token number true = refl
 no_event_token number false = refl
 
-other_token : (number : ℕ) (token : List ℕ) → number < 10 ^ 64 → (k : ℕ) × (token ≡ decimal k) × (k < number) → (is_its number token || false) ≡ false
-other_token number token small below = by_flag (is_its number token) refl
-  where
-    by_flag : (flag : Bool) → is_its number token ≡ flag → (flag || false) ≡ false
-    by_flag true is =
-        let less : below.0 < number = below.2 in
-        let same : below.0 ≡ number = decimal_one below.0 number (omega arith) small (sym below.1 ∙ (bytes_eq-Decides token (decimal number)).0 is) in
-        absurd (omega arith)
-    by_flag false is = refl
+none_ends : (number : ℕ) (m : MessageValue) → ends (decimal number) m ≡ false → list_any (is_its number) (token_in (said_by m)) ≡ false
+none_ends number (command token service name body) none = refl
+none_ends number (final token body) none = ap (λ b. b || false) none
+none_ends number (progress token body) none = refl
+none_ends number (not_known token) none = ap (λ b. b || false) none
+none_ends number (event service name body) none = no_event_token number (bytes_eq service locator && bytes_eq name hello)
+none_ends number (flow level) none = refl
 
-others_said : (number : ℕ) (m : MessageValue) → number < 10 ^ 64 → AnswersBelow number m → list_any (is_its number) (token_in (said_by m)) ≡ false
-others_said number (command token service name body) small below = refl
-others_said number (final token body) small below = other_token number token small below
-others_said number (progress token body) small below = refl
-others_said number (not_known token) small below = other_token number token small below
-others_said number (event service name body) small below = no_event_token number (bytes_eq service locator && bytes_eq name hello)
-others_said number (flow level) small below = refl
+neither : (a b : Bool) → (a || b) ≡ false → (a ≡ false) × (b ≡ false)
+neither true b none = absurd cc
+neither false b none = (refl, none)
 
-others_came : IsReadBack → (number : ℕ) (before : List Spoken) → number < 10 ^ 64 → AreSpoken before → AllByRecursion (λ s. AnswersBelow number s.message) before
+others_came : IsReadBack → (number : ℕ) (before : List Spoken) → AreSpoken before → is_ended (decimal number) before ≡ false
     → AllByRecursion (λ i. list_any (is_its number) (token_in (said_in i.raw)) ≡ false) (map come_as before)
-others_came back number [] small formed each = tt
-others_came back number (s ∷ before) small formed each =
-    (ap (λ what. list_any (is_its number) (token_in what)) (heard_as back s formed.0) ∙ others_said number s.message small each.0, others_came back number before small formed.1 each.1)
+others_came back number [] formed none = tt
+others_came back number (s ∷ before) formed none =
+    let both = neither (ends (decimal number) s.message) (is_ended (decimal number) before) none in
+    (ap (λ what. list_any (is_its number) (token_in what)) (heard_as back s formed.0) ∙ none_ends number s.message both.0, others_came back number before formed.1 both.1)
 
 unanswered : {T : Type 0} → (number : ℕ) (entries : List (Taken T)) → AllByRecursion (λ i. list_any (is_its number) (token_in (said_in i.raw)) ≡ false) (flat_map incoming_of entries) → is_answered entries number ≡ false
 unanswered number [] none = refl
@@ -264,46 +223,47 @@ module _ {T : Type 0} (back : IsReadBack) (counts : AfterAllCalls {T = T} Counts
   abbrev after_these : Run T
   after_these = after_calls calls (begun (new_end services mark))
 
-  awaited_so : (number : ℕ) (token : List ℕ) (before : List Spoken) → token ≡ decimal number → 1 ≤ number → number ≤ length (sent_of after_these) → AreSpoken before
-      → AllByRecursion (λ s. AnswersBelow number s.message) before → flat_map incoming_of after_these.past.taken ≡ map come_as before → IsAwaited token after_these
-  awaited_so number token before is low high formed earlier taken_are =
+  awaited_so : (token : List ℕ) (before : List Spoken) → AreSpoken before → calling.IsAwaited (length (sent_of after_these)) before token
+      → flat_map incoming_of after_these.past.taken ≡ map come_as before → IsAwaited token after_these
+  awaited_so token before formed a taken_are =
       let r = after_these in
-      let few = few_accepted counts services mark calls in
       let size = length r.past.accepted - length r.end.held in
-      let many : length (sent_of r) ≤ length r.past.accepted = omega (arith, length-take size r.past.accepted) in
-      let small : number < 10 ^ 64 = omega arith in
-      let within : number < 1 + length (take size r.past.accepted) = omega arith in
-      let s = sent_under 1 number size r.past.accepted (counts services mark calls).tokens low within in
-      let none = unanswered number r.past.taken (subst (AllByRecursion (λ i. list_any (is_its number) (token_in (said_in i.raw)) ≡ false)) (sym taken_are) (others_came back number before small formed earlier)) in
+      let high : a.number ≤ length (sent_of after_these) = a.sent in
+      let within : a.number < 1 + length (take size r.past.accepted) = omega arith in
+      let s = sent_under 1 a.number size r.past.accepted (counts services mark calls).tokens a.counted within in
+      let open_still : is_ended (decimal a.number) before ≡ false = ap (λ t. is_ended t before) (sym a.numbered) ∙ a.unanswered in
+      let none = unanswered a.number r.past.taken (subst (AllByRecursion (λ i. list_any (is_its a.number) (token_in (said_in i.raw)) ≡ false)) (sym taken_are) (others_came back a.number before formed open_still)) in
       record {
         command = s.command;
         sent = s.is_sent;
-        token_is = is ∙ ap (λ n. decimal n) (sym s.token_is);
+        token_is = a.numbered ∙ ap (λ n. decimal n) (sym s.token_is);
         unanswered = ap (λ n. is_answered r.past.taken n) s.token_is ∙ none;
       }
 
-  all_awaited : (spoken : List Spoken) → AreSpoken spoken → Answering 1 (length (sent_of after_these)) spoken → AreAwaited spoken after_these
+  all_awaited : (spoken : List Spoken) → AreSpoken spoken → Answering (length (sent_of after_these)) spoken → AreAwaited spoken after_these
   all_awaited spoken formed answering before here behind are taken_are token under =
-      let reach = reached 1 (length (sent_of after_these)) before here behind (subst (λ xs. Answering 1 (length (sent_of after_these)) xs) are answering) in
       let formed_before = (each_before (λ s. IsWellFormed s.message) before here behind (subst AreSpoken are formed)).0 in
-      by_message here.message reach.number reach.from formed_before reach.earlier reach.answering under
+      by_message here.message formed_before (answering before behind here are) under
     where
-      by_message : (m : MessageValue) (number : ℕ) → 1 ≤ number → AreSpoken before → AllByRecursion (λ s. AnswersBelow number s.message) before → AnsweringOne number (length (sent_of after_these)) m behind → IsUnder token (said_by m) → IsAwaited token after_these
-      by_message (command other service name body) number low formed earlier a under = absurd a
-      by_message (final other body) number low formed earlier a under = ⊎_elim
+      so : (other : List ℕ) → AreSpoken before → calling.IsAwaited (length (sent_of after_these)) before other → other ≡ token → IsAwaited token after_these
+      so other formed a same = awaited_so token before formed (subst (calling.IsAwaited (length (sent_of after_these)) before) same a) taken_are
+
+      by_message : (m : MessageValue) → AreSpoken before → IsAnswering (length (sent_of after_these)) before m → IsUnder token (said_by m) → IsAwaited token after_these
+      by_message (command other service name body) formed a under = absurd a
+      by_message (final other body) formed a under = ⊎_elim
           (λ one. absurd cc)
-          (λ one. let whole : answers other (is_done body) ≡ answers token one.0 = one.1 in let same : other ≡ token = cc in awaited_so number token before (sym same ∙ a.0) low a.1 formed earlier taken_are)
+          (λ one. let whole : answers other (is_done body) ≡ answers token one.0 = one.1 in let same : other ≡ token = cc in so other formed a same)
           under
-      by_message (progress other body) number low formed earlier a under = ⊎_elim
-          (λ one. let whole : goes_on other ≡ goes_on token = one in let same : other ≡ token = cc in awaited_so number token before (sym same ∙ a.0) low a.1 formed earlier taken_are)
+      by_message (progress other body) formed a under = ⊎_elim
+          (λ one. let whole : goes_on other ≡ goes_on token = one in let same : other ≡ token = cc in so other formed a same)
           (λ one. let whole : goes_on other ≡ answers token one.0 = one.1 in absurd cc)
           under
-      by_message (not_known other) number low formed earlier a under = ⊎_elim
+      by_message (not_known other) formed a under = ⊎_elim
           (λ one. absurd cc)
-          (λ one. let whole : answers other false ≡ answers token one.0 = one.1 in let same : other ≡ token = cc in awaited_so number token before (sym same ∙ a.0) low a.1 formed earlier taken_are)
+          (λ one. let whole : answers other false ≡ answers token one.0 = one.1 in let same : other ≡ token = cc in so other formed a same)
           under
-      by_message (event service name body) number low formed earlier a under = absurd (event_under (bytes_eq service locator && bytes_eq name hello) token under)
-      by_message (flow level) number low formed earlier a under = absurd a
+      by_message (event service name body) formed a under = absurd (event_under (bytes_eq service locator && bytes_eq name hello) token under)
+      by_message (flow level) formed a under = absurd a
 
 pub answered_sound : {T : Type 0} → IsReadBack → WhereAQueueComes {T = T} FaultsAreThere → WhereAQueueComes {T = T} EndsFairly → AfterAllCalls {T = T} CountsAnswers → AnsweredIsSound T
 answered_sound back faults causes counts services mark calls spoken is_ended formed came begins answering =

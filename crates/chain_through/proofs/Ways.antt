@@ -1,22 +1,27 @@
--- What comes through a way, with how many commands were sent; and the way without value-adds.
+-- What comes through a way, and the way without value-adds.
 use Rattle.std.proofs.Common.{◌≡◌, ℕ, suc, ◌+◌, ◌-◌, ◌≤◌, Bool, true, false, ◌⊎◌, inl, inr, List, [], ◌∷◌, ◌++◌, length, map, refl, sym, ap, ◌∙◌, subst, arith, append-nil}
-use Rattle.channel_core.specs.Arrivals.{AreSpoken, IsFront, Spoken, bytes_of, marked, queue_of}
+use Rattle.std.specs.List.{AllByRecursion}
+use Rattle.channel_core.specs.Arrivals.{AreSpoken, IsFront, Spoken, bytes_of, marked as marked_bytes, queue_of}
+use Rattle.target_contexts.specs.declared.process.Image.{Image}
+use Rattle.target_hub.specs.declared.input.Input.{Input}
 use Rattle.value_node.specs.Asked.{Asked}
 use Rattle.value_node.specs.OwnLaws.{IsBoundBy}
 use Rattle.value_node.specs.OwnMessages.{BeginsWithHello, IsOwn}
-use Rattle.chain_route.specs.Carrying.{End, HopCarries, IsUnused, Made, past_of}
+use Rattle.chain_route.specs.Carrying.{End, HopCarries, IsUnused, Made, past_of, value_of}
 use Rattle.chain_route.specs.declared.hop.Hop.{Hop}
-use Rattle.chain_through.specs.Calling.{Answering, Calls, Says, all_asking, entering, greeting}
-use Rattle.chain_through.specs.Through.{AreBound, Through, content, numbered, passed, top_end}
+use Rattle.chain_told.specs.Told.{AreToldRightly, numbered, owed_in}
+use Rattle.chain_through.specs.Calling.{Calls, Says, all_asking, entering, given_of, greeting}
+use Rattle.chain_through.specs.Through.{AreBound, ComeDown, GoUp, IsMarked, KnowsTruth, Through, content, is_storable_content, top_end}
+use Rattle.chain_through.proofs.Doing.{without_same}
 use Rattle.chain_through.proofs.Fronts.{front_flat, front_length, front_then}
-use Rattle.chain_through.proofs.Numbered.{numbered_append}
+use Rattle.chain_told.proofs.Numbered.{numbered_append}
 use Rattle.chain_through.proofs.Owning.{own_behind}
-use Rattle.chain_through.proofs.Renaming.{passed_same}
 
-pub record WayBound (made : List Made) (took behind left top : List Asked) (own said heard : List Spoken) : Type 0 where
+pub record WayBound (commands : List Asked) (made : List Made) (took behind left top : List Asked) (own said heard : List Spoken) : Type 0 where
   pub all : left ≡ []
-  pub goes_up : IsFront (map content top) (map content behind)
-  pub comes_down : IsFront heard (own ++ passed (numbered (length took + 1) behind) said)
+  pub goes_up : GoUp behind top
+  pub comes_down : ComeDown own heard
+  pub owed : IsFront (owed_in (numbered 1 commands) heard) (owed_in (numbered 1 top) said)
   pub alone : made ≡ [] → (took ≡ []) × (own ≡ [])
   pub bound_by : (made ≡ [] → ⊥) → IsBoundBy own (numbered 1 took)
 
@@ -24,30 +29,31 @@ pub record WayUnbound (top : List Asked) (own heard : List Spoken) : Type 0 wher
   pub silent : top ≡ []
   pub comes_down : IsFront heard own
 
--- the first commands were taken by the value-adds themselves, and were sent, as were those that came up to the agent
-pub record Way (commands : List Asked) (lower : End) (calls : Calls commands lower.gave) (made : List Made) (said : List Spoken) : Type 0 where
+-- the first commands were taken by the value-adds themselves
+pub record Way (images : List Image) (history : List Input) (commands : List Asked) (lower : End) (calls : Calls commands lower.gave) (made : List Made) (said : List Spoken) : Type 0 where
   pub top : List Asked
   pub goes_up : Calls top (top_end lower made).gave
-  pub top_few : length (entering goes_up.spoken) - 1 ≤ length (entering calls.spoken) - 1
   pub down : List Spoken
   pub is_ended : Bool
   pub formed : AreSpoken down
   pub comes_down : IsFront lower.came (bytes_of (queue_of down is_ended))
-  pub answering : Answering 1 (length (entering calls.spoken) - 1) (entering down)
+  pub told : AreToldRightly images history (numbered 1 (given_of commands calls.spoken)) (entering down)
+  pub greets : BeginsWithHello said → BeginsWithHello (entering down)
   pub own : List Spoken
   pub own_formed : AreSpoken own
   pub begins : BeginsWithHello own
   pub took : List Asked
   pub behind : List Asked
   pub split : commands ≡ took ++ behind
-  pub few : length took ≤ length (entering calls.spoken) - 1
   pub left : List Asked
   pub is_own : IsOwn (numbered 1 took) own left
-  pub bound : AreBound made → WayBound made took behind left top own said (entering down)
+  pub adds : AllByRecursion (λ m. KnowsTruth images history (value_of m)) made
+  pub bound : AreBound made → WayBound commands made took behind left top own said (entering down)
   pub unbound : (AreBound made → ⊥) → WayUnbound top own (entering down)
 
-pub through_way : (commands : List Asked) (lower : End) (calls : Calls commands lower.gave) (made : List Made) (said : List Spoken) → Way commands lower calls made said → Through commands lower calls made said
-through_way commands lower calls made said w =
+pub through_way : (images : List Image) (history : List Input) (commands : List Asked) (lower : End) (calls : Calls commands lower.gave) (made : List Made) (said : List Spoken)
+    → Way images history commands lower calls made said → Through images history commands lower calls made said
+through_way images history commands lower calls made said w =
     let others = numbered (1 + length w.took) w.behind in
     let commands_are : numbered 1 commands ≡ numbered 1 w.took ++ others = ap (λ cs. numbered 1 cs) w.split ∙ numbered_append 1 w.took w.behind in
     record {
@@ -57,10 +63,11 @@ through_way commands lower calls made said w =
       is_ended = w.is_ended;
       formed = w.formed;
       comes_down = w.comes_down;
-      answering = w.answering;
+      told = w.told;
       own = w.own;
       own_formed = w.own_formed;
       begins = w.begins;
+      adds = w.adds;
       bound = λ all. let b = w.bound all in record {
         answered = w.took;
         later = w.behind;
@@ -68,6 +75,7 @@ through_way commands lower calls made said w =
         goes_up = b.goes_up;
         is_own = subst (λ cs. IsOwn (numbered 1 w.took) w.own cs) b.all w.is_own;
         comes_down = b.comes_down;
+        owed = b.owed;
         alone = b.alone;
         bound_by = b.bound_by;
       };
@@ -104,63 +112,73 @@ calls_few commands end calls =
 
 -- ---- Without value-adds
 
-pub way_none : (hop : Hop) (lower agent : End) (commands : List Asked) (said : List Spoken) → HopCarries hop lower agent → (calls : Calls commands lower.gave) → Says said agent.gave
-    → Answering 1 (length (entering calls.spoken) - 1) said → Way commands lower calls [] said
-way_none hop lower agent commands said carries calls says answering =
+all_go_up : (commands : List Asked) → GoUp commands commands
+all_go_up commands = record { asked = map content commands; front = ([], sym (append-nil (map content commands))); sent = without_same is_storable_content (map content commands) }
+
+pub way_none : (images : List Image) (history : List Input) (hop : Hop) (lower agent : End) (commands : List Asked) (said : List Spoken) → HopCarries hop lower agent → (calls : Calls commands lower.gave) → Says said agent.gave
+    → AllByRecursion IsMarked said → AreToldRightly images history (numbered 1 (given_of commands calls.spoken)) said → Way images history commands lower calls [] said
+way_none images history hop lower agent commands said carries calls says marked told =
     let queue = queue_of says.spoken says.is_ended in
-    let gave : IsFront (bytes_of agent.gave) (bytes_of queue) = front_flat (λ o. marked o.bytes o.mark) agent.gave queue says.front in
+    let gave : IsFront (bytes_of agent.gave) (bytes_of queue) = front_flat (λ o. marked_bytes o.bytes o.mark) agent.gave queue says.front in
     record {
       top = commands;
       goes_up = calls;
-      top_few = omega arith;
       down = says.spoken;
       is_ended = says.is_ended;
       formed = says.formed;
       comes_down = front_then lower.came (bytes_of agent.gave) (bytes_of queue) carries.down_front gave;
-      answering = subst (λ xs. Answering 1 (length (entering calls.spoken) - 1) xs) (sym says.says) answering;
+      told = subst (AreToldRightly images history (numbered 1 (given_of commands calls.spoken))) (sym says.says) told;
+      greets = λ begins. subst BeginsWithHello (sym says.says) begins;
       own = [];
       own_formed = tt;
       begins = tt;
       took = [];
       behind = commands;
       split = refl;
-      few = omega arith;
       left = [];
       is_own = refl;
+      adds = tt;
       bound = λ all. record {
         all = refl;
-        goes_up = ([], sym (append-nil (map content commands)));
-        comes_down = ([], passed_same commands 1 (length (entering calls.spoken) - 1) said answering ∙ sym says.says ∙ sym (append-nil (entering says.spoken)));
+        goes_up = all_go_up commands;
+        comes_down = record { target = said; marked = marked; front = ([], sym says.says ∙ sym (append-nil (entering says.spoken))) };
+        owed = ([], ap (owed_in (numbered 1 commands)) (sym says.says) ∙ sym (append-nil (owed_in (numbered 1 commands) (entering says.spoken))));
         alone = λ none. (refl, refl);
         bound_by = λ some. absurd (some refl);
       };
       unbound = λ none. absurd (none tt);
     }
 
+nothing_told : (images : List Image) (history : List Input) (commands : List Asked) → AreToldRightly images history commands []
+nothing_told images history commands [] rest s are = absurd cc
+nothing_told images history commands (x ∷ before) rest s are = absurd cc
+
 -- no connection leads to the agent
-pub way_unused : (lower : End) (commands : List Asked) (said : List Spoken) → IsUnused lower → (calls : Calls commands lower.gave) → Way commands lower calls [] said
-way_unused lower commands said unused calls = record {
+pub way_unused : (images : List Image) (history : List Input) (lower : End) (commands : List Asked) (said : List Spoken) → IsUnused lower → (calls : Calls commands lower.gave) → AllByRecursion IsMarked said
+    → Way images history commands lower calls [] said
+way_unused images history lower commands said unused calls marked = record {
   top = commands;
   goes_up = calls;
-  top_few = omega arith;
   down = [];
   is_ended = false;
   formed = tt;
   comes_down = ([], sym (append-nil lower.came ∙ unused.1));
-  answering = tt;
+  told = nothing_told images history (numbered 1 (given_of commands calls.spoken));
+  greets = λ begins. tt;
   own = [];
   own_formed = tt;
   begins = tt;
   took = [];
   behind = commands;
   split = refl;
-  few = omega arith;
   left = [];
   is_own = refl;
+  adds = tt;
   bound = λ all. record {
     all = refl;
-    goes_up = ([], sym (append-nil (map content commands)));
-    comes_down = (passed (numbered 1 commands) said, refl);
+    goes_up = all_go_up commands;
+    comes_down = record { target = said; marked = marked; front = (said, refl) };
+    owed = (owed_in (numbered 1 commands) said, refl);
     alone = λ none. (refl, refl);
     bound_by = λ some. absurd (some refl);
   };

@@ -1,11 +1,12 @@
 -- What goes up a hop, and what comes down it, flow control and the end of the stream aside.
-use Rattle.std.specs.Prelude.{ℕ, ◌≡◌, ◌+◌, ◌≤◌, Bool, true, false, List, [], ◌∷◌, decimal, filter, None}
+use Rattle.std.specs.Prelude.{ℕ, ◌≡◌, ◌+◌, ◌-◌, ◌≤◌, Bool, true, false, List, [], ◌∷◌, ◌++◌, decimal, filter, length, take, None}
 use Rattle.std.specs.List.{AllByRecursion}
 use Rattle.channel_core.specs.Arrivals.{AreSpoken, IsFront, Spoken, enters, queue_of}
 use Rattle.channel_core.specs.Wire.{hello, locator}
 use Rattle.channel_core.specs.declared.held.Outgoing.{Outgoing}
 use Rattle.tcf_message.specs.Message.{MessageValue, command, event, final, flow, not_known, progress}
 use Rattle.value_node.specs.Asked.{Asked}
+use Rattle.chain_told.specs.Told.{is_ended}
 
 abbrev pub entering : List Spoken → List Spoken
 entering spoken = filter (λ s. enters s.message) spoken
@@ -33,22 +34,32 @@ pub record Calls (commands : List Asked) (gave : List Outgoing) : Type 0 where
   pub services : List ℕ
   pub says : IsFront (entering spoken) (greeting services ∷ all_asking 1 commands)
 
--- ---- down: answers to commands, in order
+-- the commands that were given, of these
+abbrev pub given_of : List Asked → List Spoken → List Asked
+given_of commands spoken = take (length (entering spoken) - 1) commands
 
--- one message, to which the first command without an answer has this token; and what holds from a token on of those behind it
-abbrev pub AnsweringWith : ℕ → ℕ → MessageValue → (ℕ → Type 0) → Type 0
-AnsweringWith next count (command token service name body) behind = ⊥
-AnsweringWith next count (final token body) behind = (token ≡ decimal next) × (next ≤ count) × behind (next + 1)
-AnsweringWith next count (progress token body) behind = (token ≡ decimal next) × (next ≤ count) × behind next
-AnsweringWith next count (not_known token) behind = (token ≡ decimal next) × (next ≤ count) × behind (next + 1)
-AnsweringWith next count (event service name body) behind = behind next
-AnsweringWith next count (flow level) behind = ⊥
+-- ---- down: answers to commands
 
--- Events, and progress and answers to the commands from this token on, of which there are so many: each answer is that to the
--- first command that has none yet, and so is progress. Nothing is asked.
-abbrev pub Answering : ℕ → ℕ → List Spoken → Type 0
-Answering next count [] = Unit {0}
-Answering next count (s ∷ spoken) = AnsweringWith next count s.message (λ n. Answering n count spoken)
+-- a token that so many commands have, of one that has no answer yet
+pub record IsAwaited (count : ℕ) (before : List Spoken) (token : List ℕ) : Type 0 where
+  pub number : ℕ
+  pub numbered : token ≡ decimal number
+  pub counted : 1 ≤ number
+  pub sent : number ≤ count
+  pub unanswered : is_ended token before ≡ false
+
+-- an answer and progress are those of such a command; nothing is asked
+abbrev pub IsAnswering : ℕ → List Spoken → MessageValue → Type 0
+IsAnswering count before (command token service name body) = ⊥
+IsAnswering count before (final token body) = IsAwaited count before token
+IsAnswering count before (progress token body) = IsAwaited count before token
+IsAnswering count before (not_known token) = IsAwaited count before token
+IsAnswering count before (event service name body) = Unit {0}
+IsAnswering count before (flow level) = ⊥
+
+-- Events, and progress and answers to so many commands, each of which is answered once, in any order.
+abbrev pub Answering : ℕ → List Spoken → Type 0
+Answering count said = (before rest : List Spoken) (s : Spoken) → said ≡ before ++ s ∷ rest → IsAnswering count before s.message
 
 abbrev pub asks : MessageValue → Bool
 asks (command token service name body) = true

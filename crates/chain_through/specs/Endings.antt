@@ -11,11 +11,14 @@ use Rattle.channel_core.specs.declared.states.Reason.{Reason}
 use Rattle.stream_escape.specs.declared.stream.StreamFault.{StreamFault}
 use Rattle.chain_route.specs.Carrying.{AllCarry, End, Made, past_of, was_lost_above}
 use Rattle.chain_route.specs.declared.hop.Hop.{Hop}
+use Rattle.target_contexts.specs.declared.process.Image.{Image}
+use Rattle.target_hub.specs.History.{IsLegal}
+use Rattle.target_hub.specs.declared.input.Input.{Input}
 use Rattle.value_node.specs.Asked.{Asked}
 use Rattle.value_node.specs.OwnMessages.{BeginsWithHello}
 use Rattle.value_node.specs.Runs.{above, below}
 use Rattle.chain_through.specs.Calling.{Answering, AskNothing, Calls, Says, all_asking, entering, greeting}
-use Rattle.chain_through.specs.Through.{top_end}
+use Rattle.chain_through.specs.Through.{IsMarked, IsSaidRightly}
 
 -- ---- one end
 
@@ -24,11 +27,11 @@ pub record IsSound {T : Type 0} (r : Run T) : Type 0 where
   pub protocol : (number : ℕ) (reason : Reason) → EndsFor r (Protocol number reason) → ⊥
   pub stream : (fault : StreamFault) → EndsFor r (Stream fault) → ⊥
 
--- An end to which a Hello and answers come, in order, to commands that it sent.
+-- An end to which a Hello and answers come to commands that it sent.
 abbrev pub AnsweredIsSound : Type 0 → Type 0
 AnsweredIsSound T = (hello : List ℕ) (mark : Option ℕ) (calls : List (EndCall T)) (spoken : List Spoken) (is_ended : Bool)
     → AreSpoken spoken → IsFront (arrived calls) (bytes_of (queue_of spoken is_ended)) → BeginsWithHello (entering spoken)
-    → Answering 1 (length (sent_of (after_calls calls (begun (new_end hello mark))))) (entering spoken)
+    → Answering (length (sent_of (after_calls calls (begun (new_end hello mark))))) (entering spoken)
     → IsSound (after_calls calls (begun (new_end hello mark)))
 
 -- One to which a Hello and commands come.
@@ -49,7 +52,7 @@ abbrev pub MayComeDown : List Made → Bool → Type 0
 MayComeDown [] agent_ended = agent_ended ≡ true
 MayComeDown (m ∷ made) agent_ended = list_any was_lost_above (m ∷ made) ≡ true
 
--- what comes down to the client begins with a Hello, and answers, in order, commands that it sent
+-- what comes down to the client begins with a Hello, and answers commands that it sent
 pub record EndsSoundly (commands : List Asked) (lower : End) (calls : Calls commands lower.gave) (made : List Made) (agent_ended : Bool) : Type 0 where
   pub adds : AllByRecursion AddIsSound made
   pub down : List Spoken
@@ -57,15 +60,15 @@ pub record EndsSoundly (commands : List Asked) (lower : End) (calls : Calls comm
   pub formed : AreSpoken down
   pub comes_down : IsFront lower.came (bytes_of (queue_of down is_ended))
   pub begins : BeginsWithHello (entering down)
-  pub answering : Answering 1 (length (entering calls.spoken) - 1) (entering down)
+  pub answering : Answering (length (entering calls.spoken) - 1) (entering down)
   pub ended : is_ended ≡ true → MayComeDown made agent_ended
 
 -- Whatever the hops and the value-adds: where the client gives a Hello and these commands, no more than an end has tokens
--- for, and the agent says this, which asks nothing, answers commands that come up the last hop where only a Hello and commands
--- do, begins with a Hello, and ends its stream only where it says nothing.
+-- for, and the agent says this, which asks nothing, has a position in each message, tells commands that come up the last hop rightly where only a Hello and
+-- commands do, begins with a Hello, and ends its stream only where it says nothing.
 abbrev pub ComesToSoundEnds : Type 0
-ComesToSoundEnds = (lower agent : End) (hops : List Hop) (made : List Made) (commands : List Asked) (said : List Spoken)
-    → AllCarry lower hops made agent → (calls : Calls commands lower.gave) → length commands < 2 ^ 64 → (says : Says said agent.gave) → AskNothing said
-    → ((top : List Asked) (up : Calls top (top_end lower made).gave) → Answering 1 (length (entering up.spoken) - 1) said)
-    → BeginsWithHello said → (says.is_ended ≡ true → said ≡ [])
+ComesToSoundEnds = (images : List Image) (history : List Input) → IsLegal images history
+    → (lower agent : End) (hops : List Hop) (made : List Made) (commands : List Asked) (said : List Spoken)
+    → AllCarry lower hops made agent → (calls : Calls commands lower.gave) → length commands < 2 ^ 64 → (says : Says said agent.gave) → AskNothing said → AllByRecursion IsMarked said
+    → IsSaidRightly images history lower made said → BeginsWithHello said → (says.is_ended ≡ true → said ≡ [])
     → EndsSoundly commands lower calls made says.is_ended

@@ -1,14 +1,25 @@
 -- What goes up a way and comes down it, at one moment.
-use Rattle.std.specs.Prelude.{ℕ, ◌≡◌, ◌-◌, ◌+◌, true, Bool, List, [], ◌∷◌, ◌++◌, decimal, length, map, Option, Ok}
-use Rattle.std.specs.List.{AllByRecursion, flat_map}
+use Rattle.std.specs.Prelude.{ℕ, ◌≡◌, ◌<◌, ◌^◌, true, Bool, List, [], ◌∷◌, ◌++◌, length, map, Option, IsSome}
+use Rattle.std.specs.List.{AllByRecursion}
 use Rattle.channel_core.specs.Arrivals.{AreSpoken, IsFront, Spoken, bytes_of, queue_of}
-use Rattle.chain_route.specs.Carrying.{AllCarry, End, Made, end_above, past_of}
+use Rattle.chain_route.specs.Carrying.{AllCarry, End, Made, end_above, past_of, value_of}
 use Rattle.chain_route.specs.declared.hop.Hop.{Hop}
+use Rattle.chain_told.specs.Told.{AreToldRightly, AreTrueAt, is_stored, numbered, owed_in}
+use Rattle.chain_told.specs.TellsOn.{IsWithoutSome}
+use Rattle.knowledge.specs.Facts.{Facts}
+use Rattle.knowledge.specs.KnowledgeValue.{has_block_byte}
+use Rattle.target_contexts.specs.declared.process.Image.{Image}
+use Rattle.target_hub.specs.History.{IsLegal}
+use Rattle.target_hub.specs.declared.input.Input.{Input}
 use Rattle.value_node.specs.Asked.{Asked}
 use Rattle.value_node.specs.OwnLaws.{IsBoundBy}
 use Rattle.value_node.specs.OwnMessages.{BeginsWithHello, IsOwn}
-use Rattle.value_node.specs.RelayLaws.{passed_in}
-use Rattle.chain_through.specs.Calling.{Answering, AskNothing, Calls, Says, entering}
+use Rattle.value_node.specs.Store.{StoreValue}
+use Rattle.value_node.specs.Value.{command_of}
+use Rattle.value_node.specs.ValueValue.{ValueValue}
+use Rattle.value_node.specs.declared.states.Bind.TheVariants.{Bound}
+use Rattle.value_store.specs.Rows.{facts_in}
+use Rattle.chain_through.specs.Calling.{AskNothing, Calls, Says, entering, given_of}
 
 -- the lower end of the last hop
 abbrev pub top_end : End → List Made → End
@@ -17,11 +28,6 @@ top_end lower (m ∷ made) = top_end (end_above (past_of m)) made
 
 abbrev pub AreBound : List Made → Type 0
 AreBound made = AllByRecursion (λ m. (past_of m).is_bound ≡ true) made
-
--- the commands under the tokens from this one on
-abbrev pub numbered : ℕ → List Asked → List Asked
-numbered token [] = []
-numbered token (c ∷ commands) = record c { token = decimal token } ∷ numbered (token + 1) commands
 
 -- a command but for its token
 pub record Content : Type 0 where
@@ -33,18 +39,34 @@ pub record Content : Type 0 where
 abbrev pub content : Asked → Content
 content c = record { service = c.service; name = c.name; body = c.body; mark = c.mark }
 
--- messages of the agent as they are passed on to one that sent these commands
-abbrev pub passed : List Asked → List Spoken → List Spoken
-passed commands said = flat_map (λ s. map (λ m. record { message = m; mark = s.mark }) (passed_in commands (Ok s.message))) said
+abbrev pub is_storable_content : Content → Bool
+is_storable_content c = is_stored (command_of c.service c.name c.body)
 
--- the client's commands are those that the value-adds answered themselves, and the others; so are the messages that come down
+-- of the first commands below all but some storable ones go up
+pub record GoUp (below top : List Asked) : Type 0 where
+  pub asked : List Content
+  pub front : IsFront asked (map content below)
+  pub sent : IsWithoutSome is_storable_content (map content top) asked
+
+-- behind the value-adds' own messages each one has a position
+abbrev pub IsMarked : Spoken → Type 0
+IsMarked s = IsSome s.mark
+
+pub record ComeDown (own heard : List Spoken) : Type 0 where
+  pub target : List Spoken
+  pub marked : AllByRecursion IsMarked target
+  pub front : IsFront heard (own ++ target)
+
+-- The client's commands are those that the value-adds answered themselves before they were bound, and the others; so are the
+-- messages that come down. But for answers to storable commands those of the target are what the agent says.
 pub record IsBoundThrough (commands : List Asked) (made : List Made) (top : List Asked) (own said heard : List Spoken) : Type 0 where
   pub answered : List Asked
   pub later : List Asked
   pub split : commands ≡ answered ++ later
-  pub goes_up : IsFront (map content top) (map content later)
+  pub goes_up : GoUp later top
   pub is_own : IsOwn (numbered 1 answered) own []
-  pub comes_down : IsFront heard (own ++ passed (numbered (length answered + 1) later) said)
+  pub comes_down : ComeDown own heard
+  pub owed : IsFront (owed_in (numbered 1 commands) heard) (owed_in (numbered 1 top) said)
   -- without value-adds nothing is answered by one; else the last that one answered is the redirect to the agent
   pub alone : made ≡ [] → (answered ≡ []) × (own ≡ [])
   pub bound_by : (made ≡ [] → ⊥) → IsBoundBy own (numbered 1 answered)
@@ -56,24 +78,38 @@ pub record IsUnboundThrough (commands top : List Asked) (own heard : List Spoken
   pub silent : top ≡ []
   pub comes_down : IsFront heard own
 
-pub record Through (commands : List Asked) (lower : End) (calls : Calls commands lower.gave) (made : List Made) (said : List Spoken) : Type 0 where
+-- what a value-add knows: the facts of its store, and the bytes of its blocks
+abbrev pub kept_in : StoreValue → Facts
+kept_in s = record (facts_in s.known) { bytes = has_block_byte s.blocks }
+
+-- while it is bound that is true of the target at the position of the last message that it took from above
+abbrev pub KnowsTruth : List Image → List Input → ValueValue → Type 0
+KnowsTruth images history value = value.relay.bind ≡ Bound → AreTrueAt images history value.relay.store.mark (kept_in value.relay.store)
+
+pub record Through (images : List Image) (history : List Input) (commands : List Asked) (lower : End) (calls : Calls commands lower.gave) (made : List Made) (said : List Spoken) : Type 0 where
   pub top : List Asked
   pub goes_up : Calls top (top_end lower made).gave
   pub down : List Spoken
   pub is_ended : Bool
   pub formed : AreSpoken down
   pub comes_down : IsFront lower.came (bytes_of (queue_of down is_ended))
-  pub answering : Answering 1 (length (entering calls.spoken) - 1) (entering down)
+  pub told : AreToldRightly images history (numbered 1 (given_of commands calls.spoken)) (entering down)
   pub own : List Spoken
   pub own_formed : AreSpoken own
   pub begins : BeginsWithHello own
+  pub adds : AllByRecursion (λ m. KnowsTruth images history (value_of m)) made
   pub bound : AreBound made → IsBoundThrough commands made top own said (entering down)
   pub unbound : (AreBound made → ⊥) → IsUnboundThrough commands top own (entering down)
 
--- Whatever the hops and the value-adds: where the client gives a Hello and these commands, and the agent says this, which
--- asks nothing, and answers commands that come up the last hop where only a Hello and commands do.
+-- what the agent says is told rightly to one whose commands come up the last hop, no more than an end has tokens for
+abbrev pub IsSaidRightly : List Image → List Input → End → List Made → List Spoken → Type 0
+IsSaidRightly images history lower made said =
+    (top : List Asked) → length top < 2 ^ 64 → (up : Calls top (top_end lower made).gave) → AreToldRightly images history (numbered 1 (given_of top up.spoken)) said
+
+-- Whatever the hops and the value-adds: where the client gives a Hello and these commands, and the agent says this, which asks
+-- nothing, has a position in each message, and tells commands that come up the last hop rightly where only a Hello and commands do.
 abbrev pub ComesThrough : Type 0
-ComesThrough = (lower agent : End) (hops : List Hop) (made : List Made) (commands : List Asked) (said : List Spoken)
-    → AllCarry lower hops made agent → (calls : Calls commands lower.gave) → Says said agent.gave → AskNothing said
-    → ((top : List Asked) (up : Calls top (top_end lower made).gave) → Answering 1 (length (entering up.spoken) - 1) said)
-    → Through commands lower calls made said
+ComesThrough = (images : List Image) (history : List Input) → IsLegal images history
+    → (lower agent : End) (hops : List Hop) (made : List Made) (commands : List Asked) (said : List Spoken)
+    → AllCarry lower hops made agent → (calls : Calls commands lower.gave) → length commands < 2 ^ 64 → Says said agent.gave → AskNothing said → AllByRecursion IsMarked said
+    → IsSaidRightly images history lower made said → Through images history commands lower calls made said

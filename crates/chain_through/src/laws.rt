@@ -6,12 +6,17 @@ use value_node::Forwarded;
 
 /// The law of what goes up a way of any length and comes down it, at one moment.
 ///
-/// What its client gives, flow control and the end of the stream aside, is a Hello and commands; what the agent says asks
-/// nothing, and answers, in order, commands that came up to it. Then the commands that go up the last hop are, in order and
-/// with their data and marks, a front of those that the client sent behind the ones that the value-adds answered themselves,
-/// and there is none where a value-add isn't bound. What comes down to the client can be read, asks nothing and answers, in
-/// order, commands that it sent: first come messages of the value-adds themselves, and then what the agent said, each answer
-/// under the token of its own command.
+/// What its client gives, flow control and the end of the stream aside, is a Hello and fewer than 2^64 commands; what the agent
+/// says asks nothing, has a position in each message, and tells the commands that came up to it rightly. Then all value-adds
+/// together tell the client rightly too: each message is that of a command of the client, its position doesn't go back, what it
+/// teaches is true of the target at its position, and an answer to a storable command, from whichever store, is what the target
+/// answers there. What a bound value-add keeps is true of the target at the position of the last message that it took. (What is
+/// said of the target holds where its images are of bytes.)
+///
+/// Where all value-adds are bound the commands that go up the last hop are, in order and with their data and their marks, those
+/// that the client sent behind the ones that the value-adds answered themselves before, but for some storable ones; and but for
+/// answers to storable commands the messages that come down behind the value-adds' own are what the agent said. Where one isn't
+/// bound nothing goes up the last hop, and nothing comes down but what the value-adds say themselves.
 pub fn what_comes_through()
     ensures { ComesThrough }
 {
@@ -24,20 +29,24 @@ pub fn what_comes_through()
     channel_core::only_what_is_sent_is_queued::<()>();
     channel_core::only_what_is_sent_is_queued::<Forwarded>();
     channel_core::commands_are_sent_in_order::<Forwarded>();
-    channel_core::each_answer_is_that_of_a_sent_command::<Forwarded>();
     tcf_message::read_back();
+    knowledge::the_same_answer_the_same();
+    knowledge::what_is_read_is_known();
     value_node::a_value_add_relays();
     value_node::a_value_add_answers_itself();
+    value_node::a_value_add_answers_from_what_it_heard();
+    chain_told::a_value_add_tells_on();
 }
 
 /// The law that no end of a way closes by a fault of its other side, and of the end of the stream that comes down it, at one
 /// moment.
 ///
 /// What its client gives, flow control and the end of the stream aside, is a Hello and fewer than 2^64 commands; what the agent
-/// says asks nothing, begins with a Hello and answers, in order, commands that came up to it, and it ends its stream only where
-/// it says nothing. Then neither end of any value-add closes by a fault of a message or of the stream. What comes down to the
-/// client can be read, begins with a Hello and answers, in order, commands that it sent. It has the end of the stream only where
-/// the agent gave that to the client itself, or where the bytes above a value-add ended without it.
+/// says asks nothing, has a position in each message, begins with a Hello and tells the commands that came up to it rightly, and
+/// it ends its stream only where it says nothing. Then neither end of any value-add closes by a fault of a message or of the
+/// stream. What comes down to the client can be read, begins with a Hello and answers commands that it sent, each once. It has
+/// the end of the stream only where the agent gave that to the client itself, or where the bytes above a value-add ended without
+/// it.
 pub fn no_fault_comes_through()
     ensures { ComesToSoundEnds }
 {
@@ -50,25 +59,29 @@ pub fn no_fault_comes_through()
     channel_core::only_what_is_sent_is_queued::<()>();
     channel_core::only_what_is_sent_is_queued::<Forwarded>();
     channel_core::commands_are_sent_in_order::<Forwarded>();
-    channel_core::each_answer_is_that_of_a_sent_command::<Forwarded>();
     channel_core::a_closed_end_stays_closed::<()>();
     channel_core::a_closed_end_stays_closed::<Forwarded>();
     channel_core::an_end_closes_only_so::<()>();
     channel_faults::an_end_closes_by_a_fault_only_so::<()>();
     channel_faults::an_end_closes_by_a_fault_only_so::<Forwarded>();
     tcf_message::read_back();
+    knowledge::the_same_answer_the_same();
+    knowledge::what_is_read_is_known();
     value_node::a_value_add_relays();
     value_node::a_value_add_answers_itself();
-    what_is_answered_in_order_is_sound::<()>();
-    what_is_answered_in_order_is_sound::<Forwarded>();
+    value_node::a_value_add_answers_from_what_it_heard();
+    chain_told::a_value_add_tells_on();
+    what_is_answered_once_is_sound::<()>();
+    what_is_answered_once_is_sound::<Forwarded>();
 }
 
 /// The law of two kinds of ends that close by no fault of their other side, whatever is called of them.
 ///
-/// `answered`: one to which a Hello comes, and then events, and progress and answers, in order, to commands that it sent.
+/// `answered`: one to which a Hello comes, and then events, and progress and answers to commands that it sent, each of which is
+/// answered once, in any order.
 ///
 /// `asked`: one to which a Hello and commands come.
-pub fn what_is_answered_in_order_is_sound<T>()
+pub fn what_is_answered_once_is_sound<T>()
     ensures answered { AnsweredIsSound T }
     ensures asked { AskedIsSound T }
 {

@@ -3,4 +3,4 @@
 
 pub mod laws;
 
-pub use laws::{no_fault_comes_through, what_comes_through, what_is_answered_in_order_is_sound};
+pub use laws::{no_fault_comes_through, what_comes_through, what_is_answered_once_is_sound};

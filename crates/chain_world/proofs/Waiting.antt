@@ -12,10 +12,12 @@ use Rattle.channel_core.specs.declared.taking.Taken.{Taken}
 use Rattle.channel_core.specs.declared.taking.Taken.TheVariants as taken
 use Rattle.tcf_message.specs.Message.{MessageValue, command, event, final, flow, not_known, progress, reading}
 use Rattle.tcf_message.specs.declared.message.MessageFault.{MessageFault}
-use Rattle.value_node.specs.ForwardedValue.{ForwardedValue}
+use Rattle.tcf_values.specs.declared.command.Command.{Command}
+use Rattle.value_node.specs.ForwardedValue.{ForwardedValue, tagged}
 use Rattle.value_node.specs.Own.{own_reply, redirect_failed}
 use Rattle.value_node.specs.Passing.{Upper, not_recognised}
-use Rattle.value_node.specs.Value.{answered, asked, asked_in, awaits, before_hello, both_closed, came as value_came, came_at, connected as value_connected, connected_to, ended as value_ended, ended_at, ended_in, event_taken, forwarded_to, forwarded_unless, is_free, is_opening, new_relay, redirect_answered, takes_above, takes_below, took_any_above, took_any_below, took_below, turned_above, turned_at, turned_below, turned_on, value_services, with_lower, with_relay, with_upper}
+use Rattle.value_node.specs.Store.{answer_to, used_by}
+use Rattle.value_node.specs.Value.{answered, answered_or_forwarded, asked, asked_bound, asked_in, asked_of_store, awaits, before_hello, both_closed, came as value_came, came_at, command_of, connected as value_connected, connected_to, ended as value_ended, ended_at, ended_in, forwarded_as, hello_taken, is_free, is_free_to_answer, is_opening, new_relay, redirect_answered, sent_above, sent_unless, takes_above, takes_below, took_any_above, took_any_below, took_below, turned_above, turned_at, turned_below, turned_on, value_services, with_lower, with_relay, with_upper}
 use Rattle.value_node.specs.ValueValue.{ValueValue}
 use Rattle.value_node.specs.declared.own.Own.{Own}
 use Rattle.value_node.specs.declared.own.Own.TheVariants as own
@@ -81,18 +83,31 @@ bound_ready Opening upper is = tt
 bound_ready Bound upper is = tt
 bound_ready Closed upper is = tt
 
-unless_turns : (why : Option SendRefusal) (token service name body : List ℕ) (mark : Option ℕ) (e : Upper) (v : Relay) → v.bind ≡ Bound → Turns (Took, forwarded_unless why token service name body mark e v)
-unless_turns None token service name body mark e v is = took_so _ (bound_ready v.bind _ is)
-unless_turns (Some why) token service name body mark e v is = took_so (both_closed v) tt
+unless_turns : (why : Option SendRefusal) (service name body : List ℕ) (forwarded : ForwardedValue) (mark : Option ℕ) (e : Upper) (v : Relay) → v.bind ≡ Bound
+    → Turns (Took, sent_unless why service name body forwarded mark e v)
+unless_turns None service name body forwarded mark e v is = took_so _ (bound_ready v.bind _ is)
+unless_turns (Some why) service name body forwarded mark e v is = took_so (both_closed v) tt
 
-forwarded_turns : (upper : Option Upper) (token service name body : List ℕ) (mark : Option ℕ) (v : Relay) → v.bind ≡ Bound → Turns (Took, forwarded_to upper token service name body mark v)
-forwarded_turns None token service name body mark v is = took_so (both_closed v) tt
-forwarded_turns (Some e) token service name body mark v is = unless_turns (refusal_of _ e) token service name body mark e v is
+sent_turns : (upper : Option Upper) (service name body : List ℕ) (forwarded : ForwardedValue) (mark : Option ℕ) (v : Relay) → v.bind ≡ Bound → Turns (Took, sent_above upper service name body forwarded mark v)
+sent_turns None service name body forwarded mark v is = took_so (both_closed v) tt
+sent_turns (Some e) service name body forwarded mark v is = unless_turns (refusal_of _ e) service name body forwarded mark e v is
+
+stored_turns : (reply : Option (List ℕ)) (known : Option Command) (token service name body : List ℕ) (mark : Option ℕ) (v : Relay) → v.bind ≡ Bound
+    → Turns (Took, answered_or_forwarded reply known token service name body mark v)
+stored_turns None known token service name body mark v is = sent_turns v.upper service name body (tagged token known) mark v is
+stored_turns (Some reply) known token service name body mark v is = took_so _ (bound_ready v.bind v.upper is)
+
+bound_turns : (token service name body : List ℕ) (mark : Option ℕ) (v : Relay) → v.bind ≡ Bound → Turns (Took, asked_bound token service name body mark v)
+bound_turns token service name body mark v is = by_flag (is_free_to_answer v.upper) (command_of service name body)
+  where
+    by_flag : (flag : Bool) (known : Option Command) → Turns (Took, cond flag (asked_of_store known token service name body mark v) (forwarded_as known token service name body mark v))
+    by_flag true known = stored_turns (answer_to known v.store) known token service name body mark (record v { store = used_by known v.store }) is
+    by_flag false known = sent_turns v.upper service name body (tagged token known) mark v is
 
 in_turns : (bind : Bind) (token service name body : List ℕ) (mark : Option ℕ) (v : Relay) → v.bind ≡ bind → IsReady v → Turns (asked_in bind token service name body mark v)
 in_turns Unbound token service name body mark v is ready = answered_turns token (own_reply v.peer service name body) v is ready
 in_turns Opening token service name body mark v is ready = took_so v ready
-in_turns Bound token service name body mark v is ready = forwarded_turns v.upper token service name body mark v is
+in_turns Bound token service name body mark v is ready = bound_turns token service name body mark v is
 in_turns Closed token service name body mark v is ready = took_so v ready
 
 asked_turns : (what : Result MessageValue MessageFault) (mark : Option ℕ) (v : Relay) → IsReady v → Turns (asked what mark v)
@@ -126,7 +141,7 @@ below_turns v ready = by_flag (takes_below v.bind v.upper)
 
 -- ---- from above
 
-hello_ready : (bind : Bind) (incoming : Incoming) (v : Relay) → IsReady v → IsReady (event_taken incoming (before_hello bind v))
+hello_ready : (bind : Bind) (incoming : Incoming) (v : Relay) → IsReady v → IsReady (hello_taken incoming (before_hello bind v))
 hello_ready Unbound incoming v ready = ready
 hello_ready Opening incoming v ready = tt
 hello_ready Bound incoming v ready = ready

@@ -30,9 +30,13 @@ pub struct Chain {
 }
 
 impl Model for Chain {
-    ghost use Rattle.chain_world.specs.ChainValue.{ChainValue};
+    ghost use Rattle.chain_route.specs.contracts.route.Route as one_route;
+    ghost use Rattle.chain_world.specs.ChainValue.{ChainValue, chain_code};
+    ghost use Rattle.std.specs.Coded.{codes};
 
     ghost Value = { ChainValue };
+
+    ghost coded = { chain_code (Prim.hlevel codes) one_route.the_row.coded };
 
     ghost view = { λ c. record { client = c.client; route = c.route; channel = c.channel; earlier = c.earlier.items } };
 }

@@ -33,9 +33,13 @@ pub struct World {
 }
 
 impl Model for World {
-    ghost use Rattle.chain_world.specs.WorldValue.{WorldValue};
+    ghost use Rattle.chain_world.specs.WorldValue.{WorldValue, world_code};
+    ghost use Rattle.chain_world.specs.contracts.chain.Chain as one_chain;
+    ghost use Rattle.std.specs.Coded.{codes};
 
     ghost Value = { WorldValue };
+
+    ghost coded = { world_code (Prim.hlevel codes) one_chain.the_row.coded (Prim.hlevel codes) };
 
     ghost view = { λ w. record { agent = w.agent; next = w.next; chains = w.chains.items; history = w.history.items; is_spent = w.spent } };
 }

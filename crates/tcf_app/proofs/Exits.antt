@@ -17,17 +17,20 @@ use Rattle.serving_wires.proofs.Making.{makes_so, told_none}
 use Rattle.agent_serving.specs.Serve.{ServesAgent, IsStopped, AreTaken as AgentTakes}
 use Rattle.agent_serving.specs.declared.serve.ServeEnd.{ServeEnd}
 use Rattle.agent_serving.specs.declared.serve.ServeEnd.TheVariants as serve_ends
+use Rattle.value_serving.specs.Serve.{ServesValueAdds, breaks, IsStopped as AddsStop, AreTaken as AddsTake}
+use Rattle.value_serving.specs.declared.serve.ServeEnd.{ServeEnd as AddsEnd}
+use Rattle.value_serving.specs.declared.serve.ServeEnd.TheVariants as adds_ends
 use Rattle.client_serving.specs.Run.{RunsClient, no_calls, not_connected, connected, HasRun as RunHas}
 use Rattle.client_serving.specs.declared.end.ClientEnd.{ClientEnd}
 use Rattle.client_serving.specs.declared.end.ClientEnd.TheVariants as client_ends
 use Rattle.client_serving.specs.declared.end.ClientRun.{ClientRun}
 use Rattle.tcf_app.specs.declared.exit.Exit.{Exit}
-use Rattle.tcf_app.specs.declared.exit.Exit.TheVariants.{Done, Usage, SinkFault, WireFault, Turns, NoMemory, Ended}
+use Rattle.tcf_app.specs.declared.exit.Exit.TheVariants.{Usage, SinkFault, NoMemory}
 use Rattle.tcf_app.specs.Exit.{IsGivenUp}
-use Rattle.tcf_app.specs.Words.{OrderValue, chain, show, agent, client, names_of}
+use Rattle.tcf_app.specs.Words.{OrderValue, chain, show, load, agent, value, client, names_of}
 use Rattle.tcf_app.specs.Heard.{Heard, whole, longer, failed, Hears, heard_in}
-use Rattle.tcf_app.specs.Ending.{Ending, Ends, IsEnding, IsServedEnding, IsRanEnding, fault_ending, served_ending, exit_of, ran_ending, wire_ending}
-use Rattle.tcf_app.specs.Run.{RunsBy, serves_peers, is_early, SparesWires, AreHeeded, PutsFront, ExitsOver}
+use Rattle.tcf_app.specs.Ending.{Ending, Ends, IsEnding, IsServedEnding, IsAddsEnding, IsRanEnding, fault_ending, served_ending, adds_ending, exit_of, ran_ending, wire_ending}
+use Rattle.tcf_app.specs.Run.{RunsBy, serves_peers, is_early, SparesWires, ends_run, AreHeeded, PutsFront, ExitsOver}
 use Rattle.tcf_app.proofs.Hearing.{heard_of_held}
 use Rattle.tcf_app.proofs.Tells.{Laws, Seen, Tells, given_up_tells, ending_tells}
 
@@ -45,6 +48,15 @@ served_calls images address turns calls ending its early = by_end its.0 (sym (ap
     by_end serve_ends.Turns e = cc
     by_end serve_ends.WireFault e = cc
     by_end serve_ends.NoMemory e = cc
+
+adds_calls : (peer address : List ℕ) (turns : ℕ) (calls : List WireCall) (ending : Ending) → IsAddsEnding peer address turns calls ending → is_early ending.exit ≡ true → calls ≡ []
+adds_calls peer address turns calls ending its early = by_end its.0 (sym (ap (λ (e : Ending). is_early e.exit) its.2) ∙ early)
+  where
+    by_end : (end : AddsEnd) → is_early (adds_ending turns end).exit ≡ true → calls ≡ []
+    by_end (adds_ends.Stopped events) e = cc
+    by_end adds_ends.Turns e = cc
+    by_end adds_ends.WireFault e = cc
+    by_end adds_ends.NoMemory e = cc
 
 ran_calls : (said : Result (List ScriptLine) BadLine) (address : List ℕ) (turns : ℕ) (calls : List WireCall) (ending : Ending) → IsRanEnding said address turns calls ending → is_early ending.exit ≡ true → calls ≡ []
 ran_calls (Err bad) address turns calls ending its early = its.0
@@ -70,8 +82,13 @@ early_calls (Some (chain name)) (whole (file ∷ other ∷ more)) calls ending i
 early_calls (Some (show name)) (whole []) calls ending its early = absurd its
 early_calls (Some (show name)) (whole (file ∷ [])) calls ending its early = its.0
 early_calls (Some (show name)) (whole (file ∷ other ∷ more)) calls ending its early = absurd its
+early_calls (Some (load number)) (whole []) calls ending its early = its.0
+early_calls (Some (load number)) (whole (file ∷ more)) calls ending its early = absurd its
 early_calls (Some (agent address turns images)) (whole contents) calls ending its (inl none) = cc
 early_calls (Some (agent address turns images)) (whole contents) calls ending its (inr early) = served_calls _ address turns calls ending its early
+early_calls (Some (value address peer turns)) (whole []) calls ending its (inl none) = cc
+early_calls (Some (value address peer turns)) (whole []) calls ending its (inr early) = adds_calls peer address turns calls ending its early
+early_calls (Some (value address peer turns)) (whole (file ∷ more)) calls ending its early = absurd its
 early_calls (Some (client address name turns)) (whole []) calls ending its early = absurd its
 early_calls (Some (client address name turns)) (whole (file ∷ [])) calls ending its (inl none) = cc
 early_calls (Some (client address name turns)) (whole (file ∷ [])) calls ending its (inr early) = ran_calls (script_of file) address turns calls ending its early
@@ -102,6 +119,15 @@ served_heeded images address turns calls ending its = by_end its.0 its.1 its.2
     by_end serve_ends.WireFault s e = inr e
     by_end serve_ends.NoMemory s e = inl s.ends
 
+adds_heeded : (peer address : List ℕ) (turns : ℕ) (calls : List WireCall) (ending : Ending) → IsAddsEnding peer address turns calls ending → (list_any breaks calls ≡ false) ⊎ (ending ≡ wire_ending)
+adds_heeded peer address turns calls ending its = by_end its.0 its.1 its.2
+  where
+    by_end : (end : AddsEnd) → ServesValueAdds peer address turns end calls → ending ≡ adds_ending turns end → (list_any breaks calls ≡ false) ⊎ (ending ≡ wire_ending)
+    by_end (adds_ends.Stopped events) s e = let stopped : AddsStop turns events calls = s.ends in inl stopped.sound
+    by_end adds_ends.Turns s e = let taken : AddsTake turns calls = s.ends in inl taken.sound
+    by_end adds_ends.WireFault s e = inr e
+    by_end adds_ends.NoMemory s e = inl s.ends
+
 ran_heeded : (said : Result (List ScriptLine) BadLine) (address : List ℕ) (turns : ℕ) (calls : List WireCall) (ending : Ending) → IsRanEnding said address turns calls ending
     → (list_any fails calls ≡ false) ⊎ (ending ≡ wire_ending)
 ran_heeded (Err bad) address turns calls ending its = inl (ap (list_any fails) its.0)
@@ -116,17 +142,21 @@ ran_heeded (Ok script) address turns calls ending its = by_result its.0 its.1 it
     by_result (Err refusals.NoMemory) (not_connected is called) e = cc
     by_result (Err refusals.NoMemory) (connected channel later first alone served) e = inl served.ends
 
-heeded : (order : Option OrderValue) (heard : Heard) (calls : List WireCall) (ending : Ending) → IsEnding order heard calls ending → (list_any fails calls ≡ false) ⊎ (ending ≡ wire_ending)
+heeded : (order : Option OrderValue) (heard : Heard) (calls : List WireCall) (ending : Ending) → IsEnding order heard calls ending → (list_any (ends_run order) calls ≡ false) ⊎ (ending ≡ wire_ending)
 heeded None heard calls ending its = inl (ap (list_any fails) its.0)
-heeded (Some order) (longer count) calls ending its = inl (ap (list_any fails) its.0)
-heeded (Some order) (failed count) calls ending its = inl (ap (list_any fails) its.0)
+heeded (Some order) (longer count) calls ending its = inl (ap (list_any (ends_run (Some order))) its.0)
+heeded (Some order) (failed count) calls ending its = inl (ap (list_any (ends_run (Some order))) its.0)
 heeded (Some (chain name)) (whole []) calls ending its = absurd its
 heeded (Some (chain name)) (whole (file ∷ [])) calls ending its = inl (ap (list_any fails) its.0)
 heeded (Some (chain name)) (whole (file ∷ other ∷ more)) calls ending its = absurd its
 heeded (Some (show name)) (whole []) calls ending its = absurd its
 heeded (Some (show name)) (whole (file ∷ [])) calls ending its = inl (ap (list_any fails) its.0)
 heeded (Some (show name)) (whole (file ∷ other ∷ more)) calls ending its = absurd its
+heeded (Some (load number)) (whole []) calls ending its = inl (ap (list_any fails) its.0)
+heeded (Some (load number)) (whole (file ∷ more)) calls ending its = absurd its
 heeded (Some (agent address turns images)) (whole contents) calls ending its = served_heeded _ address turns calls ending its
+heeded (Some (value address peer turns)) (whole []) calls ending its = adds_heeded peer address turns calls ending its
+heeded (Some (value address peer turns)) (whole (file ∷ more)) calls ending its = absurd its
 heeded (Some (client address name turns)) (whole []) calls ending its = absurd its
 heeded (Some (client address name turns)) (whole (file ∷ [])) calls ending its = ran_heeded (script_of file) address turns calls ending its
 heeded (Some (client address name turns)) (whole (file ∷ other ∷ more)) calls ending its = absurd its
@@ -176,10 +206,10 @@ module _ (order : Option OrderValue) (files : Option (List HeldFile)) (n m : ℕ
   pub files_unharmed_of : (m ≡ n) ⊎ Ends fault_ending exit before after
   files_unharmed_of = let r = made.fits in reads_heeded order files n m exit before after r.heard made.calls r.ends.0 r.hears r.ends.1 r.ends.2
 
-  pub heeded_of : Makes (AreHeeded exit before after) told told' k l
+  pub heeded_of : Makes (AreHeeded order exit before after) told told' k l
   heeded_of =
-      makes_so (RunsBy order files n m exit before after) (AreHeeded exit before after) told told' k l
-      (λ calls r. elim (heeded order r.heard calls r.ends.0 r.ends.1) as (λ _. AreHeeded exit before after calls) [
+      makes_so (RunsBy order files n m exit before after) (AreHeeded order exit before after) told told' k l
+      (λ calls r. elim (heeded order r.heard calls r.ends.0 r.ends.1) as (λ _. AreHeeded order exit before after calls) [
         | inl none ↦ inl none
         | inr is ↦ inr (subst (λ x. Ends x exit before after) is r.ends.2)
       ])

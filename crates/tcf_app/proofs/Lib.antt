@@ -6,6 +6,7 @@ pub mod Stands
 pub mod ShowEnds
 pub mod Outcomes
 pub mod Cutting
+pub mod Numbering
 pub mod Hearing
 pub mod Noting
 pub mod Imaging

@@ -16,6 +16,8 @@ use Rattle.agent_serving.specs.Serve.{ServesAgent}
 use Rattle.agent_serving.specs.Serving.{served_by}
 use Rattle.agent_serving.specs.declared.serve.ServeEnd.{ServeEnd}
 use Rattle.agent_serving.specs.declared.serve.ServeEnd.TheVariants as serve_ends
+use Rattle.value_serving.specs.Serve.{ServesValueAdds}
+use Rattle.value_serving.specs.declared.serve.ServeEnd.{ServeEnd as AddsEnd}
 use Rattle.client_serving.specs.Run.{RunsClient, no_calls}
 use Rattle.client_serving.specs.declared.end.ClientEnd.{ClientEnd}
 use Rattle.client_serving.specs.declared.end.ClientEnd.TheVariants as client_ends
@@ -25,10 +27,10 @@ use Rattle.tcf_app.specs.declared.exit.Exit.{Exit}
 use Rattle.tcf_app.specs.declared.exit.Exit.TheVariants.{NoMemory}
 use Rattle.tcf_app.specs.declared.reading.Unread.{Unread}
 use Rattle.tcf_app.specs.declared.reading.Unread.TheVariants as unread
-use Rattle.tcf_app.specs.Words.{NamedFile, OrderValue, chain, show, agent, client, files_in, files_named, first_place}
+use Rattle.tcf_app.specs.Words.{NamedFile, OrderValue, chain, show, load, agent, value, client, files_in, files_named, first_place}
 use Rattle.tcf_app.specs.Heard.{Heard, whole, longer, failed, Hears, HearsPart}
 use Rattle.tcf_app.specs.Show.{EachIsShown}
-use Rattle.tcf_app.specs.Ending.{Ending, Ends, EndsIn, EndsUnread, IsWholeEnding, IsShownEnding, IsServedEnding, IsRanEnding, images_with, contents_of, fault_ending, long_ending, usage_ending, bad_ending, wanting_ending, played_ending, lines_ending, served_ending, exit_of, ran_ending}
+use Rattle.tcf_app.specs.Ending.{Ending, Ends, EndsIn, EndsUnread, IsWholeEnding, IsShownEnding, IsServedEnding, IsAddsEnding, IsRanEnding, images_with, contents_of, fault_ending, long_ending, usage_ending, bad_ending, wanting_ending, played_ending, lines_ending, summed_ending, served_ending, adds_ending, exit_of, ran_ending}
 use Rattle.tcf_app.specs.Run.{RunsBy}
 use Rattle.tcf_app.proofs.Endings.{ends_early, ends_wanting}
 use Rattle.tcf_app.proofs.Hearing.{NotFailed, can_hear, some_each}
@@ -157,16 +159,29 @@ script_runs address name file turns files n m exit before after told told' k l h
     (λ calls e. record { heard = whole (file ∷ []); hears = hears; ends = e })
     made
 
+-- ---- no file is named
+
+hears_none : (files : Option (List HeldFile)) (n : ℕ) → Hears [] files n n (whole [])
+hears_none files n = record { is_of = refl; agrees = some_each (λ fs. whole [] ≡ whole []) files (λ fs. refl); counts = refl }
+
+pub load_runs : (number : ℕ) (files : Option (List HeldFile)) (n : ℕ) (exit : Exit) (before after : Option (List ℕ))
+    → Ends (summed_ending number) exit before after → RunsBy (Some (load number)) files n n exit before after []
+load_runs number files n exit before after ends = record { heard = whole []; hears = hears_none files n; ends = (summed_ending number, (refl, refl), ends) }
+
+pub value_runs : (address peer : List ℕ) (turns : ℕ) (files : Option (List HeldFile)) (n : ℕ) (exit : Exit) (before after : Option (List ℕ)) (told told' : Option (List WireCall)) (k l : ℕ)
+    → Makes (λ calls. EndsIn (IsAddsEnding peer address turns calls) exit before after) told told' k l
+    → Makes (RunsBy (Some (value address peer turns)) files n n exit before after) told told' k l
+value_runs address peer turns files n exit before after told told' k l made =
+    makes_so (λ calls. EndsIn (IsAddsEnding peer address turns calls) exit before after) (RunsBy (Some (value address peer turns)) files n n exit before after) told told' k l
+    (λ calls e. record { heard = whole []; hears = hears_none files n; ends = e })
+    made
+
 -- the words are none of the forms
 pub usage_runs : (order : Option OrderValue) (files : Option (List HeldFile)) (n : ℕ) (exit : Exit) (before after : Option (List ℕ))
     → order ≡ None → Ends usage_ending exit before after → RunsBy order files n n exit before after []
 usage_runs order files n exit before after is ends =
     subst (λ o. RunsBy o files n n exit before after []) (sym is)
-    (record {
-      heard = whole [];
-      hears = record { is_of = refl; agrees = some_each (λ fs. whole [] ≡ whole []) files (λ fs. refl); counts = refl };
-      ends = (usage_ending, (refl, refl), ends);
-    })
+    (record { heard = whole []; hears = hears_none files n; ends = (usage_ending, (refl, refl), ends) })
 
 -- ---- what came of the wires
 
@@ -182,6 +197,14 @@ pub served_ends : (images : List Image) (address : List ℕ) (turns : ℕ) (end 
 served_ends images address turns end exit before after told told' k l made ends =
     makes_so (ServesAgent images address turns end) (λ calls. EndsIn (IsServedEnding images address turns calls) exit before after) told told' k l
     (λ calls fits. (served_ending turns end, (end, fits, refl), ends))
+    made
+
+pub adds_ends : (peer address : List ℕ) (turns : ℕ) (end : AddsEnd) (exit : Exit) (before after : Option (List ℕ)) (told told' : Option (List WireCall)) (k l : ℕ)
+    → Makes (ServesValueAdds peer address turns end) told told' k l → Ends (adds_ending turns end) exit before after
+    → Makes (λ calls. EndsIn (IsAddsEnding peer address turns calls) exit before after) told told' k l
+adds_ends peer address turns end exit before after told told' k l made ends =
+    makes_so (ServesValueAdds peer address turns end) (λ calls. EndsIn (IsAddsEnding peer address turns calls) exit before after) told told' k l
+    (λ calls fits. (adds_ending turns end, (end, fits, refl), ends))
     made
 
 pub ran_ends : (said : Result (List ScriptLine) BadLine) (script : List ScriptLine) (address : List ℕ) (turns : ℕ) (result : Result ClientRun WireRefusal) (exit : Exit) (before after : Option (List ℕ)) (told told' : Option (List WireCall)) (k l : ℕ)

@@ -9,7 +9,7 @@ use Rattle.tcf_schedules.specs.Schedule.{ScheduleValue, schedule_of}
 use Rattle.tcf_schedules.specs.Script.{script_of}
 use Rattle.tcf_schedules.specs.declared.script.ScriptLine.{ScriptLine}
 use Rattle.target_contexts.specs.declared.process.Image.{Image}
-use Rattle.world_laws.specs.Playing.{CoherentOfEveryFile, EndsOfEveryFile, HoldsOfEveryFile}
+use Rattle.world_laws.specs.Playing.{CoherentOfEveryFile, EndsOfEveryFile, FreshOfEveryFile, HoldsOfEveryFile}
 use Rattle.tcf_text.specs.Once.{Once}
 use Rattle.tcf_wires.specs.declared.call.WireCall.{WireCall}
 use Rattle.tcf_wires.specs.declared.call.WireCall.TheVariants.{Connected, Gave, Listened}
@@ -21,38 +21,44 @@ use Rattle.serving_wires.specs.Calls.{events_in, faults_through, with_calls}
 use Rattle.agent_serving.specs.Serve.{ServesAgent, IsBroken, IsLastCall, no_listening, no_event}
 use Rattle.agent_serving.specs.declared.serve.ServeEnd.{ServeEnd}
 use Rattle.agent_serving.specs.declared.serve.ServeEnd.TheVariants as serve_ends
+use Rattle.value_serving.specs.Serve.{ServesValueAdds, IsBroken as AddsBreak, IsLastCall as IsAddsLast, no_listening as adds_no_listening, no_event as adds_no_event}
+use Rattle.value_serving.specs.declared.serve.ServeEnd.{ServeEnd as AddsEnd}
+use Rattle.value_serving.specs.declared.serve.ServeEnd.TheVariants as adds_ends
 use Rattle.client_serving.specs.Client.{ServesAClient}
 use Rattle.client_serving.specs.Run.{RunsClient, no_calls, not_connected, connected, HasRun as RunHas, IsBroken as RunBreaks}
 use Rattle.client_serving.specs.declared.end.ClientEnd.{ClientEnd}
 use Rattle.client_serving.specs.declared.end.ClientEnd.TheVariants as client_ends
 use Rattle.client_serving.specs.declared.end.ClientRun.{ClientRun}
+use Rattle.load_schedules.specs.Generated.{GeneratesWhatIsSaid}
 use Rattle.tcf_app.specs.declared.exit.BadPlace.{BadPlace}
 use Rattle.tcf_app.specs.declared.exit.Exit.{Exit}
 use Rattle.tcf_app.specs.declared.exit.Exit.TheVariants.{Done, Usage, BadText, FileFault, SinkFault, WireFault, Turns, NoMemory, BadStream, Ended, TooLong}
 use Rattle.tcf_app.specs.Exit.{IsGivenUp}
-use Rattle.tcf_app.specs.Words.{NamedFile, OrderValue, chain, show, agent, client, files_in, files_named, first_place, names_of}
+use Rattle.tcf_app.specs.Words.{NamedFile, OrderValue, chain, show, load, agent, value, client, files_in, files_named, first_place, names_of}
 use Rattle.tcf_app.specs.Texts.{usage_text, file_fault_text, turns_text}
-use Rattle.tcf_app.specs.Played.{client_text}
+use Rattle.tcf_app.specs.Played.{client_text, numbered}
 use Rattle.tcf_app.specs.Heard.{Heard, whole, longer, failed, Agrees, Hears, IsFirstLong}
 use Rattle.tcf_app.specs.Show.{IsShown}
-use Rattle.tcf_app.specs.Ending.{Ending, IsEnding, IsRanEnding, images_with, usage_ending, fault_ending, long_ending, bad_ending, played_ending, lines_ending, served_ending, exit_of, ran_ending, wire_ending}
-use Rattle.tcf_app.specs.Run.{IsServed, IsDone, AreTaken, HasEnded, HaveFailed, IsBadText, IsBadStream, IsTooLong}
+use Rattle.tcf_app.specs.Ending.{Ending, IsEnding, IsRanEnding, images_with, usage_ending, fault_ending, long_ending, bad_ending, played_ending, lines_ending, summed_ending, served_ending, adds_ending, exit_of, ran_ending, wire_ending}
+use Rattle.tcf_app.specs.Run.{IsServed, AreServed, IsDone, AreTaken, HasEnded, HaveFailed, IsBadText, IsBadStream, IsTooLong}
 use Rattle.tcf_app.proofs.Items.{shown_as}
 use Rattle.tcf_app.proofs.Hearing.{are_held, content_is, first_long, some_so}
 use Rattle.serving_wires.proofs.Rising.{last_rises}
 
 -- ---- what is known beside the run
 
--- what holds of the world that a file brings about, and of a client
+-- what holds of the world that a file brings about, of the schedule that a number gives, and of a client
 pub record Laws : Type 0 where
   pub faithful : HoldsOfEveryFile
   pub ends : EndsOfEveryFile
   pub coherent : CoherentOfEveryFile
+  pub fresh : FreshOfEveryFile
+  pub said : GeneratesWhatIsSaid
   pub once : OnceAfterAnyCalls
   pub serves : ServesAClient
 
-pub laws_of : HoldsOfEveryFile → EndsOfEveryFile → CoherentOfEveryFile → OnceAfterAnyCalls → ServesAClient → Laws
-laws_of faithful ends coherent once serves = record { faithful = faithful; ends = ends; coherent = coherent; once = once; serves = serves }
+pub laws_of : HoldsOfEveryFile → EndsOfEveryFile → CoherentOfEveryFile → FreshOfEveryFile → GeneratesWhatIsSaid → OnceAfterAnyCalls → ServesAClient → Laws
+laws_of faithful ends coherent fresh said once serves = record { faithful = faithful; ends = ends; coherent = coherent; fresh = fresh; said = said; once = once; serves = serves }
 
 -- in the log of a client that was run each command is answered once
 run_once : Laws → (script : List ScriptLine) (address : List ℕ) (turns : ℕ) (run : ClientRun) (calls : List WireCall) → RunsClient script address turns (Ok run) calls → Once false run.client.log
@@ -73,6 +79,15 @@ serving_rises images address turns count calls s =
     by_last : {last : WireCall} → (earlier : List WireCall) → IsLastCall turns earlier last → Rose count (faults_through (earlier ++ last ∷ []) count)
     by_last earlier (no_listening where_to none) = last_rises count earlier (Listened where_to (Err refusals.Failed)) (λ n. refl)
     by_last earlier (no_event within) = last_rises count earlier (Gave (Err refusals.Failed)) (λ n. refl)
+
+adds_rise : (peer address : List ℕ) (turns count : ℕ) (calls : List WireCall) → ServesValueAdds peer address turns adds_ends.WireFault calls → Rose count (faults_through calls count)
+adds_rise peer address turns count calls s =
+    let broken : AddsBreak turns calls = s.ends in
+    subst (λ cs. Rose count (faults_through cs count)) (sym broken.split) (by_last broken.earlier broken.fails_last)
+  where
+    by_last : {last : WireCall} → (earlier : List WireCall) → IsAddsLast turns earlier last → Rose count (faults_through (earlier ++ last ∷ []) count)
+    by_last earlier (adds_no_listening where_to none) = last_rises count earlier (Listened where_to (Err refusals.Failed)) (λ n. refl)
+    by_last earlier (adds_no_event within) = last_rises count earlier (Gave (Err refusals.Failed)) (λ n. refl)
 
 running_rises : (script : List ScriptLine) (address : List ℕ) (turns count : ℕ) (calls : List WireCall) → RunsClient script address turns (Err refusals.Failed) calls → Rose count (faults_through calls count)
 running_rises script address turns count calls (no_calls is none) = cc
@@ -134,6 +149,7 @@ chain_tells laws s name file ending hears its = by_schedule (schedule_of file) r
       faithful = laws.faithful file schedule is;
       ends = laws.ends file schedule is;
       coherent = laws.coherent file schedule is;
+      fresh = laws.fresh file schedule is;
     })
     by_schedule (Err bad) is e = told_at s (Some (chain name)) ending (played_ending (Err bad)) e (λ put. record {
       name = name;
@@ -163,6 +179,22 @@ show_tells s name file ending text (Some bad) hears is e = told_at s (Some (show
   put = put;
 })
 
+-- a file says the schedule that a number gives
+numbered_said : GeneratesWhatIsSaid → (number : ℕ) → (file : List ℕ) × (schedule_of file ≡ Ok (numbered number))
+unfolding numbered
+numbered_said law number = law number
+
+load_tells : Laws → (s : Seen) (number : ℕ) (ending : Ending) → ending ≡ summed_ending number → s.after ≡ added ending.text s.before → Tells s (Some (load number)) ending.exit
+load_tells laws s number ending e =
+    let said = numbered_said laws.said number in
+    told_at s (Some (load number)) ending (summed_ending number) e (λ put. record {
+      put = put;
+      faithful = laws.faithful said.0 (numbered number) said.1;
+      ends = laws.ends said.0 (numbered number) said.1;
+      coherent = laws.coherent said.0 (numbered number) said.1;
+      fresh = laws.fresh said.0 (numbered number) said.1;
+    })
+
 agent_tells : (s : Seen) (address : List ℕ) (turns : ℕ) (images : List NamedFile) (contents : List (List ℕ)) (calls : List WireCall) (end : ServeEnd) (ending : Ending)
     → Hears (files_in images) s.files s.reads s.reads_after (whole contents) → s.told_after ≡ with_calls calls s.told → s.wires_after ≡ faults_through calls s.wires
     → ServesAgent (images_with images contents) address turns end calls → ending ≡ served_ending turns end
@@ -190,6 +222,27 @@ agent_tells s address turns images contents calls end ending hears told counted 
           served serve_ends.WireFault wire_ending.text so put,
         ))
     by_end serve_ends.NoMemory so e = told_at s (Some (agent address turns images)) ending (served_ending turns serve_ends.NoMemory) e (λ put. tt)
+
+value_tells : (s : Seen) (address peer : List ℕ) (turns : ℕ) (calls : List WireCall) (end : AddsEnd) (ending : Ending)
+    → s.told_after ≡ with_calls calls s.told → s.wires_after ≡ faults_through calls s.wires → ServesValueAdds peer address turns end calls → ending ≡ adds_ending turns end
+    → s.after ≡ added ending.text s.before → Tells s (Some (value address peer turns)) ending.exit
+value_tells s address peer turns calls end ending told counted fits = by_end end fits
+  where
+    served : (e : AddsEnd) (text : List ℕ) → ServesValueAdds peer address turns e calls → s.after ≡ added text s.before
+        → AreServed address peer turns e text s.told s.told_after s.wires s.wires_after s.before s.after
+    served e text so put = record { serves = record { calls = calls; fits = so; told = told; faults = counted }; put = put }
+
+    by_end : (e : AddsEnd) → ServesValueAdds peer address turns e calls → ending ≡ adds_ending turns e → s.after ≡ added ending.text s.before → Tells s (Some (value address peer turns)) ending.exit
+    by_end (adds_ends.Stopped events) so e =
+        told_at s (Some (value address peer turns)) ending (adds_ending turns (adds_ends.Stopped events)) e (λ put. (events, served (adds_ends.Stopped events) (turns_text events) so put))
+    by_end adds_ends.Turns so e =
+        told_at s (Some (value address peer turns)) ending (adds_ending turns adds_ends.Turns) e (λ put. served adds_ends.Turns (turns_text turns) so put)
+    by_end adds_ends.WireFault so e =
+        told_at s (Some (value address peer turns)) ending wire_ending e (λ put. (
+          subst (Rose s.wires) (sym counted) (adds_rise peer address turns s.wires calls so),
+          served adds_ends.WireFault wire_ending.text so put,
+        ))
+    by_end adds_ends.NoMemory so e = told_at s (Some (value address peer turns)) ending (adds_ending turns adds_ends.NoMemory) e (λ put. tt)
 
 client_tells : Laws → (s : Seen) (address name file : List ℕ) (turns : ℕ) (calls : List WireCall) (ending : Ending) → Hears (name ∷ []) s.files s.reads s.reads_after (whole (file ∷ []))
     → s.told_after ≡ with_calls calls s.told → s.wires_after ≡ faults_through calls s.wires → IsRanEnding (script_of file) address turns calls ending
@@ -283,8 +336,12 @@ ending_tells laws s (Some (chain name)) (whole (file ∷ other ∷ more)) calls 
 ending_tells laws s (Some (show name)) (whole []) calls ending hears told counted its = absurd its
 ending_tells laws s (Some (show name)) (whole (file ∷ [])) calls ending hears told counted its = show_tells s name file ending its.1.0.text its.1.0.bad hears its.1.1 its.1.2
 ending_tells laws s (Some (show name)) (whole (file ∷ other ∷ more)) calls ending hears told counted its = absurd its
+ending_tells laws s (Some (load number)) (whole []) calls ending hears told counted its = load_tells laws s number ending its.1
+ending_tells laws s (Some (load number)) (whole (file ∷ more)) calls ending hears told counted its = absurd its
 ending_tells laws s (Some (agent address turns images)) (whole contents) calls ending hears told counted its =
     agent_tells s address turns images contents calls its.0 ending hears told counted its.1 its.2
+ending_tells laws s (Some (value address peer turns)) (whole []) calls ending hears told counted its = value_tells s address peer turns calls its.0 ending told counted its.1 its.2
+ending_tells laws s (Some (value address peer turns)) (whole (file ∷ more)) calls ending hears told counted its = absurd its
 ending_tells laws s (Some (client address name turns)) (whole []) calls ending hears told counted its = absurd its
 ending_tells laws s (Some (client address name turns)) (whole (file ∷ [])) calls ending hears told counted its =
     client_tells laws s address name file turns calls ending hears told counted its

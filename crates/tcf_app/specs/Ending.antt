@@ -12,6 +12,9 @@ use Rattle.tcf_wires.specs.declared.event.WireRefusal.TheVariants as refusals
 use Rattle.agent_serving.specs.Serve.{ServesAgent}
 use Rattle.agent_serving.specs.declared.serve.ServeEnd.{ServeEnd}
 use Rattle.agent_serving.specs.declared.serve.ServeEnd.TheVariants as serve_ends
+use Rattle.value_serving.specs.Serve.{ServesValueAdds}
+use Rattle.value_serving.specs.declared.serve.ServeEnd.{ServeEnd as AddsEnd}
+use Rattle.value_serving.specs.declared.serve.ServeEnd.TheVariants as adds_ends
 use Rattle.client_serving.specs.Run.{RunsClient}
 use Rattle.client_serving.specs.declared.end.ClientEnd.{ClientEnd}
 use Rattle.client_serving.specs.declared.end.ClientEnd.TheVariants as client_ends
@@ -22,9 +25,9 @@ use Rattle.tcf_app.specs.declared.exit.Exit.TheVariants.{Done, Usage, BadText, F
 use Rattle.tcf_app.specs.declared.reading.Unread.{Unread}
 use Rattle.tcf_app.specs.declared.reading.Unread.TheVariants as unread
 use Rattle.tcf_app.specs.Exit.{IsGivenUp}
-use Rattle.tcf_app.specs.Words.{NamedFile, OrderValue, chain, show, agent, client, first_place}
+use Rattle.tcf_app.specs.Words.{NamedFile, OrderValue, chain, show, load, agent, value, client, first_place}
 use Rattle.tcf_app.specs.Texts.{usage_text, file_fault_text, wire_fault_text, too_long_text, turns_text, bad_line_text, bad_stream_text}
-use Rattle.tcf_app.specs.Played.{printed, client_text}
+use Rattle.tcf_app.specs.Played.{printed, numbered, summed, client_text}
 use Rattle.tcf_app.specs.Heard.{Heard, whole, longer, failed}
 use Rattle.tcf_app.specs.Show.{Shown, IsShown}
 
@@ -75,6 +78,12 @@ lines_ending text (Some bad) = record { exit = BadStream bad.offset bad.what; te
 abbrev pub IsShownEnding : List ℕ → Ending → Type 0
 IsShownEnding file ending = (shown : Shown) × IsShown file shown × (ending ≡ lines_ending shown.text shown.bad)
 
+-- ---- load
+
+-- for the schedule that a number gives
+abbrev pub summed_ending : ℕ → Ending
+summed_ending number = record { exit = Done; text = summed (numbered number) }
+
 -- ---- agent
 
 -- the images that an agent has: the names that the words give, with what their files hold
@@ -97,6 +106,19 @@ served_ending turns serve_ends.NoMemory = wanting_ending
 abbrev pub IsServedEnding : List Image → List ℕ → ℕ → List WireCall → Ending → Type 0
 IsServedEnding images address turns calls ending = (end : ServeEnd) × ServesAgent images address turns end calls × (ending ≡ served_ending turns end)
 
+-- ---- value
+
+-- for how the serving ended, of so many turns
+abbrev pub adds_ending : ℕ → AddsEnd → Ending
+adds_ending turns (adds_ends.Stopped events) = record { exit = Done; text = turns_text events }
+adds_ending turns adds_ends.Turns = record { exit = Turns; text = turns_text turns }
+adds_ending turns adds_ends.WireFault = wire_ending
+adds_ending turns adds_ends.NoMemory = wanting_ending
+
+-- for value-adds of this peer that are served by these calls
+abbrev pub IsAddsEnding : List ℕ → List ℕ → ℕ → List WireCall → Ending → Type 0
+IsAddsEnding peer address turns calls ending = (end : AddsEnd) × ServesValueAdds peer address turns end calls × (ending ≡ adds_ending turns end)
+
 -- ---- client
 
 abbrev pub exit_of : ClientEnd → Exit
@@ -118,11 +140,13 @@ IsRanEnding (Ok script) address turns calls ending =
 
 -- ---- each order
 
--- for the contents of the files, of which all orders but `agent` name one
+-- for the contents of the files: `chain`, `show` and `client` name one, `load` and `value` none
 abbrev pub IsWholeEnding : OrderValue → List (List ℕ) → List WireCall → Ending → Type 0
 IsWholeEnding (chain name) (file ∷ []) calls ending = (calls ≡ []) × (ending ≡ played_ending (schedule_of file))
 IsWholeEnding (show name) (file ∷ []) calls ending = (calls ≡ []) × IsShownEnding file ending
+IsWholeEnding (load number) [] calls ending = (calls ≡ []) × (ending ≡ summed_ending number)
 IsWholeEnding (agent address turns images) contents calls ending = IsServedEnding (images_with images contents) address turns calls ending
+IsWholeEnding (value address peer turns) [] calls ending = IsAddsEnding peer address turns calls ending
 IsWholeEnding (client address name turns) (file ∷ []) calls ending = IsRanEnding (script_of file) address turns calls ending
 IsWholeEnding order contents calls ending = ⊥
 

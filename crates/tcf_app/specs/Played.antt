@@ -1,4 +1,4 @@
--- What is printed of a schedule that is played, and of a client that is run.
+-- What is printed of a schedule that is played, whole or in sum, and of a client that is run.
 use Rattle.std.specs.Prelude.{ℕ, ◌+◌, List, [], ◌∷◌, ◌++◌, length, codes}
 use Rattle.std.specs.Fmt.{decimal}
 use Rattle.tcf_schedules.specs.declared.schedule.ChainHead.{ChainHead}
@@ -7,6 +7,8 @@ use Rattle.tcf_text.specs.declared.log.LogLine.{LogLine}
 use Rattle.tcf_schedules.specs.Schedule.{ScheduleValue}
 use Rattle.chain_world.specs.WorldValue.{WorldValue}
 use Rattle.chain_world.specs.World.{adds_of, images_of, log_at, new_world, run}
+use Rattle.load_schedules.specs.Generated.{generated}
+use Rattle.load_schedules.specs.Summary.{summary_line}
 
 unfoldable pub chain_front : List ℕ
 chain_front = codes "chain "
@@ -34,6 +36,19 @@ chains_text at (head ∷ heads) w = chain_line head.name ++ log_text (log_at at 
 -- what is printed of a schedule: each chain with the log that playing gives, and the length of the history
 abbrev pub printed : ScheduleValue → List ℕ
 printed schedule = chains_text 0 schedule.chains (world_of schedule) ++ history_line (length (world_of schedule).history)
+
+-- the schedule that a number gives
+unfoldable pub numbered : ℕ → ScheduleValue
+numbered number = generated number
+
+-- the chains from a place on, each with the line that sums up its log
+abbrev pub sums_text : ℕ → List ChainHead → WorldValue → List ℕ
+sums_text at [] w = []
+sums_text at (head ∷ heads) w = summary_line head.name (log_at at w) ++ sums_text (at + 1) heads w
+
+-- what is printed of a schedule in sum: a line for each chain, and the length of the history
+abbrev pub summed : ScheduleValue → List ℕ
+summed schedule = sums_text 0 schedule.chains (world_of schedule) ++ history_line (length (world_of schedule).history)
 
 unfoldable pub client_name : List ℕ
 client_name = codes "client"

@@ -18,19 +18,22 @@ use Rattle.serving_wires.specs.Serving.{fails}
 use Rattle.agent_serving.specs.Serve.{ServesAgent}
 use Rattle.agent_serving.specs.declared.serve.ServeEnd.{ServeEnd}
 use Rattle.agent_serving.specs.declared.serve.ServeEnd.TheVariants as serve_ends
+use Rattle.value_serving.specs.Serve.{ServesValueAdds, breaks}
+use Rattle.value_serving.specs.declared.serve.ServeEnd.{ServeEnd as AddsEnd}
+use Rattle.value_serving.specs.declared.serve.ServeEnd.TheVariants as adds_ends
 use Rattle.client_serving.specs.Run.{RunsClient}
 use Rattle.client_serving.specs.declared.end.ClientEnd.{ClientEnd}
 use Rattle.client_serving.specs.declared.end.ClientEnd.TheVariants as client_ends
 use Rattle.client_serving.specs.declared.end.ClientRun.{ClientRun}
 use Rattle.world_laws.specs.EndLaws.{EndsAllRightly}
 use Rattle.chain_world.specs.World.{images_of}
-use Rattle.world_laws.specs.WorldLaws.{AreCoherent, IsFaithful}
+use Rattle.world_laws.specs.WorldLaws.{AreCoherent, AreFresh, IsFaithful}
 use Rattle.tcf_app.specs.declared.exit.BadPlace.{BadPlace}
 use Rattle.tcf_app.specs.declared.exit.Exit.{Exit}
 use Rattle.tcf_app.specs.declared.exit.Exit.TheVariants.{Done, Usage, BadText, FileFault, SinkFault, WireFault, Turns, NoMemory, BadStream, Ended, TooLong}
-use Rattle.tcf_app.specs.Words.{NamedFile, OrderValue, chain, show, agent, client, first_place, files_in, files_named, names_of}
+use Rattle.tcf_app.specs.Words.{NamedFile, OrderValue, chain, show, load, agent, value, client, first_place, files_in, files_named, names_of}
 use Rattle.tcf_app.specs.Texts.{wire_fault_text, turns_text, bad_line_text, bad_stream_text, too_long_text}
-use Rattle.tcf_app.specs.Played.{printed, client_text, world_of}
+use Rattle.tcf_app.specs.Played.{printed, numbered, summed, client_text, world_of}
 use Rattle.tcf_app.specs.Heard.{Heard, Hears, heard_in, AreHeld, IsFirstLong}
 use Rattle.tcf_app.specs.Show.{IsShown}
 use Rattle.tcf_app.specs.Ending.{Ending, Ends, EndsIn, IsEnding, images_with, wire_ending}
@@ -43,11 +46,12 @@ pub record RunsBy (order : Option OrderValue) (files : Option (List HeldFile)) (
   pub hears : Hears (names_of order) files faults_before faults_after heard
   pub ends : EndsIn (IsEnding order heard calls) exit before after
 
--- ---- chain and show
+-- ---- chain, load and show
 
 -- The file says a schedule. Exactly its text was put: each chain with the log that playing the schedule gives, and
 -- the length of the history. Each log is true to that history, and ends only as the steps say; what each client keeps,
--- and shows where its cache is asked, is true of the target at the position of its last message.
+-- and shows where its cache is asked, and what each bound value-add knows, is true of the target at the position of the last
+-- message; and each answer to a command that a value-add may answer is what the target answers at its position.
 pub record IsPlayed (name : List ℕ) (files : Option (List HeldFile)) (before after : Option (List ℕ)) : Type 0 where
   pub file : List ℕ
   pub held : IfSome files (λ fs. file ≡ content_of name fs)
@@ -57,6 +61,16 @@ pub record IsPlayed (name : List ℕ) (files : Option (List HeldFile)) (before a
   pub faithful : IsFaithful (images_of schedule.images) (world_of schedule)
   pub ends : EndsAllRightly schedule.plans (world_of schedule)
   pub coherent : AreCoherent (images_of schedule.images) (world_of schedule)
+  pub fresh : AreFresh (images_of schedule.images) (world_of schedule)
+
+-- Exactly the sum of the schedule that the number gives was put: a line for each chain, which sums up the log that playing
+-- the schedule gives, and the length of the history. Of that world the same holds as of one that a file says.
+pub record IsSummed (number : ℕ) (before after : Option (List ℕ)) : Type 0 where
+  pub put : after ≡ added (summed (numbered number)) before
+  pub faithful : IsFaithful (images_of (numbered number).images) (world_of (numbered number))
+  pub ends : EndsAllRightly (numbered number).plans (world_of (numbered number))
+  pub coherent : AreCoherent (images_of (numbered number).images) (world_of (numbered number))
+  pub fresh : AreFresh (images_of (numbered number).images) (world_of (numbered number))
 
 -- The file is shown without a bad place, and exactly the lines of its messages were put.
 pub record IsPrinted (name : List ℕ) (files : Option (List HeldFile)) (before after : Option (List ℕ)) : Type 0 where
@@ -66,7 +80,7 @@ pub record IsPrinted (name : List ℕ) (files : Option (List HeldFile)) (before 
   pub shown : IsShown file (record { text = text; bad = None })
   pub put : after ≡ added text before
 
--- ---- agent and client
+-- ---- agent, value and client
 
 -- An agent was served whose images have these names and what these files hold; its serving ended so, and this text was
 -- put.
@@ -74,6 +88,11 @@ pub record IsServed (address : List ℕ) (turns : ℕ) (images : List NamedFile)
   pub contents : List (List ℕ)
   pub held : AreHeld (files_in images) contents files
   pub serves : Makes (ServesAgent (images_with images contents) address turns end) told_before told_after wires_before wires_after
+  pub put : after ≡ added text before
+
+-- Value-adds of this peer were served; their serving ended so, and this text was put.
+pub record AreServed (address peer : List ℕ) (turns : ℕ) (end : AddsEnd) (text : List ℕ) (told_before told_after : Option (List WireCall)) (wires_before wires_after : ℕ) (before after : Option (List ℕ)) : Type 0 where
+  pub serves : Makes (ServesValueAdds peer address turns end) told_before told_after wires_before wires_after
   pub put : after ≡ added text before
 
 -- A client did the script that this file says; its run ended so, and its log was put, in which each command is answered
@@ -100,19 +119,24 @@ pub record HasFailed (address name : List ℕ) (turns : ℕ) (files : Option (Li
 
 -- ---- each exit, by what was ordered
 
--- what was done; of an agent, that `Stop` came, as the last of so many events
+-- what was done; of an agent and of value-adds, that `Stop` came, as the last of so many events
 abbrev pub IsDone : Option OrderValue → Option (List HeldFile) → Option (List WireCall) → Option (List WireCall) → ℕ → ℕ → Option (List ℕ) → Option (List ℕ) → Type 0
 IsDone None files told told' wires wires' before after = ⊥
 IsDone (Some (chain name)) files told told' wires wires' before after = IsPlayed name files before after
 IsDone (Some (show name)) files told told' wires wires' before after = IsPrinted name files before after
+IsDone (Some (load number)) files told told' wires wires' before after = IsSummed number before after
 IsDone (Some (agent address turns images)) files told told' wires wires' before after =
     (events : ℕ) × IsServed address turns images (serve_ends.Stopped events) (turns_text events) files told told' wires wires' before after
+IsDone (Some (value address peer turns)) files told told' wires wires' before after =
+    (events : ℕ) × AreServed address peer turns (adds_ends.Stopped events) (turns_text events) told told' wires wires' before after
 IsDone (Some (client address name turns)) files told told' wires wires' before after = HasRun address name turns client_ends.Done files told told' wires wires' before after
 
 -- all turns were taken
 abbrev pub AreTaken : Option OrderValue → Option (List HeldFile) → Option (List WireCall) → Option (List WireCall) → ℕ → ℕ → Option (List ℕ) → Option (List ℕ) → Type 0
 AreTaken (Some (agent address turns images)) files told told' wires wires' before after =
     IsServed address turns images serve_ends.Turns (turns_text turns) files told told' wires wires' before after
+AreTaken (Some (value address peer turns)) files told told' wires wires' before after =
+    AreServed address peer turns adds_ends.Turns (turns_text turns) told told' wires wires' before after
 AreTaken (Some (client address name turns)) files told told' wires wires' before after = HasRun address name turns client_ends.Turns files told told' wires wires' before after
 AreTaken order files told told' wires wires' before after = ⊥
 
@@ -121,10 +145,12 @@ abbrev pub HasEnded : Cause → Option OrderValue → Option (List HeldFile) →
 HasEnded cause (Some (client address name turns)) files told told' wires wires' before after = HasRun address name turns (client_ends.Ended cause) files told told' wires wires' before after
 HasEnded cause order files told told' wires wires' before after = ⊥
 
--- a call of the wires failed
+-- a call of the wires failed, the last one; of value-adds, that one listened or asked for an event, and didn't connect
 abbrev pub HaveFailed : Option OrderValue → Option (List HeldFile) → Option (List WireCall) → Option (List WireCall) → ℕ → ℕ → Option (List ℕ) → Option (List ℕ) → Type 0
 HaveFailed (Some (agent address turns images)) files told told' wires wires' before after =
     IsServed address turns images serve_ends.WireFault wire_fault_text files told told' wires wires' before after
+HaveFailed (Some (value address peer turns)) files told told' wires wires' before after =
+    AreServed address peer turns adds_ends.WireFault wire_fault_text told told' wires wires' before after
 HaveFailed (Some (client address name turns)) files told told' wires wires' before after = HasFailed address name turns files told told' wires wires' before after
 HaveFailed order files told told' wires wires' before after = ⊥
 
@@ -170,7 +196,9 @@ abbrev pub serves_peers : Option OrderValue → Bool
 serves_peers None = false
 serves_peers (Some (chain name)) = false
 serves_peers (Some (show name)) = false
+serves_peers (Some (load number)) = false
 serves_peers (Some (agent address turns images)) = true
+serves_peers (Some (value address peer turns)) = true
 serves_peers (Some (client address name turns)) = true
 
 -- the exit comes before the wires are used
@@ -191,9 +219,14 @@ is_early (TooLong word) = true
 abbrev pub SparesWires : Option OrderValue → Exit → Type 0
 SparesWires order exit = (serves_peers order ≡ false) ⊎ (is_early exit ≡ true)
 
--- a call that failed, a lost put aside, ends the run with the line that says so, or while that is put
-abbrev pub AreHeeded : Exit → Option (List ℕ) → Option (List ℕ) → List WireCall → Type 0
-AreHeeded exit before after calls = (list_any fails calls ≡ false) ⊎ Ends wire_ending exit before after
+-- which calls end the run: those that failed, a lost put aside, and a value-add's connect
+abbrev pub ends_run : Option OrderValue → WireCall → Bool
+ends_run (Some (value address peer turns)) = breaks
+ends_run order = fails
+
+-- such a call ends the run with the line that says so, or while that is put
+abbrev pub AreHeeded : Option OrderValue → Exit → Option (List ℕ) → Option (List ℕ) → List WireCall → Type 0
+AreHeeded order exit before after calls = (list_any (ends_run order) calls ≡ false) ⊎ Ends wire_ending exit before after
 
 -- ---- given up, and complete
 

@@ -1,12 +1,13 @@
 -- What the words after the program's name ask for.
-use Rattle.std.specs.Prelude.{ℕ, ◌==◌, Bool, true, ◌&&◌, not, List, [], ◌∷◌, length, map, string_bytes, Option, Some, None, option_map, if◌then◌else◌, codes}
+use Rattle.std.specs.Prelude.{ℕ, ◌==◌, ◌^◌, Bool, true, ◌&&◌, not, List, [], ◌∷◌, length, map, nat_lt, string_bytes, Option, Some, None, option_map, if◌then◌else◌, codes, decimal}
 use Rattle.std.specs.List.{list_any}
 use Rattle.std.specs.Str.{bytes_eq}
+use Rattle.std.specs.Str.Parse.{digits_value}
 use Rattle.tcf_values.specs.Cut.{cut_of}
 use Rattle.tcf_values.specs.Number.{number_of}
 use Rattle.tcf_app.specs.declared.order.ImageWord.{ImageWord}
 use Rattle.tcf_app.specs.declared.order.Order.{Order}
-use Rattle.tcf_app.specs.declared.order.Order.TheVariants.{Chain, Show, Agent, Client}
+use Rattle.tcf_app.specs.declared.order.Order.TheVariants.{Chain, Show, Load, Agent, Value, Client}
 
 -- an image that the words give an agent: its name, and the file that has its bytes
 pub record NamedFile : Type 0 where
@@ -17,7 +18,9 @@ pub record NamedFile : Type 0 where
 pub data OrderValue : Type 0 where
   chain : (file : List ℕ) → OrderValue
   show : (file : List ℕ) → OrderValue
+  load : (number : ℕ) → OrderValue
   agent : (address : List ℕ) (turns : ℕ) (images : List NamedFile) → OrderValue
+  value : (address peer : List ℕ) (turns : ℕ) → OrderValue
   client : (address script : List ℕ) (turns : ℕ) → OrderValue
 
 -- ---- an image's word
@@ -51,7 +54,9 @@ are_named (image ∷ later) = not (length image.name == 0) && not (has_name imag
 abbrev pub order_value : Order → OrderValue
 order_value (Chain file) = chain file.now
 order_value (Show file) = show file.now
+order_value (Load number) = load number
 order_value (Agent address turns images) = agent address.now turns (images_in (map string_bytes images.now))
+order_value (Value address peer turns) = value address.now peer.now turns
 order_value (Client address script turns) = client address.now script.now turns
 
 abbrev pub image_value : ImageWord → NamedFile
@@ -63,8 +68,14 @@ chain_word = codes "chain"
 unfoldable pub show_word : List ℕ
 show_word = codes "show"
 
+unfoldable pub load_word : List ℕ
+load_word = codes "load"
+
 unfoldable pub agent_word : List ℕ
 agent_word = codes "agent"
+
+unfoldable pub value_word : List ℕ
+value_word = codes "value"
 
 unfoldable pub client_word : List ℕ
 client_word = codes "client"
@@ -73,11 +84,18 @@ client_word = codes "client"
 abbrev pub turns_of : List ℕ → Option ℕ
 turns_of digits = number_of 1 1000000000 digits
 
--- `chain FILE` or `show FILE`
+-- which schedule is generated: a decimal from 0 to 18,446,744,073,709,551,615, without a sign or a leading zero
+unfoldable pub number_in : List ℕ → Option ℕ
+number_in digits =
+    let n = digits_value 10 digits in
+    if bytes_eq digits (decimal n) && nat_lt n (2 ^ 64) then Some n else None
+
+-- `chain FILE`, `show FILE` or `load NUMBER`
 abbrev pub order_with : List ℕ → List ℕ → Option OrderValue
-order_with command file =
-    if bytes_eq command chain_word then Some (chain file)
-    else if bytes_eq command show_word then Some (show file)
+order_with command word =
+    if bytes_eq command chain_word then Some (chain word)
+    else if bytes_eq command show_word then Some (show word)
+    else if bytes_eq command load_word then option_map load (number_in word)
     else None
 
 -- `agent ADDRESS TURNS [NAME=FILE ..]`
@@ -88,15 +106,24 @@ abbrev pub agent_by : List ℕ → List NamedFile → Option ℕ → Option Orde
 agent_by address images None = None
 agent_by address images (Some turns) = agent_over address images turns
 
+-- the turns, where they are the one word that is left
+abbrev pub last_turns : List (List ℕ) → Option ℕ
+last_turns (word ∷ []) = turns_of word
+last_turns words = None
+
+-- `value ADDRESS PEER TURNS`
+abbrev pub value_by : List ℕ → List ℕ → List (List ℕ) → Option OrderValue
+value_by address peer words = option_map (value address peer) (last_turns words)
+
 -- `client ADDRESS SCRIPT TURNS`
 abbrev pub client_by : List ℕ → List ℕ → List (List ℕ) → Option OrderValue
-client_by address script (turns ∷ []) = option_map (client address script) (turns_of turns)
-client_by address script words = None
+client_by address script words = option_map (client address script) (last_turns words)
 
 -- a command with two words and more behind it
 abbrev pub serving_with : List ℕ → List ℕ → List ℕ → List (List ℕ) → Option OrderValue
 serving_with command address word words =
     if bytes_eq command agent_word then agent_by address (images_in words) (turns_of word)
+    else if bytes_eq command value_word then value_by address word words
     else if bytes_eq command client_word then client_by address word words
     else None
 
@@ -111,16 +138,20 @@ order_of words = None
 abbrev pub files_named : OrderValue → List (List ℕ)
 files_named (chain file) = file ∷ []
 files_named (show file) = file ∷ []
+files_named (load number) = []
 files_named (agent address turns images) = files_in images
+files_named (value address peer turns) = []
 files_named (client address script turns) = script ∷ []
 
 abbrev pub names_of : Option OrderValue → List (List ℕ)
 names_of None = []
 names_of (Some order) = files_named order
 
--- the place of the first of them among the words, of which the command is the first
+-- the place of the first of them among the words, of which the command is the first; 0 where there is none
 abbrev pub first_place : OrderValue → ℕ
 first_place (chain file) = 2
 first_place (show file) = 2
+first_place (load number) = 0
 first_place (agent address turns images) = 4
+first_place (value address peer turns) = 0
 first_place (client address script turns) = 3

@@ -6,7 +6,7 @@ ghost use Rattle.tcf_schedules.specs.Plan.{plans_of};
 ghost use Rattle.tcf_schedules.specs.Schedule.{meaning, schedule_of};
 ghost use Rattle.chain_world.specs.World.{IsPlayable};
 ghost use Rattle.tcf_app.specs.Ending.{Ends, played_ending};
-ghost use Rattle.tcf_app.specs.Played.{printed, chain_line, history_line, chains_text};
+ghost use Rattle.tcf_app.specs.Played.{printed, chain_line, history_line, chains_text, world_of};
 
 use crate::exit::Exit;
 use crate::finish::{finish_made, push_line};
@@ -28,7 +28,7 @@ pub(crate) fn push_chain(out: &mut Octets, name: &[u8]) -> Result<(), AllocError
 
 /// Appends the last line.
 #[tactic(auto, unfolding(crate::specs::Played::history_front))]
-fn push_history(alloc: Global, out: &mut Octets, count: usize) -> Result<(), AllocError>
+pub(crate) fn push_history(alloc: Global, out: &mut Octets, count: usize) -> Result<(), AllocError>
     ensures { OnOk result (out.new ≡ out.old ++ history_line count) }
 {
     let number = format!(in alloc; "{count}")?;
@@ -49,13 +49,23 @@ fn push_chains(out: &mut Octets, heads: &[ChainHead], world: &World) -> Result<(
     Ok(())
 }
 
+/// The world that playing the schedule brings about.
+pub(crate) fn play(alloc: Global, schedule: &Schedule) -> Result<World, AllocError>
+    requires { AllByRecursion IsPlayable (plans_of schedule.now.steps) }
+    ensures world { IfOk result (λ world. world ≡ world_of (meaning schedule.now)) }
+    ensures chains { IfOk result (λ world. length world.chains ≡ length schedule.now.chains) }
+{
+    let mut world = World::new(alloc, schedule)?;
+    world.play_all(schedule.steps.as_slice())?;
+    Ok(world)
+}
+
 /// The text of the schedule, played.
 fn text_of(alloc: Global, schedule: &Schedule) -> Result<Octets, AllocError>
     requires { AllByRecursion IsPlayable (plans_of schedule.now.steps) }
     ensures { IfOk result (λ text. text ≡ printed (meaning schedule.now)) }
 {
-    let mut world = World::new(alloc, schedule)?;
-    world.play_all(schedule.steps.as_slice())?;
+    let world = play(alloc, schedule)?;
     let mut text = Octets::new(alloc);
     push_chains(&mut text, schedule.chains.as_slice(), &world)?;
     push_history(alloc, &mut text, world.history().len())?;

@@ -8,11 +8,13 @@ pub mod exit;
 mod finish;
 mod laws;
 mod lines;
+mod load;
 mod order;
 mod reading;
 pub mod refusing;
 mod show;
 pub mod top;
+mod value;
 
 pub use exit::{BadPlace, Exit, StreamWhat};
 pub use laws::one_outcome;

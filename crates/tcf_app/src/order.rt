@@ -1,7 +1,8 @@
 //! What the words after the program's name ask for.
 ghost use Rattle.std.specs.Prelude.{◌≡◌, option_map, map, string_bytes};
-ghost use Rattle.tcf_app.specs.Words.{order_value, image_value, image_in, images_in, has_name, are_named, turns_of, order_with, agent_by, client_by, serving_with, order_of};
+ghost use Rattle.tcf_app.specs.Words.{load, order_value, image_value, image_in, images_in, has_name, are_named, number_in, turns_of, last_turns, order_with, agent_by, value_by, client_by, serving_with, order_of};
 
+use itoa::Buffer;
 use tcf_values::number_within;
 
 /// A command with what its words say.
@@ -15,11 +16,21 @@ pub(crate) enum Order<'a> {
     Show {
         file: &'a str,
     },
+    /// Plays the schedule that the number gives.
+    Load {
+        number: u64,
+    },
     /// Serves an agent with the images that these words give.
     Agent {
         address: &'a str,
         turns: u32,
         images: &'a [String],
+    },
+    /// Serves value-adds of a peer.
+    Value {
+        address: &'a str,
+        peer: &'a str,
+        turns: u32,
     },
     /// Lets a client do a script.
     Client {
@@ -78,14 +89,43 @@ fn turns_in(word: &str) -> Option<u32>
     number_within(word.as_bytes(), 1, 1_000_000_000)
 }
 
+/// The number of turns, where one word is left, which says it.
+fn last_turns(words: &[String]) -> Option<u32>
+    ensures { result ≡ last_turns (map string_bytes words.now) }
+{
+    match words {
+        [turns] => turns_in(turns.as_str()),
+        _ => None,
+    }
+}
+
+/// The number of a schedule that the word says.
+fn number_in(word: &str) -> Option<u64>
+    ensures { result ≡ number_in word.now }
+{
+    match word.parse::<u64>() {
+        Ok(number) if Buffer::new().format(number) == word => Some(number),
+        _ => None,
+    }
+}
+
+/// The order to play the schedule that a number gives.
+fn load_order<'a>(word: &str) -> Option<Order<'a>>
+    ensures { option_map order_value result ≡ option_map load (number_in word.now) }
+{
+    let number = number_in(word)?;
+    Some(Order::Load { number })
+}
+
 /// The order of a command with one word behind it.
-#[tactic(auto, unfolding(crate::specs::Words::chain_word, crate::specs::Words::show_word))]
-fn order_with<'a>(command: &str, file: &'a str) -> Option<Order<'a>>
-    ensures { option_map order_value result ≡ order_with command.now file.now }
+#[tactic(auto, unfolding(crate::specs::Words::chain_word, crate::specs::Words::show_word, crate::specs::Words::load_word))]
+fn order_with<'a>(command: &str, word: &'a str) -> Option<Order<'a>>
+    ensures { option_map order_value result ≡ order_with command.now word.now }
 {
     match command {
-        "chain" => Some(Order::Chain { file }),
-        "show" => Some(Order::Show { file }),
+        "chain" => Some(Order::Chain { file: word }),
+        "show" => Some(Order::Show { file: word }),
+        "load" => load_order(word),
         _ => None,
     }
 }
@@ -105,25 +145,32 @@ fn agent_order<'a>(address: &'a str, turns: &str, images: &'a [String]) -> Optio
     })
 }
 
+/// The order to serve value-adds of a peer.
+fn value_order<'a>(address: &'a str, peer: &'a str, words: &[String]) -> Option<Order<'a>>
+    ensures { option_map order_value result ≡ value_by address.now peer.now (map string_bytes words.now) }
+{
+    let turns = last_turns(words)?;
+    Some(Order::Value {
+        address,
+        peer,
+        turns,
+    })
+}
+
 /// The order to let a client do a script.
 fn client_order<'a>(address: &'a str, script: &'a str, words: &[String]) -> Option<Order<'a>>
     ensures { option_map order_value result ≡ client_by address.now script.now (map string_bytes words.now) }
 {
-    match words {
-        [turns] => {
-            let turns = turns_in(turns.as_str())?;
-            Some(Order::Client {
-                address,
-                script,
-                turns,
-            })
-        }
-        _ => None,
-    }
+    let turns = last_turns(words)?;
+    Some(Order::Client {
+        address,
+        script,
+        turns,
+    })
 }
 
 /// The order of a command with two words and more behind it.
-#[tactic(auto, unfolding(crate::specs::Words::agent_word, crate::specs::Words::client_word))]
+#[tactic(auto, unfolding(crate::specs::Words::agent_word, crate::specs::Words::value_word, crate::specs::Words::client_word))]
 fn serving_with<'a>(
     command: &str,
     address: &'a str,
@@ -134,6 +181,7 @@ fn serving_with<'a>(
 {
     match command {
         "agent" => agent_order(address, word, words),
+        "value" => value_order(address, word, words),
         "client" => client_order(address, word, words),
         _ => None,
     }
@@ -144,7 +192,7 @@ pub(crate) fn read_words(words: &[String]) -> Option<Order<'_>>
     ensures { option_map order_value result ≡ order_of (map string_bytes words.now) }
 {
     match words {
-        [command, file] => order_with(command.as_str(), file.as_str()),
+        [command, word] => order_with(command.as_str(), word.as_str()),
         [command, address, word, words @ ..] => serving_with(
             command.as_str(),
             address.as_str(),

@@ -18,12 +18,15 @@ use crate::chain::play_file;
 use crate::client::do_script;
 use crate::exit::Exit;
 use crate::laws::one_outcome;
+use crate::load::play_number;
 use crate::order::{Order, read_words};
 use crate::reading::{read_file, read_images};
 use crate::refusing::{refuse_unread, refuse_words};
 use crate::show::show_file;
+use crate::value::serve_adds;
 use client_node::each_command_is_answered_once;
 use client_serving::what_is_served_is_a_client;
+use load_schedules::laws::generates_what_is_said;
 use std::alloc::Global;
 use tcf_outside::{Files, Sink};
 use tcf_wires::Wires;
@@ -114,11 +117,17 @@ fn run_order<F: Files, S: Sink, W: Wires>(
     match order {
         Order::Chain { file } => run_chain(alloc, file, files, out),
         Order::Show { file } => run_show(alloc, file, files, out),
+        Order::Load { number } => play_number(alloc, number, out),
         Order::Agent {
             address,
             turns,
             images,
         } => run_agent(alloc, address, turns, images, files, out, wires),
+        Order::Value {
+            address,
+            peer,
+            turns,
+        } => serve_adds(alloc, address, peer, turns, out, wires),
         Order::Client {
             address,
             script,
@@ -151,11 +160,15 @@ fn run_words<F: Files, S: Sink, W: Wires>(
 /// - `chain FILE`: plays the schedule that the file says, and prints each chain's log and the history's length.
 /// - `show FILE`: prints a line for each message of the stream of bytes that the file has, and `EOS` at its end. Lines
 ///   that stand before a bad place stay printed.
+/// - `load NUMBER`: plays the schedule that the number gives, and prints a line for each chain that sums up its log, and
+///   the history's length.
 /// - `agent ADDRESS TURNS [NAME=FILE ..]`: listens on the address, serves an agent with these images, and prints how many
 ///   events it took.
+/// - `value ADDRESS PEER TURNS`: listens on the address, serves a value-add for each connection, whose peer has PEER as its
+///   ID and its address, and prints how many events they took.
 /// - `client ADDRESS SCRIPT TURNS`: connects to the address, does the script that the file says, and prints the log.
 ///
-/// TURNS is a decimal from 1 to 1,000,000,000 without a leading zero. NAME ends at the first `=`, isn't empty and isn't
+/// NUMBER is a decimal below 2^64, TURNS one from 1 to 1,000,000,000, without a sign or a leading zero. NAME ends at the first `=`, isn't empty and isn't
 /// given twice.
 ///
 /// A refusal puts one last line that says why. The first of these causes that holds is answered: the words are no
@@ -171,12 +184,12 @@ pub fn tcf<F: Files, S: Sink, W: Wires>(
     // The run as a whole: what was heard of the files, and which calls of the wires were made, say how it ends.
     ensures runs { Makes (RunsBy (order_of (map string_bytes words.now)) (F.held files.old) (F.faults files.old) (F.faults files.new) result (S.told out.old) (S.told out.new)) (W.told wires.old) (W.told wires.new) (W.faults wires.old) (W.faults wires.new) }
 
-    // What is printed: of a played schedule, whose logs are true to the history; of a stream without a bad place; of an
-    // agent for which `Stop` came; and of a client whose script is done.
+    // What is printed: of a played schedule, whose logs are true to the history, whole or in sum; of a stream without a bad
+    // place; of an agent and of value-adds for which `Stop` came; and of a client whose script is done.
     ensures done { result ≡ Exit.Done
         → IsDone (order_of (map string_bytes words.now)) (F.held files.old) (W.told wires.old) (W.told wires.new) (W.faults wires.old) (W.faults wires.new) (S.told out.old) (S.told out.new) }
 
-    // How a serving command ends otherwise.
+    // How a serving command ends otherwise. A connect that fails is no wire fault of a value-add.
     ensures turns { result ≡ Exit.Turns
         → AreTaken (order_of (map string_bytes words.now)) (F.held files.old) (W.told wires.old) (W.told wires.new) (W.faults wires.old) (W.faults wires.new) (S.told out.old) (S.told out.new) }
     ensures ended { (cause : Cause) → result ≡ Exit.Ended cause
@@ -202,7 +215,7 @@ pub fn tcf<F: Files, S: Sink, W: Wires>(
     // the line that says so, or while that is put, and so does a call of the wires.
     ensures sink_unharmed { (result ≡ Exit.SinkFault → ⊥) → S.faults out.new ≡ S.faults out.old }
     ensures files_unharmed { (F.faults files.new ≡ F.faults files.old) ⊎ Ends fault_ending result (S.told out.old) (S.told out.new) }
-    ensures wires_heeded { Makes (AreHeeded result (S.told out.old) (S.told out.new)) (W.told wires.old) (W.told wires.new) (W.faults wires.old) (W.faults wires.new) }
+    ensures wires_heeded { Makes (AreHeeded (order_of (map string_bytes words.now)) result (S.told out.old) (S.told out.new)) (W.told wires.old) (W.told wires.new) (W.faults wires.old) (W.faults wires.new) }
 
     // The wires are used only where an order serves, and behind its files.
     ensures wires_spared { SparesWires (order_of (map string_bytes words.now)) result → W.told wires.new ≡ W.told wires.old }
@@ -224,5 +237,6 @@ pub fn tcf<F: Files, S: Sink, W: Wires>(
     every_file();
     each_command_is_answered_once();
     what_is_served_is_a_client();
+    generates_what_is_said();
     run_words(alloc, words, files, out, wires)
 }

@@ -1,5 +1,5 @@
 -- What a value-add says itself, over any calls: each call keeps it.
-use Rattle.std.proofs.Common.{◌≡◌, ℕ, ◌+◌, Bool, true, false, not, ◌&&◌, ◌||◌, List, [], ◌∷◌, ◌++◌, Option, Some, None, refl, ap, sym, ◌∙◌, subst}
+use Rattle.std.proofs.Common.{◌≡◌, ℕ, Bool, true, false, not, ◌||◌, List, [], ◌∷◌, ◌++◌, Option, None, refl, ap, sym, ◌∙◌, subst}
 use Rattle.std.specs.Prelude.{if◌then◌else◌, map, option_map}
 use Rattle.std.specs.List.{flat_map}
 use Rattle.std.proofs.lemmas.List.{append-nil, append_assoc, map-append}
@@ -13,7 +13,7 @@ use Rattle.value_node.specs.OwnLaws.{IsBoundBy}
 use Rattle.value_node.specs.OwnMessages.{IsOwn}
 use Rattle.value_node.specs.Passing.{Lower}
 use Rattle.value_node.specs.RelayLaws.{AfterAllCalls, asked_by}
-use Rattle.value_node.specs.Runs.{Call, LowerCall, Past, UpperCall, ValueRun, after_all, bytes_end, comes, connects, fails, gives, is_binding, lower_after, no_past, only_if, own_by, reconnected, remembered, turns, upper_by, with_calls}
+use Rattle.value_node.specs.Runs.{Call, LowerCall, Past, ValueRun, after_all, bytes_end, comes, connects, fails, gives, is_binding, lower_after, no_past, only_if, own_by, reconnected, remembered, turns, upper_by, with_calls}
 use Rattle.value_node.specs.Value.{awaits, connected_to, is_free, is_opening, new_relay, value_services}
 use Rattle.value_node.specs.ValueValue.{ValueValue}
 use Rattle.value_node.specs.declared.relay.Relay.{Relay}
@@ -191,7 +191,7 @@ answering_from laws names [] v p h a = record { holds = h; answering = a }
 answering_from laws names (call ∷ calls) v p h a =
     let next = relay_called call v in
     subst (λ (value : ValueValue). IsAnswering (after_all calls (record { value = value; past = remembered call v value.relay p }))) (sym (called_whole call v))
-    (answering_from laws names calls next (remembered call v next p) (holds_called laws call v p h) (answering_called laws names call v p h a))
+    (answering_from laws names calls next (remembered call v next p) (holds_called laws call v p h).holds (answering_called laws names call v p h a))
 
 answering_first : (peer : List ℕ) → Answering (new_relay peer) no_past
 answering_first peer = record {

@@ -1,5 +1,5 @@
 -- The answer to getPeers fits into a message, since a peer's name that it lists has at most 65,536 bytes.
-use Rattle.std.proofs.Common.{◌≡◌, ◌≤◌, ℕ, ◌+◌, Bool, true, false, List, [], ◌∷◌, ◌++◌, length, arith, lit≤, leb-true, length-append, refl}
+use Rattle.std.proofs.Common.{◌≡◌, ◌≤◌, ℕ, Bool, true, false, List, [], ◌∷◌, ◌++◌, length, arith, lit≤, leb-true, length-append, refl}
 use Rattle.std.specs.Prelude.{codes, if◌then◌else◌}
 use Rattle.json.specs.Print.{quoted}
 use Rattle.serde_json.specs.Data.{no_members, string}

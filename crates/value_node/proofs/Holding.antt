@@ -3,7 +3,6 @@ use Rattle.std.proofs.Common.{◌≡◌, ◌≤◌, ℕ, ◌+◌, Bool, true, fa
 use Rattle.std.specs.Prelude.{IfSome, not, option_map, unwrap_or}
 use Rattle.std.proofs.lemmas.List.{append-nil, append_assoc}
 use Rattle.std.specs.List.{AllByRecursion, flat_map, list_any}
-use Rattle.channel_core.specs.Beginning.{new_end}
 use Rattle.channel_core.specs.Greeting.{is_greeting}
 use Rattle.channel_core.specs.QueueLaws.{ClosesOnlySo, QueuesItsMessages, TakesNothingClosed, is_commanding, sent_in}
 use Rattle.channel_core.specs.ReceivingLaws.{SendsReadable, incoming_of}
@@ -18,13 +17,17 @@ use Rattle.tcf_message.specs.Fault.{IsReadBack}
 use Rattle.tcf_message.specs.Message.{IsToken, reading}
 use Rattle.value_node.specs.Asked.{Asked}
 use Rattle.value_node.specs.ForwardedValue.{ForwardedValue, tagged}
-use Rattle.value_node.specs.RelayLaws.{IsGivenUp, StandsWell, asked_since, passed_on}
+use Rattle.value_node.specs.Deeds.{Deed, asked_in, command_asked, heard_in, sent_in as forwarded_in}
+use Rattle.value_node.specs.RelayLaws.{IsGivenUp, StandsWell, asked_since, told_from}
+use Rattle.value_node.specs.Store.{no_store}
 use Rattle.value_node.specs.Runs.{Call, LowerCall, Past, UpperCall, above, below, below_until_bound, lower_after, no_past, only_if, own_by, passing_by, upper_after, upper_by, upper_from, with_calls}
-use Rattle.value_node.specs.Value.{new_relay, value_services}
+use Rattle.value_node.specs.Value.{new_relay}
 use Rattle.value_node.specs.declared.relay.Relay.{Relay}
 use Rattle.value_node.specs.declared.states.Bind.{Bind}
 use Rattle.value_node.specs.declared.states.Bind.TheVariants.{Bound}
 use Rattle.value_node.specs.Passing.{Upper}
+use Rattle.value_node.proofs.DeedLists.{AreRight}
+use Rattle.value_node.proofs.Knowing.{Knows, Lessons}
 use Rattle.value_node.proofs.Pasts.{accepted_in, accepted_more, after_both}
 use Rattle.value_node.proofs.Sendable.{Sizes}
 use Rattle.value_node.proofs.Taken.{IsAnswerTo, IsCommand, IsEvent, IsProgressOf, IsTold}
@@ -42,12 +45,13 @@ pub record Laws : Type 0 where
   pub lower_stays : AfterEndCalls {T = Unit} StaysClosed
   pub readable : IsReadBack
   pub sizes : Sizes
+  pub lessons : Lessons
 
--- ---- the commands: accepted above are those that were taken from below, under 1, 2, 3 and so on
+-- ---- the commands: accepted above are those that are forwarded, under 1, 2, 3 and so on
 
 abbrev pub issued_from : ℕ → List Asked → List (Issued ForwardedValue)
 issued_from token [] = []
-issued_from token (c ∷ commands) = record { command = made token c.service c.name c.body c.mark; tag = tagged c.token } ∷ issued_from (token + 1) commands
+issued_from token (c ∷ commands) = record { command = made token c.service c.name c.body c.mark; tag = tagged c.token (command_asked c) } ∷ issued_from (token + 1) commands
 
 pub issued_length : (low : ℕ) (cs : List Asked) → length (issued_from low cs) ≡ length cs
 issued_length low [] = refl
@@ -79,6 +83,7 @@ WaitsOrIsClosed (states.Closed cause) = Unit {0}
 WaitsOrIsClosed state = ⊥
 
 pub record Holds (v : Relay) (p : Past) : Type 0 where
+  pub deeds : List Deed  -- what it has done since it was bound
   pub lower : v.lower ≡ (below p).end
   pub upper : v.upper ≡ option_map (λ calls. (upper_after calls).end) p.connection
   pub stands : StandsWell v.bind v p
@@ -87,8 +92,15 @@ pub record Holds (v : Relay) (p : Past) : Type 0 where
   pub waits : p.is_bound ≡ false → IfSome v.upper (λ e. WaitsOrIsClosed e.state)
   pub quiet : p.is_bound ≡ false → flat_map incoming_of (above p).past.taken ≡ []
   pub earlier : AllByRecursion IsGivenUp p.earlier
-  pub passed : sent_in p.since_bound (below_until_bound p).end ≡ passed_on (asked_since p) (above p).past.taken
-  pub accepted : AreAccepted (above p).past.accepted (asked_since p) v.bind
+  pub idle : p.is_bound ≡ false → deeds ≡ []
+  pub asked : asked_since p ≡ asked_in deeds
+  pub messages : heard_in deeds ≡ flat_map incoming_of (above p).past.taken
+  pub passed : sent_in p.since_bound (below_until_bound p).end ≡ told_from [] deeds
+  pub accepted : AreAccepted (above p).past.accepted (forwarded_in deeds) v.bind
+  pub undrained : (above p).past.drained ≡ []
+  pub right : AreRight [] deeds
+  pub fresh : p.is_bound ≡ false → v.store ≡ no_store
+  pub knows : v.bind ≡ Bound → Knows deeds v.store
   pub few : length (above p).past.accepted ≤ last_token
   pub named : AllByRecursion (IsNamed (length (above p).past.accepted)) (above p).past.taken
   pub below_readable : SendsReadable (p.until_bound ++ p.since_bound)
@@ -131,6 +143,7 @@ above_accepted call v after p upper = ap (λ r. r.past.accepted) (above_more cal
 
 pub holds_first : (peer : List ℕ) → Holds (new_relay peer) no_past
 holds_first peer = record {
+  deeds = [];
   lower = refl;
   upper = refl;
   stands = (refl, refl, refl);
@@ -139,8 +152,15 @@ holds_first peer = record {
   waits = λ off. tt;
   quiet = λ off. refl;
   earlier = tt;
+  idle = λ off. refl;
+  asked = refl;
+  messages = refl;
   passed = refl;
   accepted = record { sent = []; refused = []; whole = refl; issued = refl; all = λ bound. refl };
+  undrained = refl;
+  right = tt;
+  fresh = λ off. refl;
+  knows = λ bound. absurd cc;
   few = omega arith;
   named = tt;
   below_readable = tt;
@@ -148,3 +168,7 @@ holds_first peer = record {
   redirect = tt;
   uncommanding = tt;
 }
+
+pub first_does : (peer : List ℕ) → (holds_first peer).deeds ≡ []
+unfolding holds_first
+first_does peer = refl

@@ -20,6 +20,8 @@ use Rattle.channel_core.specs.declared.states.EndState.TheVariants as states
 use Rattle.channel_core.specs.declared.taking.Taken.{Taken}
 use Rattle.channel_core.specs.declared.taking.Taken.TheVariants as taken
 use Rattle.value_node.specs.ForwardedValue.{ForwardedValue}
+use Rattle.value_node.specs.Store.{StoreValue}
+use Rattle.value_node.specs.Deeds.{Deed}
 use Rattle.value_node.specs.Passing.{Lower, Upper}
 use Rattle.value_node.specs.RelayLaws.{AfterAllCalls, HasEnded, StandsWell, StopsAfterTheEnd, is_ending}
 use Rattle.value_node.specs.Runs.{Call, Past, UpperCall, ValueRun, above, after_all, below, bytes_end, comes, connects, fails, gives, is_binding, no_past, own_by, passing_by, reconnected, remembered, turns, upper_after, upper_by, with_calls}
@@ -122,35 +124,35 @@ own_state e live = by_flag (is_closed e.state) live
     by_flag true off = absurd cc
     by_flag false off = refl
 
-took_stops : (next : Option (Taken ForwardedValue) × Upper) (peer : List ℕ) (lower : Lower) (upper : Option Upper) (redirect : Option (List ℕ)) → is_closed lower.state ≡ false
-    → (took_any_above next.0 (with_upper next.1 (relay peer Bound lower upper redirect))).1.bind ≡ Closed
-    → (took_any_above next.0 (with_upper next.1 (relay peer Bound lower upper redirect))).1.lower.state ≡ states.Closed causes.Own
-took_stops (None, e) peer lower upper redirect live is = absurd cc
-took_stops (Some (taken.Hello incoming), e) peer lower upper redirect live is = absurd cc
-took_stops (Some (taken.Command incoming), e) peer lower upper redirect live is = absurd cc
-took_stops (Some (taken.Event incoming), e) peer lower upper redirect live is = absurd cc
-took_stops (Some (taken.Progress token incoming), e) peer lower upper redirect live is = absurd cc
-took_stops (Some (taken.Final tag incoming), e) peer lower upper redirect live is = absurd cc
-took_stops (Some (taken.Closed cause), e) peer lower upper redirect live is = own_state lower live
+took_stops : (next : Option (Taken ForwardedValue) × Upper) (store : StoreValue) (peer : List ℕ) (lower : Lower) (upper : Option Upper) (redirect : Option (List ℕ)) → is_closed lower.state ≡ false
+    → (took_any_above next.0 (with_upper next.1 (relay store peer Bound lower upper redirect))).1.bind ≡ Closed
+    → (took_any_above next.0 (with_upper next.1 (relay store peer Bound lower upper redirect))).1.lower.state ≡ states.Closed causes.Own
+took_stops (None, e) store peer lower upper redirect live is = absurd cc
+took_stops (Some (taken.Hello incoming), e) store peer lower upper redirect live is = absurd cc
+took_stops (Some (taken.Command incoming), e) store peer lower upper redirect live is = absurd cc
+took_stops (Some (taken.Event incoming), e) store peer lower upper redirect live is = absurd cc
+took_stops (Some (taken.Progress token incoming), e) store peer lower upper redirect live is = absurd cc
+took_stops (Some (taken.Final tag incoming), e) store peer lower upper redirect live is = absurd cc
+took_stops (Some (taken.Closed cause), e) store peer lower upper redirect live is = own_state lower live
 
-turn_stops : (peer : List ℕ) (bind : Bind) (lower : Lower) (upper : Option Upper) (redirect : Option (List ℕ)) → bind ≡ Bound → is_closed lower.state ≡ false
-    → (relay_called (turns Above) (relay peer bind lower upper redirect)).bind ≡ Closed → (relay_called (turns Above) (relay peer bind lower upper redirect)).lower.state ≡ states.Closed causes.Own
+turn_stops : (store : StoreValue) (peer : List ℕ) (bind : Bind) (lower : Lower) (upper : Option Upper) (redirect : Option (List ℕ)) → bind ≡ Bound → is_closed lower.state ≡ false
+    → (relay_called (turns Above) (relay store peer bind lower upper redirect)).bind ≡ Closed → (relay_called (turns Above) (relay store peer bind lower upper redirect)).lower.state ≡ states.Closed causes.Own
 unfolding turned_above
-turn_stops peer Bound lower None redirect was live is = absurd cc
-turn_stops peer Bound lower (Some e) redirect was live is = took_stops (next_taken e) peer lower (Some e) redirect live is
-turn_stops peer Unbound lower upper redirect was live is = absurd cc
-turn_stops peer Opening lower upper redirect was live is = absurd cc
-turn_stops peer Closed lower upper redirect was live is = absurd cc
+turn_stops store peer Bound lower None redirect was live is = absurd cc
+turn_stops store peer Bound lower (Some e) redirect was live is = took_stops (next_taken e) store peer lower (Some e) redirect live is
+turn_stops store peer Unbound lower upper redirect was live is = absurd cc
+turn_stops store peer Opening lower upper redirect was live is = absurd cc
+turn_stops store peer Closed lower upper redirect was live is = absurd cc
 
-closed_turn_takes : (peer : List ℕ) (bind : Bind) (lower : Lower) (upper : Option Upper) (redirect : Option (List ℕ)) (end : Upper) → bind ≡ Closed
-    → taken_in (upper_by (turns Above) (relay peer bind lower upper redirect)) end ≡ []
-closed_turn_takes peer bind lower None redirect end is = refl
-closed_turn_takes peer bind lower (Some e) redirect end is = rw is refl
+closed_turn_takes : (store : StoreValue) (peer : List ℕ) (bind : Bind) (lower : Lower) (upper : Option Upper) (redirect : Option (List ℕ)) (end : Upper) → bind ≡ Closed
+    → taken_in (upper_by (turns Above) (relay store peer bind lower upper redirect)) end ≡ []
+closed_turn_takes store peer bind lower None redirect end is = refl
+closed_turn_takes store peer bind lower (Some e) redirect end is = rw is refl
 
 closed_takes : (call : Call) (v : Relay) (end : Upper) → v.bind ≡ Closed → taken_in (upper_by call v) end ≡ []
 closed_takes call v end is =
     elim (turn_or_not call) as (λ _. taken_in (upper_by call v) end ≡ []) [
-      | inl turn ↦ subst (λ c. taken_in (upper_by c v) end ≡ []) (sym turn) (closed_turn_takes v.peer v.bind v.lower v.upper v.redirect end is)
+      | inl turn ↦ subst (λ c. taken_in (upper_by c v) end ≡ []) (sym turn) (closed_turn_takes v.store v.peer v.bind v.lower v.upper v.redirect end is)
       | inr other ↦ others_take call v v.upper end other
     ]
 
@@ -193,7 +195,7 @@ stopped_more laws call v p h later before ended = by_flag (p.is_bound && list_an
         elim (turn_or_not call) as (λ _. (below q).end.state ≡ states.Closed causes.Own) [
           | inl turn ↦ sym (ap (λ (e : Lower). e.state) later.lower)
               ∙ subst (λ c. (relay_called c v).bind ≡ Closed → (relay_called c v).lower.state ≡ states.Closed causes.Own) (sym turn)
-              (turn_stops v.peer v.bind v.lower v.upper v.redirect is stands.0) shut
+              (turn_stops v.store v.peer v.bind v.lower v.upper v.redirect is stands.0) shut
           | inr other ↦ absurd (true≢false (sym (was_ended (others_take call v v.upper (above p).end other)) ∙ off))
         ]
     by_bind Closed is stands off = absurd (true≢false (sym (was_ended (closed_takes call v (above p).end is)) ∙ off))
@@ -209,19 +211,19 @@ stopped_if true p before = λ ended. absurd cc
 stopped_if false p before = before
 
 stopped_called : Laws → (call : Call) (v : Relay) (p : Past) → Holds v p → IsStopped p → IsStopped (remembered call v (relay_called call v) p)
-stopped_called laws (comes side piece mark) v p h before = stopped_more laws (comes side piece mark) v p h (holds_called laws (comes side piece mark) v p h) before
-stopped_called laws (bytes_end side) v p h before = stopped_more laws (bytes_end side) v p h (holds_called laws (bytes_end side) v p h) before
-stopped_called laws (turns side) v p h before = stopped_more laws (turns side) v p h (holds_called laws (turns side) v p h) before
+stopped_called laws (comes side piece mark) v p h before = stopped_more laws (comes side piece mark) v p h (holds_called laws (comes side piece mark) v p h).holds before
+stopped_called laws (bytes_end side) v p h before = stopped_more laws (bytes_end side) v p h (holds_called laws (bytes_end side) v p h).holds before
+stopped_called laws (turns side) v p h before = stopped_more laws (turns side) v p h (holds_called laws (turns side) v p h).holds before
 stopped_called laws connects v p h before = stopped_if (awaits v) p before
-stopped_called laws fails v p h before = stopped_more laws fails v p h (holds_called laws fails v p h) before
-stopped_called laws (gives side) v p h before = stopped_more laws (gives side) v p h (holds_called laws (gives side) v p h) before
+stopped_called laws fails v p h before = stopped_more laws fails v p h (holds_called laws fails v p h).holds before
+stopped_called laws (gives side) v p h before = stopped_more laws (gives side) v p h (holds_called laws (gives side) v p h).holds before
 
 stopped_from : Laws → (calls : List Call) (v : Relay) (p : Past) → Holds v p → IsStopped p → IsStopped (after_all calls (record { value = whole v; past = p })).past
 stopped_from laws [] v p h before = before
 stopped_from laws (call ∷ calls) v p h before =
     let next = relay_called call v in
     subst (λ (value : ValueValue). IsStopped (after_all calls (record { value = value; past = remembered call v value.relay p })).past) (sym (called_whole call v))
-    (stopped_from laws calls next (remembered call v next p) (holds_called laws call v p h) (stopped_called laws call v p h before))
+    (stopped_from laws calls next (remembered call v next p) (holds_called laws call v p h).holds (stopped_called laws call v p h before))
 
 -- ---- and nothing is said below later
 
@@ -244,15 +246,15 @@ quiet_from laws (call ∷ calls) v p h shut =
     let next = relay_called call v in
     let kept = quiet_call laws call v p h shut in
     subst (λ (value : ValueValue). (below (after_all calls (record { value = value; past = remembered call v value.relay p })).past).past.queued ≡ (below p).past.queued) (sym (called_whole call v))
-    (quiet_from laws calls next (remembered call v next p) (holds_called laws call v p h) (ap is_closed kept.state ∙ shut) ∙ kept.queued)
+    (quiet_from laws calls next (remembered call v next p) (holds_called laws call v p h).holds (ap is_closed kept.state ∙ shut) ∙ kept.queued)
 
 -- ---- the law
 
 told_last : (state : EndState) (queued : List Outgoing) → state ≡ states.Closed causes.Own → EndsAs state queued → (front : List Outgoing) × (queued ≡ front ++ end_of_stream ∷ [])
 told_last state queued is ends = let own : EndsAs (states.Closed causes.Own) queued = subst (λ s. EndsAs s queued) is ends in (own.0, own.1)
 
-stops : Laws → (r : ValueRun) → IsHeld r → IsStopped r.past → StopsAfterTheEnd r
-stops laws r held stopped =
+stops : Laws → (r : ValueRun) (deeds : List Deed) → IsHeld r deeds → IsStopped r.past → StopsAfterTheEnd r
+stops laws r deeds held stopped =
     let p = r.past in
     let v = r.value.relay in
     let once : EndsOnce (below p) = laws.lower_ends value_services None (p.until_bound ++ p.since_bound) in
@@ -266,4 +268,4 @@ stops laws r held stopped =
     }
 
 pub always_stops : Laws → AfterAllCalls StopsAfterTheEnd
-always_stops laws peer calls = stops laws _ (always_held laws peer calls) (stopped_from laws calls (new_relay peer) no_past (holds_first peer) (λ ended. absurd cc))
+always_stops laws peer calls = stops laws _ _ (always_held laws peer calls) (stopped_from laws calls (new_relay peer) no_past (holds_first peer) (λ ended. absurd cc))

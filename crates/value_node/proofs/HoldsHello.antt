@@ -1,5 +1,5 @@
 -- The Hello from above is what binds a value-add, and before that nothing is passed on.
-use Rattle.std.proofs.Common.{◌≡◌, ◌⊎◌, inl, inr, ℕ, ◌+◌, Bool, true, false, ◌||◌, List, [], ◌++◌, Option, Some, None, Result, Ok, refl, ap, sym, ◌∙◌, subst}
+use Rattle.std.proofs.Common.{◌≡◌, ◌⊎◌, inl, inr, ℕ, Bool, true, false, ◌||◌, List, [], ◌++◌, Option, Some, None, Result, Ok, refl, ap, sym, ◌∙◌, subst}
 use Rattle.std.specs.Prelude.{IfSome, if◌then◌else◌, option_map, unwrap_or}
 use Rattle.std.specs.List.{flat_map, list_any}
 use Rattle.std.proofs.lemmas.List.Folds.{list_any-append}
@@ -16,8 +16,10 @@ use Rattle.channel_core.specs.declared.taking.Taken.TheVariants as taken
 use Rattle.tcf_message.specs.Message.{MessageValue, command, reading}
 use Rattle.tcf_message.specs.declared.message.MessageFault.{MessageFault}
 use Rattle.value_node.specs.ForwardedValue.{ForwardedValue}
-use Rattle.value_node.specs.Own.{own_reply}
+use Rattle.value_node.specs.Own.{own_reply, redirect_failed}
+use Rattle.value_node.specs.Store.{StoreValue, no_store}
 use Rattle.value_node.specs.Passing.{Lower, Upper}
+use Rattle.value_node.specs.Deeds.{Deed, above_deeds, deeds_by, turn_below_deeds}
 use Rattle.value_node.specs.RelayLaws.{StandsWell}
 use Rattle.value_node.specs.Runs.{Call, LowerCall, Past, UpperCall, above, bytes_end, comes, connects, fails, gives, is_binding, only_if, own_by, passing_any, passing_by, took_above_above, turns, upper_after, upper_by, with_calls}
 use Rattle.value_node.specs.Value.{answered, asked, asked_in, awaits, connected_to, is_free, takes_below, took_any_above, took_any_below, turned_above, turned_below, unbound_again, value_services, with_lower, with_upper}
@@ -34,6 +36,7 @@ use Rattle.value_node.proofs.HoldsWaiting.{neither, only_waits}
 use Rattle.value_node.proofs.Pasts.{taken_in, taken_more}
 use Rattle.value_node.proofs.Steps.{relay, relay_called}
 use Rattle.value_node.proofs.Taken.{IsFirstAny, next_first}
+use Rattle.value_node.proofs.StoreStays.{others_keep, redirect_store}
 use Rattle.value_node.proofs.TakenAbove.{others_take}
 
 -- ---- what is taken before the Hello
@@ -44,7 +47,7 @@ first_in states.Live e is w keeps = absurd w
 first_in states.Reopening e is w keeps = absurd w
 first_in (states.Closed cause) e is w keeps = let none : next_taken e ≡ (None, e) = keeps.takes_none (ap is_closed is) in rw none tt
 
-first_on : (upper : Option Upper) → IfSome upper (λ e. WaitsOrIsClosed e.state) → IfSome upper KeepsClosed → IfSome upper (λ e. IsFirstAny (next_taken e).0)
+pub first_on : (upper : Option Upper) → IfSome upper (λ e. WaitsOrIsClosed e.state) → IfSome upper KeepsClosed → IfSome upper (λ e. IsFirstAny (next_taken e).0)
 first_on None w keeps = tt
 first_on (Some e) w keeps = first_in e.state e refl w keeps
 
@@ -52,7 +55,7 @@ pub idle_on : (upper : Option Upper) → IfSome upper KeepsClosed → is_free up
 idle_on None keeps free = tt
 idle_on (Some e) keeps free = keeps.takes_none free
 
-free_where : (bind : Bind) (v : Relay) (p : Past) → StandsWell bind v p → bind ≡ Unbound → is_free v.upper ≡ true
+pub free_where : (bind : Bind) (v : Relay) (p : Past) → StandsWell bind v p → bind ≡ Unbound → is_free v.upper ≡ true
 free_where Unbound v p stands is = stands.1
 free_where Opening v p stands is = absurd cc
 free_where Bound v p stands is = absurd cc
@@ -69,37 +72,42 @@ not_binding Closed v p stands off = refl
 pub record FirstCall (call : Call) (v : Relay) (upper : Upper) : Type 0 where
   pub greets : list_any is_greeting (taken_in (upper_by call v) upper) ≡ is_binding (relay_called call v).bind
   pub passes : is_binding (relay_called call v).bind ≡ false → passing_by call v ≡ []
+  pub does : is_binding (relay_called call v).bind ≡ false → deeds_by call v ≡ []
+  pub keeps : is_binding (relay_called call v).bind ≡ false → (relay_called call v).store ≡ v.store
 
 abbrev FirstTurn : Bind → Option (Taken ForwardedValue) × Upper → Relay → Type 0
 FirstTurn bind next v =
     (list_any is_greeting (listed next.0 ++ taken_in (took_above_above next.0 bind) next.1) ≡ is_binding (took_any_above next.0 (with_upper next.1 v)).1.bind)
     × (is_binding (took_any_above next.0 (with_upper next.1 v)).1.bind ≡ false → passing_any next bind ≡ [])
+    × (is_binding (took_any_above next.0 (with_upper next.1 v)).1.bind ≡ false → above_deeds bind next.0 ≡ [])
+    × (is_binding (took_any_above next.0 (with_upper next.1 v)).1.bind ≡ false → (took_any_above next.0 (with_upper next.1 v)).1.store ≡ v.store)
 
-opening_turn : (peer : List ℕ) (lower : Lower) (upper : Option Upper) (redirect : Option (List ℕ)) (next : Option (Taken ForwardedValue) × Upper) → IsFirstAny next.0 → FirstTurn Opening next (relay peer Opening lower upper redirect)
-opening_turn peer lower upper redirect (None, e) first = (refl, λ off. refl)
-opening_turn peer lower upper redirect (Some (taken.Hello incoming), e) first = (refl, λ off. absurd cc)
-opening_turn peer lower upper redirect (Some (taken.Closed cause), e) first = (refl, λ off. refl)
-opening_turn peer lower upper redirect (Some (taken.Command incoming), e) first = absurd first
-opening_turn peer lower upper redirect (Some (taken.Event incoming), e) first = absurd first
-opening_turn peer lower upper redirect (Some (taken.Progress token incoming), e) first = absurd first
-opening_turn peer lower upper redirect (Some (taken.Final tag incoming), e) first = absurd first
+opening_turn : (store : StoreValue) (peer : List ℕ) (lower : Lower) (upper : Option Upper) (redirect : Option (List ℕ)) (next : Option (Taken ForwardedValue) × Upper) → IsFirstAny next.0 → FirstTurn Opening next (relay store peer Opening lower upper redirect)
+opening_turn store peer lower upper redirect (None, e) first = (refl, λ off. refl, λ off. refl, λ off. refl)
+opening_turn store peer lower upper redirect (Some (taken.Hello incoming), e) first = (refl, λ off. absurd cc, λ off. absurd cc, λ off. absurd cc)
+opening_turn store peer lower upper redirect (Some (taken.Closed cause), e) first =
+    (refl, λ off. refl, λ off. refl, λ off. redirect_store redirect redirect_failed (relay store peer Opening lower (Some e) redirect))
+opening_turn store peer lower upper redirect (Some (taken.Command incoming), e) first = absurd first
+opening_turn store peer lower upper redirect (Some (taken.Event incoming), e) first = absurd first
+opening_turn store peer lower upper redirect (Some (taken.Progress token incoming), e) first = absurd first
+opening_turn store peer lower upper redirect (Some (taken.Final tag incoming), e) first = absurd first
 
-first_turn : (peer : List ℕ) (bind : Bind) (lower : Lower) (upper : Option Upper) (redirect : Option (List ℕ)) (end : Upper) → is_binding bind ≡ false
+first_turn : (store : StoreValue) (peer : List ℕ) (bind : Bind) (lower : Lower) (upper : Option Upper) (redirect : Option (List ℕ)) (end : Upper) → is_binding bind ≡ false
     → IfSome upper (λ e. e ≡ end) → IfSome upper (λ e. IsFirstAny (next_taken e).0) → (bind ≡ Unbound → IfSome upper (λ e. next_taken e ≡ (None, e)))
-    → FirstCall (turns Above) (relay peer bind lower upper redirect) end
+    → FirstCall (turns Above) (relay store peer bind lower upper redirect) end
 unfolding turned_above
-first_turn peer Unbound lower None redirect end off same first idle = record { greets = refl; passes = λ isnt. refl }
-first_turn peer Unbound lower (Some e) redirect end off same first idle =
-    let turn : FirstTurn Unbound (next_taken e) (relay peer Unbound lower (Some e) redirect) =
-    subst (λ (next : Option (Taken ForwardedValue) × Upper). FirstTurn Unbound next (relay peer Unbound lower (Some e) redirect)) (sym (idle refl)) (refl, λ isnt. refl) in
-    rw (sym same) (record { greets = turn.0; passes = turn.1 })
-first_turn peer Opening lower None redirect end off same first idle = record { greets = refl; passes = λ isnt. refl }
-first_turn peer Opening lower (Some e) redirect end off same first idle =
-    let turn = opening_turn peer lower (Some e) redirect (next_taken e) first in
-    rw (sym same) (record { greets = turn.0; passes = turn.1 })
-first_turn peer Bound lower upper redirect end off same first idle = absurd cc
-first_turn peer Closed lower None redirect end off same first idle = record { greets = refl; passes = λ isnt. refl }
-first_turn peer Closed lower (Some e) redirect end off same first idle = record { greets = refl; passes = λ isnt. refl }
+first_turn store peer Unbound lower None redirect end off same first idle = record { greets = refl; passes = λ isnt. refl; does = λ isnt. refl; keeps = λ isnt. refl }
+first_turn store peer Unbound lower (Some e) redirect end off same first idle =
+    let turn : FirstTurn Unbound (next_taken e) (relay store peer Unbound lower (Some e) redirect) =
+    subst (λ (next : Option (Taken ForwardedValue) × Upper). FirstTurn Unbound next (relay store peer Unbound lower (Some e) redirect)) (sym (idle refl)) (refl, λ isnt. refl, λ isnt. refl, λ isnt. refl) in
+    rw (sym same) (record { greets = turn.0; passes = turn.1; does = turn.2; keeps = turn.3 })
+first_turn store peer Opening lower None redirect end off same first idle = record { greets = refl; passes = λ isnt. refl; does = λ isnt. refl; keeps = λ isnt. refl }
+first_turn store peer Opening lower (Some e) redirect end off same first idle =
+    let turn = opening_turn store peer lower (Some e) redirect (next_taken e) first in
+    rw (sym same) (record { greets = turn.0; passes = turn.1; does = turn.2; keeps = turn.3 })
+first_turn store peer Bound lower upper redirect end off same first idle = absurd cc
+first_turn store peer Closed lower None redirect end off same first idle = record { greets = refl; passes = λ isnt. refl; does = λ isnt. refl; keeps = λ isnt. refl }
+first_turn store peer Closed lower (Some e) redirect end off same first idle = record { greets = refl; passes = λ isnt. refl; does = λ isnt. refl; keeps = λ isnt. refl }
 
 -- ---- other calls pass nothing on, and don't bind
 
@@ -111,6 +119,22 @@ others_pass (turns Above) v other = absurd (other refl)
 others_pass connects v other = refl
 others_pass fails v other = refl
 others_pass (gives side) v other = refl
+
+idle_below : (bind : Bind) (v : Relay) → is_binding bind ≡ false → turn_below_deeds bind v ≡ []
+idle_below Unbound v off = refl
+idle_below Opening v off = refl
+idle_below Bound v off = absurd cc
+idle_below Closed v off = refl
+
+-- nor do they do anything
+pub others_idle : (call : Call) (v : Relay) → (call ≡ turns Above → ⊥) → is_binding v.bind ≡ false → deeds_by call v ≡ []
+others_idle (comes side piece mark) v other off = refl
+others_idle (bytes_end side) v other off = refl
+others_idle (turns Below) v other off = idle_below v.bind v off
+others_idle (turns Above) v other off = absurd (other refl)
+others_idle connects v other off = refl
+others_idle fails v other off = refl
+others_idle (gives side) v other off = refl
 
 answered_bind : (token : List ℕ) (reply : Own) (v : Relay) → is_binding v.bind ≡ false → is_binding (answered token reply v).1.bind ≡ false
 answered_bind token own.Unknown v off = off
@@ -178,11 +202,13 @@ first_call laws call v p h off =
     let bind_off : is_binding v.bind ≡ false = not_binding v.bind v p h.stands off in
     elim (turn_or_not call) as (λ _. FirstCall call v (above p).end) [
       | inl is ↦ subst (λ c. FirstCall c v (above p).end) (sym is)
-          (first_turn v.peer v.bind v.lower v.upper v.redirect (above p).end bind_off (upper_is v.upper p.connection h.upper) (first_on v.upper (h.waits off) keeps)
+          (first_turn v.store v.peer v.bind v.lower v.upper v.redirect (above p).end bind_off (upper_is v.upper p.connection h.upper) (first_on v.upper (h.waits off) keeps)
           (λ unbound. idle_on v.upper keeps (free_where v.bind v p h.stands unbound)))
       | inr other ↦ record {
         greets = ap (list_any is_greeting) (others_take call v v.upper (above p).end other) ∙ sym (stays_unbound call v other bind_off);
         passes = λ isnt. others_pass call v other;
+        does = λ isnt. others_idle call v other bind_off;
+        keeps = λ isnt. others_keep call v other bind_off;
       }
     ]
 
@@ -206,6 +232,19 @@ heard_kept laws call v p h =
 since_none : (flag : Bool) (since own pass : List LowerCall) → flag ≡ false → since ≡ [] → pass ≡ [] → since ++ (only_if flag own ++ pass) ≡ []
 since_none true since own pass off none nothing = absurd cc
 since_none false since own pass off none nothing = ap (λ calls. calls ++ pass) none ∙ nothing
+
+none_done : (deeds more : List Deed) → deeds ≡ [] → more ≡ [] → deeds ++ more ≡ []
+none_done deeds more none nothing = ap (λ ds. ds ++ more) none ∙ nothing
+
+pub idle_kept : Laws → (call : Call) (v : Relay) (p : Past) (h : Holds v p) → (p.is_bound || is_binding (relay_called call v).bind) ≡ false → h.deeds ++ deeds_by call v ≡ []
+idle_kept laws call v p h off =
+    let parts = neither p.is_bound (is_binding (relay_called call v).bind) off in
+    none_done h.deeds (deeds_by call v) (h.idle parts.0) ((first_call laws call v p h parts.0).does parts.1)
+
+pub fresh_kept : Laws → (call : Call) (v : Relay) (p : Past) → Holds v p → (p.is_bound || is_binding (relay_called call v).bind) ≡ false → (relay_called call v).store ≡ no_store
+fresh_kept laws call v p h off =
+    let parts = neither p.is_bound (is_binding (relay_called call v).bind) off in
+    (first_call laws call v p h parts.0).keeps parts.1 ∙ h.fresh parts.0
 
 pub unbound_kept : Laws → (call : Call) (v : Relay) (p : Past) → Holds v p
     → (p.is_bound || is_binding (relay_called call v).bind) ≡ false → (with_calls call v (relay_called call v) p).since_bound ≡ []

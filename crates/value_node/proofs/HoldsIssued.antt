@@ -1,24 +1,25 @@
--- The commands that are accepted above are those that were taken from below since the value-add was bound, under 1, 2, 3
--- and so on; and there are fewer than 2^64.
+-- The commands that are accepted above are those that are forwarded, under 1, 2, 3 and so on; and there are fewer than 2^64.
 use Rattle.std.proofs.Common.{◌≡◌, ◌≢◌, inl, inr, ◌≤◌, ℕ, ◌+◌, ◌-◌, ◌^◌, Bool, true, false, List, [], ◌∷◌, ◌++◌, length, map, Option, None, refl, ap, sym, ◌∙◌, subst, arith, length-append}
 use Rattle.std.specs.Prelude.{if◌then◌else◌, unwrap_or}
 use Rattle.std.specs.List.{range_with_len}
 use Rattle.std.proofs.lemmas.List.{append-nil, append_assoc}
-use Rattle.channel_core.specs.Runs.{Issued, issued}
+use Rattle.channel_core.specs.Runs.{Issued}
 use Rattle.channel_core.specs.Sending.{last_token}
 use Rattle.value_node.specs.Asked.{Asked}
 use Rattle.value_node.specs.ForwardedValue.{ForwardedValue}
+use Rattle.value_node.specs.Store.{StoreValue}
 use Rattle.value_node.specs.Passing.{Lower, Upper}
-use Rattle.value_node.specs.RelayLaws.{StandsWell, asked_since}
-use Rattle.value_node.specs.Runs.{Call, Past, above, bytes_end, comes, connects, fails, gives, own_by, turns, upper_by, with_calls}
+use Rattle.value_node.specs.Deeds.{deeds_by, sent_in as forwarded_in}
+use Rattle.value_node.specs.RelayLaws.{StandsWell}
+use Rattle.value_node.specs.Runs.{Call, Past, above, bytes_end, comes, connects, fails, gives, turns, upper_by, with_calls}
 use Rattle.value_node.specs.Value.{asked, awaits, connected_to, turned_above, turned_below, value_services}
 use Rattle.value_node.specs.declared.relay.Relay.{Relay}
 use Rattle.value_node.specs.declared.states.Bind.{Bind}
 use Rattle.value_node.specs.declared.states.Bind.TheVariants.{Unbound, Opening, Bound, Closed}
 use Rattle.value_node.specs.declared.states.Side.TheVariants.{Below, Above}
-use Rattle.value_node.proofs.CallAdds.{Adds, asked_now, call_adds, issued_as, more_asked}
+use Rattle.value_node.proofs.CallAdds.{Adds, call_adds, issued_as}
+use Rattle.value_node.proofs.DeedLists.{sent_both}
 use Rattle.value_node.proofs.Holding.{AreAccepted, Holds, Laws, above_accepted, issued_from, issued_length}
-use Rattle.value_node.proofs.HoldsConnected.{none_since}
 use Rattle.value_node.proofs.Pasts.{accepted_in}
 use Rattle.value_node.proofs.Steps.{relay, relay_called}
 
@@ -92,30 +93,30 @@ step_few accepted more new bind next end few counted (inr (c, asked_is, bound, i
 
 -- ---- a closed one stays closed
 
-closed_below : (peer : List ℕ) (bind : Bind) (lower : Lower) (upper : Option Upper) (redirect : Option (List ℕ)) → bind ≡ Closed → (turned_below (relay peer bind lower upper redirect)).1.bind ≡ Closed
+closed_below : (store : StoreValue) (peer : List ℕ) (bind : Bind) (lower : Lower) (upper : Option Upper) (redirect : Option (List ℕ)) → bind ≡ Closed → (turned_below (relay store peer bind lower upper redirect)).1.bind ≡ Closed
 unfolding turned_below
-closed_below peer bind lower upper redirect is = rw is refl
+closed_below store peer bind lower upper redirect is = rw is refl
 
-closed_above : (peer : List ℕ) (bind : Bind) (lower : Lower) (upper : Option Upper) (redirect : Option (List ℕ)) → bind ≡ Closed → (turned_above (relay peer bind lower upper redirect)).1.bind ≡ Closed
+closed_above : (store : StoreValue) (peer : List ℕ) (bind : Bind) (lower : Lower) (upper : Option Upper) (redirect : Option (List ℕ)) → bind ≡ Closed → (turned_above (relay store peer bind lower upper redirect)).1.bind ≡ Closed
 unfolding turned_above
-closed_above peer bind lower upper redirect is = rw is refl
+closed_above store peer bind lower upper redirect is = rw is refl
 
 closed_connects : (flag : Bool) (v : Relay) → v.bind ≡ Closed → (if flag then connected_to v else v).bind ≡ Closed
 closed_connects true v is = is
 closed_connects false v is = is
 
-closed_fails : (peer : List ℕ) (bind : Bind) (lower : Lower) (upper : Option Upper) (redirect : Option (List ℕ)) → bind ≡ Closed → (relay_called fails (relay peer bind lower upper redirect)).bind ≡ Closed
-closed_fails peer bind lower upper redirect is = rw is refl
+closed_fails : (store : StoreValue) (peer : List ℕ) (bind : Bind) (lower : Lower) (upper : Option Upper) (redirect : Option (List ℕ)) → bind ≡ Closed → (relay_called fails (relay store peer bind lower upper redirect)).bind ≡ Closed
+closed_fails store peer bind lower upper redirect is = rw is refl
 
 pub closed_stays : (call : Call) (v : Relay) → v.bind ≡ Closed → (relay_called call v).bind ≡ Closed
 closed_stays (comes Below piece mark) v is = is
 closed_stays (comes Above piece mark) v is = is
 closed_stays (bytes_end Below) v is = is
 closed_stays (bytes_end Above) v is = is
-closed_stays (turns Below) v is = closed_below v.peer v.bind v.lower v.upper v.redirect is
-closed_stays (turns Above) v is = closed_above v.peer v.bind v.lower v.upper v.redirect is
+closed_stays (turns Below) v is = closed_below v.store v.peer v.bind v.lower v.upper v.redirect is
+closed_stays (turns Above) v is = closed_above v.store v.peer v.bind v.lower v.upper v.redirect is
 closed_stays connects v is = closed_connects (awaits v) v is
-closed_stays fails v is = closed_fails v.peer v.bind v.lower v.upper v.redirect is
+closed_stays fails v is = closed_fails v.store v.peer v.bind v.lower v.upper v.redirect is
 closed_stays (gives Below) v is = is
 closed_stays (gives Above) v is = is
 
@@ -136,7 +137,7 @@ still_all call v p h bound = by_flag p.is_bound refl
 
     by_flag : (flag : Bool) → p.is_bound ≡ flag → h.accepted.refused ≡ []
     by_flag true on = by_bind v.bind refl h.stands on
-    by_flag false off = nothing_behind h.accepted.sent h.accepted.refused (sym h.accepted.whole ∙ none_since p (h.unbound off))
+    by_flag false off = nothing_behind h.accepted.sent h.accepted.refused (sym h.accepted.whole ∙ ap forwarded_in (h.idle off))
 
 -- ---- what is kept
 
@@ -146,17 +147,17 @@ counted_after laws call v next p h =
     let q = with_calls call v next p in
     subst (λ is. AreCounted is) (above_accepted call v next p h.upper) (laws.upper_counts value_services None (unwrap_or q.connection [])).tokens
 
-pub accepted_kept : Laws → (call : Call) (v : Relay) (p : Past) → Holds v p
-    → AreAccepted (above (with_calls call v (relay_called call v) p)).past.accepted (asked_since (with_calls call v (relay_called call v) p)) (relay_called call v).bind
+pub accepted_kept : Laws → (call : Call) (v : Relay) (p : Past) (h : Holds v p)
+    → AreAccepted (above (with_calls call v (relay_called call v) p)).past.accepted (forwarded_in (h.deeds ++ deeds_by call v)) (relay_called call v).bind
 accepted_kept laws call v p h =
     let next = relay_called call v in
-    rw (above_accepted call v next p h.upper, asked_now call v next p h)
-    (step_accepted (above p).past.accepted (accepted_in (upper_by call v) (above p).end) (asked_since p) (more_asked p.is_bound (own_by call v) v.lower) v.bind next.bind (above p).end h.accepted
+    rw (above_accepted call v next p h.upper, sent_both h.deeds (deeds_by call v))
+    (step_accepted (above p).past.accepted (accepted_in (upper_by call v) (above p).end) (forwarded_in h.deeds) (forwarded_in (deeds_by call v)) v.bind next.bind (above p).end h.accepted
     (still_all call v p h) (counted_after laws call v next p h) (call_adds call v p h))
 
 pub few_kept : Laws → (call : Call) (v : Relay) (p : Past) → Holds v p → length (above (with_calls call v (relay_called call v) p)).past.accepted ≤ last_token
 few_kept laws call v p h =
     let next = relay_called call v in
     subst (λ is. length is ≤ last_token) (sym (above_accepted call v next p h.upper))
-    (step_few (above p).past.accepted (accepted_in (upper_by call v) (above p).end) (more_asked p.is_bound (own_by call v) v.lower) v.bind next.bind (above p).end h.few
+    (step_few (above p).past.accepted (accepted_in (upper_by call v) (above p).end) (forwarded_in (deeds_by call v)) v.bind next.bind (above p).end h.few
     (counted_after laws call v next p h) (call_adds call v p h))

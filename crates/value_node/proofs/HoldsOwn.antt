@@ -1,20 +1,18 @@
 -- After any calls a value-add has answered itself, it connects where it was asked, and it asks nothing below.
-use Rattle.std.proofs.Common.{◌≡◌, ℕ, ◌+◌, false, List, [], ◌∷◌, ◌++◌, Option, Some, None, refl, ap, ◌∙◌}
+use Rattle.std.proofs.Common.{◌≡◌, ℕ, List, ◌∷◌, ◌++◌, Option, refl, ap, ◌∙◌}
 use Rattle.std.specs.Prelude.{map, option_to_list}
-use Rattle.std.specs.List.{list_any}
 use Rattle.channel_core.specs.Wire.{hello, locator}
 use Rattle.tcf_message.specs.Message.{event}
 use Rattle.value_node.specs.Asked.{Asked}
-use Rattle.value_node.specs.OwnLaws.{AnswersItself, AsksNothingBelow, ConnectsWhenAsked, IsBoundBy}
+use Rattle.value_node.specs.OwnLaws.{AnswersItself, AsksNothingBelow, ConnectsWhenAsked}
 use Rattle.value_node.specs.OwnMessages.{a_hello}
 use Rattle.value_node.specs.RelayLaws.{AfterAllCalls}
-use Rattle.value_node.specs.Runs.{Past, ValueRun, after_all, no_calls}
+use Rattle.value_node.specs.Runs.{ValueRun, after_all, no_calls}
 use Rattle.value_node.specs.Value.{value_services}
-use Rattle.value_node.specs.declared.relay.Relay.{Relay}
 use Rattle.value_node.specs.declared.states.Bind.{Bind}
 use Rattle.value_node.specs.declared.states.Bind.TheVariants.{Unbound, Opening, Bound, Closed}
-use Rattle.value_node.proofs.Answering.{Answering, IsAnswering, always_answering, asked_of, unopened}
-use Rattle.value_node.proofs.Holding.{Holds, Laws}
+use Rattle.value_node.proofs.Answering.{IsAnswering, always_answering, asked_of, unopened}
+use Rattle.value_node.proofs.Holding.{Laws}
 use Rattle.value_node.proofs.HoldsCalled.{always_held}
 use Rattle.value_node.proofs.HoldsSaid.{none_commands, until_queued}
 use Rattle.value_node.proofs.OwnAnswers.{IsLeft, plain, spelled}

@@ -1,8 +1,9 @@
--- What is taken from above is passed on below, and each progress and each answer that was taken names a command.
-use Rattle.std.proofs.Common.{◌≡◌, ◌≤◌, ◌<◌, ℕ, ◌+◌, ◌-◌, Bool, true, false, not, List, [], ◌∷◌, ◌++◌, length, length-append, Option, Some, None, refl, ap, sym, ◌∙◌, subst, arith}
+-- What a value-add does since it was bound is said below, and each progress and each answer that was taken names a command.
+use Rattle.std.proofs.Common.{◌≡◌, ◌≤◌, ◌<◌, inl, inr, ℕ, ◌+◌, Bool, true, false, not, List, [], ◌∷◌, ◌++◌, length, length-append, Option, Some, None, refl, ap, sym, ◌∙◌, subst, arith}
 use Rattle.std.specs.Prelude.{IfSome, if◌then◌else◌, unwrap_or}
 use Rattle.std.specs.List.{AllByRecursion, flat_map}
 use Rattle.std.proofs.lemmas.List.{append-nil}
+use Rattle.channel_core.specs.Closing.{is_closed}
 use Rattle.channel_core.specs.Laws.{listed}
 use Rattle.channel_core.specs.QueueLaws.{sent_in}
 use Rattle.channel_core.specs.ReceivingLaws.{incoming_of}
@@ -12,18 +13,24 @@ use Rattle.channel_core.specs.declared.taking.Taken.{Taken}
 use Rattle.channel_core.specs.declared.taking.Taken.TheVariants as taken
 use Rattle.tcf_message.specs.Message.{IsToken}
 use Rattle.value_node.specs.Asked.{Asked}
+use Rattle.value_node.specs.Deeds.{Deed, asked_in as commands_in, deeds_by, sent_in as forwarded_in}
 use Rattle.value_node.specs.ForwardedValue.{ForwardedValue}
 use Rattle.value_node.specs.Passing.{Lower, Upper}
-use Rattle.value_node.specs.RelayLaws.{asked_since, passed_by, passed_on}
-use Rattle.value_node.specs.Runs.{Call, LowerCall, Past, above, below_since_bound, below_until_bound, lower_after, next_above, only_if, own_by, passing_by, turns, upper_by, with_calls}
+use Rattle.value_node.specs.RelayLaws.{StandsWell, told_from}
+use Rattle.value_node.specs.Runs.{Call, LowerCall, Past, above, below_since_bound, below_until_bound, bytes_end, comes, connects, fails, gives, lower_after, next_above, only_if, own_by, passing_by, turns, upper_by, with_calls}
 use Rattle.value_node.specs.Value.{takes_above, value_services}
 use Rattle.value_node.specs.declared.relay.Relay.{Relay}
-use Rattle.value_node.specs.declared.states.Side.TheVariants.{Above}
-use Rattle.value_node.proofs.Holding.{Holds, IsNamed, Laws, above_accepted, issued_length}
+use Rattle.value_node.specs.declared.states.Bind.{Bind}
+use Rattle.value_node.specs.declared.states.Bind.TheVariants.{Unbound, Opening, Bound, Closed}
+use Rattle.value_node.specs.declared.states.Side.TheVariants.{Below, Above}
+use Rattle.value_node.proofs.DeedLists.{all_sent, heard_tells, told_both}
+use Rattle.value_node.proofs.Holding.{Holds, IsNamed, Laws, above_accepted}
+use Rattle.value_node.proofs.HoldsEnds.{lower_facts}
+use Rattle.value_node.proofs.HoldsHeard.{hears_is}
+use Rattle.value_node.proofs.HoldsHello.{not_binding, others_idle, others_pass, turn_or_not}
 use Rattle.value_node.proofs.Lists.{all_append, all_right, all_then}
-use Rattle.value_node.proofs.OwnSilence.{own_silent, stands_open, stands_past}
-use Rattle.value_node.proofs.PassedOn.{pass_sends}
-use Rattle.value_node.proofs.PassedStill.{asked_grows, passed_both, passed_still}
+use Rattle.value_node.proofs.OwnSilence.{IsPast, below_sends, own_silent, stands_open, stands_past}
+use Rattle.value_node.proofs.PassedOn.{pass_sends, passed_on}
 use Rattle.value_node.proofs.Pasts.{accepted_in, after_both, sent_both}
 use Rattle.value_node.proofs.Readable.{AreTokens}
 use Rattle.value_node.proofs.Steps.{end_ran, ran}
@@ -33,67 +40,110 @@ use Rattle.value_node.proofs.TokensBelow.{IsIssued, accepted_rows, asked_tokens,
 
 -- ---- all is passed on
 
-passed_flag : (flag : Bool) (until since own pass : List LowerCall) (lower : Lower) (before after : List Asked) (there entries : List (Taken ForwardedValue))
-    → lower ≡ ran since (lower_after until).end → (flag ≡ false → since ≡ []) → (flag ≡ true → sent_in own lower ≡ []) → (flag ≡ false → flat_map incoming_of there ≡ [])
-    → sent_in since (lower_after until).end ≡ passed_on before there → passed_on after there ≡ passed_on before there → sent_in pass (ran own lower) ≡ passed_on after entries
-    → sent_in (since ++ (only_if flag own ++ pass)) (lower_after (until ++ only_if (not flag) own)).end ≡ passed_on after (there ++ entries)
-passed_flag true until since own pass lower before after there entries lower_is unbound silent quiet passed still sends =
+passed_flag : (flag : Bool) (until since own pass : List LowerCall) (lower : Lower) (deeds now : List Deed) → lower ≡ ran since (lower_after until).end
+    → (flag ≡ false → since ≡ []) → (flag ≡ false → deeds ≡ []) → sent_in since (lower_after until).end ≡ told_from [] deeds
+    → (flag ≡ true → sent_in own lower ++ sent_in pass (ran own lower) ≡ told_from (forwarded_in deeds) now)
+    → (flag ≡ false → sent_in pass (ran own lower) ≡ told_from (forwarded_in deeds) now)
+    → sent_in (since ++ (only_if flag own ++ pass)) (lower_after (until ++ only_if (not flag) own)).end ≡ told_from [] (deeds ++ now)
+passed_flag true until since own pass lower deeds now lower_is unbound idle passed sends first =
     let e : Lower = (lower_after until).end in
     ap (λ calls. sent_in (since ++ (own ++ pass)) (lower_after calls).end) (append-nil until) ∙ sent_both since (own ++ pass) e
     ∙ ap (λ x. sent_in since e ++ sent_in (own ++ pass) x) (sym lower_is)
-    ∙ ap (λ os. sent_in since e ++ os) (sent_both own pass lower ∙ ap (λ os. os ++ sent_in pass (ran own lower)) (silent refl) ∙ sends)
-    ∙ ap (λ os. os ++ passed_on after entries) (passed ∙ sym still) ∙ sym (passed_both after there entries)
-passed_flag false until since own pass lower before after there entries lower_is unbound silent quiet passed still sends =
+    ∙ ap (λ os. sent_in since e ++ os) (sent_both own pass lower ∙ sends refl)
+    ∙ ap (λ os. os ++ told_from (forwarded_in deeds) now) passed ∙ sym (told_both deeds now)
+passed_flag false until since own pass lower deeds now lower_is unbound idle passed sends first =
     let e : Lower = (lower_after until).end in
     let none = unbound refl in
     let same : lower ≡ e = lower_is ∙ ap (λ calls. ran calls e) none in
     let last : (lower_after (until ++ own)).end ≡ ran own lower =
     ap (λ r. r.end) (after_both until own (lower_after [])) ∙ end_ran own (lower_after until) ∙ ap (ran own) (sym same) in
-    ap (λ calls. sent_in (calls ++ pass) (lower_after (until ++ own)).end) none ∙ ap (sent_in pass) last ∙ sends
-    ∙ sym (passed_both after there entries ∙ ap (λ is. flat_map (passed_by after) is ++ passed_on after entries) (quiet refl))
+    ap (λ calls. sent_in (calls ++ pass) (lower_after (until ++ own)).end) none ∙ ap (sent_in pass) last ∙ first refl
+    ∙ ap (λ ds. told_from (forwarded_in ds) now) (idle refl) ∙ sym (ap (λ ds. told_from [] (ds ++ now)) (idle refl))
 
 module _ (laws : Laws) (call : Call) (v : Relay) (p : Past) (h : Holds v p) where
   abbrev sent_count : ℕ
   sent_count = length (above p).past.accepted
 
-  -- the rows of the upper end, whatever is asked later
-  rows_now : (more : List Asked) → IfSome v.upper (λ e. AllByRecursion (IsIssued 1 sent_count (asked_since p ++ more)) e.pending)
-  rows_now more =
-      let P : ℕ × ForwardedValue → Type 0 = IsIssued 1 sent_count (asked_since p ++ more) in
-      upper_rows P v.upper p.connection h.upper
-      (pending_rows P (above p) (laws.upper_counts value_services None (unwrap_or p.connection []))
-      (accepted_rows laws.readable (above p).past.accepted (asked_since p) more v.bind h.accepted h.few (asked_tokens laws.readable (below_since_bound p).past.taken)))
+  -- the rows of the upper end
+  pub end_rows : AllByRecursion (IsIssued 1 sent_count (forwarded_in h.deeds)) (above p).end.pending
+  end_rows =
+      let IsAsked : Asked → Type 0 = λ c. IsToken c.token in
+      let asked_all : AllByRecursion IsAsked (commands_in h.deeds) = subst (AllByRecursion IsAsked) h.asked (asked_tokens laws.readable (below_since_bound p).past.taken) in
+      pending_rows (IsIssued 1 sent_count (forwarded_in h.deeds)) (above p) (laws.upper_counts value_services None (unwrap_or p.connection []))
+      (accepted_rows (above p).past.accepted (forwarded_in h.deeds) v.bind h.accepted h.few (all_sent IsAsked h.deeds asked_all))
 
-  token_rows : (upper : Option Upper) → IfSome upper (λ e. AllByRecursion (IsIssued 1 sent_count (asked_since p ++ [])) e.pending) → IfSome upper (λ e. AreTokens e.pending)
+  pub rows_now : IfSome v.upper (λ e. AllByRecursion (IsIssued 1 sent_count (forwarded_in h.deeds)) e.pending)
+  rows_now = upper_rows (IsIssued 1 sent_count (forwarded_in h.deeds)) v.upper p.connection h.upper end_rows
+
+  token_rows : (upper : Option Upper) → IfSome upper (λ e. AllByRecursion (IsIssued 1 sent_count (forwarded_in h.deeds)) e.pending) → IfSome upper (λ e. AreTokens e.pending)
   token_rows None all = tt
-  token_rows (Some e) all = all_then (IsIssued 1 sent_count (asked_since p ++ [])) (λ row. IsToken row.1.token) (λ row i. i.token) e.pending all
+  token_rows (Some e) all = all_then (IsIssued 1 sent_count (forwarded_in h.deeds)) (λ row. IsToken row.1.token) (λ row i. i.token) e.pending all
 
   -- what is kept of the commands above are tokens
   pub upper_tokens : IfSome v.upper (λ e. AreTokens e.pending)
-  upper_tokens = token_rows v.upper (rows_now [])
+  upper_tokens = token_rows v.upper rows_now
 
-  within_asked : sent_count ≤ length (asked_since p)
-  within_asked =
-      let a = h.accepted in
-      let size : sent_count ≡ length a.sent = ap length a.issued ∙ issued_length 1 a.sent in
-      let whole : length (asked_since p) ≡ length a.sent + length a.refused = ap length a.whole ∙ length-append a.sent a.refused in omega arith
+  -- what is passed on
+  passing_told : sent_in (passing_by call v) (ran (own_by call v) v.lower) ≡ passed_on (forwarded_in h.deeds) (entries_from call v v.upper)
+  passing_told = pass_sends call v (forwarded_in h.deeds) sent_count (stands_open v.bind v p h.stands) rows_now
 
-  abbrev Passes : Past → Type 0
-  Passes q = sent_in q.since_bound (below_until_bound q).end ≡ passed_on (asked_since q) (above q).past.taken
+-- with each call what it does is said
+abbrev Tells : Call → Relay → List Asked → Type 0
+Tells call v commands = sent_in (passing_by call v) (ran (own_by call v) v.lower) ≡ told_from commands (deeds_by call v)
 
-  pub passed_more : (after : Relay) → Passes (with_calls call v after p)
-  passed_more after =
-      let q = with_calls call v after p in
-      let grows = asked_grows call v after p h.unbound in
-      let rows : IfSome v.upper (λ e. AllByRecursion (IsIssued 1 sent_count (asked_since q)) e.pending) =
-      subst (λ cs. IfSome v.upper (λ e. AllByRecursion (IsIssued 1 sent_count cs) e.pending)) (sym grows.grown) (rows_now grows.more) in
-      let lower_is : v.lower ≡ ran p.since_bound (lower_after p.until_bound).end =
-      h.lower ∙ ap (λ r. r.end) (after_both p.until_bound p.since_bound (lower_after [])) ∙ end_ran p.since_bound (lower_after p.until_bound) in
-      let still : passed_on (asked_since q) (above p).past.taken ≡ passed_on (asked_since p) (above p).past.taken =
-      ap (λ cs. passed_on cs (above p).past.taken) grows.grown ∙ passed_still (asked_since p) grows.more sent_count within_asked (above p).past.taken h.named in
-      passed_flag p.is_bound p.until_bound p.since_bound (own_by call v) (passing_by call v) v.lower (asked_since p) (asked_since q) (above p).past.taken (entries_from call v v.upper)
-      lower_is h.unbound (λ is. own_silent call v (stands_past v.bind v p h.stands is)) h.quiet h.passed still
-      (pass_sends call v (asked_since q) sent_count (stands_open v.bind v p h.stands) rows) ∙ ap (passed_on (asked_since q)) (sym (above_taken call v after p h.upper))
+turn_tells : Laws → (v : Relay) (p : Past) (h : Holds v p) → Tells (turns Above) v (forwarded_in h.deeds)
+turn_tells laws v p h =
+    let commands = forwarded_in h.deeds in
+    let messages = flat_map incoming_of (entries_from (turns Above) v v.upper) in
+    passing_told laws (turns Above) v p h ∙ sym (heard_tells commands messages) ∙ ap (told_from commands) (sym (hears_is laws v p h))
+
+-- of one that isn't bound
+first_tells : Laws → (call : Call) (v : Relay) (p : Past) (h : Holds v p) → p.is_bound ≡ false → Tells call v (forwarded_in h.deeds)
+first_tells laws call v p h off =
+    elim (turn_or_not call) as (λ _. Tells call v (forwarded_in h.deeds)) [
+      | inl is ↦ subst (λ c. Tells c v (forwarded_in h.deeds)) (sym is) (turn_tells laws v p h)
+      | inr other ↦ ap (λ calls. sent_in calls (ran (own_by call v) v.lower)) (others_pass call v other)
+          ∙ ap (told_from (forwarded_in h.deeds)) (sym (others_idle call v other (not_binding v.bind v p h.stands off)))
+    ]
+
+abbrev TellsAll : Call → Relay → List Asked → Type 0
+TellsAll call v commands = sent_in (own_by call v) v.lower ++ sent_in (passing_by call v) (ran (own_by call v) v.lower) ≡ told_from commands (deeds_by call v)
+
+below_tells : Laws → (v : Relay) (p : Past) (h : Holds v p) → IsPast v.bind → TellsAll (turns Below) v (forwarded_in h.deeds)
+below_tells laws v p h past =
+    append-nil (sent_in (own_by (turns Below) v) v.lower)
+    ∙ below_sends v.store v.peer v.bind v.lower v.upper v.redirect (forwarded_in h.deeds) past (λ bound. (lower_facts laws v p h).by_taking (stands_live v.bind v p h.stands bound))
+  where
+    stands_live : (bind : Bind) (v : Relay) (p : Past) → StandsWell bind v p → bind ≡ Bound → is_closed v.lower.state ≡ false
+    stands_live Unbound v p stands is = absurd cc
+    stands_live Opening v p stands is = absurd cc
+    stands_live Bound v p stands is = stands.0
+    stands_live Closed v p stands is = absurd cc
+
+above_tells : Laws → (v : Relay) (p : Past) (h : Holds v p) → IsPast v.bind → TellsAll (turns Above) v (forwarded_in h.deeds)
+above_tells laws v p h past =
+    ap (λ os. os ++ sent_in (passing_by (turns Above) v) (ran (own_by (turns Above) v) v.lower)) (own_silent (turns Above) v (λ is. absurd cc) past) ∙ turn_tells laws v p h
+
+-- of one that is bound
+bound_tells : Laws → (call : Call) (v : Relay) (p : Past) (h : Holds v p) → IsPast v.bind → TellsAll call v (forwarded_in h.deeds)
+bound_tells laws (comes Below piece mark) v p h past = refl
+bound_tells laws (comes Above piece mark) v p h past = refl
+bound_tells laws (bytes_end Below) v p h past = refl
+bound_tells laws (bytes_end Above) v p h past = refl
+bound_tells laws (turns Below) v p h past = below_tells laws v p h past
+bound_tells laws (turns Above) v p h past = above_tells laws v p h past
+bound_tells laws connects v p h past = refl
+bound_tells laws fails v p h past = ap (λ os. os ++ []) (own_silent fails v (λ is. absurd cc) past)
+bound_tells laws (gives Below) v p h past = refl
+bound_tells laws (gives Above) v p h past = refl
+
+pub passed_more : Laws → (call : Call) (v after : Relay) (p : Past) (h : Holds v p)
+    → sent_in (with_calls call v after p).since_bound (below_until_bound (with_calls call v after p)).end ≡ told_from [] (h.deeds ++ deeds_by call v)
+passed_more laws call v after p h =
+    let lower_is : v.lower ≡ ran p.since_bound (lower_after p.until_bound).end =
+    h.lower ∙ ap (λ r. r.end) (after_both p.until_bound p.since_bound (lower_after [])) ∙ end_ran p.since_bound (lower_after p.until_bound) in
+    passed_flag p.is_bound p.until_bound p.since_bound (own_by call v) (passing_by call v) v.lower h.deeds (deeds_by call v) lower_is h.unbound h.idle h.passed
+    (λ on. bound_tells laws call v p h (stands_past v.bind v p h.stands on)) (first_tells laws call v p h)
 
 -- ---- each progress and each answer that was taken names a command
 
@@ -161,4 +211,4 @@ module _ (laws : Laws) (call : Call) (v : Relay) (p : Past) (h : Holds v p) wher
       let entries = entries_from call v v.upper in
       subst (AllByRecursion (IsNamed n)) (sym (above_taken call v after p h.upper))
       (all_append (IsNamed n) (above p).past.taken entries (all_then (IsNamed m) (IsNamed n) (named_more m n less) (above p).past.taken h.named)
-      (all_then (IsNamed m) (IsNamed n) (named_more m n less) entries (entries_named call v m (asked_since p ++ []) (rows_now laws call v p h []))))
+      (all_then (IsNamed m) (IsNamed n) (named_more m n less) entries (entries_named call v m (forwarded_in h.deeds) (rows_now laws call v p h))))

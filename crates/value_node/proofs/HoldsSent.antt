@@ -1,4 +1,4 @@
--- The commands that were sent above and those that are held there are those that were taken from below.
+-- The commands that were sent above and those that are held there are those that are forwarded.
 use Rattle.std.proofs.Common.{◌≡◌, ℕ, ◌+◌, List, [], ◌∷◌, ◌++◌, length, map, Option, Some, None, refl, ap, ap₂, sym, ◌∙◌, arith}
 use Rattle.std.specs.Prelude.{decimal, option_map, unwrap_or}
 use Rattle.std.proofs.lemmas.List.{append-nil, map-append}
@@ -11,7 +11,8 @@ use Rattle.tcf_message.specs.Message.{command}
 use Rattle.value_node.specs.Asked.{Asked}
 use Rattle.value_node.specs.ForwardedValue.{ForwardedValue}
 use Rattle.value_node.specs.Passing.{Upper}
-use Rattle.value_node.specs.RelayLaws.{AfterAllCalls, ForwardsInOrder, accepted_above, held_in, sent_above}
+use Rattle.value_node.specs.Deeds.{Deed, asked_in as commands_in, sent_in as forwarded_in}
+use Rattle.value_node.specs.RelayLaws.{AfterAllDeeds, ForwardsInOrder, accepted_above, held_in, sent_above}
 use Rattle.value_node.specs.Runs.{UpperCall, ValueRun, above, upper_after}
 use Rattle.value_node.specs.Value.{value_services}
 use Rattle.value_node.proofs.Holding.{Laws, issued_from}
@@ -41,8 +42,8 @@ of_commands [] = refl
 of_commands (i ∷ is) = ap (λ os. outgoing_of i ∷ os) (of_commands is)
 
 -- sent and held are the accepted ones
-are_accepted : Laws → (r : ValueRun) → IsHeld r → accepted_above r ≡ map outgoing_of (above r.past).past.accepted
-are_accepted laws r held =
+are_accepted : Laws → (r : ValueRun) (deeds : List Deed) → IsHeld r deeds → accepted_above r ≡ map outgoing_of (above r.past).past.accepted
+are_accepted laws r deeds held =
     let end = above r.past in
     let sends : SendsInOrder end = laws.upper_sends value_services None (unwrap_or r.past.connection []) in
     ap₂ (λ os hs. os ++ map (λ (h : Held). h.outgoing) hs) sends.are_sent (held_there r.value.relay.upper r.past.connection held.holds.upper)
@@ -51,17 +52,19 @@ are_accepted laws r held =
     ∙ sym (ap (map (λ (h : Held). h.outgoing)) sends.are_held)
     ∙ of_commands end.past.accepted
 
-forwards : Laws → (r : ValueRun) → IsHeld r → ForwardsInOrder r
-forwards laws r held =
+forwards : Laws → (r : ValueRun) (deeds : List Deed) → IsHeld r deeds → ForwardsInOrder r deeds
+forwards laws r deeds held =
     let a = held.holds.accepted in
-    let are : accepted_above r ≡ sent_above 1 a.sent = are_accepted laws r held ∙ ap (map outgoing_of) a.issued ∙ issued_sent 1 a.sent in
+    let are : accepted_above r ≡ sent_above 1 a.sent = are_accepted laws r deeds held ∙ ap (map outgoing_of) a.issued ∙ issued_sent 1 a.sent in
+    let whole : forwarded_in deeds ≡ a.sent ++ a.refused = ap forwarded_in (sym held.does) ∙ a.whole in
     record {
+      asked = held.holds.asked ∙ ap commands_in held.does;
       front = (
         sent_above (1 + length a.sent) a.refused,
-        ap (sent_above 1) a.whole ∙ sent_both 1 a.sent a.refused ∙ ap (λ os. os ++ sent_above (1 + length a.sent) a.refused) (sym are),
+        ap (sent_above 1) whole ∙ sent_both 1 a.sent a.refused ∙ ap (λ os. os ++ sent_above (1 + length a.sent) a.refused) (sym are),
       );
-      all = λ bound. are ∙ ap (sent_above 1) (sym (append-nil a.sent) ∙ ap (λ cs. a.sent ++ cs) (sym (a.all bound)) ∙ sym a.whole);
+      all = λ bound. are ∙ ap (sent_above 1) (sym (append-nil a.sent) ∙ ap (λ cs. a.sent ++ cs) (sym (a.all bound)) ∙ sym whole);
     }
 
-pub always_forwards : Laws → AfterAllCalls ForwardsInOrder
-always_forwards laws peer calls = forwards laws _ (always_held laws peer calls)
+pub always_forwards : Laws → AfterAllDeeds ForwardsInOrder
+always_forwards laws peer calls = forwards laws _ _ (always_held laws peer calls)

@@ -16,10 +16,11 @@ use Rattle.tcf_message.specs.Message.{MessageValue, command, event, final, not_k
 use Rattle.tcf_message.specs.declared.message.MessageFault.{MessageFault}
 use Rattle.value_node.specs.ForwardedValue.{ForwardedValue, tagged}
 use Rattle.value_node.specs.Own.{own_reply, redirect_failed}
+use Rattle.value_node.specs.Store.{StoreValue}
 use Rattle.value_node.specs.Passing.{Lower, Upper, event_passed, final_passed, not_recognised, progress_passed}
 use Rattle.value_node.specs.RelayLaws.{StandsWell}
-use Rattle.value_node.specs.Runs.{Call, Past, bytes_end, comes, connects, fails, gives, is_binding, turns, with_calls}
-use Rattle.value_node.specs.Value.{answered, asked, awaits, forwarded_unless, has_room, is_free, is_opening, pending_above, redirect_answered, took_any_above, took_any_below, turned_above, turned_below, unbound_again, with_lower, with_upper}
+use Rattle.value_node.specs.Runs.{Call, Past, stored_for, bytes_end, comes, connects, fails, gives, is_binding, turns, with_calls}
+use Rattle.value_node.specs.Value.{answered, asked, awaits, answered_or_forwarded, command_of, has_room, is_free, is_opening, pending_above, redirect_answered, sent_unless, took_any_above, took_any_below, turned_above, turned_below, unbound_again, with_lower, with_upper}
 use Rattle.value_node.specs.declared.own.Own.{Own}
 use Rattle.value_node.specs.declared.own.Own.TheVariants as own
 use Rattle.value_node.specs.declared.relay.Relay.{Relay}
@@ -27,6 +28,7 @@ use Rattle.value_node.specs.declared.states.Bind.{Bind}
 use Rattle.value_node.specs.declared.states.Bind.TheVariants.{Unbound, Opening, Bound, Closed}
 use Rattle.value_node.specs.declared.states.Side.TheVariants.{Below, Above}
 use Rattle.value_node.specs.declared.states.ValueTurn.TheVariants.{Nothing}
+use Rattle.value_node.proofs.Asking.{asked_bound_is, store_asked}
 use Rattle.value_node.proofs.Holding.{Holds, Laws}
 use Rattle.value_node.proofs.HoldsConnected.{and_parts}
 use Rattle.value_node.proofs.HoldsEnds.{KeepsClosed, lower_facts, upper_facts}
@@ -102,49 +104,60 @@ answered_stands token (own.Result body) v q before is unclosed free off =
     rw is (λ bound. (ap is_closed (queued_state (final token body) None v.lower) ∙ unclosed, free, bound ∙ or_false before ∙ off))
 answered_stands token own.Connect v q before is unclosed free off = λ bound. (unclosed, refl, bound ∙ or_false before ∙ off)
 
-unbound_asked : (m : Result MessageValue MessageFault) (mark : Option ℕ) (peer : List ℕ) (lower : Lower) (upper : Option Upper) (redirect : Option (List ℕ)) (q : Past) (before : Bool)
-    → is_closed lower.state ≡ false → is_free upper ≡ true → before ≡ false → Later before (asked m mark (relay peer Unbound lower upper redirect)).1 q
-unbound_asked (Ok (command token service name body)) mark peer lower upper redirect q before unclosed free off =
-    answered_stands token (own_reply peer service name body) (relay peer Unbound lower upper redirect) q before refl unclosed free off
-unbound_asked m mark peer lower upper redirect q before unclosed free off = λ bound. (unclosed, free, bound ∙ or_false before ∙ off)
+unbound_asked : (m : Result MessageValue MessageFault) (mark : Option ℕ) (store : StoreValue) (peer : List ℕ) (lower : Lower) (upper : Option Upper) (redirect : Option (List ℕ)) (q : Past) (before : Bool)
+    → is_closed lower.state ≡ false → is_free upper ≡ true → before ≡ false → Later before (asked m mark (relay store peer Unbound lower upper redirect)).1 q
+unbound_asked (Ok (command token service name body)) mark store peer lower upper redirect q before unclosed free off =
+    answered_stands token (own_reply peer service name body) (relay store peer Unbound lower upper redirect) q before refl unclosed free off
+unbound_asked m mark store peer lower upper redirect q before unclosed free off = λ bound. (unclosed, free, bound ∙ or_false before ∙ off)
 
-unbound_took : (what : Option (Taken Unit)) (peer : List ℕ) (lower : Lower) (upper : Option Upper) (redirect : Option (List ℕ)) (q : Past) (before : Bool)
-    → is_closed lower.state ≡ closes what → is_free upper ≡ true → before ≡ false → Later before (took_any_below what (relay peer Unbound lower upper redirect)).1 q
-unbound_took None peer lower upper redirect q before unclosed free off = λ bound. (unclosed, free, bound ∙ or_false before ∙ off)
-unbound_took (Some (taken.Hello incoming)) peer lower upper redirect q before unclosed free off = λ bound. (unclosed, free, bound ∙ or_false before ∙ off)
-unbound_took (Some (taken.Command incoming)) peer lower upper redirect q before unclosed free off = unbound_asked (reading incoming.raw) incoming.mark peer lower upper redirect q before unclosed free off
-unbound_took (Some (taken.Event incoming)) peer lower upper redirect q before unclosed free off = λ bound. (unclosed, free, bound ∙ or_false before ∙ off)
-unbound_took (Some (taken.Progress token incoming)) peer lower upper redirect q before unclosed free off = λ bound. (unclosed, free, bound ∙ or_false before ∙ off)
-unbound_took (Some (taken.Final tag incoming)) peer lower upper redirect q before unclosed free off = λ bound. (unclosed, free, bound ∙ or_false before ∙ off)
-unbound_took (Some (taken.Closed cause)) peer lower upper redirect q before unclosed free off = λ bound. (own_closed lower, own_free upper)
+unbound_took : (what : Option (Taken Unit)) (store : StoreValue) (peer : List ℕ) (lower : Lower) (upper : Option Upper) (redirect : Option (List ℕ)) (q : Past) (before : Bool)
+    → is_closed lower.state ≡ closes what → is_free upper ≡ true → before ≡ false → Later before (took_any_below what (relay store peer Unbound lower upper redirect)).1 q
+unbound_took None store peer lower upper redirect q before unclosed free off = λ bound. (unclosed, free, bound ∙ or_false before ∙ off)
+unbound_took (Some (taken.Hello incoming)) store peer lower upper redirect q before unclosed free off = λ bound. (unclosed, free, bound ∙ or_false before ∙ off)
+unbound_took (Some (taken.Command incoming)) store peer lower upper redirect q before unclosed free off = unbound_asked (reading incoming.raw) incoming.mark store peer lower upper redirect q before unclosed free off
+unbound_took (Some (taken.Event incoming)) store peer lower upper redirect q before unclosed free off = λ bound. (unclosed, free, bound ∙ or_false before ∙ off)
+unbound_took (Some (taken.Progress token incoming)) store peer lower upper redirect q before unclosed free off = λ bound. (unclosed, free, bound ∙ or_false before ∙ off)
+unbound_took (Some (taken.Final tag incoming)) store peer lower upper redirect q before unclosed free off = λ bound. (unclosed, free, bound ∙ or_false before ∙ off)
+unbound_took (Some (taken.Closed cause)) store peer lower upper redirect q before unclosed free off = λ bound. (own_closed lower, own_free upper)
 
 -- of a bound one
-forwarded_stands : (refusal : Option SendRefusal) (token service name body : List ℕ) (mark : Option ℕ) (peer : List ℕ) (lower : Lower) (e : Upper) (redirect : Option (List ℕ)) (q : Past) (before : Bool)
+forwarded_stands : (refusal : Option SendRefusal) (service name body : List ℕ) (forwarded : ForwardedValue) (mark : Option ℕ) (store : StoreValue) (peer : List ℕ) (lower : Lower) (e : Upper) (redirect : Option (List ℕ)) (q : Past) (before : Bool)
     → refusal_of (length service + length name + length body) e ≡ refusal → KeepsClosed e → is_closed lower.state ≡ false → is_closed e.state ≡ false
-    → Later before (forwarded_unless refusal token service name body mark e (relay peer Bound lower (Some e) redirect)) q
-forwarded_stands None token service name body mark peer lower e redirect q before is keeps unclosed live =
-    let stays : is_closed (unless_refused (refusal_to service name body e) e (commanded service name body (tagged token) mark e)).state ≡ is_closed e.state =
-    keeps.by_others (commanding service name body (tagged token) mark) refl in
-    let sent : is_closed (commanded service name body (tagged token) mark e).state ≡ is_closed e.state =
-    sym (ap (λ refusal. is_closed (unless_refused refusal e (commanded service name body (tagged token) mark e)).state) is) ∙ stays in
+    → Later before (sent_unless refusal service name body forwarded mark e (relay store peer Bound lower (Some e) redirect)) q
+forwarded_stands None service name body forwarded mark store peer lower e redirect q before is keeps unclosed live =
+    let stays : is_closed (unless_refused (refusal_to service name body e) e (commanded service name body forwarded mark e)).state ≡ is_closed e.state =
+    keeps.by_others (commanding service name body forwarded mark) refl in
+    let sent : is_closed (commanded service name body forwarded mark e).state ≡ is_closed e.state =
+    sym (ap (λ refusal. is_closed (unless_refused refusal e (commanded service name body forwarded mark e)).state) is) ∙ stays in
     λ bound. (unclosed, sent ∙ live, bound ∙ or_true before)
-forwarded_stands (Some why) token service name body mark peer lower e redirect q before is keeps unclosed live = λ bound. (own_closed lower, own_closed e)
+forwarded_stands (Some why) service name body forwarded mark store peer lower e redirect q before is keeps unclosed live = λ bound. (own_closed lower, own_closed e)
 
-bound_asked : (m : Result MessageValue MessageFault) (mark : Option ℕ) (peer : List ℕ) (lower : Lower) (e : Upper) (redirect : Option (List ℕ)) (q : Past) (before : Bool)
-    → KeepsClosed e → is_closed lower.state ≡ false → is_closed e.state ≡ false → Later before (asked m mark (relay peer Bound lower (Some e) redirect)).1 q
-bound_asked (Ok (command token service name body)) mark peer lower e redirect q before keeps unclosed live =
-    forwarded_stands (refusal_of (length service + length name + length body) e) token service name body mark peer lower e redirect q before refl keeps unclosed live
-bound_asked m mark peer lower e redirect q before keeps unclosed live = λ bound. (unclosed, live, bound ∙ or_true before)
+store_stands : (reply : Option (List ℕ)) (token service name body : List ℕ) (mark : Option ℕ) (store : StoreValue) (peer : List ℕ) (lower : Lower) (e : Upper) (redirect : Option (List ℕ)) (q : Past) (before : Bool)
+    → KeepsClosed e → is_closed lower.state ≡ false → is_closed e.state ≡ false
+    → Later before (answered_or_forwarded reply (command_of service name body) token service name body mark (relay store peer Bound lower (Some e) redirect)) q
+store_stands None token service name body mark store peer lower e redirect q before keeps unclosed live =
+    forwarded_stands (refusal_of (length service + length name + length body) e) service name body (tagged token (command_of service name body)) mark store peer lower e redirect q before refl keeps
+    unclosed live
+store_stands (Some reply) token service name body mark store peer lower e redirect q before keeps unclosed live =
+    λ bound. (ap is_closed (queued_state (final token reply) store.mark lower) ∙ unclosed, live, bound ∙ or_true before)
 
-bound_took : (what : Option (Taken Unit)) (peer : List ℕ) (lower : Lower) (e : Upper) (redirect : Option (List ℕ)) (q : Past) (before : Bool)
-    → KeepsClosed e → is_closed lower.state ≡ closes what → is_closed e.state ≡ false → Later before (took_any_below what (relay peer Bound lower (Some e) redirect)).1 q
-bound_took None peer lower e redirect q before keeps unclosed live = λ bound. (unclosed, live, bound ∙ or_true before)
-bound_took (Some (taken.Hello incoming)) peer lower e redirect q before keeps unclosed live = λ bound. (unclosed, live, bound ∙ or_true before)
-bound_took (Some (taken.Command incoming)) peer lower e redirect q before keeps unclosed live = bound_asked (reading incoming.raw) incoming.mark peer lower e redirect q before keeps unclosed live
-bound_took (Some (taken.Event incoming)) peer lower e redirect q before keeps unclosed live = λ bound. (unclosed, live, bound ∙ or_true before)
-bound_took (Some (taken.Progress token incoming)) peer lower e redirect q before keeps unclosed live = λ bound. (unclosed, live, bound ∙ or_true before)
-bound_took (Some (taken.Final tag incoming)) peer lower e redirect q before keeps unclosed live = λ bound. (unclosed, live, bound ∙ or_true before)
-bound_took (Some (taken.Closed cause)) peer lower e redirect q before keeps unclosed live = λ bound. (own_closed lower, own_closed e)
+bound_asked : (m : Result MessageValue MessageFault) (mark : Option ℕ) (store : StoreValue) (peer : List ℕ) (lower : Lower) (e : Upper) (redirect : Option (List ℕ)) (q : Past) (before : Bool)
+    → KeepsClosed e → is_closed lower.state ≡ false → is_closed e.state ≡ false → Later before (asked m mark (relay store peer Bound lower (Some e) redirect)).1 q
+bound_asked (Ok (command token service name body)) mark store peer lower e redirect q before keeps unclosed live =
+    let v = relay store peer Bound lower (Some e) redirect in
+    subst (λ (w : Relay). Later before w q) (sym (asked_bound_is token service name body mark v))
+    (store_stands (stored_for service name body v) token service name body mark (store_asked service name body v) peer lower e redirect q before keeps unclosed live)
+bound_asked m mark store peer lower e redirect q before keeps unclosed live = λ bound. (unclosed, live, bound ∙ or_true before)
+
+bound_took : (what : Option (Taken Unit)) (store : StoreValue) (peer : List ℕ) (lower : Lower) (e : Upper) (redirect : Option (List ℕ)) (q : Past) (before : Bool)
+    → KeepsClosed e → is_closed lower.state ≡ closes what → is_closed e.state ≡ false → Later before (took_any_below what (relay store peer Bound lower (Some e) redirect)).1 q
+bound_took None store peer lower e redirect q before keeps unclosed live = λ bound. (unclosed, live, bound ∙ or_true before)
+bound_took (Some (taken.Hello incoming)) store peer lower e redirect q before keeps unclosed live = λ bound. (unclosed, live, bound ∙ or_true before)
+bound_took (Some (taken.Command incoming)) store peer lower e redirect q before keeps unclosed live = bound_asked (reading incoming.raw) incoming.mark store peer lower e redirect q before keeps unclosed live
+bound_took (Some (taken.Event incoming)) store peer lower e redirect q before keeps unclosed live = λ bound. (unclosed, live, bound ∙ or_true before)
+bound_took (Some (taken.Progress token incoming)) store peer lower e redirect q before keeps unclosed live = λ bound. (unclosed, live, bound ∙ or_true before)
+bound_took (Some (taken.Final tag incoming)) store peer lower e redirect q before keeps unclosed live = λ bound. (unclosed, live, bound ∙ or_true before)
+bound_took (Some (taken.Closed cause)) store peer lower e redirect q before keeps unclosed live = λ bound. (own_closed lower, own_closed e)
 
 -- where nothing is taken all is as it was
 below_if : (flag : Bool) (v : Relay) (p q : Past) → StandsWell v.bind v p → Later p.is_bound (took_any_below (next_taken v.lower).0 (with_lower (next_taken v.lower).1 v)).1 q
@@ -152,17 +165,17 @@ below_if : (flag : Bool) (v : Relay) (p q : Past) → StandsWell v.bind v p → 
 below_if true v p q stands took = took
 below_if false v p q stands took = same_stands v.bind v v p q refl refl refl stands
 
-below_stands : (peer : List ℕ) (bind : Bind) (lower : Lower) (upper : Option Upper) (redirect : Option (List ℕ)) (p q : Past) → KeepsClosed lower → IfSome upper KeepsClosed
-    → StandsWell bind (relay peer bind lower upper redirect) p → Later p.is_bound (turned_below (relay peer bind lower upper redirect)).1 q
+below_stands : (store : StoreValue) (peer : List ℕ) (bind : Bind) (lower : Lower) (upper : Option Upper) (redirect : Option (List ℕ)) (p q : Past) → KeepsClosed lower → IfSome upper KeepsClosed
+    → StandsWell bind (relay store peer bind lower upper redirect) p → Later p.is_bound (turned_below (relay store peer bind lower upper redirect)).1 q
 unfolding turned_below
-below_stands peer Unbound lower upper redirect p q low up stands =
-    unbound_took (next_taken lower).0 peer (next_taken lower).1 upper redirect q p.is_bound (low.by_taking stands.0) stands.1 stands.2
-below_stands peer Opening lower upper redirect p q low up stands = same_stands Opening (relay peer Opening lower upper redirect) (relay peer Opening lower upper redirect) p q refl refl refl stands
-below_stands peer Bound lower None redirect p q low up stands = absurd cc
-below_stands peer Bound lower (Some e) redirect p q low up stands =
-    below_if (has_room (Some e)) (relay peer Bound lower (Some e) redirect) p q stands
-    (bound_took (next_taken lower).0 peer (next_taken lower).1 e redirect q p.is_bound up (low.by_taking stands.0) stands.1)
-below_stands peer Closed lower upper redirect p q low up stands = same_stands Closed (relay peer Closed lower upper redirect) (relay peer Closed lower upper redirect) p q refl refl refl stands
+below_stands store peer Unbound lower upper redirect p q low up stands =
+    unbound_took (next_taken lower).0 store peer (next_taken lower).1 upper redirect q p.is_bound (low.by_taking stands.0) stands.1 stands.2
+below_stands store peer Opening lower upper redirect p q low up stands = same_stands Opening (relay store peer Opening lower upper redirect) (relay store peer Opening lower upper redirect) p q refl refl refl stands
+below_stands store peer Bound lower None redirect p q low up stands = absurd cc
+below_stands store peer Bound lower (Some e) redirect p q low up stands =
+    below_if (has_room (Some e)) (relay store peer Bound lower (Some e) redirect) p q stands
+    (bound_took (next_taken lower).0 store peer (next_taken lower).1 e redirect q p.is_bound up (low.by_taking stands.0) stands.1)
+below_stands store peer Closed lower upper redirect p q low up stands = same_stands Closed (relay store peer Closed lower upper redirect) (relay store peer Closed lower upper redirect) p q refl refl refl stands
 
 -- ---- taking from above
 
@@ -191,51 +204,51 @@ again_stands v q before unclosed free off =
     let keeps = answered_keeps v.redirect redirect_failed v in
     λ bound. (keeps.0 ∙ unclosed, ap is_free keeps.1 ∙ free, bound ∙ or_false before ∙ off)
 
-opening_took : (next : Option (Taken ForwardedValue) × Upper) (peer : List ℕ) (lower : Lower) (upper : Option Upper) (redirect : Option (List ℕ)) (q : Past) (before : Bool)
-    → ClosesSo next → is_closed lower.state ≡ false → IsSome redirect → before ≡ false → Later before (took_any_above next.0 (with_upper next.1 (relay peer Opening lower upper redirect))).1 q
-opening_took (None, e) peer lower upper redirect q before so unclosed some off = λ bound. (unclosed, some, bound ∙ or_false before ∙ off)
-opening_took (Some (taken.Hello incoming), e) peer lower upper redirect q before so unclosed some off =
-    let v = relay peer Opening lower (Some e) redirect in
+opening_took : (next : Option (Taken ForwardedValue) × Upper) (store : StoreValue) (peer : List ℕ) (lower : Lower) (upper : Option Upper) (redirect : Option (List ℕ)) (q : Past) (before : Bool)
+    → ClosesSo next → is_closed lower.state ≡ false → IsSome redirect → before ≡ false → Later before (took_any_above next.0 (with_upper next.1 (relay store peer Opening lower upper redirect))).1 q
+opening_took (None, e) store peer lower upper redirect q before so unclosed some off = λ bound. (unclosed, some, bound ∙ or_false before ∙ off)
+opening_took (Some (taken.Hello incoming), e) store peer lower upper redirect q before so unclosed some off =
+    let v = relay store peer Opening lower (Some e) redirect in
     let keeps = answered_keeps redirect _ v in
     λ bound. (ap is_closed (event_state incoming.mark (reading incoming.raw) _) ∙ keeps.0 ∙ unclosed, ap is_free keeps.1 ∙ so, bound ∙ or_true before)
-opening_took (Some (taken.Command incoming), e) peer lower upper redirect q before so unclosed some off = λ bound. (unclosed, some, bound ∙ or_false before ∙ off)
-opening_took (Some (taken.Event incoming), e) peer lower upper redirect q before so unclosed some off =
+opening_took (Some (taken.Command incoming), e) store peer lower upper redirect q before so unclosed some off = λ bound. (unclosed, some, bound ∙ or_false before ∙ off)
+opening_took (Some (taken.Event incoming), e) store peer lower upper redirect q before so unclosed some off =
     λ bound. (ap is_closed (event_state incoming.mark (reading incoming.raw) lower) ∙ unclosed, some, bound ∙ or_false before ∙ off)
-opening_took (Some (taken.Progress token incoming), e) peer lower upper redirect q before so unclosed some off =
+opening_took (Some (taken.Progress token incoming), e) store peer lower upper redirect q before so unclosed some off =
     λ bound. (ap is_closed (progress_state (pending_above token (Some e)) incoming.mark (reading incoming.raw) lower) ∙ unclosed, some, bound ∙ or_false before ∙ off)
-opening_took (Some (taken.Final tag incoming), e) peer lower upper redirect q before so unclosed some off =
+opening_took (Some (taken.Final tag incoming), e) store peer lower upper redirect q before so unclosed some off =
     λ bound. (ap is_closed (final_state tag incoming.mark (reading incoming.raw) lower) ∙ unclosed, some, bound ∙ or_false before ∙ off)
-opening_took (Some (taken.Closed cause), e) peer lower upper redirect q before so unclosed some off = again_stands (relay peer Opening lower (Some e) redirect) q before unclosed so off
+opening_took (Some (taken.Closed cause), e) store peer lower upper redirect q before so unclosed some off = again_stands (relay store peer Opening lower (Some e) redirect) q before unclosed so off
 
-bound_above : (next : Option (Taken ForwardedValue) × Upper) (peer : List ℕ) (lower : Lower) (upper : Option Upper) (redirect : Option (List ℕ)) (q : Past) (before : Bool)
-    → is_closed next.1.state ≡ closes next.0 → is_closed lower.state ≡ false → Later before (took_any_above next.0 (with_upper next.1 (relay peer Bound lower upper redirect))).1 q
-bound_above (None, e) peer lower upper redirect q before so unclosed = λ bound. (unclosed, so, bound ∙ or_true before)
-bound_above (Some (taken.Hello incoming), e) peer lower upper redirect q before so unclosed =
+bound_above : (next : Option (Taken ForwardedValue) × Upper) (store : StoreValue) (peer : List ℕ) (lower : Lower) (upper : Option Upper) (redirect : Option (List ℕ)) (q : Past) (before : Bool)
+    → is_closed next.1.state ≡ closes next.0 → is_closed lower.state ≡ false → Later before (took_any_above next.0 (with_upper next.1 (relay store peer Bound lower upper redirect))).1 q
+bound_above (None, e) store peer lower upper redirect q before so unclosed = λ bound. (unclosed, so, bound ∙ or_true before)
+bound_above (Some (taken.Hello incoming), e) store peer lower upper redirect q before so unclosed =
     λ bound. (ap is_closed (event_state incoming.mark (reading incoming.raw) lower) ∙ unclosed, so, bound ∙ or_true before)
-bound_above (Some (taken.Command incoming), e) peer lower upper redirect q before so unclosed =
+bound_above (Some (taken.Command incoming), e) store peer lower upper redirect q before so unclosed =
     λ bound. (unclosed, ap is_closed (refused_state (reading incoming.raw) e) ∙ so, bound ∙ or_true before)
-bound_above (Some (taken.Event incoming), e) peer lower upper redirect q before so unclosed =
+bound_above (Some (taken.Event incoming), e) store peer lower upper redirect q before so unclosed =
     λ bound. (ap is_closed (event_state incoming.mark (reading incoming.raw) lower) ∙ unclosed, so, bound ∙ or_true before)
-bound_above (Some (taken.Progress token incoming), e) peer lower upper redirect q before so unclosed =
+bound_above (Some (taken.Progress token incoming), e) store peer lower upper redirect q before so unclosed =
     λ bound. (ap is_closed (progress_state (pending_above token (Some e)) incoming.mark (reading incoming.raw) lower) ∙ unclosed, so, bound ∙ or_true before)
-bound_above (Some (taken.Final tag incoming), e) peer lower upper redirect q before so unclosed =
+bound_above (Some (taken.Final tag incoming), e) store peer lower upper redirect q before so unclosed =
     λ bound. (ap is_closed (final_state tag incoming.mark (reading incoming.raw) lower) ∙ unclosed, so, bound ∙ or_true before)
-bound_above (Some (taken.Closed cause), e) peer lower upper redirect q before so unclosed = λ bound. (own_closed lower, own_closed e)
+bound_above (Some (taken.Closed cause), e) store peer lower upper redirect q before so unclosed = λ bound. (own_closed lower, own_closed e)
 
-above_stands : (peer : List ℕ) (bind : Bind) (lower : Lower) (upper : Option Upper) (redirect : Option (List ℕ)) (p q : Past) → IfSome upper KeepsClosed
-    → StandsWell bind (relay peer bind lower upper redirect) p → Later p.is_bound (turned_above (relay peer bind lower upper redirect)).1 q
+above_stands : (store : StoreValue) (peer : List ℕ) (bind : Bind) (lower : Lower) (upper : Option Upper) (redirect : Option (List ℕ)) (p q : Past) → IfSome upper KeepsClosed
+    → StandsWell bind (relay store peer bind lower upper redirect) p → Later p.is_bound (turned_above (relay store peer bind lower upper redirect)).1 q
 unfolding turned_above
-above_stands peer Unbound lower None redirect p q up stands = same_stands Unbound (relay peer Unbound lower None redirect) (relay peer Unbound lower None redirect) p q refl refl refl stands
-above_stands peer Unbound lower (Some e) redirect p q up stands =
-    let v = relay peer Unbound lower (Some e) redirect in
+above_stands store peer Unbound lower None redirect p q up stands = same_stands Unbound (relay store peer Unbound lower None redirect) (relay store peer Unbound lower None redirect) p q refl refl refl stands
+above_stands store peer Unbound lower (Some e) redirect p q up stands =
+    let v = relay store peer Unbound lower (Some e) redirect in
     subst (λ (next : Option (Taken ForwardedValue) × Upper). Later p.is_bound (took_any_above next.0 (with_upper next.1 v)).1 q) (sym (up.takes_none stands.1))
     (same_stands Unbound v v p q refl refl refl stands)
-above_stands peer Opening lower None redirect p q up stands = same_stands Opening (relay peer Opening lower None redirect) (relay peer Opening lower None redirect) p q refl refl refl stands
-above_stands peer Opening lower (Some e) redirect p q up stands =
-    opening_took (next_taken e) peer lower (Some e) redirect q p.is_bound (closes_so e (next_taken e) up refl) stands.0 stands.1 stands.2
-above_stands peer Bound lower None redirect p q up stands = absurd cc
-above_stands peer Bound lower (Some e) redirect p q up stands = bound_above (next_taken e) peer lower (Some e) redirect q p.is_bound (up.by_taking stands.1) stands.0
-above_stands peer Closed lower upper redirect p q up stands = same_stands Closed (relay peer Closed lower upper redirect) (relay peer Closed lower upper redirect) p q refl refl refl stands
+above_stands store peer Opening lower None redirect p q up stands = same_stands Opening (relay store peer Opening lower None redirect) (relay store peer Opening lower None redirect) p q refl refl refl stands
+above_stands store peer Opening lower (Some e) redirect p q up stands =
+    opening_took (next_taken e) store peer lower (Some e) redirect q p.is_bound (closes_so e (next_taken e) up refl) stands.0 stands.1 stands.2
+above_stands store peer Bound lower None redirect p q up stands = absurd cc
+above_stands store peer Bound lower (Some e) redirect p q up stands = bound_above (next_taken e) store peer lower (Some e) redirect q p.is_bound (up.by_taking stands.1) stands.0
+above_stands store peer Closed lower upper redirect p q up stands = same_stands Closed (relay store peer Closed lower upper redirect) (relay store peer Closed lower upper redirect) p q refl refl refl stands
 
 -- ---- the other calls
 
@@ -262,8 +275,8 @@ call_stands (comes Above piece mark) v p q low up other stands =
     same_stands v.bind v (relay_called (comes Above piece mark) v) p q refl (others_free (delivering piece mark) v.upper refl up) refl stands
 call_stands (bytes_end Below) v p q low up other stands = same_stands v.bind v (relay_called (bytes_end Below) v) p q (low.by_others ending refl) refl refl stands
 call_stands (bytes_end Above) v p q low up other stands = same_stands v.bind v (relay_called (bytes_end Above) v) p q refl (others_free ending v.upper refl up) refl stands
-call_stands (turns Below) v p q low up other stands = below_stands v.peer v.bind v.lower v.upper v.redirect p q low up stands
-call_stands (turns Above) v p q low up other stands = above_stands v.peer v.bind v.lower v.upper v.redirect p q up stands
+call_stands (turns Below) v p q low up other stands = below_stands v.store v.peer v.bind v.lower v.upper v.redirect p q low up stands
+call_stands (turns Above) v p q low up other stands = above_stands v.store v.peer v.bind v.lower v.upper v.redirect p q up stands
 call_stands connects v p q low up other stands = absurd (other refl)
 call_stands fails v p q low up other stands = failed_stands (awaits v) v p q refl stands
 call_stands (gives Below) v p q low up other stands = same_stands v.bind v (relay_called (gives Below) v) p q refl refl refl stands

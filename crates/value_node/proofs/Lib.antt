@@ -1,4 +1,11 @@
 pub mod Fitting
+pub mod Pending
+pub mod Asking
+pub mod DeedLists
+pub mod Knowing
+pub mod Entries
+pub mod Undrained
+pub mod StoreStays
 pub mod OwnSilence
 pub mod Steps
 pub mod Taken
@@ -12,7 +19,6 @@ pub mod OwnReadable
 pub mod HoldsConnected
 pub mod HoldsEnds
 pub mod HoldsWaiting
-pub mod PassedStill
 pub mod Readable
 pub mod Redirects
 pub mod TakenAbove
@@ -23,6 +29,9 @@ pub mod HoldsStands
 pub mod PassedOn
 pub mod HoldsIssued
 pub mod HoldsPassed
+pub mod HoldsHeard
+pub mod HoldsRight
+pub mod HoldsKnows
 pub mod HoldsCalled
 pub mod HoldsEnded
 pub mod HoldsSaid

@@ -13,7 +13,7 @@ use Rattle.tcf_message.specs.declared.message.MessageFault.{MessageFault}
 use Rattle.value_node.specs.ForwardedValue.{ForwardedValue}
 use Rattle.value_node.specs.Own.{own_reply, redirect_done, redirect_failed}
 use Rattle.value_node.specs.Passing.{Upper}
-use Rattle.value_node.specs.Runs.{Call, LowerCall, Past, answering, asked_below, asked_below_in, before_hello_below, bytes_end, closing_if, closing_in, comes, connects, ended_below, event_calls, fails, final_calls, gives, next_above, only_if, own_by, own_calls, passing_any, passing_by, passing_from, passing_on, progress_calls, refused_by, took_above_below, took_below_below, turns, with_calls}
+use Rattle.value_node.specs.Runs.{Call, LowerCall, Past, answering, asked_below, asked_below_in, before_hello_below, bound_below, bytes_end, closing_if, closing_in, comes, connects, ended_below, event_calls, fails, final_calls, gives, next_above, only_if, own_by, own_calls, passing_any, passing_by, passing_from, passing_on, progress_calls, refused_by, stored_for, took_above_below, took_below_below, turns, with_calls}
 use Rattle.value_node.specs.Value.{awaits, pending_above, takes_above, takes_below}
 use Rattle.value_node.specs.declared.own.Own.{Own}
 use Rattle.value_node.specs.declared.own.Own.TheVariants as own
@@ -43,10 +43,14 @@ refused_other : (upper : Option Upper) (service name body : List ℕ) → AllByR
 refused_other None service name body = (refl, tt)
 refused_other (Some e) service name body = closing_if_other (refusal_of (length service + length name + length body) e)
 
+bound_other : (reply : Option (List ℕ)) (token service name body : List ℕ) (v : Relay) → AllByRecursion IsOther (bound_below reply token service name body v)
+bound_other None token service name body v = refused_other v.upper service name body
+bound_other (Some reply) token service name body v = (refl, tt)
+
 asked_in_other : (bind : Bind) (token service name body : List ℕ) (v : Relay) → AllByRecursion IsOther (asked_below_in bind token service name body v)
 asked_in_other Unbound token service name body v = own_other token (own_reply v.peer service name body)
 asked_in_other Opening token service name body v = tt
-asked_in_other Bound token service name body v = refused_other v.upper service name body
+asked_in_other Bound token service name body v = bound_other (stored_for service name body v) token service name body v
 asked_in_other Closed token service name body v = tt
 
 asked_other : (m : Result MessageValue MessageFault) (v : Relay) → AllByRecursion IsOther (asked_below m v)

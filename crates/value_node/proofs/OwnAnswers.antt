@@ -1,6 +1,6 @@
 -- What a call of a value-add that isn't bound says below: it answers the command that it takes or the redirect that is left,
 -- and what is left then is the redirect that it does.
-use Rattle.std.proofs.Common.{◌≡◌, ℕ, ◌+◌, Bool, true, false, ◌&&◌, List, [], ◌∷◌, ◌++◌, Option, Some, None, Result, Ok, refl, ap, sym, ◌∙◌, subst}
+use Rattle.std.proofs.Common.{◌≡◌, ℕ, Bool, true, false, ◌&&◌, List, [], ◌∷◌, ◌++◌, Option, Some, None, Result, Ok, refl, ap, sym, ◌∙◌, subst}
 use Rattle.std.specs.Prelude.{bytes_eq, if◌then◌else◌, map}
 use Rattle.std.specs.List.{flat_map}
 use Rattle.std.proofs.lemmas.List.{append-nil}
@@ -9,7 +9,7 @@ use Rattle.channel_core.specs.Arrivals.{Spoken}
 use Rattle.channel_core.specs.Closing.{is_closed}
 use Rattle.channel_core.specs.Laws.{listed}
 use Rattle.channel_core.specs.QueueLaws.{sent_in}
-use Rattle.channel_core.specs.Runs.{Unheld, an_answer, an_unknown as unknown_sent, message_of, sending, taking}
+use Rattle.channel_core.specs.Runs.{Unheld, an_answer, an_unknown as unknown_sent, message_of, sending}
 use Rattle.channel_core.specs.Taking.{closes, next_taken}
 use Rattle.channel_core.specs.Wire.{is_redirect, locator, redirect_name, said}
 use Rattle.channel_core.specs.declared.held.Outgoing.{Outgoing}
@@ -21,6 +21,7 @@ use Rattle.value_node.specs.Asked.{Asked}
 use Rattle.value_node.specs.ForwardedValue.{ForwardedValue}
 use Rattle.value_node.specs.Own.{own_reply, redirect_done, redirect_failed}
 use Rattle.value_node.specs.OwnMessages.{IsOwn, a_result, an_unknown}
+use Rattle.value_node.specs.Store.{StoreValue}
 use Rattle.value_node.specs.Passing.{Lower, Upper}
 use Rattle.value_node.specs.RelayLaws.{StandsWell, asked_by, asked_in}
 use Rattle.value_node.specs.Runs.{Call, Past, answering, asked_below, bytes_end, comes, connects, fails, gives, is_binding, own_by, own_calls, took_above_below, took_below_below, turns}
@@ -126,10 +127,10 @@ redirect_answers (Some token) body bind v left unclosed is after =
 
 -- ---- a command is taken while it is unbound
 
-own_answers : (token service name body : List ℕ) (mark : Option ℕ) (reply : Own) (peer : List ℕ) (e : Lower) (upper : Option Upper) → is_closed e.state ≡ false → IsReplyTo service name reply
+own_answers : (token service name body : List ℕ) (mark : Option ℕ) (reply : Own) (store : StoreValue) (peer : List ℕ) (e : Lower) (upper : Option Upper) → is_closed e.state ≡ false → IsReplyTo service name reply
     → Answers [] (record { token = token; service = service; name = name; body = body; mark = mark } ∷ []) (sent_in (own_calls token reply) e)
-    (answered token reply (relay peer Unbound e upper None)).1.bind (answered token reply (relay peer Unbound e upper None)).1.redirect
-own_answers token service name body mark own.Unknown peer e upper unclosed is = record {
+    (answered token reply (relay store peer Unbound e upper None)).1.bind (answered token reply (relay store peer Unbound e upper None)).1.redirect
+own_answers token service name body mark own.Unknown store peer e upper unclosed is = record {
   said_now = plain (not_known token) ∷ [];
   sent_are = said_once (unknown_sent token) e unclosed;
   later = [];
@@ -137,7 +138,7 @@ own_answers token service name body mark own.Unknown peer e upper unclosed is = 
   is_left = (refl, refl);
   binds = λ on. absurd cc;
 }
-own_answers token service name body mark (own.Result data_said) peer e upper unclosed is = record {
+own_answers token service name body mark (own.Result data_said) store peer e upper unclosed is = record {
   said_now = plain (final token data_said) ∷ [];
   sent_are = said_once (an_answer token data_said) e unclosed;
   later = [];
@@ -145,7 +146,7 @@ own_answers token service name body mark (own.Result data_said) peer e upper unc
   is_left = (refl, refl);
   binds = λ on. absurd cc;
 }
-own_answers token service name body mark own.Connect peer e upper unclosed is = record {
+own_answers token service name body mark own.Connect store peer e upper unclosed is = record {
   said_now = [];
   sent_are = refl;
   later = record { token = token; service = service; name = name; body = body; mark = mark } ∷ [];
@@ -159,39 +160,39 @@ abbrev pub CallAnswers : Call → Relay → List Asked → Type 0
 CallAnswers call v left = Answers left (flat_map asked_by (taken_in (own_by call v) v.lower)) (sent_in (own_by call v) v.lower) (relay_called call v).bind (relay_called call v).redirect
 
 module _ (names : Names) where
-  read_answers : (m : Result MessageValue MessageFault) (mark : Option ℕ) (peer : List ℕ) (lower e : Lower) (upper : Option Upper) → is_closed e.state ≡ false
-      → Answers [] (asked_in mark m ++ []) (sent_in (asked_below m (relay peer Unbound lower upper None)) e)
-      (asked m mark (relay peer Unbound e upper None)).1.bind (asked m mark (relay peer Unbound e upper None)).1.redirect
-  read_answers (Ok (command token service name body)) mark peer lower e upper unclosed =
-      own_answers token service name body mark (own_reply peer service name body) peer e upper unclosed (reply_is names peer service name body)
-  read_answers m mark peer lower e upper unclosed = still [] Unbound None refl (refl, refl)
+  read_answers : (m : Result MessageValue MessageFault) (mark : Option ℕ) (store : StoreValue) (peer : List ℕ) (lower e : Lower) (upper : Option Upper) → is_closed e.state ≡ false
+      → Answers [] (asked_in mark m ++ []) (sent_in (asked_below m (relay store peer Unbound lower upper None)) e)
+      (asked m mark (relay store peer Unbound e upper None)).1.bind (asked m mark (relay store peer Unbound e upper None)).1.redirect
+  read_answers (Ok (command token service name body)) mark store peer lower e upper unclosed =
+      own_answers token service name body mark (own_reply peer service name body) store peer e upper unclosed (reply_is names peer service name body)
+  read_answers m mark store peer lower e upper unclosed = still [] Unbound None refl (refl, refl)
 
-  took_answers : (what : Option (Taken Unit)) (peer : List ℕ) (lower e : Lower) (upper : Option Upper) → is_closed e.state ≡ closes what
-      → Answers [] (flat_map asked_by (listed what)) (sent_in (took_below_below what (relay peer Unbound lower upper None)) e)
-      (took_any_below what (relay peer Unbound e upper None)).1.bind (took_any_below what (relay peer Unbound e upper None)).1.redirect
-  took_answers None peer lower e upper unclosed = still [] Unbound None refl (refl, refl)
-  took_answers (Some (taken.Hello incoming)) peer lower e upper unclosed = still [] Unbound None refl (refl, refl)
-  took_answers (Some (taken.Command incoming)) peer lower e upper unclosed = read_answers (reading incoming.raw) incoming.mark peer lower e upper unclosed
-  took_answers (Some (taken.Event incoming)) peer lower e upper unclosed = still [] Unbound None refl (refl, refl)
-  took_answers (Some (taken.Progress token incoming)) peer lower e upper unclosed = still [] Unbound None refl (refl, refl)
-  took_answers (Some (taken.Final tag incoming)) peer lower e upper unclosed = still [] Unbound None refl (refl, refl)
-  took_answers (Some (taken.Closed cause)) peer lower e upper unclosed = still [] Closed None refl (refl, refl)
+  took_answers : (what : Option (Taken Unit)) (store : StoreValue) (peer : List ℕ) (lower e : Lower) (upper : Option Upper) → is_closed e.state ≡ closes what
+      → Answers [] (flat_map asked_by (listed what)) (sent_in (took_below_below what (relay store peer Unbound lower upper None)) e)
+      (took_any_below what (relay store peer Unbound e upper None)).1.bind (took_any_below what (relay store peer Unbound e upper None)).1.redirect
+  took_answers None store peer lower e upper unclosed = still [] Unbound None refl (refl, refl)
+  took_answers (Some (taken.Hello incoming)) store peer lower e upper unclosed = still [] Unbound None refl (refl, refl)
+  took_answers (Some (taken.Command incoming)) store peer lower e upper unclosed = read_answers (reading incoming.raw) incoming.mark store peer lower e upper unclosed
+  took_answers (Some (taken.Event incoming)) store peer lower e upper unclosed = still [] Unbound None refl (refl, refl)
+  took_answers (Some (taken.Progress token incoming)) store peer lower e upper unclosed = still [] Unbound None refl (refl, refl)
+  took_answers (Some (taken.Final tag incoming)) store peer lower e upper unclosed = still [] Unbound None refl (refl, refl)
+  took_answers (Some (taken.Closed cause)) store peer lower e upper unclosed = still [] Closed None refl (refl, refl)
 
-  below_answers : (peer : List ℕ) (bind : Bind) (lower : Lower) (upper : Option Upper) (redirect : Option (List ℕ)) (p : Past) (left : List Asked) → KeepsClosed lower
-      → StandsWell bind (relay peer bind lower upper redirect) p → p.is_bound ≡ false → IsLeft bind redirect left → CallAnswers (turns Below) (relay peer bind lower upper redirect) left
+  below_answers : (store : StoreValue) (peer : List ℕ) (bind : Bind) (lower : Lower) (upper : Option Upper) (redirect : Option (List ℕ)) (p : Past) (left : List Asked) → KeepsClosed lower
+      → StandsWell bind (relay store peer bind lower upper redirect) p → p.is_bound ≡ false → IsLeft bind redirect left → CallAnswers (turns Below) (relay store peer bind lower upper redirect) left
   unfolding turned_below
-  below_answers peer Unbound lower upper (Some token) p left low stands off is = let clash : ◌≡◌ {A = Option (List ℕ)} (Some token) None = is.1 in absurd cc
-  below_answers peer Unbound lower upper None p (c ∷ left) low stands off is = let clash : c ∷ left ≡ [] = is.0 in absurd cc
-  below_answers peer Unbound lower upper None p [] low stands off is =
+  below_answers store peer Unbound lower upper (Some token) p left low stands off is = let clash : ◌≡◌ {A = Option (List ℕ)} (Some token) None = is.1 in absurd cc
+  below_answers store peer Unbound lower upper None p (c ∷ left) low stands off is = let clash : c ∷ left ≡ [] = is.0 in absurd cc
+  below_answers store peer Unbound lower upper None p [] low stands off is =
       let next = next_taken lower in
-      let v = relay peer Unbound lower upper None in
+      let v = relay store peer Unbound lower upper None in
       let all : flat_map asked_by (listed next.0 ++ taken_in (took_below_below next.0 v) next.1) ≡ flat_map asked_by (listed next.0) =
       ap (λ ts. flat_map asked_by (listed next.0 ++ ts)) (behind_takes next.0 v next.1) ∙ ap (flat_map asked_by) (append-nil (listed next.0)) in
-      subst (λ xs. Answers [] xs (sent_in (took_below_below next.0 v) next.1) (took_any_below next.0 (relay peer Unbound next.1 upper None)).1.bind (took_any_below next.0 (relay peer Unbound next.1 upper None)).1.redirect)
-      (sym all) (took_answers next.0 peer lower next.1 upper (low.by_taking stands.0))
-  below_answers peer Opening lower upper redirect p left low stands off is = still left Opening redirect refl is
-  below_answers peer Bound lower upper redirect p left low stands off is = let bound : p.is_bound ≡ true = stands.2 in absurd cc
-  below_answers peer Closed lower upper redirect p left low stands off is = still left Closed redirect refl is
+      subst (λ xs. Answers [] xs (sent_in (took_below_below next.0 v) next.1) (took_any_below next.0 (relay store peer Unbound next.1 upper None)).1.bind (took_any_below next.0 (relay store peer Unbound next.1 upper None)).1.redirect)
+      (sym all) (took_answers next.0 store peer lower next.1 upper (low.by_taking stands.0))
+  below_answers store peer Opening lower upper redirect p left low stands off is = still left Opening redirect refl is
+  below_answers store peer Bound lower upper redirect p left low stands off is = let bound : p.is_bound ≡ true = stands.2 in absurd cc
+  below_answers store peer Closed lower upper redirect p left low stands off is = still left Closed redirect refl is
 
 -- ---- from above, and by a connection that isn't made
 
@@ -199,35 +200,35 @@ abbrev AboveAnswers : Option (Taken ForwardedValue) → Upper → Relay → List
 AboveAnswers what e v left =
     Answers left (flat_map asked_by (taken_in (took_above_below what v) v.lower)) (sent_in (took_above_below what v) v.lower) (took_any_above what (with_upper e v)).1.bind (took_any_above what (with_upper e v)).1.redirect
 
-unbound_above : (what : Option (Taken ForwardedValue)) (peer : List ℕ) (lower : Lower) (upper : Option Upper) (e : Upper) (redirect : Option (List ℕ)) (left : List Asked) → IsLeft Unbound redirect left
-    → AboveAnswers what e (relay peer Unbound lower upper redirect) left
-unbound_above None peer lower upper e redirect left is = still left Unbound redirect refl is
-unbound_above (Some (taken.Hello incoming)) peer lower upper e redirect left is = still left Unbound redirect refl is
-unbound_above (Some (taken.Command incoming)) peer lower upper e redirect left is = still left Unbound redirect refl is
-unbound_above (Some (taken.Event incoming)) peer lower upper e redirect left is = still left Unbound redirect refl is
-unbound_above (Some (taken.Progress token incoming)) peer lower upper e redirect left is = still left Unbound redirect refl is
-unbound_above (Some (taken.Final tag incoming)) peer lower upper e redirect left is = still left Unbound redirect refl is
-unbound_above (Some (taken.Closed cause)) peer lower upper e redirect left is = still left Unbound redirect refl is
+unbound_above : (what : Option (Taken ForwardedValue)) (store : StoreValue) (peer : List ℕ) (lower : Lower) (upper : Option Upper) (e : Upper) (redirect : Option (List ℕ)) (left : List Asked) → IsLeft Unbound redirect left
+    → AboveAnswers what e (relay store peer Unbound lower upper redirect) left
+unbound_above None store peer lower upper e redirect left is = still left Unbound redirect refl is
+unbound_above (Some (taken.Hello incoming)) store peer lower upper e redirect left is = still left Unbound redirect refl is
+unbound_above (Some (taken.Command incoming)) store peer lower upper e redirect left is = still left Unbound redirect refl is
+unbound_above (Some (taken.Event incoming)) store peer lower upper e redirect left is = still left Unbound redirect refl is
+unbound_above (Some (taken.Progress token incoming)) store peer lower upper e redirect left is = still left Unbound redirect refl is
+unbound_above (Some (taken.Final tag incoming)) store peer lower upper e redirect left is = still left Unbound redirect refl is
+unbound_above (Some (taken.Closed cause)) store peer lower upper e redirect left is = still left Unbound redirect refl is
 
-opening_above : (what : Option (Taken ForwardedValue)) (peer : List ℕ) (lower : Lower) (upper : Option Upper) (e : Upper) (redirect : Option (List ℕ)) (left : List Asked) → is_closed lower.state ≡ false
-    → IsLeft Opening redirect left → AboveAnswers what e (relay peer Opening lower upper redirect) left
-opening_above None peer lower upper e redirect left unclosed is = still left Opening redirect refl is
-opening_above (Some (taken.Hello incoming)) peer lower upper e redirect left unclosed is = redirect_answers redirect redirect_done Bound (relay peer Opening lower (Some e) redirect) left unclosed is refl
-opening_above (Some (taken.Command incoming)) peer lower upper e redirect left unclosed is = still left Opening redirect refl is
-opening_above (Some (taken.Event incoming)) peer lower upper e redirect left unclosed is = still left Opening redirect refl is
-opening_above (Some (taken.Progress token incoming)) peer lower upper e redirect left unclosed is = still left Opening redirect refl is
-opening_above (Some (taken.Final tag incoming)) peer lower upper e redirect left unclosed is = still left Opening redirect refl is
-opening_above (Some (taken.Closed cause)) peer lower upper e redirect left unclosed is = redirect_answers redirect redirect_failed Unbound (relay peer Opening lower (Some e) redirect) left unclosed is tt
+opening_above : (what : Option (Taken ForwardedValue)) (store : StoreValue) (peer : List ℕ) (lower : Lower) (upper : Option Upper) (e : Upper) (redirect : Option (List ℕ)) (left : List Asked) → is_closed lower.state ≡ false
+    → IsLeft Opening redirect left → AboveAnswers what e (relay store peer Opening lower upper redirect) left
+opening_above None store peer lower upper e redirect left unclosed is = still left Opening redirect refl is
+opening_above (Some (taken.Hello incoming)) store peer lower upper e redirect left unclosed is = redirect_answers redirect redirect_done Bound (relay store peer Opening lower (Some e) redirect) left unclosed is refl
+opening_above (Some (taken.Command incoming)) store peer lower upper e redirect left unclosed is = still left Opening redirect refl is
+opening_above (Some (taken.Event incoming)) store peer lower upper e redirect left unclosed is = still left Opening redirect refl is
+opening_above (Some (taken.Progress token incoming)) store peer lower upper e redirect left unclosed is = still left Opening redirect refl is
+opening_above (Some (taken.Final tag incoming)) store peer lower upper e redirect left unclosed is = still left Opening redirect refl is
+opening_above (Some (taken.Closed cause)) store peer lower upper e redirect left unclosed is = redirect_answers redirect redirect_failed Unbound (relay store peer Opening lower (Some e) redirect) left unclosed is tt
 
-above_answers : (peer : List ℕ) (bind : Bind) (lower : Lower) (upper : Option Upper) (redirect : Option (List ℕ)) (p : Past) (left : List Asked)
-    → StandsWell bind (relay peer bind lower upper redirect) p → p.is_bound ≡ false → IsLeft bind redirect left → CallAnswers (turns Above) (relay peer bind lower upper redirect) left
+above_answers : (store : StoreValue) (peer : List ℕ) (bind : Bind) (lower : Lower) (upper : Option Upper) (redirect : Option (List ℕ)) (p : Past) (left : List Asked)
+    → StandsWell bind (relay store peer bind lower upper redirect) p → p.is_bound ≡ false → IsLeft bind redirect left → CallAnswers (turns Above) (relay store peer bind lower upper redirect) left
 unfolding turned_above
-above_answers peer Unbound lower None redirect p left stands off is = still left Unbound redirect refl is
-above_answers peer Unbound lower (Some e) redirect p left stands off is = unbound_above (next_taken e).0 peer lower (Some e) (next_taken e).1 redirect left is
-above_answers peer Opening lower None redirect p left stands off is = still left Opening redirect refl is
-above_answers peer Opening lower (Some e) redirect p left stands off is = opening_above (next_taken e).0 peer lower (Some e) (next_taken e).1 redirect left stands.0 is
-above_answers peer Bound lower upper redirect p left stands off is = let bound : p.is_bound ≡ true = stands.2 in absurd cc
-above_answers peer Closed lower upper redirect p left stands off is = still left Closed redirect refl is
+above_answers store peer Unbound lower None redirect p left stands off is = still left Unbound redirect refl is
+above_answers store peer Unbound lower (Some e) redirect p left stands off is = unbound_above (next_taken e).0 store peer lower (Some e) (next_taken e).1 redirect left is
+above_answers store peer Opening lower None redirect p left stands off is = still left Opening redirect refl is
+above_answers store peer Opening lower (Some e) redirect p left stands off is = opening_above (next_taken e).0 store peer lower (Some e) (next_taken e).1 redirect left stands.0 is
+above_answers store peer Bound lower upper redirect p left stands off is = let bound : p.is_bound ≡ true = stands.2 in absurd cc
+above_answers store peer Closed lower upper redirect p left stands off is = still left Closed redirect refl is
 
 unbinding : (bind : Bind) (v : Relay) (p : Past) → StandsWell bind v p → p.is_bound ≡ false → is_binding bind ≡ false
 unbinding Unbound v p stands off = refl
@@ -240,13 +241,13 @@ FailedAnswers flag v left =
     Answers left (flat_map asked_by (taken_in (if flag then answering v.redirect redirect_failed else []) v.lower)) (sent_in (if flag then answering v.redirect redirect_failed else []) v.lower)
     (if flag then unbound_again v else v).bind (if flag then unbound_again v else v).redirect
 
-failed_answers : (flag : Bool) (peer : List ℕ) (bind : Bind) (lower : Lower) (upper : Option Upper) (redirect : Option (List ℕ)) (p : Past) (left : List Asked) → (is_opening bind && is_free upper) ≡ flag
-    → StandsWell bind (relay peer bind lower upper redirect) p → p.is_bound ≡ false → IsLeft bind redirect left → FailedAnswers flag (relay peer bind lower upper redirect) left
-failed_answers false peer bind lower upper redirect p left is_not stands off is = still left bind redirect (unbinding bind (relay peer bind lower upper redirect) p stands off) is
-failed_answers true peer Opening lower upper redirect p left waits stands off is = redirect_answers redirect redirect_failed Unbound (relay peer Opening lower upper redirect) left stands.0 is tt
-failed_answers true peer Unbound lower upper redirect p left waits stands off is = absurd cc
-failed_answers true peer Bound lower upper redirect p left waits stands off is = absurd cc
-failed_answers true peer Closed lower upper redirect p left waits stands off is = absurd cc
+failed_answers : (flag : Bool) (store : StoreValue) (peer : List ℕ) (bind : Bind) (lower : Lower) (upper : Option Upper) (redirect : Option (List ℕ)) (p : Past) (left : List Asked) → (is_opening bind && is_free upper) ≡ flag
+    → StandsWell bind (relay store peer bind lower upper redirect) p → p.is_bound ≡ false → IsLeft bind redirect left → FailedAnswers flag (relay store peer bind lower upper redirect) left
+failed_answers false store peer bind lower upper redirect p left is_not stands off is = still left bind redirect (unbinding bind (relay store peer bind lower upper redirect) p stands off) is
+failed_answers true store peer Opening lower upper redirect p left waits stands off is = redirect_answers redirect redirect_failed Unbound (relay store peer Opening lower upper redirect) left stands.0 is tt
+failed_answers true store peer Unbound lower upper redirect p left waits stands off is = absurd cc
+failed_answers true store peer Bound lower upper redirect p left waits stands off is = absurd cc
+failed_answers true store peer Closed lower upper redirect p left waits stands off is = absurd cc
 
 -- ---- every call
 
@@ -259,9 +260,9 @@ call_answers names (comes Below piece mark) v p left low stands off is = still l
 call_answers names (comes Above piece mark) v p left low stands off is = still left v.bind v.redirect (unbinding v.bind v p stands off) is
 call_answers names (bytes_end Below) v p left low stands off is = still left v.bind v.redirect (unbinding v.bind v p stands off) is
 call_answers names (bytes_end Above) v p left low stands off is = still left v.bind v.redirect (unbinding v.bind v p stands off) is
-call_answers names (turns Below) v p left low stands off is = below_answers names v.peer v.bind v.lower v.upper v.redirect p left low stands off is
-call_answers names (turns Above) v p left low stands off is = above_answers v.peer v.bind v.lower v.upper v.redirect p left stands off is
+call_answers names (turns Below) v p left low stands off is = below_answers names v.store v.peer v.bind v.lower v.upper v.redirect p left low stands off is
+call_answers names (turns Above) v p left low stands off is = above_answers v.store v.peer v.bind v.lower v.upper v.redirect p left stands off is
 call_answers names connects v p left low stands off is = connected_still (awaits v) v left (unbinding v.bind v p stands off) is
-call_answers names fails v p left low stands off is = failed_answers (awaits v) v.peer v.bind v.lower v.upper v.redirect p left refl stands off is
+call_answers names fails v p left low stands off is = failed_answers (awaits v) v.store v.peer v.bind v.lower v.upper v.redirect p left refl stands off is
 call_answers names (gives Below) v p left low stands off is = still left v.bind v.redirect (unbinding v.bind v p stands off) is
 call_answers names (gives Above) v p left low stands off is = still left v.bind v.redirect (unbinding v.bind v p stands off) is

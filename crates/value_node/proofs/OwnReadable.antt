@@ -1,15 +1,10 @@
 -- What a value-add says itself can be read.
-use Rattle.std.proofs.Common.{◌≡◌, ◌≤◌, ℕ, ◌+◌, Bool, true, false, not, List, [], ◌∷◌, length, lit≤, Option, Some, None, Result, Ok, refl, sym, subst}
+use Rattle.std.proofs.Common.{◌≡◌, ℕ, ◌+◌, Bool, true, false, List, ◌∷◌, length, lit≤, leb-true, nat_le, Option, Some, None, Result, Ok, refl, subst}
 use Rattle.std.specs.Prelude.{IfSome, if◌then◌else◌}
-use Rattle.std.specs.List.{AllByRecursion}
-use Rattle.channel_core.specs.Beginning.{new_end}
-use Rattle.channel_core.specs.Closing.{is_closed}
-use Rattle.channel_core.specs.QueueLaws.{sent_by, sent_in}
 use Rattle.channel_core.specs.ReceivingLaws.{SaysReadable, SendsReadable}
-use Rattle.channel_core.specs.Runs.{called as end_called, message_of, sending, taking}
+use Rattle.channel_core.specs.Runs.{taking}
 use Rattle.channel_core.specs.Sending.{refusal_of}
 use Rattle.channel_core.specs.Taking.{next_taken}
-use Rattle.channel_core.specs.Wire.{said}
 use Rattle.channel_core.specs.declared.sending.SendRefusal.{SendRefusal}
 use Rattle.channel_core.specs.declared.taking.Taken.{Taken}
 use Rattle.channel_core.specs.declared.taking.Taken.TheVariants as taken
@@ -18,19 +13,24 @@ use Rattle.tcf_message.specs.Message.{IsToken, IsWellFormed, MessageValue, comma
 use Rattle.tcf_message.specs.declared.message.MessageFault.{MessageFault}
 use Rattle.value_node.specs.ForwardedValue.{ForwardedValue}
 use Rattle.value_node.specs.Own.{Fits, IsSendable, own_reply, redirect_done, redirect_failed}
-use Rattle.value_node.specs.Passing.{Lower, Upper}
-use Rattle.value_node.specs.Runs.{Call, LowerCall, Past, answering, asked_below, asked_below_in, before_hello_below, bytes_end, closing_if, comes, connects, ended_below, fails, gives, next_above, only_if, own_by, own_calls, refused_by, took_above_below, took_below_below, turns, with_calls}
-use Rattle.value_node.specs.Value.{awaits, takes_above, takes_below, value_services}
+use Rattle.value_node.specs.Passing.{Upper}
+use Rattle.knowledge.specs.Reply.{answer_known}
+use Rattle.reply_tables.specs.Written.{answer_data}
+use Rattle.tcf_values.specs.declared.answer.Answer.{Answer}
+use Rattle.tcf_values.specs.declared.command.Command.{Command}
+use Rattle.value_store.specs.Learning.{data_of, most_data}
+use Rattle.value_store.specs.Rows.{facts_in}
+use Rattle.value_node.specs.Store.{StoreValue, answer_to}
+use Rattle.value_node.specs.Runs.{Call, answering, asked_below, asked_below_in, before_hello_below, bound_below, bytes_end, closing_if, comes, connects, ended_below, fails, gives, next_above, own_by, own_calls, refused_by, stored_for, took_above_below, took_below_below, turns}
+use Rattle.value_node.specs.Value.{awaits, command_of, is_free_to_answer, takes_above, takes_below}
 use Rattle.value_node.specs.declared.own.Own.{Own}
 use Rattle.value_node.specs.declared.own.Own.TheVariants as own
 use Rattle.value_node.specs.declared.relay.Relay.{Relay}
 use Rattle.value_node.specs.declared.states.Bind.{Bind}
 use Rattle.value_node.specs.declared.states.Bind.TheVariants.{Unbound, Opening, Bound, Closed}
 use Rattle.value_node.specs.declared.states.Side.TheVariants.{Below, Above}
-use Rattle.value_node.proofs.Lists.{all_append, all_if, all_only}
-use Rattle.value_node.proofs.Pasts.{sent_both}
+use Rattle.value_node.proofs.Lists.{all_if}
 use Rattle.value_node.proofs.Sendable.{Sizes, done_fits, failed_fits, reply_sendable}
-use Rattle.value_node.proofs.Steps.{ran}
 
 pub well_read : IsReadBack → (raw : List ℕ) (m : MessageValue) → reading raw ≡ Ok m → IsWellFormed m
 well_read back raw m is = ((back.0 raw m).0 is).0
@@ -52,11 +52,33 @@ refused_reads : (upper : Option Upper) (service name body : List ℕ) → SendsR
 refused_reads None service name body = (tt, tt)
 refused_reads (Some e) service name body = closing_reads (refusal_of (length service + length name + length body) e)
 
+-- what is answered from the store can be sent
+fitting_fits : (flag : Bool) (body reply : List ℕ) → nat_le (length body) most_data ≡ flag → (if flag then Some body else None) ≡ Some reply → Fits reply
+fitting_fits true body reply low is = let same : body ≡ reply = cc in subst Fits same (leb-true (length body) most_data low)
+fitting_fits false body reply low is = absurd cc
+
+known_fits : (asked : Command) (answer : Option Answer) (reply : List ℕ) → data_of asked answer ≡ Some reply → Fits reply
+known_fits asked None reply is = absurd cc
+known_fits asked (Some answer) reply is = fitting_fits (nat_le (length (answer_data asked answer)) most_data) (answer_data asked answer) reply refl is
+
+answer_fits : (asked : Option Command) (store : StoreValue) (reply : List ℕ) → answer_to asked store ≡ Some reply → Fits reply
+answer_fits None store reply is = absurd cc
+answer_fits (Some asked) store reply is = known_fits asked (answer_known asked (facts_in store.known) store.blocks) reply is
+
+stored_if : (free : Bool) (asked : Option Command) (store : StoreValue) (reply : List ℕ) → (if free then answer_to asked store else None) ≡ Some reply → Fits reply
+stored_if true asked store reply is = answer_fits asked store reply is
+stored_if false asked store reply is = absurd cc
+
+bound_reads : (reply : Option (List ℕ)) (token service name body : List ℕ) (v : Relay) → stored_for service name body v ≡ reply → IsToken token
+    → SendsReadable (bound_below reply token service name body v)
+bound_reads None token service name body v is formed = refused_reads v.upper service name body
+bound_reads (Some reply) token service name body v is formed = ((formed, stored_if (is_free_to_answer v.upper) (command_of service name body) v.store reply is), tt)
+
 module _ (back : IsReadBack) (sizes : Sizes) where
   asked_in_reads : (bind : Bind) (token service name body : List ℕ) (v : Relay) → IsToken token → SendsReadable (asked_below_in bind token service name body v)
   asked_in_reads Unbound token service name body v is = own_reads token (own_reply v.peer service name body) is (reply_sendable sizes v.peer service name body)
   asked_in_reads Opening token service name body v is = tt
-  asked_in_reads Bound token service name body v is = refused_reads v.upper service name body
+  asked_in_reads Bound token service name body v is = bound_reads (stored_for service name body v) token service name body v refl is
   asked_in_reads Closed token service name body v is = tt
 
   asked_reads : (raw : List ℕ) (m : Result MessageValue MessageFault) (v : Relay) → reading raw ≡ m → SendsReadable (asked_below m v)

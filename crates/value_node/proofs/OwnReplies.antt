@@ -1,5 +1,5 @@
 -- A value-add answers by a result where the service is Locator alone, and it does only redirects.
-use Rattle.std.proofs.Common.{◌≡◌, ℕ, Bool, true, false, List, [], Option, Some, refl, ap, ◌∙◌}
+use Rattle.std.proofs.Common.{◌≡◌, ℕ, Bool, true, false, List, Option, Some, refl, ap, ◌∙◌}
 use Rattle.std.specs.Prelude.{if◌then◌else◌}
 use Rattle.channel_core.specs.Wire.{is_redirect, locator, redirect_name}
 use Rattle.command_tables.specs.Reading.{IsReading, reading_of}

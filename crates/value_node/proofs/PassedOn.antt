@@ -1,7 +1,7 @@
 -- What is passed on below where the lower end is open, each answer under the token of its own command.
-use Rattle.std.proofs.Common.{◌≡◌, ℕ, ◌+◌, ◌-◌, Bool, true, false, List, [], ◌∷◌, ◌++◌, map, Option, Some, None, Result, Ok, Err, refl, ap, sym, ◌∙◌, subst}
+use Rattle.std.proofs.Common.{◌≡◌, ℕ, Bool, true, false, List, [], ◌∷◌, ◌++◌, map, Option, Some, None, Result, Ok, Err, refl, ap, sym, ◌∙◌, subst}
 use Rattle.std.specs.Prelude.{IfSome, decimal, if◌then◌else◌}
-use Rattle.std.specs.List.{AllByRecursion}
+use Rattle.std.specs.List.{AllByRecursion, flat_map}
 use Rattle.std.proofs.lemmas.List.{append-nil}
 use Rattle.channel_core.specs.Beginning.{tag_of}
 use Rattle.channel_core.specs.Closing.{is_closed}
@@ -19,7 +19,8 @@ use Rattle.value_node.specs.Asked.{Asked}
 use Rattle.value_node.specs.ForwardedValue.{ForwardedValue}
 use Rattle.value_node.specs.Own.{redirect_done, redirect_failed}
 use Rattle.value_node.specs.Passing.{Lower, Upper}
-use Rattle.value_node.specs.RelayLaws.{passed_in, passed_on, token_below}
+use Rattle.channel_core.specs.ReceivingLaws.{incoming_of}
+use Rattle.value_node.specs.RelayLaws.{passed_by, passed_in, token_below}
 use Rattle.value_node.specs.Runs.{Call, answering, before_hello_below, closing_in, ended_below, event_calls, final_calls, next_above, own_by, passing_any, passing_by, passing_from, passing_on, progress_calls, took_above_below, turns}
 use Rattle.value_node.specs.Value.{takes_above}
 use Rattle.value_node.specs.declared.relay.Relay.{Relay}
@@ -32,7 +33,11 @@ use Rattle.value_node.proofs.Taken.{Gives, GivesAny, IsAnswerTo, IsCommand, IsPr
 use Rattle.value_node.proofs.TakenAbove.{entries_from}
 use Rattle.value_node.proofs.TokensBelow.{IsIssued, tagged_at}
 
-sent_open : (message : Unheld) (mark : Option ℕ) (e : Lower) → is_closed e.state ≡ false → sent_in (sending message mark ∷ []) e ≡ said (message_of message) mark ∷ []
+-- what is passed on of these, where these commands were sent above before
+abbrev pub passed_on : List Asked → List (Taken ForwardedValue) → List Outgoing
+passed_on commands entries = flat_map (passed_by commands) (flat_map incoming_of entries)
+
+pub sent_open : (message : Unheld) (mark : Option ℕ) (e : Lower) → is_closed e.state ≡ false → sent_in (sending message mark ∷ []) e ≡ said (message_of message) mark ∷ []
 sent_open message mark e is_open = ap (λ b. (if b then [] else said (message_of message) mark ∷ []) ++ []) is_open
 
 closing_sends : (bind : Bind) (e : Lower) → sent_in (closing_in bind) e ≡ []

@@ -1,5 +1,5 @@
 -- What a value-add passes on can be read, and so can what it says above.
-use Rattle.std.proofs.Common.{◌≡◌, ◌≤◌, ℕ, ◌+◌, Bool, true, false, not, List, [], ◌∷◌, ◌++◌, length, lit≤, Option, Some, None, Result, Ok, refl, sym, subst}
+use Rattle.std.proofs.Common.{◌≡◌, ℕ, ◌+◌, Bool, true, false, not, List, [], ◌∷◌, ◌++◌, length, lit≤, Option, Some, None, Result, Ok, refl, sym, subst}
 use Rattle.std.specs.Prelude.{◌==◌, IfSome, cond, option_map}
 use Rattle.std.specs.List.{AllByRecursion, find}
 use Rattle.channel_core.specs.Beginning.{tag_of}
@@ -15,13 +15,13 @@ use Rattle.tcf_message.specs.Message.{IsToken, MessageValue, command, event, fin
 use Rattle.tcf_message.specs.declared.message.MessageFault.{MessageFault}
 use Rattle.value_node.specs.ForwardedValue.{ForwardedValue}
 use Rattle.value_node.specs.Passing.{Upper}
-use Rattle.value_node.specs.Runs.{Call, LowerCall, Past, UpperCall, asked_above, asked_above_in, bytes_end, closing_if, closing_in, comes, connects, event_calls, fails, final_calls, gives, only_if, own_by, passing_any, passing_by, passing_from, progress_calls, refusing, took_above_above, took_below_above, turns, upper_by, upper_from, upper_on, with_calls}
+use Rattle.value_node.specs.Runs.{Call, LowerCall, Past, UpperCall, asked_above, asked_above_in, bound_above, bytes_end, closing_if, closing_in, comes, connects, event_calls, fails, final_calls, gives, only_if, own_by, passing_any, passing_by, passing_from, progress_calls, refusing, stored_for, took_above_above, took_below_above, turns, upper_by, upper_from, upper_on, with_calls}
 use Rattle.value_node.specs.Value.{takes_above, takes_below}
 use Rattle.value_node.specs.declared.relay.Relay.{Relay}
 use Rattle.value_node.specs.declared.states.Bind.{Bind}
 use Rattle.value_node.specs.declared.states.Bind.TheVariants.{Unbound, Opening, Bound, Closed}
 use Rattle.value_node.specs.declared.states.Side.TheVariants.{Below, Above}
-use Rattle.value_node.proofs.Lists.{all_append, all_if, all_left, all_only, all_right, all_stands, all_then}
+use Rattle.value_node.proofs.Lists.{all_append, all_if, all_left, all_only, all_right, all_stands}
 use Rattle.value_node.proofs.OwnReadable.{own_by_reads, well_read}
 use Rattle.value_node.proofs.Sendable.{Sizes}
 use Rattle.value_node.proofs.Taken.{GivesAny, next_gives}
@@ -108,18 +108,22 @@ module _ (back : IsReadBack) where
   refusing_reads raw (Ok (command token service name body)) is = (((well_read back raw (command token service name body) is).0.0, lit≤ tt), tt)
   refusing_reads raw m is = tt
 
-  asked_in_reads : (bind : Bind) (token service name body : List ℕ) (mark : Option ℕ) (e : Upper) → SendsReadable (asked_above_in bind token service name body mark e)
-  asked_in_reads Bound token service name body mark e = (tt, closing_if_reads ForwardedValue (refusal_of (length service + length name + length body) e))
-  asked_in_reads bind token service name body mark e = tt
+  bound_reads : (reply : Option (List ℕ)) (token service name body : List ℕ) (mark : Option ℕ) (e : Upper) → SendsReadable (bound_above reply token service name body mark e)
+  bound_reads None token service name body mark e = (tt, closing_if_reads ForwardedValue (refusal_of (length service + length name + length body) e))
+  bound_reads (Some reply) token service name body mark e = tt
 
-  asked_reads : (m : Result MessageValue MessageFault) (mark : Option ℕ) (bind : Bind) (e : Upper) → SendsReadable (asked_above m mark bind e)
-  asked_reads (Ok (command token service name body)) mark bind e = asked_in_reads bind token service name body mark e
-  asked_reads m mark bind e = tt
+  asked_in_reads : (bind : Bind) (token service name body : List ℕ) (mark : Option ℕ) (v : Relay) (e : Upper) → SendsReadable (asked_above_in bind token service name body mark v e)
+  asked_in_reads Bound token service name body mark v e = bound_reads (stored_for service name body v) token service name body mark e
+  asked_in_reads bind token service name body mark v e = tt
 
-  taken_below_reads : (what : Option (Taken Unit)) (bind : Bind) (e : Upper) → SendsReadable (took_below_above what bind e)
-  taken_below_reads (Some (taken.Command incoming)) bind e = asked_reads (reading incoming.raw) incoming.mark bind e
-  taken_below_reads (Some (taken.Closed cause)) bind e = (tt, tt)
-  taken_below_reads what bind e = tt
+  asked_reads : (m : Result MessageValue MessageFault) (mark : Option ℕ) (v : Relay) (e : Upper) → SendsReadable (asked_above m mark v e)
+  asked_reads (Ok (command token service name body)) mark v e = asked_in_reads v.bind token service name body mark v e
+  asked_reads m mark v e = tt
+
+  taken_below_reads : (what : Option (Taken Unit)) (v : Relay) (e : Upper) → SendsReadable (took_below_above what v e)
+  taken_below_reads (Some (taken.Command incoming)) v e = asked_reads (reading incoming.raw) incoming.mark v e
+  taken_below_reads (Some (taken.Closed cause)) v e = (tt, tt)
+  taken_below_reads what v e = tt
 
   taken_above_reads : (what : Option (Taken ForwardedValue)) (bind : Bind) → SendsReadable (took_above_above what bind)
   taken_above_reads (Some (taken.Command incoming)) bind = refusing_reads incoming.raw (reading incoming.raw) refl
@@ -132,7 +136,7 @@ module _ (back : IsReadBack) where
   upper_on_reads (bytes_end Below) v e = tt
   upper_on_reads (bytes_end Above) v e = (tt, tt)
   upper_on_reads (turns Below) v e =
-      all_if SaysReadable (takes_below v.bind v.upper) (took_below_above (next_taken v.lower).0 v.bind e) (taken_below_reads (next_taken v.lower).0 v.bind e)
+      all_if SaysReadable (takes_below v.bind v.upper) (took_below_above (next_taken v.lower).0 v e) (taken_below_reads (next_taken v.lower).0 v e)
   upper_on_reads (turns Above) v e =
       all_if SaysReadable (takes_above v.bind) (taking ∷ took_above_above (next_taken e).0 v.bind) (tt, taken_above_reads (next_taken e).0 v.bind)
   upper_on_reads connects v e = tt

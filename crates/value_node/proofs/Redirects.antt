@@ -1,5 +1,5 @@
 -- The token of the redirect that is being done is one.
-use Rattle.std.proofs.Common.{◌≡◌, ℕ, ◌+◌, Bool, true, false, List, length, Option, Some, None, Result, Ok, refl}
+use Rattle.std.proofs.Common.{◌≡◌, ℕ, ◌+◌, Bool, true, false, List, length, Option, Some, None, Result, Ok, refl, sym, subst}
 use Rattle.std.specs.Prelude.{IfSome, if◌then◌else◌}
 use Rattle.channel_core.specs.Sending.{refusal_of}
 use Rattle.channel_core.specs.Taking.{next_taken}
@@ -9,11 +9,11 @@ use Rattle.channel_core.specs.declared.taking.Taken.TheVariants as taken
 use Rattle.tcf_message.specs.Fault.{IsReadBack}
 use Rattle.tcf_message.specs.Message.{IsToken, MessageValue, command, reading}
 use Rattle.tcf_message.specs.declared.message.MessageFault.{MessageFault}
-use Rattle.value_node.specs.ForwardedValue.{ForwardedValue}
+use Rattle.value_node.specs.ForwardedValue.{ForwardedValue, tagged}
 use Rattle.value_node.specs.Own.{own_reply, redirect_done, redirect_failed}
 use Rattle.value_node.specs.Passing.{Upper}
-use Rattle.value_node.specs.Runs.{Call, bytes_end, comes, connects, fails, gives, turns}
-use Rattle.value_node.specs.Value.{answered, asked, asked_in, awaits, before_hello, connected_to, ended_in, forwarded_to, forwarded_unless, redirect_answered, takes_above, takes_below, took_above, took_any_above, took_any_below, took_below, turned_above, turned_below, turned_on, unbound_again, with_lower, with_upper}
+use Rattle.value_node.specs.Runs.{Call, stored_for, bytes_end, comes, connects, fails, gives, turns}
+use Rattle.value_node.specs.Value.{answered, asked, asked_in, awaits, before_hello, connected_to, ended_in, answered_or_forwarded, command_of, redirect_answered, sent_above, sent_unless, takes_above, takes_below, took_above, took_any_above, took_any_below, took_below, turned_above, turned_below, turned_on, unbound_again, with_lower, with_store, with_upper}
 use Rattle.value_node.specs.declared.own.Own.{Own}
 use Rattle.value_node.specs.declared.own.Own.TheVariants as own
 use Rattle.value_node.specs.declared.relay.Relay.{Relay}
@@ -21,6 +21,7 @@ use Rattle.value_node.specs.declared.states.Bind.{Bind}
 use Rattle.value_node.specs.declared.states.Bind.TheVariants.{Unbound, Opening, Bound, Closed}
 use Rattle.value_node.specs.declared.states.Side.TheVariants.{Below, Above}
 use Rattle.value_node.specs.declared.states.ValueTurn.TheVariants.{Nothing as NoTurn}
+use Rattle.value_node.proofs.Asking.{asked_bound_is, store_asked}
 use Rattle.value_node.proofs.Steps.{relay_called}
 use Rattle.value_node.proofs.OwnReadable.{well_read}
 
@@ -69,19 +70,27 @@ module _ (back : IsReadBack) where
   own_token token (own.Result body) v new is = is
   own_token token own.Connect v new is = new
 
-  unless_token : (refusal : Option SendRefusal) (token service name body : List ℕ) (mark : Option ℕ) (e : Upper) (v : Relay) → HasToken v
-      → HasToken (forwarded_unless refusal token service name body mark e v)
-  unless_token None token service name body mark e v is = is
-  unless_token (Some why) token service name body mark e v is = is
+  unless_token : (refusal : Option SendRefusal) (service name body : List ℕ) (forwarded : ForwardedValue) (mark : Option ℕ) (e : Upper) (v : Relay) → HasToken v
+      → HasToken (sent_unless refusal service name body forwarded mark e v)
+  unless_token None service name body forwarded mark e v is = is
+  unless_token (Some why) service name body forwarded mark e v is = is
 
-  forwarded_token : (upper : Option Upper) (token service name body : List ℕ) (mark : Option ℕ) (v : Relay) → HasToken v → HasToken (forwarded_to upper token service name body mark v)
-  forwarded_token None token service name body mark v is = is
-  forwarded_token (Some e) token service name body mark v is = unless_token (refusal_of (length service + length name + length body) e) token service name body mark e v is
+  forwarded_token : (upper : Option Upper) (service name body : List ℕ) (forwarded : ForwardedValue) (mark : Option ℕ) (v : Relay) → HasToken v
+      → HasToken (sent_above upper service name body forwarded mark v)
+  forwarded_token None service name body forwarded mark v is = is
+  forwarded_token (Some e) service name body forwarded mark v is = unless_token (refusal_of (length service + length name + length body) e) service name body forwarded mark e v is
+
+  answered_or_token : (reply : Option (List ℕ)) (token service name body : List ℕ) (mark : Option ℕ) (v : Relay) → HasToken v
+      → HasToken (answered_or_forwarded reply (command_of service name body) token service name body mark v)
+  answered_or_token None token service name body mark v is = forwarded_token v.upper service name body (tagged token (command_of service name body)) mark v is
+  answered_or_token (Some reply) token service name body mark v is = is
 
   asked_in_token : (bind : Bind) (token service name body : List ℕ) (mark : Option ℕ) (v : Relay) → IsToken token → HasToken v → HasToken (asked_in bind token service name body mark v).1
   asked_in_token Unbound token service name body mark v new is = own_token token (own_reply v.peer service name body) v new is
   asked_in_token Opening token service name body mark v new is = is
-  asked_in_token Bound token service name body mark v new is = forwarded_token v.upper token service name body mark v is
+  asked_in_token Bound token service name body mark v new is =
+      subst HasToken (sym (asked_bound_is token service name body mark v))
+      (answered_or_token (stored_for service name body v) token service name body mark (with_store (store_asked service name body v) v) is)
   asked_in_token Closed token service name body mark v new is = is
 
   asked_token : (raw : List ℕ) (m : Result MessageValue MessageFault) (mark : Option ℕ) (v : Relay) → reading raw ≡ m → HasToken v → HasToken (asked m mark v).1

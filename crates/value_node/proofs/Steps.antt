@@ -15,8 +15,9 @@ use Rattle.tcf_message.specs.declared.message.MessageFault.{MessageFault}
 use Rattle.value_node.specs.ForwardedValue.{ForwardedValue, tagged}
 use Rattle.value_node.specs.Own.{own_reply, redirect_failed, redirect_done}
 use Rattle.value_node.specs.Passing.{Lower, Upper, event_passed, final_passed, not_recognised, progress_passed}
-use Rattle.value_node.specs.Runs.{Call, UpperCall, answering, asked_above, asked_above_in, asked_below, asked_below_in, before_hello_below, bytes_end, called, closing_if, closing_in, comes, connects, ended_below, event_calls, fails, final_calls, gives, next_above, own_by, own_calls, passing_any, passing_by, passing_from, passing_on, progress_calls, refused_by, refusing, took_above_above, took_above_below, took_below_above, took_below_below, turns, upper_on}
-use Rattle.value_node.specs.Value.{after_giving_at, answered, asked, asked_in, awaits, before_hello, came_at, connected_to, ended_at, ended_in, forwarded_to, forwarded_unless, pending_above, redirect_answered, takes_above, takes_below, took_above, took_any_above, took_any_below, turned_above, turned_at, turned_below, turned_on, unbound_again, with_lower, with_upper}
+use Rattle.value_node.specs.Runs.{Call, UpperCall, answering, asked_above, asked_above_in, bound_above, bound_below, stored_for, asked_below, asked_below_in, before_hello_below, bytes_end, called, closing_if, closing_in, comes, connects, ended_below, event_calls, fails, final_calls, gives, next_above, own_by, own_calls, passing_any, passing_by, passing_from, passing_on, progress_calls, refused_by, refusing, took_above_above, took_above_below, took_below_above, took_below_below, turns, upper_on}
+use Rattle.value_node.specs.Value.{after_giving_at, answered, answered_or_forwarded, asked, asked_bound, asked_in, awaits, before_hello, came_at, command_of, connected_to, ended_at, ended_in, pending_above, redirect_answered, sent_above, sent_unless, takes_above, takes_below, took_above, took_any_above, took_any_below, turned_above, turned_at, turned_below, turned_on, unbound_again, with_lower, with_store, with_upper}
+use Rattle.value_node.specs.Store.{StoreValue}
 use Rattle.value_node.specs.ValueValue.{ValueValue}
 use Rattle.value_node.specs.declared.own.Own.{Own}
 use Rattle.value_node.specs.declared.own.Own.TheVariants as own
@@ -25,11 +26,12 @@ use Rattle.value_node.specs.declared.states.Bind.{Bind}
 use Rattle.value_node.specs.declared.states.Bind.TheVariants.{Unbound, Opening, Bound, Closed}
 use Rattle.value_node.specs.declared.states.Side.TheVariants.{Below, Above}
 use Rattle.value_node.specs.declared.states.ValueTurn.TheVariants.{Nothing}
+use Rattle.value_node.proofs.Asking.{asked_bound_is, asked_mark, below_by_mark, store_asked}
 
 -- ---- a value-add
 
-abbrev pub relay : List ℕ → Bind → Lower → Option Upper → Option (List ℕ) → Relay
-relay peer bind lower upper redirect = record { peer = peer; bind = bind; lower = lower; upper = upper; redirect = redirect }
+abbrev pub relay : StoreValue → List ℕ → Bind → Lower → Option Upper → Option (List ℕ) → Relay
+relay store peer bind lower upper redirect = record { peer = peer; bind = bind; lower = lower; upper = upper; redirect = redirect; store = store }
 
 -- one for which memory was never wanting
 abbrev pub whole : Relay → ValueValue
@@ -115,21 +117,34 @@ own_lower token own.Unknown v = refl
 own_lower token (own.Result body) v = refl
 own_lower token own.Connect v = refl
 
-refused_lower : (refusal : Option SendRefusal) (token service name body : List ℕ) (mark : Option ℕ) (e : Upper) (v : Relay)
-    → (forwarded_unless refusal token service name body mark e v).lower ≡ ran (closing_if refusal) v.lower
-refused_lower None token service name body mark e v = refl
-refused_lower (Some why) token service name body mark e v = refl
+refused_lower : (refusal : Option SendRefusal) (service name body : List ℕ) (forwarded : ForwardedValue) (mark : Option ℕ) (e : Upper) (v : Relay)
+    → (sent_unless refusal service name body forwarded mark e v).lower ≡ ran (closing_if refusal) v.lower
+refused_lower None service name body forwarded mark e v = refl
+refused_lower (Some why) service name body forwarded mark e v = refl
 
-forwarded_lower : (upper : Option Upper) (token service name body : List ℕ) (mark : Option ℕ) (v : Relay)
-    → (forwarded_to upper token service name body mark v).lower ≡ ran (refused_by upper service name body) v.lower
-forwarded_lower None token service name body mark v = refl
-forwarded_lower (Some e) token service name body mark v = refused_lower (refusal_of (length service + length name + length body) e) token service name body mark e v
+forwarded_lower : (upper : Option Upper) (service name body : List ℕ) (forwarded : ForwardedValue) (mark : Option ℕ) (v : Relay)
+    → (sent_above upper service name body forwarded mark v).lower ≡ ran (refused_by upper service name body) v.lower
+forwarded_lower None service name body forwarded mark v = refl
+forwarded_lower (Some e) service name body forwarded mark v = refused_lower (refusal_of (length service + length name + length body) e) service name body forwarded mark e v
+
+answered_lower : (reply : Option (List ℕ)) (token service name body : List ℕ) (mark : Option ℕ) (v : Relay)
+    → (answered_or_forwarded reply (command_of service name body) token service name body mark v).lower ≡ ran (bound_below reply token service name body v) v.lower
+answered_lower None token service name body mark v = forwarded_lower v.upper service name body (tagged token (command_of service name body)) mark v
+answered_lower (Some reply) token service name body mark v = refl
+
+bound_lower : (token service name body : List ℕ) (mark : Option ℕ) (e : Lower) (v : Relay)
+    → (asked_bound token service name body mark (with_lower e v)).lower ≡ ran (bound_below (stored_for service name body v) token service name body v) e
+bound_lower token service name body mark e v =
+    let reply = stored_for service name body v in
+    let w : Relay = with_store (store_asked service name body v) (with_lower e v) in
+    ap (λ (x : Relay). x.lower) (asked_bound_is token service name body mark (with_lower e v)) ∙ answered_lower reply token service name body mark w
+    ∙ ap (λ calls. ran calls e) (below_by_mark reply token service name body w v refl (asked_mark service name body v))
 
 asked_in_lower : (bind : Bind) (token service name body : List ℕ) (mark : Option ℕ) (e : Lower) (v : Relay)
     → (asked_in bind token service name body mark (with_lower e v)).1.lower ≡ ran (asked_below_in bind token service name body v) e
 asked_in_lower Unbound token service name body mark e v = own_lower token (own_reply v.peer service name body) (with_lower e v)
 asked_in_lower Opening token service name body mark e v = refl
-asked_in_lower Bound token service name body mark e v = forwarded_lower v.upper token service name body mark (with_lower e v)
+asked_in_lower Bound token service name body mark e v = bound_lower token service name body mark e v
 asked_in_lower Closed token service name body mark e v = refl
 
 asked_lower : (m : Result MessageValue MessageFault) (mark : Option ℕ) (e : Lower) (v : Relay) → (asked m mark (with_lower e v)).1.lower ≡ ran (asked_below m v) e
@@ -196,47 +211,59 @@ none_ran : (upper : Option Upper) → upper ≡ ran_by (λ e. []) upper
 none_ran None = refl
 none_ran (Some e) = refl
 
-forwarded_unless_upper : (refusal : Option SendRefusal) (token service name body : List ℕ) (mark : Option ℕ) (e : Upper) (v : Relay)
+sent_unless_upper : (refusal : Option SendRefusal) (service name body : List ℕ) (forwarded : ForwardedValue) (mark : Option ℕ) (e : Upper) (v : Relay)
     → refusal_of (length service + length name + length body) e ≡ refusal → v.upper ≡ Some e
-    → (forwarded_unless refusal token service name body mark e v).upper ≡ Some (ran (commanding service name body (tagged token) mark ∷ closing_if refusal) e)
-forwarded_unless_upper None token service name body mark e v is same =
-    ap (λ refusal. Some (unless_refused refusal e (commanded service name body (tagged token) mark e))) (sym is)
-forwarded_unless_upper (Some why) token service name body mark e v is same =
-    ap (option_map closed_own) same ∙ ap (λ refusal. Some (closed_own (unless_refused refusal e (commanded service name body (tagged token) mark e)))) (sym is)
+    → (sent_unless refusal service name body forwarded mark e v).upper ≡ Some (ran (commanding service name body forwarded mark ∷ closing_if refusal) e)
+sent_unless_upper None service name body forwarded mark e v is same =
+    ap (λ refusal. Some (unless_refused refusal e (commanded service name body forwarded mark e))) (sym is)
+sent_unless_upper (Some why) service name body forwarded mark e v is same =
+    ap (option_map closed_own) same ∙ ap (λ refusal. Some (closed_own (unless_refused refusal e (commanded service name body forwarded mark e)))) (sym is)
 
-forwarded_upper : (upper : Option Upper) (token service name body : List ℕ) (mark : Option ℕ) (v : Relay) → v.upper ≡ upper
-    → (forwarded_to upper token service name body mark v).upper ≡ ran_by (asked_above_in Bound token service name body mark) upper
-forwarded_upper None token service name body mark v same = ap (option_map closed_own) same
-forwarded_upper (Some e) token service name body mark v same =
-    forwarded_unless_upper (refusal_of (length service + length name + length body) e) token service name body mark e v refl same
+sent_upper : (upper : Option Upper) (service name body : List ℕ) (forwarded : ForwardedValue) (mark : Option ℕ) (v : Relay) → v.upper ≡ upper
+    → (sent_above upper service name body forwarded mark v).upper
+    ≡ ran_by (λ e. commanding service name body forwarded mark ∷ closing_if (refusal_of (length service + length name + length body) e)) upper
+sent_upper None service name body forwarded mark v same = ap (option_map closed_own) same
+sent_upper (Some e) service name body forwarded mark v same =
+    sent_unless_upper (refusal_of (length service + length name + length body) e) service name body forwarded mark e v refl same
+
+answered_or_upper : (reply : Option (List ℕ)) (token service name body : List ℕ) (mark : Option ℕ) (v : Relay)
+    → (answered_or_forwarded reply (command_of service name body) token service name body mark v).upper ≡ ran_by (bound_above reply token service name body mark) v.upper
+answered_or_upper None token service name body mark v = sent_upper v.upper service name body (tagged token (command_of service name body)) mark v refl
+answered_or_upper (Some reply) token service name body mark v = none_ran v.upper
+
+bound_upper : (token service name body : List ℕ) (mark : Option ℕ) (e : Lower) (v : Relay)
+    → (asked_bound token service name body mark (with_lower e v)).upper ≡ ran_by (bound_above (stored_for service name body v) token service name body mark) v.upper
+bound_upper token service name body mark e v =
+    ap (λ (x : Relay). x.upper) (asked_bound_is token service name body mark (with_lower e v))
+    ∙ answered_or_upper (stored_for service name body v) token service name body mark (with_store (store_asked service name body v) (with_lower e v))
 
 own_upper : (token : List ℕ) (reply : Own) (v : Relay) → (answered token reply v).1.upper ≡ v.upper
 own_upper token own.Unknown v = refl
 own_upper token (own.Result body) v = refl
 own_upper token own.Connect v = refl
 
-asked_in_upper : (bind : Bind) (token service name body : List ℕ) (mark : Option ℕ) (v : Relay)
-    → (asked_in bind token service name body mark v).1.upper ≡ ran_by (asked_above_in bind token service name body mark) v.upper
-asked_in_upper Unbound token service name body mark v = own_upper token (own_reply v.peer service name body) v ∙ none_ran v.upper
-asked_in_upper Opening token service name body mark v = none_ran v.upper
-asked_in_upper Bound token service name body mark v = forwarded_upper v.upper token service name body mark v refl
-asked_in_upper Closed token service name body mark v = none_ran v.upper
+asked_in_upper : (bind : Bind) (token service name body : List ℕ) (mark : Option ℕ) (e : Lower) (v : Relay)
+    → (asked_in bind token service name body mark (with_lower e v)).1.upper ≡ ran_by (asked_above_in bind token service name body mark v) v.upper
+asked_in_upper Unbound token service name body mark e v = own_upper token (own_reply v.peer service name body) (with_lower e v) ∙ none_ran v.upper
+asked_in_upper Opening token service name body mark e v = none_ran v.upper
+asked_in_upper Bound token service name body mark e v = bound_upper token service name body mark e v
+asked_in_upper Closed token service name body mark e v = none_ran v.upper
 
-asked_upper : (m : Result MessageValue MessageFault) (mark : Option ℕ) (v : Relay) → (asked m mark v).1.upper ≡ ran_by (asked_above m mark v.bind) v.upper
-asked_upper (Ok (command token service name body)) mark v = asked_in_upper v.bind token service name body mark v
-asked_upper m mark v = none_ran v.upper
+asked_upper : (m : Result MessageValue MessageFault) (mark : Option ℕ) (e : Lower) (v : Relay) → (asked m mark (with_lower e v)).1.upper ≡ ran_by (asked_above m mark v) v.upper
+asked_upper (Ok (command token service name body)) mark e v = asked_in_upper v.bind token service name body mark e v
+asked_upper m mark e v = none_ran v.upper
 
-took_below_upper : (what : Option (Taken Unit)) (e : Lower) (v : Relay) → (took_any_below what (with_lower e v)).1.upper ≡ ran_by (took_below_above what v.bind) v.upper
+took_below_upper : (what : Option (Taken Unit)) (e : Lower) (v : Relay) → (took_any_below what (with_lower e v)).1.upper ≡ ran_by (took_below_above what v) v.upper
 took_below_upper None e v = none_ran v.upper
 took_below_upper (Some (taken.Hello incoming)) e v = none_ran v.upper
-took_below_upper (Some (taken.Command incoming)) e v = asked_upper (reading incoming.raw) incoming.mark (with_lower e v)
+took_below_upper (Some (taken.Command incoming)) e v = asked_upper (reading incoming.raw) incoming.mark e v
 took_below_upper (Some (taken.Event incoming)) e v = none_ran v.upper
 took_below_upper (Some (taken.Progress token incoming)) e v = none_ran v.upper
 took_below_upper (Some (taken.Final tag incoming)) e v = none_ran v.upper
 took_below_upper (Some (taken.Closed cause)) e v = refl
 
 turned_below_upper : (flag : Bool) (v : Relay) → (if flag then took_any_below (next_taken v.lower).0 (with_lower (next_taken v.lower).1 v) else (Nothing, v)).1.upper
-    ≡ ran_by (λ e. if flag then took_below_above (next_taken v.lower).0 v.bind e else []) v.upper
+    ≡ ran_by (λ e. if flag then took_below_above (next_taken v.lower).0 v e else []) v.upper
 turned_below_upper true v = took_below_upper (next_taken v.lower).0 (next_taken v.lower).1 v
 turned_below_upper false v = none_ran v.upper
 

@@ -1,5 +1,5 @@
 -- What a call takes of the upper end: an entry, with a turn from above, and else nothing.
-use Rattle.std.proofs.Common.{◌≡◌, ℕ, ◌+◌, ◌-◌, Bool, true, false, List, [], ◌∷◌, ◌++◌, length, Option, Some, None, Result, Ok, refl, ap, ◌∙◌}
+use Rattle.std.proofs.Common.{◌≡◌, ℕ, ◌+◌, Bool, true, false, List, [], ◌∷◌, ◌++◌, length, Option, Some, None, Result, Ok, refl, ap, ◌∙◌}
 use Rattle.std.specs.Prelude.{if◌then◌else◌, option_map, unwrap_or}
 use Rattle.std.proofs.lemmas.List.{append-nil}
 use Rattle.channel_core.specs.Laws.{listed}
@@ -13,7 +13,7 @@ use Rattle.tcf_message.specs.Message.{MessageValue, command, reading}
 use Rattle.tcf_message.specs.declared.message.MessageFault.{MessageFault}
 use Rattle.value_node.specs.ForwardedValue.{ForwardedValue}
 use Rattle.value_node.specs.Passing.{Upper}
-use Rattle.value_node.specs.Runs.{Call, Past, UpperCall, above, asked_above, bytes_end, closing_if, closing_in, comes, connects, fails, gives, next_above, refusing, took_above_above, took_below_above, turns, upper_after, upper_by, upper_from, upper_on, with_calls}
+use Rattle.value_node.specs.Runs.{Call, Past, UpperCall, above, asked_above, asked_above_in, bound_above, bytes_end, closing_if, closing_in, comes, connects, fails, gives, next_above, refusing, stored_for, took_above_above, took_below_above, turns, upper_after, upper_by, upper_from, upper_on, with_calls}
 use Rattle.value_node.specs.Value.{takes_above, takes_below}
 use Rattle.value_node.specs.declared.relay.Relay.{Relay}
 use Rattle.value_node.specs.declared.states.Bind.{Bind}
@@ -38,15 +38,22 @@ closing_if_takes : (refusal : Option SendRefusal) (e : Upper) → taken_in (clos
 closing_if_takes None e = refl
 closing_if_takes (Some why) e = refl
 
-asked_takes : (m : Result MessageValue MessageFault) (mark : Option ℕ) (bind : Bind) (of e : Upper) → taken_in (asked_above m mark bind of) e ≡ []
-asked_takes (Ok (command token service name body)) mark Bound of e = closing_if_takes (refusal_of (length service + length name + length body) of) _
-asked_takes (Ok (command token service name body)) mark bind of e = refl
-asked_takes m mark bind of e = refl
+bound_takes : (reply : Option (List ℕ)) (token service name body : List ℕ) (mark : Option ℕ) (of e : Upper) → taken_in (bound_above reply token service name body mark of) e ≡ []
+bound_takes None token service name body mark of e = closing_if_takes (refusal_of (length service + length name + length body) of) _
+bound_takes (Some reply) token service name body mark of e = refl
 
-below_takes : (what : Option (Taken Unit)) (bind : Bind) (of e : Upper) → taken_in (took_below_above what bind of) e ≡ []
-below_takes (Some (taken.Command incoming)) bind of e = asked_takes (reading incoming.raw) incoming.mark bind of e
-below_takes (Some (taken.Closed cause)) bind of e = refl
-below_takes what bind of e = refl
+asked_in_takes : (bind : Bind) (token service name body : List ℕ) (mark : Option ℕ) (v : Relay) (of e : Upper) → taken_in (asked_above_in bind token service name body mark v of) e ≡ []
+asked_in_takes Bound token service name body mark v of e = bound_takes (stored_for service name body v) token service name body mark of e
+asked_in_takes bind token service name body mark v of e = refl
+
+asked_takes : (m : Result MessageValue MessageFault) (mark : Option ℕ) (v : Relay) (of e : Upper) → taken_in (asked_above m mark v of) e ≡ []
+asked_takes (Ok (command token service name body)) mark v of e = asked_in_takes v.bind token service name body mark v of e
+asked_takes m mark v of e = refl
+
+below_takes : (what : Option (Taken Unit)) (v : Relay) (of e : Upper) → taken_in (took_below_above what v of) e ≡ []
+below_takes (Some (taken.Command incoming)) v of e = asked_takes (reading incoming.raw) incoming.mark v of e
+below_takes (Some (taken.Closed cause)) v of e = refl
+below_takes what v of e = refl
 
 refusing_takes : (m : Result MessageValue MessageFault) (e : Upper) → taken_in (refusing m) e ≡ []
 refusing_takes (Ok (command token service name body)) e = refl
@@ -73,7 +80,7 @@ others_take (comes Below piece mark) v (Some e) end other = refl
 others_take (comes Above piece mark) v (Some e) end other = refl
 others_take (bytes_end Below) v (Some e) end other = refl
 others_take (bytes_end Above) v (Some e) end other = refl
-others_take (turns Below) v (Some e) end other = below_if (takes_below v.bind v.upper) (took_below_above (next_taken v.lower).0 v.bind e) end (below_takes (next_taken v.lower).0 v.bind e end)
+others_take (turns Below) v (Some e) end other = below_if (takes_below v.bind v.upper) (took_below_above (next_taken v.lower).0 v e) end (below_takes (next_taken v.lower).0 v e end)
 others_take (turns Above) v (Some e) end other = absurd (other refl)
 others_take connects v (Some e) end other = refl
 others_take fails v (Some e) end other = refl
@@ -90,7 +97,7 @@ on_entries (comes Below piece mark) v e = refl
 on_entries (comes Above piece mark) v e = refl
 on_entries (bytes_end Below) v e = refl
 on_entries (bytes_end Above) v e = refl
-on_entries (turns Below) v e = below_if (takes_below v.bind v.upper) (took_below_above (next_taken v.lower).0 v.bind e) e (below_takes (next_taken v.lower).0 v.bind e e)
+on_entries (turns Below) v e = below_if (takes_below v.bind v.upper) (took_below_above (next_taken v.lower).0 v e) e (below_takes (next_taken v.lower).0 v e e)
 on_entries (turns Above) v e = above_if (takes_above v.bind) v.bind e
 on_entries connects v e = refl
 on_entries fails v e = refl

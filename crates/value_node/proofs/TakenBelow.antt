@@ -11,7 +11,7 @@ use Rattle.tcf_message.specs.declared.message.MessageFault.{MessageFault}
 use Rattle.value_node.specs.ForwardedValue.{ForwardedValue}
 use Rattle.value_node.specs.Own.{own_reply, redirect_done, redirect_failed}
 use Rattle.value_node.specs.Passing.{Lower, Upper}
-use Rattle.value_node.specs.Runs.{Call, answering, asked_below, asked_below_in, before_hello_below, bytes_end, closing_if, closing_in, comes, connects, ended_below, event_calls, fails, final_calls, gives, next_above, own_by, own_calls, passing_any, passing_by, passing_from, passing_on, progress_calls, refused_by, took_above_below, took_below_below, turns}
+use Rattle.value_node.specs.Runs.{Call, answering, asked_below, asked_below_in, before_hello_below, bound_below, bytes_end, closing_if, closing_in, comes, connects, ended_below, event_calls, fails, final_calls, gives, next_above, own_by, own_calls, passing_any, passing_by, passing_from, passing_on, progress_calls, refused_by, stored_for, took_above_below, took_below_below, turns}
 use Rattle.value_node.specs.Value.{awaits, pending_above, takes_above}
 use Rattle.value_node.specs.declared.own.Own.{Own}
 use Rattle.value_node.specs.declared.own.Own.TheVariants as own
@@ -87,10 +87,14 @@ refused_takes : (upper : Option Upper) (service name body : List ℕ) (e : Lower
 refused_takes None service name body e = refl
 refused_takes (Some upper) service name body e = closing_if_takes (refusal_of (length service + length name + length body) upper) e
 
+bound_takes : (reply : Option (List ℕ)) (token service name body : List ℕ) (v : Relay) (e : Lower) → taken_in (bound_below reply token service name body v) e ≡ []
+bound_takes None token service name body v e = refused_takes v.upper service name body e
+bound_takes (Some reply) token service name body v e = refl
+
 asked_below_takes : (bind : Bind) (token service name body : List ℕ) (v : Relay) (e : Lower) → taken_in (asked_below_in bind token service name body v) e ≡ []
 asked_below_takes Unbound token service name body v e = own_takes token (own_reply v.peer service name body) e
 asked_below_takes Opening token service name body v e = refl
-asked_below_takes Bound token service name body v e = refused_takes v.upper service name body e
+asked_below_takes Bound token service name body v e = bound_takes (stored_for service name body v) token service name body v e
 asked_below_takes Closed token service name body v e = refl
 
 read_below_takes : (m : Result MessageValue MessageFault) (v : Relay) (e : Lower) → taken_in (asked_below m v) e ≡ []

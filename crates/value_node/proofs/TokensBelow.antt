@@ -1,10 +1,9 @@
 -- The tokens that the commands which were sent above have below: each is found by the token that it was sent under.
 use Rattle.std.proofs.Common.{◌≡◌, ◌≤◌, ◌<◌, ℕ, suc, ◌+◌, ◌-◌, ◌^◌, Bool, true, false, not, cond, List, [], ◌∷◌, ◌++◌, length, map, Option, Some, None, Result, Ok, refl, ap, sym, ◌∙◌, subst, arith, eqb-true}
-use Rattle.std.specs.Prelude.{◌==◌, IfSome, bytes_eq, decimal, if◌then◌else◌, option_map, unwrap_or}
+use Rattle.std.specs.Prelude.{◌==◌, IfSome, bytes_eq, decimal, if◌then◌else◌, option_and_then, option_map, unwrap_or}
 use Rattle.std.specs.List.{AllByRecursion, find, flat_map}
 use Rattle.std.proofs.lemmas.Bool.{eqb-false}
 use Rattle.std.proofs.lemmas.Fmt.{decimal_injective}
-use Rattle.std.proofs.lemmas.List.{append_assoc}
 use Rattle.std.proofs.lemmas.Slice.Eq.{bytes_eq-Decides}
 use Rattle.channel_core.specs.Beginning.{tag_of}
 use Rattle.channel_core.specs.Runs.{Issued, Run}
@@ -15,7 +14,9 @@ use Rattle.channel_core.specs.declared.taking.Taken.TheVariants as taken
 use Rattle.tcf_message.specs.Fault.{IsReadBack}
 use Rattle.tcf_message.specs.Message.{IsToken, MessageValue, command, reading}
 use Rattle.tcf_message.specs.declared.message.MessageFault.{MessageFault}
+use Rattle.tcf_values.specs.declared.command.Command.{Command}
 use Rattle.value_node.specs.Asked.{Asked}
+use Rattle.value_node.specs.Deeds.{command_asked, sent_under}
 use Rattle.value_node.specs.ForwardedValue.{ForwardedValue}
 use Rattle.value_node.specs.Passing.{Upper}
 use Rattle.value_node.specs.RelayLaws.{asked_by, asked_in, token_below}
@@ -25,16 +26,30 @@ use Rattle.value_node.proofs.Holding.{AreAccepted, issued_from, issued_length}
 use Rattle.value_node.proofs.Lists.{all_append, all_filter, all_left, all_right, all_then}
 use Rattle.value_node.proofs.OwnReadable.{well_read}
 
+-- the command that was sent under this number, as it is read
+abbrev pub command_under : ℕ → ℕ → List Asked → Option Command
+command_under first number commands = option_and_then command_asked (sent_under first (decimal number) commands)
+
 -- the row is one of so many commands that were sent under tokens from the first one on, and its token finds it
 pub record IsIssued (first count : ℕ) (commands : List Asked) (row : ℕ × ForwardedValue) : Type 0 where
   pub token : IsToken row.1.token
   pub low : first ≤ row.0
   pub high : row.0 < first + count
   pub found : token_below first (decimal row.0) commands ≡ row.1.token
+  pub learned : command_under first row.0 commands ≡ row.1.command
+
+-- what is found of the first command, where the token is its own
+abbrev under_if : Bool → Asked → Option Asked → Option Command
+under_if flag c rest = option_and_then command_asked (if flag then Some c else rest)
+
+own_token : (first : ℕ) → bytes_eq (decimal first) (decimal first) ≡ true
+own_token first = (bytes_eq-Decides (decimal first) (decimal first)).1 refl
 
 named_here : (first : ℕ) (c : Asked) (commands : List Asked) → token_below first (decimal first) (c ∷ commands) ≡ c.token
-named_here first c commands =
-    ap (λ b. if b then c.token else token_below (first + 1) (decimal first) commands) ((bytes_eq-Decides (decimal first) (decimal first)).1 refl)
+named_here first c commands = ap (λ b. if b then c.token else token_below (first + 1) (decimal first) commands) (own_token first)
+
+learned_here : (first : ℕ) (c : Asked) (commands : List Asked) → command_under first first (c ∷ commands) ≡ command_asked c
+learned_here first c commands = ap (λ b. under_if b c (sent_under (first + 1) (decimal first) commands)) (own_token first)
 
 more_differs : (m n : ℕ) → n + 1 ≤ m → m ≡ n → ⊥
 more_differs m n more same = omega arith
@@ -57,6 +72,7 @@ later first count c commands row few i =
       low = omega arith;
       high = omega arith;
       found = ap (λ b. if b then c.token else token_below (first + 1) (decimal row.0) commands) other ∙ i.found;
+      learned = ap (λ b. under_if b c (sent_under (first + 1) (decimal row.0) commands)) other ∙ i.learned;
     }
 
 issued_rows : (first : ℕ) (sent rest : List Asked) → first + length sent ≤ 2 ^ 64 → AllByRecursion (λ c. IsToken c.token) sent
@@ -65,7 +81,7 @@ issued_rows first [] rest few tokens = tt
 issued_rows first (c ∷ sent) rest few tokens =
     let most : first + suc (length sent) ≤ 2 ^ 64 = few in
     let room : (first + 1) + length sent ≤ 2 ^ 64 = omega arith in (
-      record { token = tokens.0; low = omega arith; high = omega arith; found = named_here first c (sent ++ rest) },
+      record { token = tokens.0; low = omega arith; high = omega arith; found = named_here first c (sent ++ rest); learned = learned_here first c (sent ++ rest) },
       all_then (IsIssued (first + 1) (length sent) (sent ++ rest)) (IsIssued first (suc (length sent)) (c ∷ (sent ++ rest)))
           (λ row i. later first (length sent) c (sent ++ rest) row room i) (map row_of (issued_from (first + 1) sent)) (issued_rows (first + 1) sent rest room tokens.1),
     )
@@ -85,19 +101,18 @@ module _ (back : IsReadBack) where
   asked_tokens [] = tt
   asked_tokens (what ∷ entries) = all_append (λ c. IsToken c.token) (asked_by what) (flat_map asked_by entries) (asked_by_token what) (asked_tokens entries)
 
-  -- whatever is asked later
-  pub accepted_rows : (accepted : List (Issued ForwardedValue)) (asked more : List Asked) (bind : Bind) → AreAccepted accepted asked bind → length accepted ≤ last_token
-      → AllByRecursion (λ c. IsToken c.token) asked → AllByRecursion (IsIssued 1 (length accepted) (asked ++ more)) (map row_of accepted)
-  accepted_rows accepted asked more bind a few tokens =
-      let size : length accepted ≡ length a.sent = ap length a.issued ∙ issued_length 1 a.sent in
-      let most : length accepted ≤ 2 ^ 64 - 1 = few in
-      let room : 1 + length a.sent ≤ 2 ^ 64 = omega arith in
-      let whole : asked ++ more ≡ a.sent ++ (a.refused ++ more) = ap (λ cs. cs ++ more) a.whole ∙ append_assoc a.sent a.refused more in
-      let sent_tokens : AllByRecursion (λ c. IsToken c.token) a.sent = all_left (λ c. IsToken c.token) a.sent a.refused (subst (AllByRecursion (λ c. IsToken c.token)) a.whole tokens) in
-      subst (λ is. AllByRecursion (IsIssued 1 (length accepted) (asked ++ more)) (map row_of is)) (sym a.issued)
-      (subst (λ n. AllByRecursion (IsIssued 1 n (asked ++ more)) (map row_of (issued_from 1 a.sent))) (sym size)
-      (subst (λ cs. AllByRecursion (IsIssued 1 (length a.sent) cs) (map row_of (issued_from 1 a.sent))) (sym whole)
-      (issued_rows 1 a.sent (a.refused ++ more) room sent_tokens)))
+-- those that were accepted, where these are forwarded
+pub accepted_rows : (accepted : List (Issued ForwardedValue)) (asked : List Asked) (bind : Bind) → AreAccepted accepted asked bind → length accepted ≤ last_token
+    → AllByRecursion (λ c. IsToken c.token) asked → AllByRecursion (IsIssued 1 (length accepted) asked) (map row_of accepted)
+accepted_rows accepted asked bind a few tokens =
+    let size : length accepted ≡ length a.sent = ap length a.issued ∙ issued_length 1 a.sent in
+    let most : length accepted ≤ 2 ^ 64 - 1 = few in
+    let room : 1 + length a.sent ≤ 2 ^ 64 = omega arith in
+    let sent_tokens : AllByRecursion (λ c. IsToken c.token) a.sent = all_left (λ c. IsToken c.token) a.sent a.refused (subst (AllByRecursion (λ c. IsToken c.token)) a.whole tokens) in
+    subst (λ is. AllByRecursion (IsIssued 1 (length accepted) asked) (map row_of is)) (sym a.issued)
+    (subst (λ n. AllByRecursion (IsIssued 1 n asked) (map row_of (issued_from 1 a.sent))) (sym size)
+    (subst (λ cs. AllByRecursion (IsIssued 1 (length a.sent) cs) (map row_of (issued_from 1 a.sent))) (sym a.whole)
+    (issued_rows 1 a.sent a.refused room sent_tokens)))
 
 -- what is pending was accepted
 pub pending_rows : (P : ℕ × ForwardedValue → Type 0) (r : Run ForwardedValue) → CountsAnswers r → AllByRecursion P (map row_of r.past.accepted) → AllByRecursion P r.end.pending

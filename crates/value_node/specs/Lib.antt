@@ -1,4 +1,6 @@
 pub mod ForwardedValue
+pub mod Barriers
+pub mod Store
 pub mod ValueValue
 pub mod Usable
 pub mod Own
@@ -6,6 +8,7 @@ pub mod Passing
 pub mod Value
 pub mod Runs
 pub mod Asked
+pub mod Deeds
 pub mod OwnMessages
 pub mod RelayLaws
 pub mod OwnLaws

@@ -1,6 +1,6 @@
 -- What an unbound value-add does with a command: those of the service Locator it answers itself, and to no other it has an
 -- answer (TCF service Locator; that it has one peer, and the codes, are this profile's).
-use Rattle.std.specs.Prelude.{ℕ, ◌≤◌, nat_le, Bool, ◌&&◌, if◌then◌else◌, List, [], ◌∷◌, length, bytes_eq, Option, Some, None}
+use Rattle.std.specs.Prelude.{ℕ, ◌≤◌, nat_le, Bool, ◌&&◌, if◌then◌else◌, List, [], ◌∷◌, length, bytes_eq, Option, Some}
 use Rattle.command_tables.specs.Reading.{reading_of}
 use Rattle.command_tables.specs.declared.reading.Reading.{Reading}
 use Rattle.command_tables.specs.declared.reading.Reading.TheVariants.{Known, Unknown as IsUnknown, Bad}

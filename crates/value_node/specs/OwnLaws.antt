@@ -1,5 +1,5 @@
 -- What a value-add says itself, and when it connects, over any calls and whatever bytes come.
-use Rattle.std.specs.Prelude.{ℕ, ◌≡◌, true, false, List, [], ◌∷◌, ◌++◌, filter, map, option_to_list, None}
+use Rattle.std.specs.Prelude.{◌≡◌, true, false, List, [], ◌∷◌, ◌++◌, filter, map, option_to_list, None}
 use Rattle.std.specs.List.{flat_map, list_any}
 use Rattle.channel_core.specs.Arrivals.{Spoken}
 use Rattle.channel_core.specs.QueueLaws.{is_commanding, is_message}

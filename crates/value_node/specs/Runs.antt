@@ -1,12 +1,9 @@
 -- A value-add over any calls, and the calls that these are of its ends.
-use Rattle.std.specs.Prelude.{ℕ, ◌+◌, Bool, true, false, not, ◌&&◌, ◌||◌, if◌then◌else◌, List, [], ◌∷◌, ◌++◌, length, option_to_list, unwrap_or, Option, Some, None, option_map, Result, Ok}
+use Rattle.std.specs.Prelude.{ℕ, ◌+◌, Bool, true, false, not, ◌||◌, if◌then◌else◌, List, [], ◌∷◌, ◌++◌, length, option_to_list, unwrap_or, Option, Some, None, option_map, Result, Ok}
 use Rattle.channel_core.specs.Beginning.{new_end}
-use Rattle.channel_core.specs.Closing.{is_closed}
-use Rattle.channel_core.specs.EndValue.{EndValue}
 use Rattle.channel_core.specs.Runs.{Call as EndCall, Run, after_calls, an_answer, an_event, an_unknown, begun, closing, commanding, delivering, ending, putting_out, sending, some_progress, taking}
 use Rattle.channel_core.specs.Sending.{refusal_of}
 use Rattle.channel_core.specs.Taking.{next_taken}
-use Rattle.channel_core.specs.declared.held.Incoming.{Incoming}
 use Rattle.channel_core.specs.declared.sending.SendRefusal.{SendRefusal}
 use Rattle.channel_core.specs.declared.taking.Taken.{Taken}
 use Rattle.channel_core.specs.declared.taking.Taken.TheVariants as taken
@@ -14,8 +11,9 @@ use Rattle.tcf_message.specs.Message.{MessageValue, command, event, final, not_k
 use Rattle.tcf_message.specs.declared.message.MessageFault.{MessageFault}
 use Rattle.value_node.specs.ForwardedValue.{ForwardedValue, tagged}
 use Rattle.value_node.specs.Own.{own_reply, redirect_done, redirect_failed}
-use Rattle.value_node.specs.Passing.{Lower, Upper}
-use Rattle.value_node.specs.Value.{after_giving, awaits, came, connect_failed, connected, ended, new_value, pending_above, takes_above, takes_below, turned, value_services}
+use Rattle.value_node.specs.Passing.{Upper}
+use Rattle.value_node.specs.Store.{answer_to}
+use Rattle.value_node.specs.Value.{after_giving, awaits, came, command_of, connect_failed, connected, ended, is_free_to_answer, new_value, pending_above, takes_above, takes_below, turned, value_services}
 use Rattle.value_node.specs.ValueValue.{ValueValue}
 use Rattle.value_node.specs.declared.own.Own.{Own}
 use Rattle.value_node.specs.declared.own.Own.TheVariants as own
@@ -75,10 +73,18 @@ abbrev pub refused_by : Option Upper → List ℕ → List ℕ → List ℕ → 
 refused_by None service name body = closing ∷ []
 refused_by (Some e) service name body = closing_if (refusal_of (length service + length name + length body) e)
 
+-- a bound one answers a command from its store, or sends it above
+abbrev pub stored_for : List ℕ → List ℕ → List ℕ → Relay → Option (List ℕ)
+stored_for service name body v = if is_free_to_answer v.upper then answer_to (command_of service name body) v.store else None
+
+abbrev pub bound_below : Option (List ℕ) → List ℕ → List ℕ → List ℕ → List ℕ → Relay → List LowerCall
+bound_below None token service name body v = refused_by v.upper service name body
+bound_below (Some reply) token service name body v = sending (an_answer token reply) v.store.mark ∷ []
+
 abbrev pub asked_below_in : Bind → List ℕ → List ℕ → List ℕ → List ℕ → Relay → List LowerCall
 asked_below_in Unbound token service name body v = own_calls token (own_reply v.peer service name body)
 asked_below_in Opening token service name body v = []
-asked_below_in Bound token service name body v = refused_by v.upper service name body
+asked_below_in Bound token service name body v = bound_below (stored_for service name body v) token service name body v
 asked_below_in Closed token service name body v = []
 
 abbrev pub asked_below : Result MessageValue MessageFault → Relay → List LowerCall
@@ -163,21 +169,25 @@ passing_by _ v = []
 
 -- ---- the calls of its upper end that one call is
 
-abbrev pub asked_above_in : Bind → List ℕ → List ℕ → List ℕ → List ℕ → Option ℕ → Upper → List UpperCall
-asked_above_in Unbound token service name body mark e = []
-asked_above_in Opening token service name body mark e = []
-asked_above_in Bound token service name body mark e =
-    commanding service name body (tagged token) mark ∷ closing_if (refusal_of (length service + length name + length body) e)
-asked_above_in Closed token service name body mark e = []
+abbrev pub bound_above : Option (List ℕ) → List ℕ → List ℕ → List ℕ → List ℕ → Option ℕ → Upper → List UpperCall
+bound_above None token service name body mark e =
+    commanding service name body (tagged token (command_of service name body)) mark ∷ closing_if (refusal_of (length service + length name + length body) e)
+bound_above (Some reply) token service name body mark e = []
 
-abbrev pub asked_above : Result MessageValue MessageFault → Option ℕ → Bind → Upper → List UpperCall
-asked_above (Ok (command token service name body)) mark bind e = asked_above_in bind token service name body mark e
-asked_above _ mark bind e = []
+abbrev pub asked_above_in : Bind → List ℕ → List ℕ → List ℕ → List ℕ → Option ℕ → Relay → Upper → List UpperCall
+asked_above_in Unbound token service name body mark v e = []
+asked_above_in Opening token service name body mark v e = []
+asked_above_in Bound token service name body mark v e = bound_above (stored_for service name body v) token service name body mark e
+asked_above_in Closed token service name body mark v e = []
 
-abbrev pub took_below_above : Option (Taken Unit) → Bind → Upper → List UpperCall
-took_below_above (Some (taken.Command incoming)) bind e = asked_above (reading incoming.raw) incoming.mark bind e
-took_below_above (Some (taken.Closed cause)) bind e = closing ∷ []
-took_below_above _ bind e = []
+abbrev pub asked_above : Result MessageValue MessageFault → Option ℕ → Relay → Upper → List UpperCall
+asked_above (Ok (command token service name body)) mark v e = asked_above_in v.bind token service name body mark v e
+asked_above _ mark v e = []
+
+abbrev pub took_below_above : Option (Taken Unit) → Relay → Upper → List UpperCall
+took_below_above (Some (taken.Command incoming)) v e = asked_above (reading incoming.raw) incoming.mark v e
+took_below_above (Some (taken.Closed cause)) v e = closing ∷ []
+took_below_above _ v e = []
 
 abbrev pub refusing : Result MessageValue MessageFault → List UpperCall
 refusing (Ok (command token service name body)) = sending (an_unknown token) None ∷ []
@@ -193,7 +203,7 @@ upper_on (comes Below piece mark) v e = []
 upper_on (comes Above piece mark) v e = delivering piece mark ∷ []
 upper_on (bytes_end Below) v e = []
 upper_on (bytes_end Above) v e = ending ∷ []
-upper_on (turns Below) v e = if takes_below v.bind v.upper then took_below_above (next_taken v.lower).0 v.bind e else []
+upper_on (turns Below) v e = if takes_below v.bind v.upper then took_below_above (next_taken v.lower).0 v e else []
 upper_on (turns Above) v e = if takes_above v.bind then taking ∷ took_above_above (next_taken e).0 v.bind else []
 upper_on connects v e = []
 upper_on fails v e = []

@@ -1,6 +1,6 @@
 -- What a value-add does. Unbound, it answers itself; a redirect to its peer makes it Opening; the Hello from above binds it,
--- and then it passes on all that comes, until either side ends.
-use Rattle.std.specs.Prelude.{ℕ, ◌+◌, nat_lt, Bool, true, false, ◌&&◌, if◌then◌else◌, List, [], ◌∷◌, ◌++◌, codes, drop, length, slice_get, Option, Some, None, option_map, option_and_then, Result, Ok}
+-- and then it passes on all that comes, but for what it can answer from what it has learned, until either side ends.
+use Rattle.std.specs.Prelude.{ℕ, ◌+◌, nat_lt, Bool, true, false, not, ◌&&◌, if◌then◌else◌, List, [], ◌∷◌, ◌++◌, codes, drop, length, slice_get, Option, Some, None, option_map, option_and_then, Result, Ok}
 use Rattle.channel_core.specs.Beginning.{new_end, tag_of}
 use Rattle.channel_core.specs.Closing.{closed_own, is_closed}
 use Rattle.channel_core.specs.EndValue.{EndValue}
@@ -12,11 +12,15 @@ use Rattle.channel_core.specs.declared.held.Outgoing.{Outgoing}
 use Rattle.channel_core.specs.declared.sending.SendRefusal.{SendRefusal}
 use Rattle.channel_core.specs.declared.taking.Taken.{Taken}
 use Rattle.channel_core.specs.declared.taking.Taken.TheVariants as taken
+use Rattle.command_tables.specs.Reading.{reading_of}
 use Rattle.tcf_message.specs.Message.{MessageValue, command, final, not_known, reading}
 use Rattle.tcf_message.specs.declared.message.MessageFault.{MessageFault}
+use Rattle.tcf_values.specs.declared.command.Command.{Command}
+use Rattle.value_node.specs.Barriers.{command_in, is_barred}
 use Rattle.value_node.specs.ForwardedValue.{ForwardedValue, tagged}
 use Rattle.value_node.specs.Own.{own_reply, redirect_done, redirect_failed}
 use Rattle.value_node.specs.Passing.{Lower, Upper, event_passed, final_passed, not_recognised, progress_passed}
+use Rattle.value_node.specs.Store.{StoreValue, answer_to, event_heard, final_heard, hello_heard, no_store, progress_heard, used_by}
 use Rattle.value_node.specs.ValueValue.{ValueValue}
 use Rattle.value_node.specs.declared.own.Own.{Own}
 use Rattle.value_node.specs.declared.own.Own.TheVariants as own
@@ -34,7 +38,7 @@ unfoldable pub value_services : List ℕ
 value_services = codes "[\"Locator\"]" ++ 0 ∷ []
 
 abbrev pub new_relay : List ℕ → Relay
-new_relay peer = record { peer = peer; bind = Unbound; lower = new_end value_services None; upper = None; redirect = None }
+new_relay peer = record { peer = peer; bind = Unbound; lower = new_end value_services None; upper = None; redirect = None; store = no_store }
 
 abbrev pub with_lower : Lower → Relay → Relay
 with_lower e v = record v { lower = e }
@@ -54,24 +58,51 @@ answered token own.Unknown v = (Took, with_lower (queued (not_known token) None 
 answered token (own.Result body) v = (Took, with_lower (queued (final token body) None v.lower) v)
 answered token own.Connect v = (Connect, record v { bind = Opening; redirect = Some token })
 
--- ---- a bound one sends each command above, with its data and its mark; its token below is kept. Where the upper end has no
--- token left, both sides are closed
+-- ---- a bound one sends a command above, with its data and its mark; its token below and what it is read as are kept. Where
+-- the upper end has no token left, both sides are closed
 
-abbrev pub forwarded_unless : Option SendRefusal → List ℕ → List ℕ → List ℕ → List ℕ → Option ℕ → Upper → Relay → Relay
-forwarded_unless None token service name body mark e v = with_upper (commanded service name body (tagged token) mark e) v
-forwarded_unless (Some why) token service name body mark e v = both_closed v
+abbrev pub command_of : List ℕ → List ℕ → List ℕ → Option Command
+command_of service name body = command_in (reading_of service name body)
 
-abbrev pub forwarded_to : Option Upper → List ℕ → List ℕ → List ℕ → List ℕ → Option ℕ → Relay → Relay
-forwarded_to None token service name body mark v = both_closed v
-forwarded_to (Some e) token service name body mark v =
-    forwarded_unless (refusal_of (length service + length name + length body) e) token service name body mark e v
+abbrev pub sent_unless : Option SendRefusal → List ℕ → List ℕ → List ℕ → ForwardedValue → Option ℕ → Upper → Relay → Relay
+sent_unless None service name body forwarded mark e v = with_upper (commanded service name body forwarded mark e) v
+sent_unless (Some why) service name body forwarded mark e v = both_closed v
+
+abbrev pub sent_above : Option Upper → List ℕ → List ℕ → List ℕ → ForwardedValue → Option ℕ → Relay → Relay
+sent_above None service name body forwarded mark v = both_closed v
+sent_above (Some e) service name body forwarded mark v =
+    sent_unless (refusal_of (length service + length name + length body) e) service name body forwarded mark e v
+
+abbrev pub forwarded_as : Option Command → List ℕ → List ℕ → List ℕ → List ℕ → Option ℕ → Relay → Relay
+forwarded_as known token service name body mark v = sent_above v.upper service name body (tagged token known) mark v
+
+-- ---- or it answers it from the store, at the position that came last from above, while no barrier is pending there. The store
+-- is asked only then
+
+abbrev pub is_free_to_answer : Option Upper → Bool
+is_free_to_answer None = false
+is_free_to_answer (Some e) = not (is_barred e.pending)
+
+abbrev pub answered_or_forwarded : Option (List ℕ) → Option Command → List ℕ → List ℕ → List ℕ → List ℕ → Option ℕ → Relay → Relay
+answered_or_forwarded None known token service name body mark v = forwarded_as known token service name body mark v
+answered_or_forwarded (Some reply) known token service name body mark v = with_lower (queued (final token reply) v.store.mark v.lower) v
+
+abbrev pub asked_of_store : Option Command → List ℕ → List ℕ → List ℕ → List ℕ → Option ℕ → Relay → Relay
+asked_of_store known token service name body mark v =
+    answered_or_forwarded (answer_to known v.store) known token service name body mark (record v { store = used_by known v.store })
+
+abbrev pub asked_bound : List ℕ → List ℕ → List ℕ → List ℕ → Option ℕ → Relay → Relay
+asked_bound token service name body mark v =
+    if is_free_to_answer v.upper
+    then asked_of_store (command_of service name body) token service name body mark v
+    else forwarded_as (command_of service name body) token service name body mark v
 
 -- ---- taking from below
 
 abbrev pub asked_in : Bind → List ℕ → List ℕ → List ℕ → List ℕ → Option ℕ → Relay → ValueTurn × Relay
 asked_in Unbound token service name body mark v = answered token (own_reply v.peer service name body) v
 asked_in Opening token service name body mark v = (Took, v)
-asked_in Bound token service name body mark v = (Took, forwarded_to v.upper token service name body mark v)
+asked_in Bound token service name body mark v = (Took, asked_bound token service name body mark v)
 asked_in Closed token service name body mark v = (Took, v)
 
 abbrev pub asked : Result MessageValue MessageFault → Option ℕ → Relay → ValueTurn × Relay
@@ -128,8 +159,32 @@ before_hello Opening v = redirect_is_done v
 before_hello Bound v = v
 before_hello Closed v = v
 
+-- what is kept of the command that the upper end has pending under this token
+abbrev pub pending_above : ℕ → Option Upper → Option ForwardedValue
+pending_above token upper = option_and_then (λ e. tag_of token e.pending) upper
+
+-- what is passed on is learned too
+
+abbrev pub with_store : StoreValue → Relay → Relay
+with_store s v = record v { store = s }
+
 abbrev pub event_taken : Incoming → Relay → Relay
-event_taken incoming v = with_lower (event_passed incoming.mark (reading incoming.raw) v.lower) v
+event_taken incoming v =
+    with_store (event_heard incoming.mark (reading incoming.raw) v.store) (with_lower (event_passed incoming.mark (reading incoming.raw) v.lower) v)
+
+abbrev pub hello_taken : Incoming → Relay → Relay
+hello_taken incoming v =
+    with_store (hello_heard incoming.mark (reading incoming.raw) v.store) (with_lower (event_passed incoming.mark (reading incoming.raw) v.lower) v)
+
+abbrev pub progress_taken : ℕ → Incoming → Relay → Relay
+progress_taken token incoming v =
+    with_store (progress_heard incoming.mark (reading incoming.raw) v.store)
+    (with_lower (progress_passed (pending_above token v.upper) incoming.mark (reading incoming.raw) v.lower) v)
+
+abbrev pub final_taken : ForwardedValue → Incoming → Relay → Relay
+final_taken forwarded incoming v =
+    with_store (final_heard forwarded.command incoming.mark (reading incoming.raw) v.store)
+    (with_lower (final_passed forwarded incoming.mark (reading incoming.raw) v.lower) v)
 
 abbrev pub ended_in : Bind → Relay → Relay
 ended_in Unbound v = v
@@ -137,16 +192,12 @@ ended_in Opening v = unbound_again v
 ended_in Bound v = both_closed v
 ended_in Closed v = v
 
--- what is kept of the command that the upper end has pending under this token
-abbrev pub pending_above : ℕ → Option Upper → Option ForwardedValue
-pending_above token upper = option_and_then (λ e. tag_of token e.pending) upper
-
 abbrev pub took_above : Taken ForwardedValue → Relay → Relay
-took_above (taken.Hello incoming) v = event_taken incoming (before_hello v.bind v)
+took_above (taken.Hello incoming) v = hello_taken incoming (before_hello v.bind v)
 took_above (taken.Command incoming) v = record v { upper = option_map (not_recognised (reading incoming.raw)) v.upper }
 took_above (taken.Event incoming) v = event_taken incoming v
-took_above (taken.Progress token incoming) v = with_lower (progress_passed (pending_above token v.upper) incoming.mark (reading incoming.raw) v.lower) v
-took_above (taken.Final forwarded incoming) v = with_lower (final_passed forwarded incoming.mark (reading incoming.raw) v.lower) v
+took_above (taken.Progress token incoming) v = progress_taken token incoming v
+took_above (taken.Final forwarded incoming) v = final_taken forwarded incoming v
 took_above (taken.Closed cause) v = ended_in v.bind v
 
 abbrev pub took_any_above : Option (Taken ForwardedValue) → Relay → ValueTurn × Relay

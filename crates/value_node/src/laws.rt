@@ -1,6 +1,6 @@
 //! The laws of a value-add, over any calls and whatever bytes come.
 ghost use Rattle.value_node.specs.OwnLaws.{AnswersItself, AsksNothingBelow, ConnectsWhenAsked};
-ghost use Rattle.value_node.specs.RelayLaws.{AfterAllCalls, EndsAreRuns, ForwardsInOrder, PassesAllOn, StopsAfterTheEnd};
+ghost use Rattle.value_node.specs.RelayLaws.{AfterAllCalls, AfterAllDeeds, AnswersRightly, EndsAreRuns, ForwardsInOrder, KnowsWhatItHeard, PassesAllOn, StopsAfterTheEnd};
 
 use crate::forwarded::Forwarded;
 
@@ -10,18 +10,19 @@ use crate::forwarded::Forwarded;
 /// value-add was made, the upper since its connection. The lower end is open until the value-add is closed. An earlier
 /// connection never brought a Hello. All that is sent can be read.
 ///
-/// `forwards`: the commands that were sent above are, in order and each once, with their data and their marks, a front of
-/// those taken from below since it was bound; and those that are held are the rest, while it is bound.
+/// `forwards`: each command taken from below since it was bound is sent above or answered from the store, in order. Those
+/// that were sent above are, in order and each once, with their data and their marks, a front of those not answered so; and
+/// those that are held are the rest, while it is bound.
 ///
-/// `passes`: what is said below since it was bound, flow control and the end of the stream aside, are exactly the events, the
-/// progress and the answers that were taken from above, in order, with their marks and their data, each answer under the
-/// token of its own command.
+/// `passes`: what is said below since it was bound, flow control and the end of the stream aside, are exactly the answers from
+/// the store and the events, the progress and the answers that were taken from above, in order, with their marks and their
+/// data, each answer under the token of its own command, which was sent before and not yet answered.
 ///
 /// `stops`: once the end from above was taken the end of the stream is said below, and nothing after it.
 pub fn a_value_add_relays()
     ensures runs { AfterAllCalls EndsAreRuns }
-    ensures forwards { AfterAllCalls ForwardsInOrder }
-    ensures passes { AfterAllCalls PassesAllOn }
+    ensures forwards { AfterAllDeeds ForwardsInOrder }
+    ensures passes { AfterAllDeeds PassesAllOn }
     ensures stops { AfterAllCalls StopsAfterTheEnd }
 {
     channel_core::a_closed_end_takes_nothing::<()>();
@@ -34,6 +35,34 @@ pub fn a_value_add_relays()
     channel_core::each_answer_is_that_of_a_sent_command::<Forwarded>();
     tcf_message::read_back();
     reply_tables::what_is_small_fits();
+    knowledge::the_same_learn_the_same();
+    knowledge::blocks_are_learned();
+    knowledge::others_stay_unanswered();
+}
+
+/// The laws of what a value-add answers from what it heard.
+///
+/// `rightly`: each command that it answers from its store is a storable one, its answer is that of what the messages heard
+/// before teach, at the position of the last one, and each barrier that was sent above before has been answered.
+///
+/// `knows`: what a bound one knows is what the messages that it heard teach, at the position of the last one.
+pub fn a_value_add_answers_from_what_it_heard()
+    ensures rightly { AfterAllDeeds AnswersRightly }
+    ensures knows { AfterAllDeeds KnowsWhatItHeard }
+{
+    channel_core::a_closed_end_takes_nothing::<()>();
+    channel_core::a_closed_end_takes_nothing::<Forwarded>();
+    channel_core::an_end_closes_only_so::<()>();
+    channel_core::an_end_closes_only_so::<Forwarded>();
+    channel_core::a_closed_end_stays_closed::<()>();
+    channel_core::only_what_is_sent_is_queued::<()>();
+    channel_core::commands_are_sent_in_order::<Forwarded>();
+    channel_core::each_answer_is_that_of_a_sent_command::<Forwarded>();
+    tcf_message::read_back();
+    reply_tables::what_is_small_fits();
+    knowledge::the_same_learn_the_same();
+    knowledge::blocks_are_learned();
+    knowledge::others_stay_unanswered();
 }
 
 /// The laws of what a value-add says itself, and when it connects.
@@ -60,6 +89,9 @@ pub fn a_value_add_answers_itself()
     channel_core::each_answer_is_that_of_a_sent_command::<Forwarded>();
     tcf_message::read_back();
     reply_tables::what_is_small_fits();
+    knowledge::the_same_learn_the_same();
+    knowledge::blocks_are_learned();
+    knowledge::others_stay_unanswered();
     service_names::names_are_exact();
     command_tables::readings_are_legal();
 }

@@ -3,26 +3,28 @@ ghost use Rattle.std.specs.Prelude.{◌≡◌, false, IfOk, OnOk, option_map};
 ghost use Rattle.value_node.specs.Usable.{IsUsable};
 ghost use Rattle.value_node.specs.Value.{after_giving_at, awaits, both_closed, came_at, connected_to, ended_at, given_at, new_relay, pending_on, value_services, waiting_at};
 
-use crate::forwarded::Forwarded;
 use crate::states::{Bind, Side};
+use crate::upper::Upper;
 use channel_core::{End, EndState, Outgoing};
 use std::alloc::{AllocError, Global};
 use tcf_outside::Octets;
 use tcf_values::Text;
+use value_store::Store;
 
 /// The data of a value-add's Hello: the one service that it has itself.
 const HELLO: &[u8] = b"[\"Locator\"]\0";
 
-/// The two ends of a value-add, and where it stands. It sends no commands below, so the tags there say nothing.
+/// The two ends of a value-add, where it stands, and what it knows. It sends no commands below, so the tags there say nothing.
 #[derive(Drop)]
 pub struct Relay {
     pub(crate) peer: Text,
     pub(crate) bind: Bind,
     pub(crate) lower: End<()>,
     /// None before the first connection.
-    pub(crate) upper: Option<End<Forwarded>>,
+    pub(crate) upper: Option<Upper>,
     /// The token of the redirect that is being done.
     pub(crate) redirect: Option<Octets>,
+    pub(crate) store: Store,
 }
 
 impl Relay {
@@ -38,6 +40,7 @@ impl Relay {
             lower: End::new(alloc, HELLO, None)?,
             upper: None,
             redirect: None,
+            store: Store::new(alloc)?,
         })
     }
 
@@ -48,8 +51,8 @@ impl Relay {
         ensures connected { OnOk result (self.new ≡ connected_to self.old) }
         ensures usable { OnOk result (IsUsable self.new) }
     {
-        let end = End::new(alloc, HELLO, None)?;
-        self.upper = Some(end);
+        let upper = Upper::new(alloc, HELLO)?;
+        self.upper = Some(upper);
         Ok(())
     }
 

@@ -1,21 +1,21 @@
 //! One entry is taken from a side of a value-add.
 ghost use Rattle.std.specs.Prelude.{◌≡◌, IfOk, OnOk, option_map};
-ghost use Rattle.channel_core.specs.declared.taking.Taken.TheVariants.{Progress as progresses};
-ghost use Rattle.tcf_message.specs.Message.{IsToken, IsWellFormed, command, reading};
+ghost use Rattle.tcf_message.specs.Message.{HasNoZero, IsToken, IsWellFormed, command, reading};
 ghost use Rattle.value_node.specs.Own.{Fits, IsSendable};
 ghost use Rattle.value_node.specs.Passing.{not_recognised};
 ghost use Rattle.value_node.specs.Usable.{IsUsable};
-ghost use Rattle.value_node.specs.Value.{answered, asked, before_hello, ended_in, event_taken, forwarded_to, redirect_answered, takes_below, took_above, took_below, turned_above, turned_at, turned_below, unbound_again};
+ghost use Rattle.value_node.specs.Value.{answered, asked, asked_bound, before_hello, command_of, ended_in, event_taken, final_taken, hello_taken, is_free_to_answer, progress_taken, redirect_answered, sent_above, takes_below, took_above, took_below, turned_above, turned_at, turned_below, unbound_again};
 
 use crate::forwarded::Forwarded;
 use crate::own::{Own, own_reply, redirect_done, redirect_failed};
-use crate::passing::{pass_event, pass_final, pass_progress, refuse};
 use crate::relay::Relay;
 use crate::states::{Bind, Side, ValueTurn};
-use channel_core::{Incoming, Refused, SendRefusal, Taken};
+use channel_core::{Incoming, SendRefusal, Taken};
+use command_tables::{Reading, read_command};
 use std::alloc::{AllocError, Global};
 use tcf_message::{Message, read};
 use tcf_outside::Octets;
+use tcf_values::Command;
 
 /// How many commands can be pending above.
 const MOST_PENDING: usize = 1024;
@@ -104,7 +104,7 @@ impl Relay {
                 self.answer(alloc, token, own)
             }
             Bind::Bound => {
-                self.forward(alloc, token, service, name, body, incoming.mark)?;
+                self.ask_bound(alloc, token, service, name, body, incoming.mark)?;
                 Ok(ValueTurn::Took)
             }
             Bind::Opening | Bind::Closed => Ok(ValueTurn::Took),
@@ -136,8 +136,19 @@ impl Relay {
         }
     }
 
-    /// Sends a command above. Where the upper end has no token left, both sides are closed.
-    fn forward(
+    /// Whether the store may answer: while no barrier is pending above.
+    fn is_free_to_answer(&self) -> bool
+        requires usable { IsUsable self.now }
+        ensures { result ≡ is_free_to_answer self.now.upper }
+    {
+        match &self.upper {
+            Some(upper) => !upper.is_barred(),
+            None => false,
+        }
+    }
+
+    /// Answers a command from the store, or sends it above.
+    fn ask_bound(
         &mut self,
         alloc: Global,
         token: &[u8],
@@ -148,22 +159,43 @@ impl Relay {
     ) -> Result<(), AllocError>
         requires usable { IsUsable self.old }
         requires formed { IsWellFormed (command token.now service.now name.now body.now) }
-        ensures forwarded { OnOk result (self.new ≡ forwarded_to self.old.upper token.now service.now name.now body.now mark self.old) }
+        ensures asked { OnOk result (self.new ≡ asked_bound token.now service.now name.now body.now mark self.old) }
+        ensures usable { OnOk result (IsUsable self.new) }
+    {
+        let command = command_of(alloc, service, name, body)?;
+        if self.is_free_to_answer() {
+            if let Some(data) = self.store.answer(alloc, &command)? {
+                return self
+                    .lower
+                    .send_answer(token, data.as_slice(), self.store.mark());
+            }
+        }
+        let forwarded = Forwarded::new(alloc, token, command)?;
+        self.forward(service, name, body, forwarded, mark)
+    }
+
+    /// Sends a command above. Where the upper end has no token left, both sides are closed.
+    fn forward(
+        &mut self,
+        service: &[u8],
+        name: &[u8],
+        body: &[u8],
+        forwarded: Forwarded,
+        mark: Option<u64>,
+    ) -> Result<(), AllocError>
+        requires usable { IsUsable self.old }
+        requires service { HasNoZero service.now }
+        requires name { HasNoZero name.now }
+        ensures forwarded { OnOk result (self.new ≡ sent_above self.old.upper service.now name.now body.now forwarded mark self.old) }
         ensures usable { OnOk result (IsUsable self.new) }
     {
         let Some(upper) = &mut self.upper else {
             self.close();
             return Ok(());
         };
-        let forwarded = Forwarded::new(alloc, token)?;
         match upper.send_command(service, name, body, forwarded, mark) {
-            Ok(_token) => Ok(()),
-            Err(
-                Refused {
-                    why: SendRefusal::NoMemory,
-                    ..
-                },
-            ) => Err(AllocError),
+            Ok(()) => Ok(()),
+            Err(SendRefusal::NoMemory) => Err(AllocError),
             Err(_) => {
                 self.close();
                 Ok(())
@@ -202,9 +234,9 @@ impl Relay {
         match what {
             Taken::Hello(incoming) => self.greet(alloc, &incoming),
             Taken::Command(incoming) => self.refuse_above(&incoming),
-            Taken::Event(incoming) => pass_event(&mut self.lower, &incoming),
+            Taken::Event(incoming) => self.tell(alloc, &incoming),
             Taken::Progress(token, incoming) => self.go_on(token, &incoming),
-            Taken::Final(forwarded, incoming) => pass_final(&mut self.lower, &forwarded, &incoming),
+            Taken::Final(forwarded, incoming) => self.finish(alloc, &forwarded, &incoming),
             Taken::Closed(_) => self.lose_upper(alloc),
         }
     }
@@ -212,7 +244,7 @@ impl Relay {
     /// A Hello goes below. That of the peer of a redirect goes behind the redirect's result, and binds.
     fn greet(&mut self, alloc: Global, incoming: &Incoming) -> Result<(), AllocError>
         requires usable { IsUsable self.old }
-        ensures greeted { OnOk result (self.new ≡ event_taken incoming.now (before_hello self.old.bind self.old)) }
+        ensures greeted { OnOk result (self.new ≡ hello_taken incoming.now (before_hello self.old.bind self.old)) }
         ensures usable { OnOk result (IsUsable self.new) }
     {
         if self.bind == Bind::Opening {
@@ -220,7 +252,55 @@ impl Relay {
             self.answer_redirect(body.as_slice())?;
             self.bind = Bind::Bound;
         }
-        pass_event(&mut self.lower, incoming)
+        self.store.begin();
+        self.tell(alloc, incoming)
+    }
+
+    /// An event is learned, and goes below.
+    fn tell(&mut self, alloc: Global, incoming: &Incoming) -> Result<(), AllocError>
+        requires usable { IsUsable self.old }
+        ensures told { OnOk result (self.new ≡ event_taken incoming.now self.old) }
+        ensures usable { OnOk result (IsUsable self.new) }
+    {
+        let Ok(
+            Message::Event {
+                service,
+                name,
+                body,
+            },
+        ) = read(incoming.raw.as_slice())
+        else {
+            return Ok(());
+        };
+        self.store.hear_event(alloc, service, name, body)?;
+        self.store.note(incoming.mark);
+        self.lower.send_event(service, name, body, incoming.mark)
+    }
+
+    /// An answer is learned, and goes below under the token of its command there.
+    fn finish(
+        &mut self,
+        alloc: Global,
+        forwarded: &Forwarded,
+        incoming: &Incoming,
+    ) -> Result<(), AllocError>
+        requires usable { IsUsable self.old }
+        ensures finished { OnOk result (self.new ≡ final_taken forwarded.now incoming.now self.old) }
+        ensures usable { OnOk result (IsUsable self.new) }
+    {
+        match read(incoming.raw.as_slice()) {
+            Ok(Message::Result { body, .. }) => {
+                self.store.hear_answer(alloc, forwarded.command(), body)?;
+                self.store.note(incoming.mark);
+                self.lower
+                    .send_answer(forwarded.token(), body, incoming.mark)
+            }
+            Ok(Message::NotKnown { .. }) => {
+                self.store.note(incoming.mark);
+                self.lower.send_unknown(forwarded.token(), incoming.mark)
+            }
+            _ => Ok(()),
+        }
     }
 
     /// The upper side has ended: a redirect that is being done has failed, and a bound value-add closes.
@@ -270,24 +350,48 @@ impl Relay {
         ensures refused { OnOk result (self.new ≡ record self.old { upper = option_map (not_recognised (reading incoming.now.raw)) self.old.upper }) }
         ensures usable { OnOk result (IsUsable self.new) }
     {
-        match &mut self.upper {
-            Some(upper) => refuse(upper, incoming),
-            None => Ok(()),
+        let Some(upper) = &mut self.upper else {
+            return Ok(());
+        };
+        match read(incoming.raw.as_slice()) {
+            Ok(Message::Command { token, .. }) => upper.send_unknown(token),
+            _ => Ok(()),
         }
     }
 
     /// Progress of the command that the upper end has pending under this token.
     fn go_on(&mut self, token: u64, incoming: &Incoming) -> Result<(), AllocError>
         requires usable { IsUsable self.old }
-        ensures went_on { OnOk result (self.new ≡ took_above (progresses token incoming.now) self.old) }
+        ensures went_on { OnOk result (self.new ≡ progress_taken token incoming.now self.old) }
         ensures usable { OnOk result (IsUsable self.new) }
     {
+        let Ok(Message::Progress { body, .. }) = read(incoming.raw.as_slice()) else {
+            return Ok(());
+        };
+        self.store.note(incoming.mark);
         let Some(upper) = &self.upper else {
             return Ok(());
         };
         match upper.tag(token) {
-            Some(forwarded) => pass_progress(&mut self.lower, forwarded, incoming),
+            Some(forwarded) => self
+                .lower
+                .send_progress(forwarded.token(), body, incoming.mark),
             None => Ok(()),
         }
+    }
+}
+
+/// The command of this service, this name and this data, where the tables read it.
+fn command_of(
+    alloc: Global,
+    service: &[u8],
+    name: &[u8],
+    body: &[u8],
+) -> Result<Option<Command>, AllocError>
+    ensures { IfOk result (λ command. command ≡ command_of service.now name.now body.now) }
+{
+    match read_command(alloc, service, name, body)? {
+        Reading::Known(command) => Ok(Some(command)),
+        Reading::Unknown | Reading::Bad { .. } => Ok(None),
     }
 }

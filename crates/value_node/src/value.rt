@@ -21,9 +21,12 @@ pub struct ValueNode {
 }
 
 impl Model for ValueNode {
-    ghost use Rattle.value_node.specs.ValueValue.{ValueValue};
+    ghost use Rattle.value_node.specs.ValueValue.{ValueValue, value_code};
+    ghost use Rattle.value_node.specs.contracts.relay.Relay.{the_row};
 
     ghost Value = { ValueValue };
+
+    ghost coded = { value_code the_row.coded };
 
     ghost use Rattle.std.specs.Prelude.{◌≡◌, false};
     ghost use Rattle.value_node.specs.Usable.{IsUsable};

@@ -1,10 +1,10 @@
 -- The commands that a client accepted, in order under 1, 2, 3 and so on.
-use Rattle.std.proofs.Common.{◌≡◌, ℕ, zero, suc, ◌+◌, ◌<◌, ◌≤◌, ◌==◌, Bool, true, false, cond, nat_lt, nat_le, List, [], ◌∷◌, ◌++◌, length, take, map, Option, Some, None, refl, sym, ap, ◌∙◌, subst, arith, ltb-false}
+use Rattle.std.proofs.Common.{◌≡◌, ℕ, zero, suc, ◌+◌, ◌<◌, ◌≤◌, ◌==◌, Bool, true, false, cond, nat_lt, nat_le, List, [], ◌∷◌, ◌++◌, length, take, map, Option, Some, None, refl, sym, ap, ◌∙◌, arith, ltb-false}
 use Rattle.std.specs.Prelude.{decimal, ◌^◌}
 use Rattle.std.specs.List.{AllByRecursion, range_with_len}
 use Rattle.tcf_message.specs.Fault.{IsDecimalToken}
-use Rattle.tcf_message.specs.Message.{HasNoZero, IsToken, IsWellFormed, MessageValue, command, most_body}
-use Rattle.channel_core.specs.Arrivals.{AreSpoken, Spoken}
+use Rattle.tcf_message.specs.Message.{HasNoZero, IsWellFormed, MessageValue, command, most_body}
+use Rattle.channel_core.specs.Arrivals.{Spoken}
 use Rattle.channel_core.specs.Closing.{is_closed}
 use Rattle.channel_core.specs.EndValue.{EndValue}
 use Rattle.channel_core.specs.Sending.{last_token, most_pending, refusal_of}
@@ -14,10 +14,11 @@ use Rattle.client_node.specs.Ends.{HasNames}
 use Rattle.client_node.specs.Runs.{Call, Past, asks as asks_cache, bytes_end, closes, comes, commands_in as accepted_by, commands_on, gives, opens, past_of, remembered, sends, turns, unless_refused}
 use Rattle.tcf_text.specs.Lines.{Accepted}
 use Rattle.tcf_text.specs.Once.{numbers}
-use Rattle.chain_heard.specs.Heard.{asked_as, tokens_of}
+use Rattle.chain_heard.specs.Heard.{asked_as}
 use Rattle.chain_through.specs.Calling.{all_asking}
-use Rattle.chain_through.specs.Through.{numbered}
-use Rattle.world_laws.proofs.Lists.{all_append}
+use Rattle.chain_through.proofs.Spelling.{AreSpelled}
+use Rattle.chain_told.specs.Told.{numbered}
+use Rattle.chain_through.proofs.Taking.{all_append}
 
 abbrev pub command_of : Accepted → MessageValue
 command_of c = command (decimal c.number) c.service c.name c.body
@@ -85,12 +86,6 @@ pub counted_front : (token : ℕ) (front back : List Accepted) → AreCounted to
 counted_front token [] back counted = tt
 counted_front token (c ∷ front) back counted = (counted.0, counted_front (token + 1) front back counted.1)
 
-pub counted_back : (token : ℕ) (front back : List Accepted) → AreCounted token (front ++ back) → AreCounted (length front + token) back
-counted_back token [] back counted = let same : token ≡ 0 + token = omega arith in subst (λ n. AreCounted n back) same counted
-counted_back token (c ∷ front) back counted =
-    let same : length front + (token + 1) ≡ suc (length front) + token = omega arith in
-    subst (λ n. AreCounted n back) same (counted_back (token + 1) front back counted.1)
-
 pub counted_taken : (token n : ℕ) (commands : List Accepted) → AreCounted token commands → AreCounted token (take n commands)
 counted_taken token zero commands counted = tt
 counted_taken token (suc n) [] counted = tt
@@ -106,11 +101,6 @@ written decimals token (c ∷ commands) each counted few =
 
 -- ---- So they stand under their numbers
 
-pub tokens_counted : (token : ℕ) (commands : List Accepted) → AreCounted token commands → tokens_of commands ≡ map decimal (range_with_len token (length commands))
-tokens_counted token [] counted = refl
-tokens_counted token (c ∷ commands) counted =
-    ap (λ n. decimal n ∷ tokens_of commands) counted.0 ∙ ap (λ ts. decimal token ∷ ts) (tokens_counted (token + 1) commands counted.1)
-
 pub numbered_counted : (token : ℕ) (commands : List Accepted) → AreCounted token commands → numbered token (map asked_as commands) ≡ map asked_as commands
 numbered_counted token [] counted = refl
 numbered_counted token (c ∷ commands) counted =
@@ -123,10 +113,6 @@ asking_counted token (c ∷ commands) counted =
     ap (λ n. record { message = command (decimal n) c.service c.name c.body; mark = None } ∷ all_asking (token + 1) (map asked_as commands)) (sym counted.0)
     ∙ ap (λ cs. speaking c ∷ cs) (asking_counted (token + 1) commands counted.1)
 
-pub spoken_written : (commands : List Accepted) → AreWritten commands → AreSpoken (map speaking commands)
-spoken_written [] each = tt
-spoken_written (c ∷ commands) each = (each.0, spoken_written commands each.1)
-
-pub tokens_written : (commands : List Accepted) → AreWritten commands → AllByRecursion IsToken (tokens_of commands)
-tokens_written [] each = tt
-tokens_written (c ∷ commands) each = (each.0.0.0, tokens_written commands each.1)
+pub spoken_spelled : (commands : List Accepted) → AreWritten commands → AreSpelled (map speaking commands)
+spoken_spelled [] each = tt
+spoken_spelled (c ∷ commands) each = ((each.0.0.0.0, each.0.0.1, each.0.0.2), spoken_spelled commands each.1)

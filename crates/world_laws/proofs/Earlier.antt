@@ -1,11 +1,11 @@
 -- The channels that a chain had earlier execute nothing: what came to them was given by an end that took no Hello.
-use Rattle.std.proofs.Common.{◌≡◌, ℕ, ◌++◌, List, [], ◌∷◌, map, Option, Some, None, false, refl, sym, ap, ◌∙◌}
+use Rattle.std.proofs.Common.{◌≡◌, ℕ, ◌++◌, List, [], ◌∷◌, map, Option, Some, None, refl, sym, ap, ◌∙◌}
 use Rattle.std.specs.List.{AllByRecursion, filter}
 use Rattle.agent_node.specs.AgentLaws.{AgentFollowsHistory, FollowsHistory, asked, read as agent_read}
 use Rattle.agent_node.specs.Runs.{AgentRun, Past, run_of}
 use Rattle.chain_route.specs.Carrying.{IsGoneBy}
 use Rattle.chain_route.specs.Runs.{Past as WayPast}
-use Rattle.chain_through.specs.Calling.{asks}
+use Rattle.chain_through.specs.Calling.{AskNothing, entering}
 use Rattle.chain_world.specs.Standing.{Talked, came_to, past_at, unmarked}
 use Rattle.channel_core.specs.Arrivals.{IsFront, arrived, bytes_of, queue_of}
 use Rattle.channel_core.specs.ReceivingLaws.{CanBeRead}
@@ -17,12 +17,15 @@ use Rattle.target_hub.specs.Sent.{executed_on}
 use Rattle.value_node.specs.ForwardedValue.{ForwardedValue}
 use Rattle.value_node.specs.Runs.{UpperCall, upper_after}
 use Rattle.value_node.specs.Value.{value_services}
+use Rattle.chain_through.proofs.Fronts.{front_none, front_same, front_then}
+use Rattle.chain_through.proofs.Queues.{commanding, nothing_asked, queue_commands}
+use Rattle.chain_through.proofs.Spelling.{said_so}
+use Rattle.chain_through.proofs.Through.{none_mapped}
 use Rattle.world_laws.proofs.LowerLaws.{Laws}
-use Rattle.world_laws.proofs.Lists.{front_none, front_same, front_then, none_mapped}
 use Rattle.world_laws.proofs.Quiet.{add_hello}
 use Rattle.world_laws.proofs.Silent.{all_in, at_all, at_number, unopened_silent}
-use Rattle.world_laws.proofs.Spoken.{front_bytes, front_unmarked, none_kept, queue_commands, said_so}
-use Rattle.world_laws.proofs.Taking.{asked_front, asked_of, quiet_none}
+use Rattle.world_laws.proofs.Spoken.{front_bytes, front_unmarked}
+use Rattle.world_laws.proofs.Taking.{asked_front, asks_of, quiet_none}
 
 module _ (laws : Laws) where
   none_asked : (past : Past) (got : List Outgoing) → IsGoneBy got → IsFront (arrived past.calls) (unmarked got) → asked (run_of past) ≡ []
@@ -36,10 +39,10 @@ module _ (laws : Laws) where
       let bytes : IsFront (bytes_of got) (bytes_of queue) = front_then (bytes_of got) (bytes_of r.past.given) (bytes_of queue) gone.front (front_bytes r.past.given queue gave) in
       let all : IsFront (arrived past.calls) (unmarked queue) = front_then (arrived past.calls) (unmarked got) (unmarked queue) came (front_unmarked got queue bytes) in
       let none : filter is_command r.past.queued ≡ [] = laws.upper_waits value_services None calls gone.gone.unheard in
-      let said : map said_so (filter (λ s. asks s.message) can.spoken) ≡ [] = sym (queue_commands can.spoken can.is_ended) ∙ ap (filter is_command) (sym can.queue) ∙ none in
-      let quiet : AllByRecursion (λ s. asks s.message ≡ false) can.spoken = none_kept (λ s. asks s.message) can.spoken (none_mapped said_so (filter (λ s. asks s.message) can.spoken) said) in
+      let said : map said_so (commanding can.spoken) ≡ [] = sym (queue_commands can.spoken can.is_ended) ∙ ap (filter is_command) (sym can.queue) ∙ none in
+      let quiet : AskNothing (entering can.spoken) = nothing_asked can.spoken (none_mapped said_so (commanding can.spoken) said) in
       front_none (asked (run_of past))
-      (front_same (asked (run_of past)) (asked_of can.spoken) [] (quiet_none can.spoken quiet) (asked_front laws past can.spoken can.is_ended can.well_formed all))
+      (front_same (asked (run_of past)) (asks_of (entering can.spoken)) [] (quiet_none (entering can.spoken) quiet) (asked_front laws past can.spoken can.is_ended can.well_formed all))
 
   module _ (images : List Image) (r : AgentRun) (follows : AgentFollowsHistory images r) (p : WayPast) (gone : AllByRecursion IsGoneBy p.earlier) where
     one_silent : (k : ℕ) → Talked p r.channels k → executed_on k r.history ≡ []

@@ -1,30 +1,28 @@
 -- For what the ends of a world close: those of its clients, of its value-adds and of its agent.
-use Rattle.std.proofs.Common.{◌≡◌, ℕ, zero, suc, ◌+◌, ◌-◌, ◌<◌, ◌≤◌, ◌⊎◌, inl, inr, Bool, true, false, List, [], ◌∷◌, length, map, Option, Some, None, refl, sym, ap, ◌∙◌, subst, arith, append-nil}
+use Rattle.std.proofs.Common.{◌≡◌, ℕ, zero, suc, ◌+◌, ◌-◌, ◌<◌, ◌≤◌, inl, inr, Bool, true, false, List, [], ◌∷◌, length, Option, Some, None, refl, sym, ap, ◌∙◌, subst, arith, append-nil}
 use Rattle.std.specs.Prelude.{slice_get, ◌^◌}
 use Rattle.std.specs.List.{AllByRecursion, Contains, flat_map, list_any}
 use Rattle.std.proofs.lemmas.Bool.{true≢false}
 use Rattle.std.proofs.lemmas.List.{length-map}
 use Rattle.std.proofs.lemmas.List.Elements.{Contains-append_left, Contains-append_right, Contains-push}
-use Rattle.agent_node.specs.AgentLaws.{AgentFollowsHistory, FollowsHistory}
+use Rattle.agent_node.specs.AgentLaws.{AgentFollowsHistory}
 use Rattle.agent_node.specs.AgentValue.{AgentValue}
-use Rattle.agent_node.specs.Channels.{channel_end}
 use Rattle.agent_node.specs.Runs.{AgentRun, Past, after_all as agent_after, no_calls as agent_begun, run_of}
-use Rattle.chain_route.specs.Carrying.{AllCarry, AllLoseByCuts, Carries, End, Made, value_of, was_lost_above}
+use Rattle.chain_route.specs.Carrying.{AllCarry, AllLoseByCuts, Carries, End, Made}
 use Rattle.chain_route.specs.Runs.{RouteRun}
 use Rattle.chain_route.specs.declared.hop.Hop.{Hop}
-use Rattle.chain_through.specs.Calling.{Answering, AnsweringWith, Calls, all_asking, entering, greeting}
+use Rattle.chain_through.specs.Calling.{Calls, all_asking, entering, greeting}
 use Rattle.chain_through.specs.Endings.{EndsSoundly, IsSound, MayComeDown}
 use Rattle.chain_through.specs.Through.{top_end}
 use Rattle.chain_world.specs.Chain.{channels_of}
 use Rattle.chain_world.specs.ChainValue.{ChainValue}
-use Rattle.chain_world.specs.Standing.{AllStand, ChainStands, MayBeCalled, Stands, Talks, TalksOn, past_at, unmarked}
+use Rattle.chain_world.specs.Standing.{AllStand, ChainStands, MayBeCalled, Stands, Talks, TalksOn, past_at}
 use Rattle.chain_world.specs.World.{new_world, run}
 use Rattle.chain_world.specs.WorldValue.{WorldValue}
 use Rattle.channel_core.specs.Arrivals.{IsFront, Spoken, arrived, bytes_of, queue_of}
 use Rattle.channel_core.specs.ReceivingLaws.{EndsFor, SendsReadable}
 use Rattle.channel_core.specs.RunLaws.{sent_of}
 use Rattle.channel_core.specs.Runs.{Call as EndCall, Run}
-use Rattle.channel_core.specs.Wire.{end_of_stream}
 use Rattle.channel_core.specs.declared.held.Outgoing.{Outgoing}
 use Rattle.channel_core.specs.declared.states.Cause.{Cause}
 use Rattle.channel_core.specs.declared.states.Cause.TheVariants as causes
@@ -36,8 +34,6 @@ use Rattle.client_node.specs.Ends.{client_end, end_calls, issued_as}
 use Rattle.client_node.specs.Lines.{end_of}
 use Rattle.client_node.specs.Runs.{Call as ClientCall, asks, bytes_end, closes, comes, gives, no_past, opens, past_of, sends, turns}
 use Rattle.target_contexts.specs.declared.process.Image.{Image}
-use Rattle.target_hub.specs.History.{was_opened}
-use Rattle.tcf_message.specs.Message.{MessageValue, command, event, final, flow, not_known, progress}
 use Rattle.tcf_schedules.specs.Plan.{Plan}
 use Rattle.tcf_text.specs.declared.log.EndWhy.{EndWhy}
 use Rattle.tcf_text.specs.declared.log.EndWhy.TheVariants as ends
@@ -45,35 +41,23 @@ use Rattle.tcf_text.specs.declared.log.LogLine.TheVariants as lines
 use Rattle.value_node.specs.Asked.{Asked}
 use Rattle.value_node.specs.OwnMessages.{BeginsWithHello}
 use Rattle.chain_heard.specs.Heard.{asked_as}
-use Rattle.world_laws.specs.EndLaws.{AddIsSound, ClosesRightly, EndsAllRightly, EndsRightly, EndsRightlyAfterEverySchedule, IsRefused, IsRefusedUnder, MayEnd}
+use Rattle.chain_through.proofs.Fronts.{front_length}
+use Rattle.chain_through.proofs.Taking.{all_append}
+use Rattle.chain_through.proofs.Ends.{answering_more}
+use Rattle.world_laws.specs.EndLaws.{AddIsSound, ClosesRightly, EndsAllRightly, EndsRightly, EndsRightlyAfterEverySchedule, IsRefusedUnder, MayEnd}
 use Rattle.world_laws.proofs.Chains.{agent, begins_here, commands, lower, speaking, unended_here, way, way_calls, way_carries}
 use Rattle.world_laws.proofs.EndsOfAdds.{adds_sound}
 use Rattle.world_laws.proofs.EndsOfAgents.{SoundAt, chain_sound, channels_right, closes_rightly, now_sound}
 use Rattle.world_laws.proofs.EndsOfClients.{MayClose, MayTake, RightLine, closing_called, ending_called, right_log}
 use Rattle.world_laws.proofs.Faithful.{all_of}
-use Rattle.world_laws.proofs.Hearing.{sent_few}
+use Rattle.world_laws.proofs.Hearing.{asked_few}
 use Rattle.world_laws.proofs.LowerLaws.{Laws}
-use Rattle.world_laws.proofs.Lists.{all_append, front_length}
 use Rattle.world_laws.proofs.Numbering.{each_found}
 use Rattle.world_laws.proofs.Sending.{sent_commands, sent_issued}
 use Rattle.world_laws.proofs.Serving.{AgentSpeaks, asking_many, speaks_nothing, told_to}
 use Rattle.world_laws.proofs.Silent.{all_in, at_all, at_number, none_any}
 use Rattle.world_laws.proofs.Steps.{closes_played, cuts_played, lost_played}
 use Rattle.world_laws.proofs.Unclosing.{never_closing}
-
--- ---- Answers to some commands are answers to more
-
-answering_more : (next few many : ℕ) (spoken : List Spoken) → few ≤ many → Answering next few spoken → Answering next many spoken
-answering_more next few many [] less each = tt
-answering_more next few many (s ∷ spoken) less each = by_message s.message (λ n. answering_more n few many spoken less) each
-  where
-    by_message : (m : MessageValue) → ((n : ℕ) → Answering n few spoken → Answering n many spoken) → AnsweringWith next few m (λ n. Answering n few spoken) → AnsweringWith next many m (λ n. Answering n many spoken)
-    by_message (command token service name body) rest none = none
-    by_message (final token body) rest a = let within : next ≤ few = a.1 in (a.0, omega arith, rest (next + 1) a.2)
-    by_message (progress token body) rest a = let within : next ≤ few = a.1 in (a.0, omega arith, rest next a.2)
-    by_message (not_known token) rest a = let within : next ≤ few = a.1 in (a.0, omega arith, rest (next + 1) a.2)
-    by_message (event service name body) rest a = rest next a
-    by_message (flow level) rest none = none
 
 -- a Hello and commands are no more than these commands and one
 calls_few : (asked : List Asked) (gave : List Outgoing) (calls : Calls asked gave) → length (entering calls.spoken) - 1 ≤ length asked
@@ -115,17 +99,15 @@ module _ (laws : Laws) (images : List Image) (r : AgentRun) (follows : AgentFoll
       refused : agent_ended ≡ true → IsRefusedUnder r.history chain.channel
 
     few : length asked_are < 2 ^ 64
-    few =
-        let one : length asked_are ≡ length (sent_commands laws s.calls s.names) = length-map (sent_commands laws s.calls s.names) asked_as in
-        let two = sent_few laws s.calls s.names in omega arith
+    few = asked_few laws s.calls s.names
 
-    sound_way : (said : List Spoken) (speaks : AgentSpeaks said high.gave above) → BeginsWithHello said → (speaks.says.is_ended ≡ true → said ≡ []) → (speaks.says.is_ended ≡ true → IsRefusedUnder r.history chain.channel) → IsSoundWay
+    sound_way : (said : List Spoken) (speaks : AgentSpeaks images r.history said high.gave above) → BeginsWithHello said → (speaks.says.is_ended ≡ true → said ≡ []) → (speaks.says.is_ended ≡ true → IsRefusedUnder r.history chain.channel) → IsSoundWay
     sound_way said speaks hello ended refused =
         let calls : Calls asked_are low.gave = way_calls laws images r follows readable plans at adds chain s said above speaks in
         record {
           calls = calls;
           agent_ended = speaks.says.is_ended;
-          sound = laws.sound low high way_is.route.hops carries.made asked_are said carries.hops calls few speaks.says speaks.quiet speaks.answers hello ended;
+          sound = laws.sound images r.history follows.legal low high way_is.route.hops carries.made asked_are said carries.hops calls few speaks.says speaks.quiet speaks.marked speaks.rightly hello ended;
           refused = refused;
         }
 
@@ -142,11 +124,11 @@ module _ (laws : Laws) (images : List Image) (r : AgentRun) (follows : AgentFoll
 
         by_past : (k : ℕ) → chain.channel ≡ Some k → way_is.past.is_reached ≡ true → (there : Option Past) → past_at k r.channels ≡ there → Talks there way_is.past.agent → IsSoundWay
         by_past k is reached None none talks =
-            sound_way [] (speaks_nothing high.gave above (inr talks.gave)) tt (λ yes. refl) (λ yes. subst (IsRefusedUnder r.history) (sym is) (follows.opened k ∙ none_any k r.channels none))
+            sound_way [] (speaks_nothing images r.history high.gave above (inr talks.gave)) tt (λ yes. refl) (λ yes. subst (IsRefusedUnder r.history) (sym is) (follows.opened k ∙ none_any k r.channels none))
         by_past k is reached (Some past) there talks = opened k past is there reached talks
 
         by_channel : (channel : Option ℕ) → chain.channel ≡ channel → TalksOn channel way_is.past r.channels → IsSoundWay
-        by_channel None is talks = sound_way [] (speaks_nothing high.gave above talks) tt (λ yes. refl) (λ yes. subst (IsRefusedUnder r.history) (sym is) tt)
+        by_channel None is talks = sound_way [] (speaks_nothing images r.history high.gave above talks) tt (λ yes. refl) (λ yes. subst (IsRefusedUnder r.history) (sym is) tt)
         by_channel (Some k) is talks = by_past k is talks.0 (past_at k r.channels) refl talks.1
 
     -- ---- Its value-adds
@@ -174,7 +156,7 @@ module _ (laws : Laws) (images : List Image) (r : AgentRun) (follows : AgentFoll
         let two : length asked_are ≡ length (sent_commands laws s.calls s.names) = length-map (sent_commands laws s.calls s.names) asked_as in
         let three : length (sent_of end_run) ≡ length (sent_commands laws s.calls s.names) = ap length (sent_issued laws s.calls s.names) ∙ length-map (sent_commands laws s.calls s.names) issued_as in
         laws.answered_sound client_services None all_calls chain_way.sound.down chain_way.sound.is_ended chain_way.sound.formed came_down chain_way.sound.begins
-        (answering_more 1 (length (entering chain_way.calls.spoken) - 1) (length (sent_of end_run)) (entering chain_way.sound.down) (omega arith) chain_way.sound.answering)
+        (answering_more (length (entering chain_way.calls.spoken) - 1) (length (sent_of end_run)) (entering chain_way.sound.down) (omega arith) chain_way.sound.answering)
 
     -- the end of the stream came down
     by_stream : EndsFor end_run causes.Eos → G ends.Eos

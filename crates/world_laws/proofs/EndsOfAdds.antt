@@ -1,15 +1,13 @@
 -- No end of a value-add of a way closes by a fault of its other side.
-use Rattle.std.proofs.Common.{◌≡◌, ℕ, inl, inr, List, [], ◌∷◌, map, Option, Some, None, refl, sym, ap, ◌∙◌, subst}
+use Rattle.std.proofs.Common.{◌≡◌, inl, inr, List, [], ◌∷◌, map, Option, Some, None, refl, sym, subst}
 use Rattle.std.specs.Prelude.{IfSome, option_map, unwrap_or}
 use Rattle.std.specs.List.{AllByRecursion}
 use Rattle.chain_route.specs.Carrying.{Made, past_of, value_of}
 use Rattle.chain_through.specs.Endings.{AddIsSound as MadeIsSound, IsSound}
-use Rattle.channel_core.specs.EndValue.{EndValue}
 use Rattle.channel_core.specs.Runs.{Run}
 use Rattle.channel_core.specs.declared.states.Cause.TheVariants as causes
 use Rattle.channel_core.specs.declared.states.EndState.{EndState}
 use Rattle.channel_core.specs.declared.states.EndState.TheVariants.{Closed, Live, Opening, Reopening}
-use Rattle.value_node.specs.ForwardedValue.{ForwardedValue}
 use Rattle.value_node.specs.RelayLaws.{EndsAreRuns}
 use Rattle.value_node.specs.Runs.{UpperCall, after_all, no_calls, upper_after}
 use Rattle.world_laws.specs.EndLaws.{AddIsSound, ClosesSoundly}

@@ -1,8 +1,8 @@
 -- For what the agent's end of a channel closes: to it come a Hello and commands, on the channel that a chain has now, and a
 -- Hello alone on one that it had earlier.
-use Rattle.std.proofs.Common.{◌≡◌, ℕ, ◌+◌, ◌==◌, inl, inr, Bool, true, false, cond, List, [], ◌∷◌, ◌++◌, map, Option, Some, None, refl, sym, ap, ◌∙◌, subst, append-nil}
+use Rattle.std.proofs.Common.{◌≡◌, ℕ, ◌+◌, ◌==◌, inl, inr, Bool, true, false, List, [], ◌∷◌, ◌++◌, map, Option, Some, None, refl, sym, ap, ◌∙◌, subst, append-nil}
 use Rattle.std.specs.Prelude.{option_to_list}
-use Rattle.std.specs.List.{AllByRecursion, Contains, filter, flat_map, list_any}
+use Rattle.std.specs.List.{AllByRecursion, filter, list_any}
 use Rattle.agent_node.specs.AgentLaws.{AgentFollowsHistory, IsEndOf}
 use Rattle.agent_node.specs.Channels.{channel_end}
 use Rattle.agent_node.specs.Runs.{AgentRun, Past, run_of}
@@ -14,47 +14,39 @@ use Rattle.chain_through.specs.Endings.{IsSound}
 use Rattle.chain_world.specs.Chain.{channels_of}
 use Rattle.chain_world.specs.ChainValue.{ChainValue}
 use Rattle.chain_world.specs.Standing.{ChainStands, Talked, Talks, TalksOn, came_to, past_at, unmarked}
-use Rattle.channel_core.specs.Arrivals.{AreSpoken, IsFront, Spoken, arrived, bytes_of, enters, queue_of}
-use Rattle.channel_core.specs.Beginning.{new_end}
+use Rattle.channel_core.specs.Arrivals.{AreSpoken, IsFront, Spoken, arrived, bytes_of, queue_of}
 use Rattle.channel_core.specs.QueueLaws.{is_message, is_plain}
 use Rattle.channel_core.specs.ReceivingLaws.{CanBeRead, SendsReadable}
 use Rattle.channel_core.specs.RunLaws.{is_command}
 use Rattle.channel_core.specs.Runs.{Run}
-use Rattle.channel_core.specs.Wire.{said}
 use Rattle.channel_core.specs.declared.held.Outgoing.{Outgoing}
 use Rattle.channel_core.specs.declared.states.Cause.TheVariants as causes
 use Rattle.channel_core.specs.declared.states.EndState.{EndState}
 use Rattle.channel_core.specs.declared.states.EndState.TheVariants.{Closed, Live, Opening, Reopening}
-use Rattle.channel_faults.specs.Faults.{IsCalledSo, is_closing}
+use Rattle.channel_faults.specs.Faults.{is_closing}
 use Rattle.target_contexts.specs.declared.process.Image.{Image}
 use Rattle.target_hub.specs.Sent.{agent_services}
-use Rattle.tcf_message.specs.Message.{IsWellFormed}
 use Rattle.tcf_schedules.specs.Plan.{Plan}
 use Rattle.value_node.specs.Asked.{Asked}
 use Rattle.value_node.specs.ForwardedValue.{ForwardedValue}
 use Rattle.value_node.specs.Runs.{UpperCall, upper_after}
 use Rattle.value_node.specs.Value.{value_services}
+use Rattle.chain_through.proofs.Fronts.{front_map, front_same, front_then}
+use Rattle.chain_through.proofs.Queues.{entering_formed, queue_messages}
+use Rattle.chain_through.proofs.Spelling.{said_so, same_said}
+use Rattle.chain_through.proofs.Taking.{all_append}
 use Rattle.world_laws.specs.EndLaws.{ClosesRightly}
 use Rattle.world_laws.proofs.Chains.{carried, through, top, way, way_carries}
 use Rattle.world_laws.proofs.LowerLaws.{Laws}
-use Rattle.world_laws.proofs.Lists.{all_append, front_map, front_same, front_then}
 use Rattle.world_laws.proofs.Quiet.{add_hello}
 use Rattle.world_laws.proofs.Sending.{commands_alone, hello_first, none_behind}
 use Rattle.world_laws.proofs.Silent.{all_in, at_all, at_number, none_any}
-use Rattle.world_laws.proofs.Spoken.{all_filtered, bare, bare_bytes, bare_spoken, front_bytes, front_unmarked, queue_messages, said_so, says_these}
+use Rattle.world_laws.proofs.Spoken.{bare, bare_bytes, bare_spoken, entering_bare, front_bytes, front_unmarked}
 
 -- ---- Without marks a Hello and commands are a Hello and commands
 
 abbrev without_mark : Asked → Asked
 without_mark c = record c { mark = None }
-
-entering_bare : (spoken : List Spoken) → entering (map bare spoken) ≡ map bare (entering spoken)
-entering_bare [] = refl
-entering_bare (s ∷ spoken) = by_flag (enters s.message) (entering_bare spoken)
-  where
-    by_flag : (flag : Bool) → entering (map bare spoken) ≡ map bare (entering spoken) → cond flag (bare s ∷ entering (map bare spoken)) (entering (map bare spoken)) ≡ map bare (cond flag (s ∷ entering spoken) (entering spoken))
-    by_flag true rest = ap (λ xs. bare s ∷ xs) rest
-    by_flag false rest = rest
 
 asking_bare : (token : ℕ) (commands : List Asked) → map bare (all_asking token commands) ≡ all_asking token (map without_mark commands)
 asking_bare token [] = refl
@@ -113,7 +105,7 @@ module _ (laws : Laws) where
       let rest : filter is_message first.0 ≡ [] = commands_alone first.0 plain_none ∙ ap (filter is_command) (sym first.1) ∙ none in
       let messages : filter is_message r.past.queued ≡ hello_is ∷ [] = ap (filter is_message) first.1 ∙ ap (λ os. hello_is ∷ os) rest in
       let says : entering can.spoken ≡ greeting value_services ∷ [] =
-      says_these laws.one (entering can.spoken) (greeting value_services ∷ []) (all_filtered (λ s. IsWellFormed s.message) (λ s. enters s.message) can.spoken can.well_formed) (add_hello, tt)
+      same_said (entering can.spoken) (greeting value_services ∷ []) (entering_formed can.spoken can.well_formed) (add_hello.0, tt)
       (sym (queue_messages can.spoken can.is_ended) ∙ ap (filter is_message) (sym can.queue) ∙ messages) in
       called_sound past can.spoken can.is_ended value_services [] can.well_formed all ([], sym says ∙ sym (append-nil (entering can.spoken)))
 

@@ -1,5 +1,5 @@
 -- For what the log of a client ends, by what its end took and what was called of it.
-use Rattle.std.proofs.Common.{◌≡◌, ℕ, ◌+◌, ◌||◌, Bool, true, false, cond, List, [], ◌∷◌, ◌++◌, length, map, Option, Some, None, Result, Ok, Err, refl, sym, ap, ◌∙◌, subst}
+use Rattle.std.proofs.Common.{◌≡◌, ℕ, ◌+◌, ◌||◌, Bool, true, false, cond, List, [], ◌∷◌, ◌++◌, length, map, Option, Some, None, Result, Ok, Err, refl, sym, ap, ◌∙◌}
 use Rattle.std.specs.List.{AllByRecursion, list_any}
 use Rattle.std.specs.Prelude.{option_to_list}
 use Rattle.std.proofs.lemmas.List.Folds.{list_any-append}
@@ -32,7 +32,10 @@ use Rattle.tcf_text.specs.declared.log.LogLine.{LogLine}
 use Rattle.tcf_text.specs.declared.log.LogLine.TheVariants as lines
 use Rattle.tcf_text.specs.declared.log.RefusedWhy.{RefusedWhy}
 use Rattle.tcf_text.specs.declared.log.RefusedWhy.TheVariants as refused
-use Rattle.world_laws.proofs.Lists.{all_append, all_behind, front_all, front_each, front_then}
+use Rattle.agent_told.proofs.Lists.{all_back}
+use Rattle.chain_through.proofs.Fronts.{front_each, front_then}
+use Rattle.chain_through.proofs.Taking.{all_append}
+use Rattle.world_laws.proofs.Lists.{front_all}
 
 -- ---- The calls of the end that only some calls of the client make
 
@@ -235,4 +238,4 @@ module _ (G : EndWhy → Type 0) where
   right_log (call ∷ calls) p may own each =
       let next = taken_by call p.client.channel in
       let until : AllByRecursion MayTake (p.taken ++ next) = front_each MayTake (p.taken ++ next) (past_of calls (remembered call p)).taken (taken_stays calls (remembered call p)) may in
-      right_log calls (remembered call p) may own.1 (right_call call p.client (all_behind MayTake p.taken next until) own.0 each)
+      right_log calls (remembered call p) may own.1 (right_call call p.client (all_back MayTake p.taken next until) own.0 each)

@@ -1,9 +1,10 @@
--- Each log of a world follows the one history, and what each client keeps is true of the target.
+-- Each log of a world follows the one history, its answers are fresh, and what each client keeps and each bound value-add knows is true of the target.
 use Rattle.std.proofs.Common.{◌≡◌, ℕ, suc, ◌⊎◌, inl, inr, false, List, [], ◌∷◌, Option, Some, None, refl, sym, ◌∙◌, subst}
 use Rattle.std.specs.Prelude.{option_to_list}
 use Rattle.std.specs.List.{AllByRecursion}
 use Rattle.agent_node.specs.AgentLaws.{AgentFollowsHistory}
 use Rattle.agent_node.specs.Runs.{AgentRun, after_all as agent_after, no_calls as agent_begun}
+use Rattle.agent_told.proofs.Lists.{all_weaker}
 use Rattle.chain_heard.specs.Coherent.{IsCoherent}
 use Rattle.chain_world.specs.Chain.{channels_of}
 use Rattle.chain_world.specs.ChainValue.{ChainValue}
@@ -14,21 +15,18 @@ use Rattle.channel_core.specs.ReceivingLaws.{SendsReadable}
 use Rattle.client_log.specs.Shown.{ShowsKept}
 use Rattle.client_node.specs.Runs.{Past as ClientPast, TellsPast, no_past, past_of}
 use Rattle.target_contexts.specs.declared.process.Image.{Image}
+use Rattle.target_hub.specs.Fresh.{Fresh}
 use Rattle.target_hub.specs.Ordered.{Ordered}
 use Rattle.target_hub.specs.Sent.{executed_on}
 use Rattle.target_truth.specs.Typed.{AreTyped}
 use Rattle.tcf_schedules.specs.Plan.{Plan}
 use Rattle.tcf_text.specs.Each.{Each}
 use Rattle.tcf_text.specs.Once.{Once}
-use Rattle.world_laws.specs.WorldLaws.{AreCoherent, ChainIsFaithful, CoherentAfterEverySchedule, FaithfulAfterEverySchedule, IsFaithful}
-use Rattle.world_laws.proofs.Chains.{HearsNone, HearsTarget, chain_hears, earlier_silent}
+use Rattle.chain_through.proofs.Taking.{all_append}
+use Rattle.world_laws.specs.WorldLaws.{AreCoherent, AreFresh, ChainIsCoherent, ChainIsFaithful, CoherentAfterEverySchedule, FaithfulAfterEverySchedule, FreshAfterEverySchedule, IsFaithful}
+use Rattle.world_laws.proofs.Chains.{HearsNone, HearsSo, HearsTarget, chain_hears, earlier_silent}
 use Rattle.world_laws.proofs.LowerLaws.{Laws}
-use Rattle.world_laws.proofs.Lists.{all_append}
 use Rattle.world_laws.proofs.Silent.{all_in}
-
-each_of : {A : Type 0} → (P Q : A → Type 0) → ((x : A) → P x → Q x) → (xs : List A) → AllByRecursion P xs → AllByRecursion Q xs
-each_of P Q so [] each = tt
-each_of P Q so (x ∷ xs) each = (so x each.0, each_of P Q so xs each.1)
 
 module _ (laws : Laws) (images : List Image) (r : AgentRun) (follows : AgentFollowsHistory images r) (readable : AllByRecursion (λ past. SendsReadable past.calls) r.channels) where
   module _ (plans : List Plan) (at adds : ℕ) (chain : ChainValue) (s : ChainStands plans r.channels at adds chain) where
@@ -47,10 +45,13 @@ module _ (laws : Laws) (images : List Image) (r : AgentRun) (follows : AgentFoll
     abbrev Hears : Type 0
     Hears = HearsTarget images r.history chain past_is ⊎ HearsNone r.history chain past_is
 
+    hears : HearsSo images r.history chain past_is
+    hears = chain_hears laws images r follows readable plans at adds chain s
+
     -- the channels that the chain had, but for this one, execute nothing
     others : (P : ℕ → Type 0) → ((k : ℕ) → executed_on k r.history ≡ [] → P k) → ((k : ℕ) → chain.channel ≡ Some k → P k) → AllByRecursion P (channels_of chain)
     others P silent current =
-        all_append P chain.earlier (option_to_list chain.channel) (each_of (λ k. executed_on k r.history ≡ []) P silent chain.earlier (earlier_silent laws images r follows readable plans at adds chain s))
+        all_append P chain.earlier (option_to_list chain.channel) (all_weaker (λ k. executed_on k r.history ≡ []) P chain.earlier silent (earlier_silent laws images r follows readable plans at adds chain s))
         (by_channel chain.channel current)
       where
         by_channel : (channel : Option ℕ) → ((k : ℕ) → channel ≡ Some k → P k) → AllByRecursion P (option_to_list channel)
@@ -58,7 +59,7 @@ module _ (laws : Laws) (images : List Image) (r : AgentRun) (follows : AgentFoll
         by_channel (Some k) each = (each k refl, tt)
 
     chain_ordered : Ordered false chain.client.log images r.history (channels_of chain)
-    chain_ordered = by_heard (chain_hears laws images r follows readable plans at adds chain s)
+    chain_ordered = by_heard hears.heard
       where
         by_heard : Hears → Ordered false chain.client.log images r.history (channels_of chain)
         by_heard (inl h) =
@@ -73,12 +74,22 @@ module _ (laws : Laws) (images : List Image) (r : AgentRun) (follows : AgentFoll
     chain_faithful : ChainIsFaithful images r.history chain
     chain_faithful = record { once = once; ordered = chain_ordered }
 
-    chain_coherent : AreTyped images → IsCoherent chain.client.log images r.history
-    chain_coherent typed = by_heard (chain_hears laws images r follows readable plans at adds chain s)
+    client_coherent : AreTyped images → IsCoherent chain.client.log images r.history
+    client_coherent typed = by_heard hears.heard
       where
         by_heard : Hears → IsCoherent chain.client.log images r.history
         by_heard (inl h) = laws.heard_true images r.history h.k h.position chain.client past_is typed tells once shown h.heard
         by_heard (inr h) = laws.no_target_true images r.history chain.client past_is tells once shown h.heard
+
+    chain_coherent : AreTyped images → ChainIsCoherent images r.history chain
+    chain_coherent typed = record { client = client_coherent typed; adds = hears.adds }
+
+    chain_fresh : AreTyped images → Fresh chain.client.log images r.history
+    chain_fresh typed = by_heard hears.heard
+      where
+        by_heard : Hears → Fresh chain.client.log images r.history
+        by_heard (inl h) = laws.heard_fresh images r.history h.k h.position chain.client past_is typed tells once h.heard
+        by_heard (inr h) = laws.no_target_fresh images r.history chain.client past_is tells once h.heard
 
   -- ---- All chains
 
@@ -107,11 +118,20 @@ module _ (laws : Laws) (images : List Image) (adds : List ℕ) (plans : List Pla
   world_coherent : AreTyped images → AreCoherent images w
   world_coherent typed =
       subst (λ h. AreCoherent images (record w { history = h })) s.history
-      (all_of laws images agent_run follows readable (λ chain. IsCoherent chain.client.log images agent_run.history) plans
+      (all_of laws images agent_run follows readable (ChainIsCoherent images agent_run.history) plans
       (λ at n chain stands. chain_coherent laws images agent_run follows readable plans at n chain stands typed) 0 adds w.chains s.chains)
+
+  world_fresh : AreTyped images → AreFresh images w
+  world_fresh typed =
+      subst (λ h. AreFresh images (record w { history = h })) s.history
+      (all_of laws images agent_run follows readable (λ chain. Fresh chain.client.log images agent_run.history) plans
+      (λ at n chain stands. chain_fresh laws images agent_run follows readable plans at n chain stands typed) 0 adds w.chains s.chains)
 
 pub faithful : Laws → FaithfulAfterEverySchedule
 faithful laws images adds plans playable = world_faithful laws images adds plans (run plans (new_world images adds)) (laws.stands images adds plans playable)
 
 pub coherent : Laws → CoherentAfterEverySchedule
 coherent laws images adds plans typed playable = world_coherent laws images adds plans (run plans (new_world images adds)) (laws.stands images adds plans playable) typed
+
+pub fresh : Laws → FreshAfterEverySchedule
+fresh laws images adds plans typed playable = world_fresh laws images adds plans (run plans (new_world images adds)) (laws.stands images adds plans playable) typed

@@ -21,18 +21,22 @@ use Rattle.target_hub.specs.Ordered.{IsPrefixOf}
 use Rattle.tcf_message.specs.Message.{IsWellFormed, final}
 use Rattle.tcf_text.specs.Lines.{Accepted}
 use Rattle.chain_heard.specs.Heard.{asked_as, heard_in, incoming, messages_of}
-use Rattle.chain_through.specs.Through.{numbered}
+use Rattle.chain_told.specs.Told.{numbered}
 use Rattle.value_node.specs.Asked.{Asked}
 use Rattle.value_node.specs.Own.{redirect_done}
 use Rattle.value_node.specs.OwnLaws.{IsBoundBy}
 use Rattle.value_node.specs.OwnMessages.{IsOwn, OwnStep, a_hello, a_result, an_unknown}
+use Rattle.agent_told.proofs.Lists.{all_back, first_nothing}
+use Rattle.chain_through.proofs.Fronts.{front_each}
+use Rattle.chain_told.specs.TellsOn.{comes_as}
+use Rattle.chain_through.proofs.OwnTold.{own_parts}
+use Rattle.chain_through.proofs.Through.{none_mapped}
 use Rattle.world_laws.proofs.Accepted.{AreCounted, counted_front, numbered_counted}
 use Rattle.world_laws.proofs.LowerLaws.{Laws}
-use Rattle.world_laws.proofs.Lists.{Split, all_behind, front_each, no_more, none_mapped, split_mapped}
-use Rattle.world_laws.proofs.Own.{AnswersNot, last_unanswered, own_parts, said_as}
+use Rattle.world_laws.proofs.Lists.{Split, no_more, split_mapped}
+use Rattle.world_laws.proofs.Own.{AnswersNot, last_unanswered, said_as}
 use Rattle.world_laws.proofs.Replying.{incoming_same}
 use Rattle.world_laws.proofs.Sending.{heard_is, sent_commands, sent_counted, sent_issued}
-use Rattle.world_laws.proofs.Spoken.{incoming_so}
 
 -- without value-adds nothing is answered; else the last that one answered is the redirect that bound the way
 abbrev pub BindsBy : List Asked → List Spoken → Type 0
@@ -56,10 +60,6 @@ prefix_none (x ∷ xs) p = let whole : x ∷ (xs ++ p.0) ≡ [] = p.1 in absurd 
 behind_none : {A : Type 0} → (xs ys : List A) → xs ≡ [] → [] ≡ xs ++ ys → ys ≡ []
 behind_none xs ys none is = sym (is ∙ ap (λ l. l ++ ys) none)
 
-first_none : {A : Type 0} → (xs ys : List A) → xs ++ ys ≡ [] → xs ≡ []
-first_none [] ys is = refl
-first_none (x ∷ xs) ys is = absurd cc
-
 -- ---- The last of the messages is the one that was taken
 
 abbrev IsNoAnswer : ℕ → Incoming → Type 0
@@ -77,7 +77,7 @@ last_is number done [] i ys (z ∷ zs) last says none is = let one : i ≡ z = c
 last_is number done (x ∷ xs) i ys (z ∷ zs) last says none is =
     let rest : xs ++ i ∷ ys ≡ zs ++ last ∷ [] = cc in last_is number done xs i ys zs last says none.1 rest
 
-no_answers : (number : ℕ) (spoken : List Spoken) → AllByRecursion (AnswersNot number) spoken → AllByRecursion (IsNoAnswer number) (map incoming_so spoken)
+no_answers : (number : ℕ) (spoken : List Spoken) → AllByRecursion (AnswersNot number) spoken → AllByRecursion (IsNoAnswer number) (map comes_as spoken)
 no_answers number [] each = tt
 no_answers number (s ∷ spoken) each = (each.0, no_answers number spoken each.1)
 
@@ -129,7 +129,7 @@ module _ (laws : Laws) (calls : List ClientCall) (names : AllByRecursion HasName
         let parts = own_parts (map asked_as (front ++ x ∷ [])) before (last ∷ []) [] (subst (λ o. IsOwn (map asked_as (front ++ x ∷ [])) o []) ends is_own) in
         let formed : AreSpoken (before ++ last ∷ []) = subst AreSpoken ends own_formed in
         let formed_before : AreSpoken before = front_each (λ s. IsWellFormed s.message) before (before ++ last ∷ []) (last ∷ [], refl) formed in
-        let formed_last : AreSpoken (last ∷ []) = all_behind (λ s. IsWellFormed s.message) before (last ∷ []) formed in
+        let formed_last : AreSpoken (last ∷ []) = all_back (λ s. IsWellFormed s.message) before (last ∷ []) formed in
         let some : 1 ≤ length parts.0 = let takes = final_takes parts.0 parts.2.1.0 redirect.token redirect_done parts.2.1.1 in omega arith in
         let unanswered : AllByRecursion (AnswersNot x.number) before =
         last_unanswered laws.back 1 x.number (front ++ x ∷ []) before parts.0 counted (counted_last 1 front x counted) small formed_before some parts.1 in
@@ -141,12 +141,12 @@ module _ (laws : Laws) (calls : List ClientCall) (names : AllByRecursion HasName
         let second : List Incoming = flat_map incoming_of released.later in
         let took : heard_in (past_of calls no_past) ≡ first ++ released.incoming ∷ second =
         heard_is laws calls names ∙ ap (flat_map incoming_of) released.split ∙ flat_map-append incoming_of released.earlier (taken.Final released.tag released.incoming ∷ released.later) in
-        let all : first ++ released.incoming ∷ (second ++ heard.0) ≡ map incoming_so before ++ incoming_so last ∷ [] =
+        let all : first ++ released.incoming ∷ (second ++ heard.0) ≡ map comes_as before ++ comes_as last ∷ [] =
         sym (append_assoc first (released.incoming ∷ second) heard.0) ∙ ap (λ l. l ++ heard.0) (sym took) ∙ heard.1 ∙ sym (incoming_same own)
-        ∙ ap (map incoming_so) ends ∙ map-append incoming_so before (last ∷ []) in
-        let at : IsLast released.incoming (incoming_so last) (second ++ heard.0) =
-        last_is x.number released.done first released.incoming (second ++ heard.0) (map incoming_so before) (incoming_so last) released.answer (no_answers x.number before unanswered) all in
-        let none : second ≡ [] = first_none second heard.0 at.none in
+        ∙ ap (map comes_as) ends ∙ map-append comes_as before (last ∷ []) in
+        let at : IsLast released.incoming (comes_as last) (second ++ heard.0) =
+        last_is x.number released.done first released.incoming (second ++ heard.0) (map comes_as before) (comes_as last) released.answer (no_answers x.number before unanswered) all in
+        let none : second ≡ [] = first_nothing second heard.0 at.none in
         let said : answers (decimal x.number) released.done ≡ answers redirect.token (is_done redirect_done) =
         sym released.answer ∙ ap (λ i. said_in i.raw) at.same ∙ said_as laws.back (final redirect.token redirect_done) formed_last.0 in
         let flag : released.done ≡ is_done redirect_done = cc in

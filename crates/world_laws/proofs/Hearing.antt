@@ -1,56 +1,138 @@
 -- What a client heard of the target on a way, by what comes through it.
-use Rattle.std.proofs.Common.{◌≡◌, ℕ, ◌+◌, ◌-◌, ◌<◌, ◌≤◌, inl, inr, List, [], ◌∷◌, ◌++◌, length, take, drop, map, Option, refl, sym, ap, ◌∙◌, subst, arith, append_assoc, append-nil, length-append}
-use Rattle.std.specs.Prelude.{decimal, ◌^◌}
+use Rattle.std.proofs.Common.{◌≡◌, ℕ, ◌+◌, ◌-◌, ◌^◌, ◌<◌, ◌≤◌, ◌⊎◌, inl, inr, ⊎_elim, Bool, true, false, not, List, [], ◌∷◌, ◌++◌, length, drop, map, Option, Some, None, Ok, refl, sym, ap, ◌∙◌, subst, arith, append_assoc, length-append}
+use Rattle.std.specs.Prelude.{IsSome}
 use Rattle.std.specs.List.{AllByRecursion}
-use Rattle.std.proofs.lemmas.List.{length-map, length-take-le, map-append, take-append-drop}
-use Rattle.agent_node.specs.AgentLaws.{FollowsHistory, asked, messages_told, tokens}
+use Rattle.std.proofs.lemmas.List.{length-map, map-append, take-append-drop}
+use Rattle.std.proofs.lemmas.List.Concat.{flat_map-append}
+use Rattle.agent_node.specs.AgentLaws.{FollowsHistory, asked}
 use Rattle.agent_node.specs.Runs.{Past, run_of}
-use Rattle.chain_heard.specs.Heard.{AreReadable, Heard, HeardNoTarget, asked_as, heard_in, incoming, messages_of, owed_to, tokens_of}
+use Rattle.agent_told.specs.Sent.{owed_by, read_as}
+use Rattle.chain_heard.specs.Heard.{AreReadable, Heard, HeardNoTarget, asked_as, heard_in, incoming, messages_of, through_of}
 use Rattle.chain_route.specs.Carrying.{End, Made}
-use Rattle.chain_through.specs.Calling.{Calls, entering}
-use Rattle.chain_through.specs.Through.{IsBoundThrough, IsUnboundThrough, Through, content, numbered, passed}
+use Rattle.chain_through.specs.Calling.{Calls, entering, given_of}
+use Rattle.chain_through.specs.Through.{Content, IsBoundThrough, IsMarked, IsUnboundThrough, Through, content, is_storable_content}
+use Rattle.chain_through.proofs.Fronts.{IsMapped, front_each, front_flat, front_length, front_map, front_mapped, front_more, front_none, front_same, front_then}
+use Rattle.chain_through.proofs.OwnTold.{none_from, own_unmarked}
+use Rattle.chain_through.proofs.Queues.{entering_formed}
+use Rattle.chain_through.proofs.ToldLists.{AreFound, all_found, told_front, told_more}
+use Rattle.chain_told.specs.TellsOn.{comes_as}
+use Rattle.chain_told.specs.Told.{AreToldRightly, ComesAt, IsOwed, IsToldRightly, is_stored, mark_of, numbered, owed_at, owed_in}
+use Rattle.chain_told.proofs.Numbered.{numbered_append}
 use Rattle.channel_core.specs.Arrivals.{AreSpoken, IsFront, Spoken, arrived, bytes_of, queue_of}
 use Rattle.channel_core.specs.ReceivingLaws.{SendsReadable}
+use Rattle.channel_core.specs.Wire.{said_by}
 use Rattle.client_node.specs.Client.{new_client}
 use Rattle.client_node.specs.Ends.{HasNames, end_calls}
 use Rattle.client_node.specs.Runs.{Call as ClientCall, Past as ClientPast, no_past, past_of as client_past_of}
+use Rattle.command_tables.specs.declared.reading.Reading.{Reading}
+use Rattle.command_tables.specs.declared.reading.Reading.TheVariants as readings
+use Rattle.command_tables.specs.Reading.{reading_of}
 use Rattle.target_contexts.specs.declared.process.Image.{Image}
 use Rattle.target_hub.specs.History.{IsLegal}
-use Rattle.target_hub.specs.Ordered.{IsPrefixOf}
+use Rattle.target_hub.specs.Ordered.{IsPrefixOf, IsSubsequenceOf}
 use Rattle.target_hub.specs.Received.{read}
-use Rattle.target_hub.specs.Sent.{Told, executed_on, sent}
+use Rattle.target_hub.specs.Sent.{ReadCommand, executed_on, is_through}
 use Rattle.target_hub.specs.declared.input.Input.{Input}
-use Rattle.tcf_message.specs.Message.{IsWellFormed, MessageValue}
+use Rattle.tcf_message.specs.Message.{IsWellFormed, MessageValue, command, event, final, flow, not_known, progress, reading, spelling}
 use Rattle.tcf_text.specs.Lines.{Accepted}
 use Rattle.value_node.specs.Asked.{Asked}
+use Rattle.value_node.specs.Barriers.{command_in}
 use Rattle.value_node.specs.OwnLaws.{IsBoundBy}
 use Rattle.value_node.specs.OwnMessages.{IsOwn}
-use Rattle.world_laws.proofs.Accepted.{AreCounted, AreWritten, command_of, counted_back, counted_front, counted_taken, numbered_counted, tokens_counted, tokens_written}
+use Rattle.agent_told.proofs.Lists.{first_nothing}
+use Rattle.chain_through.proofs.Through.{none_behind}
+use Rattle.world_laws.proofs.Accepted.{AreCounted, counted_front, numbered_counted}
 use Rattle.world_laws.proofs.Greeted.{BindsBy, none_later}
 use Rattle.world_laws.proofs.LowerLaws.{Laws}
-use Rattle.world_laws.proofs.Lists.{Split, all_append, all_behind, front_length, front_map, front_more, front_none, front_same, front_then, prefix_of, split_mapped}
+use Rattle.world_laws.proofs.Lists.{Split, front_filter, front_left, left_front, prefix_of, split_mapped, without_few, without_filter, without_left}
 use Rattle.world_laws.proofs.Own.{own_more}
-use Rattle.world_laws.proofs.Replying.{incoming_same, of_spoken, passed_on_told, spoken_of, tokens_from}
-use Rattle.world_laws.proofs.Sending.{all_counted, all_written, hears, sent_commands, sent_count, sent_counted}
-use Rattle.world_laws.proofs.Serving.{IsAskedFirst, asked_many, content_read, executed_front, told_formed, told_to, tokens_asked}
-use Rattle.world_laws.proofs.Spoken.{incoming_so}
+use Rattle.world_laws.proofs.Replying.{incoming_same}
+use Rattle.world_laws.proofs.Sending.{all_counted, hears, sent_commands, sent_count, sent_counted}
+use Rattle.world_laws.proofs.Serving.{IsAskedFirst, content_read, contents_read, executed_front, owed_more, owed_right, told_to}
 
-all_read : Laws → (messages : List (MessageValue × Option ℕ)) → AllByRecursion (λ m. IsWellFormed m.0) messages → AreReadable messages
-all_read laws [] each = tt
-all_read laws (m ∷ messages) each = (laws.back.1 m.0 each.0, all_read laws messages each.1)
+-- ---- What is heard can be read
 
-own_read : (own : List Spoken) → AreSpoken own → AllByRecursion (λ m. IsWellFormed m.0) (messages_of own)
-own_read [] each = tt
-own_read (s ∷ own) each = (each.0, own_read own each.1)
+own_read : Laws → (own : List Spoken) → AreSpoken own → AreReadable (messages_of own)
+own_read laws [] each = tt
+own_read laws (s ∷ own) each = (laws.back.1 s.message each.0, own_read laws own each.1)
+
+abbrev IsReadable : Spoken → Type 0
+IsReadable s = reading (spelling s.message) ≡ Ok s.message
+
+heard_read : Laws → (heard : List Spoken) → AreSpoken heard → AllByRecursion IsReadable heard
+heard_read laws [] each = tt
+heard_read laws (s ∷ heard) each = (laws.back.1 s.message each.0, heard_read laws heard each.1)
 
 pub empty_by : {A : Type 0} → (xs : List A) → length xs ≤ 0 → xs ≡ []
 empty_by [] less = refl
 empty_by (x ∷ xs) less = absurd (omega arith)
 
--- the commands as they are read
-contents_read : (commands : List Accepted) → map content_read (map content (map asked_as commands)) ≡ map read commands
-contents_read [] = refl
-contents_read (c ∷ commands) = ap (λ xs. read c ∷ xs) (contents_read commands)
+-- ---- Commands as they are read
+
+accepted_read : (commands : List Accepted) → map content_read (map content (map asked_as commands)) ≡ map read commands
+accepted_read [] = refl
+accepted_read (c ∷ commands) = ap (λ xs. read c ∷ xs) (accepted_read commands)
+
+stored_not_through : (r : Reading) → is_stored (command_in r) ≡ true → is_through r ≡ false
+stored_not_through (readings.Known what) is = ap not is
+stored_not_through readings.Unknown is = absurd cc
+stored_not_through (readings.Bad index code) is = absurd cc
+
+abbrev goes_through : ReadCommand → Bool
+goes_through c = is_through c.reading
+
+storable_not : (c : Content) → is_storable_content c ≡ true → goes_through (content_read c) ≡ false
+storable_not c is = stored_not_through (reading_of c.service c.name c.body) is
+
+-- ---- Where nothing is owed, nothing comes behind the value-adds' own messages
+
+-- a message with a position comes behind them
+record ComesBehind (own heard : List Spoken) : Type 0 where
+  s : Spoken
+  rest : List Spoken
+  are : heard ≡ own ++ s ∷ rest
+  marked : IsMarked s
+
+own_or_behind : (heard own target : List Spoken) → IsFront heard (own ++ target) → AllByRecursion IsMarked target → IsFront heard own ⊎ ComesBehind own heard
+own_or_behind [] own target p marked = inl (own, refl)
+own_or_behind (h ∷ heard) [] [] p marked = let whole : [] ≡ h ∷ (heard ++ p.0) = p.1 in absurd cc
+own_or_behind (h ∷ heard) [] (t ∷ target) p marked =
+    let whole : t ∷ target ≡ h ∷ (heard ++ p.0) = p.1 in
+    let one : t ≡ h = cc in
+    inr (record { s = h; rest = heard; are = refl; marked = subst IsMarked one marked.0 })
+own_or_behind (h ∷ heard) (o ∷ own) target p marked =
+    let whole : o ∷ (own ++ target) ≡ h ∷ (heard ++ p.0) = p.1 in
+    let one : h ≡ o = cc in
+    let tails : own ++ target ≡ heard ++ p.0 = cc in
+    ⊎_elim
+    (λ front. inl (front.0, ap (λ x. x ∷ own) (sym one) ∙ ap (λ l. h ∷ l) front.1))
+    (λ b. inr (record { s = b.s; rest = b.rest; are = ap (λ x. x ∷ heard) one ∙ ap (λ l. o ∷ l) b.are; marked = b.marked }))
+    (own_or_behind heard own target (p.0, tails) marked)
+
+-- without a position before it, it is an event, which is owed
+not_behind : (commands : List Asked) (before : List Spoken) (m : MessageValue) (mark : Option ℕ) → IsSome mark → IsOwed commands before m → ComesAt (said_by m) None mark → owed_at commands m mark ≡ [] → ⊥
+not_behind commands before m None some owed placed none = absurd cc
+not_behind commands before (command token service name body) (Some position) some owed placed none = absurd owed
+not_behind commands before (final token body) (Some position) some owed placed none = absurd cc
+not_behind commands before (progress token body) (Some position) some owed placed none = absurd cc
+not_behind commands before (not_known token) (Some position) some owed placed none = absurd cc
+not_behind commands before (event service name body) (Some position) some owed placed none = absurd cc
+not_behind commands before (flow level) (Some position) some owed placed none = absurd owed
+
+module _ (images : List Image) (history : List Input) (commands : List Asked) (heard own : List Spoken) (told : AreToldRightly images history commands heard) (none : owed_in commands heard ≡ []) (unmarked : mark_of own ≡ None) where
+  not_there : ComesBehind own heard → ⊥
+  not_there b =
+      let rightly : IsToldRightly images history commands own b.s = told own b.rest b.s b.are in
+      let parts : owed_in commands own ++ (owed_at commands b.s.message b.s.mark ++ owed_in commands b.rest) ≡ [] =
+      sym (flat_map-append (λ (s : Spoken). owed_at commands s.message s.mark) own (b.s ∷ b.rest)) ∙ ap (owed_in commands) (sym b.are) ∙ none in
+      let here : owed_at commands b.s.message b.s.mark ≡ [] =
+      first_nothing (owed_at commands b.s.message b.s.mark) (owed_in commands b.rest) (none_behind (owed_in commands own) (owed_at commands b.s.message b.s.mark ++ owed_in commands b.rest) parts) in
+      not_behind commands own b.s.message b.s.mark b.marked rightly.owed (subst (λ mark. ComesAt (said_by b.s.message) mark b.s.mark) unmarked rightly.placed) here
+
+  own_alone : (target : List Spoken) → AllByRecursion IsMarked target → IsFront heard (own ++ target) → IsFront heard own
+  own_alone target marked p = ⊎_elim (λ front. front) (λ b. absurd (not_there b)) (own_or_behind heard own target p marked)
+
+-- ---- A client
 
 module _ (laws : Laws) (calls : List ClientCall) (names : AllByRecursion HasNames calls) where
   abbrev client_past : ClientPast
@@ -62,52 +144,118 @@ module _ (laws : Laws) (calls : List ClientCall) (names : AllByRecursion HasName
   abbrev held_are : List Accepted
   held_are = drop (sent_count laws calls names) client_past.commands
 
+  abbrev asked_are : List Asked
+  asked_are = map asked_as client_past.commands
+
+  abbrev gave_up : List Asked
+  gave_up = map asked_as sent_are
+
+  abbrev keeps : List Asked
+  keeps = map asked_as held_are
+
   whole_commands : client_past.commands ≡ sent_are ++ held_are
   whole_commands = sym (take-append-drop (sent_count laws calls names) client_past.commands)
 
-  whole_asked : map asked_as client_past.commands ≡ map asked_as sent_are ++ map asked_as held_are
+  whole_asked : asked_are ≡ gave_up ++ keeps
   whole_asked = ap (map asked_as) whole_commands ∙ map-append asked_as sent_are held_are
 
-  sent_numbered : numbered 1 (map asked_as sent_are) ≡ map asked_as sent_are
+  sent_numbered : numbered 1 gave_up ≡ gave_up
   sent_numbered = numbered_counted 1 sent_are (sent_counted laws calls names)
+
+  all_numbered : numbered 1 asked_are ≡ asked_are
+  all_numbered = numbered_counted 1 client_past.commands (all_counted laws calls names)
 
   pub sent_few : length sent_are < 2 ^ 64
   sent_few =
       let all : length client_past.commands ≡ length sent_are + length held_are = ap length whole_commands ∙ length-append sent_are held_are in
       let few : length client_past.commands < 2 ^ 64 = laws.few calls in omega arith
 
+  pub asked_few : length gave_up < 2 ^ 64
+  asked_few = let same : length gave_up ≡ length sent_are = length-map sent_are asked_as in let few = sent_few in omega arith
+
+  all_few : length asked_are < 10 ^ 64
+  all_few =
+      let same : length asked_are ≡ length client_past.commands = length-map client_past.commands asked_as in
+      let few : length client_past.commands < 2 ^ 64 = laws.few calls in omega arith
+
   -- ---- On a way on which all value-adds are bound, or one isn't
 
-  module _ (lower : End) (said : List Spoken) (said_calls : Calls (map asked_as sent_are) lower.gave) (made : List Made) (t : Through (map asked_as sent_are) lower said_calls made said)
+  module _ (images : List Image) (history : List Input) (lower : End) (said : List Spoken) (said_calls : Calls gave_up lower.gave) (made : List Made) (t : Through images history gave_up lower said_calls made said)
       (came : lower.came ≡ arrived (end_calls calls new_client)) where
-    -- what was heard is a front of what comes down
-    heard_down : (messages : List Spoken) → IsFront (entering t.down) messages → IsFront (heard_in client_past) (map incoming (messages_of messages))
-    heard_down messages front =
+    -- it heard the first of the messages that come down
+    heard_down : IsMapped comes_as (entering t.down) (heard_in client_past)
+    heard_down =
         let comes : IsFront (arrived (end_calls calls new_client)) (bytes_of (queue_of t.down t.is_ended)) = subst (λ bytes. IsFront bytes (bytes_of (queue_of t.down t.is_ended))) came t.comes_down in
-        let heard : IsFront (heard_in client_past) (map incoming_so (entering t.down)) = hears laws calls names t.down t.is_ended t.formed comes in
-        front_same (heard_in client_past) (map incoming_so messages) (map incoming (messages_of messages)) (incoming_same messages)
-        (front_then (heard_in client_past) (map incoming_so (entering t.down)) (map incoming_so messages) heard (front_map incoming_so (entering t.down) messages front))
+        front_mapped comes_as (entering t.down) (heard_in client_past) (hears laws calls names t.down t.is_ended t.formed comes)
 
-    none_heard : (left : List Asked) → IsOwn (map asked_as client_past.commands) t.own left → IsFront (entering t.down) t.own → HeardNoTarget client_past
+    abbrev heard_are : List Spoken
+    heard_are = heard_down.origin
+
+    as_own : IsFront heard_are t.own → IsPrefixOf (heard_in client_past) (map incoming (messages_of t.own))
+    as_own front =
+        let p : IsFront (map comes_as heard_are) (map comes_as t.own) = front_map comes_as heard_are t.own front in
+        (p.0, ap (λ l. l ++ p.0) heard_down.are ∙ sym p.1 ∙ incoming_same t.own)
+
+    heard_formed : AreSpoken heard_are
+    heard_formed = front_each (λ s. IsWellFormed s.message) heard_are (entering t.down) heard_down.front (entering_formed t.down t.formed)
+
+    none_heard : (left : List Asked) → IsOwn asked_are t.own left → IsFront (entering t.down) t.own → HeardNoTarget client_past
     none_heard left is_own front = record {
       own = t.own;
       left = left;
       is_own = is_own;
       begins = t.begins;
-      told = prefix_of (heard_in client_past) (map incoming (messages_of t.own)) (heard_down t.own front);
-      readable = all_read laws (messages_of t.own) (own_read t.own t.own_formed);
+      told = as_own (front_then heard_are (entering t.down) t.own heard_down.front front);
+      readable = own_read laws t.own t.own_formed;
       few = laws.few calls;
     }
 
     -- a value-add isn't bound
-    pub unbound_heard : IsUnboundThrough (map asked_as sent_are) t.top t.own (entering t.down) → HeardNoTarget client_past
+    pub unbound_heard : IsUnboundThrough gave_up t.top t.own (entering t.down) → HeardNoTarget client_past
     unbound_heard u =
-        none_heard (u.left ++ map asked_as held_are)
-        (subst (λ cs. IsOwn cs t.own (u.left ++ map asked_as held_are)) (sym whole_asked)
-        (own_more (map asked_as sent_are) t.own u.left (map asked_as held_are) (subst (λ cs. IsOwn cs t.own u.left) sent_numbered u.is_own)))
+        none_heard (u.left ++ keeps)
+        (subst (λ cs. IsOwn cs t.own (u.left ++ keeps)) (sym whole_asked)
+        (own_more gave_up t.own u.left keeps (subst (λ cs. IsOwn cs t.own u.left) sent_numbered u.is_own)))
         u.comes_down
 
-    module _ (b : IsBoundThrough (map asked_as sent_are) made t.top t.own said (entering t.down)) where
+    -- ---- It is told rightly, with all the commands that the client accepted
+
+    abbrev given_are : List Asked
+    given_are = given_of gave_up said_calls.spoken
+
+    abbrev count : ℕ
+    count = length (entering said_calls.spoken) - 1
+
+    abbrev behind_given : List Asked
+    behind_given = drop count gave_up
+
+    given_parts : gave_up ≡ given_are ++ behind_given
+    given_parts = sym (take-append-drop count gave_up)
+
+    all_parts : asked_are ≡ given_are ++ (behind_given ++ keeps)
+    all_parts = whole_asked ∙ ap (λ l. l ++ keeps) given_parts ∙ append_assoc given_are behind_given keeps
+
+    down_told : AreToldRightly images history asked_are (entering t.down)
+    down_told =
+        subst (λ cs. AreToldRightly images history cs (entering t.down)) (ap (numbered 1) (sym all_parts) ∙ all_numbered)
+        (told_more images history given_are (behind_given ++ keeps) (subst (λ cs. length cs < 10 ^ 64) all_parts all_few) (entering t.down) t.told)
+
+    heard_told : AreToldRightly images history asked_are heard_are
+    heard_told = told_front images history asked_are heard_are (entering t.down) heard_down.front down_told
+
+    found_given : AreFound (numbered 1 given_are) (entering t.down)
+    found_given = all_found images history (numbered 1 given_are) (entering t.down) t.told
+
+    owed_given : (more : List Asked) → owed_in (numbered 1 (given_are ++ more)) (entering t.down) ≡ owed_in (numbered 1 given_are) (entering t.down)
+    owed_given more =
+        ap (λ cs. owed_in cs (entering t.down)) (numbered_append 1 given_are more) ∙ owed_more (numbered 1 given_are) (numbered (1 + length given_are) more) (entering t.down) found_given
+
+    down_owed : owed_in asked_are (entering t.down) ≡ owed_in (numbered 1 gave_up) (entering t.down)
+    down_owed =
+        ap (λ cs. owed_in cs (entering t.down)) (sym all_numbered ∙ ap (numbered 1) all_parts) ∙ owed_given (behind_given ++ keeps)
+        ∙ sym (ap (λ cs. owed_in (numbered 1 cs) (entering t.down)) given_parts ∙ owed_given behind_given)
+
+    module _ (b : IsBoundThrough gave_up made t.top t.own said (entering t.down)) where
       -- the commands that the value-adds answered, and the others
       parts : Split asked_as sent_are b.answered b.later
       parts = split_mapped asked_as sent_are b.answered b.later b.split
@@ -130,11 +278,13 @@ module _ (laws : Laws) (calls : List ClientCall) (names : AllByRecursion HasName
       -- where the target said nothing
       pub bound_heard : said ≡ [] → HeardNoTarget client_past
       bound_heard none =
-          let whole : map asked_as client_past.commands ≡ map asked_as parts.front ++ map asked_as later_are = ap (map asked_as) commands_are ∙ map-append asked_as parts.front later_are in
-          let front : IsFront (entering t.down) t.own =
-          front_same (entering t.down) (t.own ++ passed (numbered (length b.answered + 1) b.later) said) t.own
-          (ap (λ ss. t.own ++ passed (numbered (length b.answered + 1) b.later) ss) none ∙ append-nil t.own) b.comes_down in
-          none_heard (map asked_as later_are) (subst (λ cs. IsOwn cs t.own (map asked_as later_are)) (sym whole) (own_more (map asked_as parts.front) t.own [] (map asked_as later_are) is_own)) front
+          let whole : asked_are ≡ map asked_as parts.front ++ map asked_as later_are = ap (map asked_as) commands_are ∙ map-append asked_as parts.front later_are in
+          let owed : owed_in asked_are (entering t.down) ≡ [] =
+          down_owed ∙ front_none (owed_in (numbered 1 gave_up) (entering t.down))
+          (front_same (owed_in (numbered 1 gave_up) (entering t.down)) (owed_in (numbered 1 t.top) said) [] (ap (owed_in (numbered 1 t.top)) none) b.owed) in
+          let unmarked : mark_of t.own ≡ None = none_from t.own (own_unmarked (numbered 1 b.answered) [] t.own b.is_own) in
+          none_heard (map asked_as later_are) (subst (λ cs. IsOwn cs t.own (map asked_as later_are)) (sym whole) (own_more (map asked_as parts.front) t.own [] (map asked_as later_are) is_own))
+          (own_alone images history asked_are (entering t.down) t.own down_told owed unmarked b.comes_down.target b.comes_down.marked b.comes_down.front)
 
       binds : BindsBy b.answered t.own
       binds = by_made made b.alone b.bound_by
@@ -145,93 +295,70 @@ module _ (laws : Laws) (calls : List ClientCall) (names : AllByRecursion HasName
 
       -- ---- On a channel that was opened
 
-      module _ (images : List Image) (history : List Input) (past : Past) (legal : IsLegal images history) (follows : FollowsHistory images history past) (readable : SendsReadable past.calls)
-          (asks : IsAskedFirst (asked (run_of past)) t.top (length (entering t.goes_up.spoken) - 1)) (said_is : said ≡ told_to images history past) where
-        abbrev many : ℕ
-        many = length (asked (run_of past))
+      module _ (past : Past) (legal : IsLegal images history) (follows : FollowsHistory images history past) (readable : SendsReadable past.calls)
+          (a : IsAskedFirst 1 (asked (run_of past)) t.top) (said_is : said ≡ told_to images history past) where
+        abbrev executed : List ReadCommand
+        executed = executed_on past.number history
 
-        executes : IsFront (executed_on past.number history) (map content_read (map content b.later))
+        abbrev top_read : List ReadCommand
+        top_read = map content_read (map content t.top)
+
+        abbrev asked_read : List ReadCommand
+        asked_read = map content_read b.goes_up.asked
+
+        executes : IsFront executed top_read
         executes =
-            let top : IsFront (executed_on past.number history) (map content_read (map content t.top)) = executed_front laws images history past legal follows readable t.top (length (entering t.goes_up.spoken) - 1) asks in
-            front_then (executed_on past.number history) (map content_read (map content t.top)) (map content_read (map content b.later)) top (front_map content_read (map content t.top) (map content b.later) b.goes_up)
+            front_same executed (map read_as t.top) top_read (contents_read t.top) (executed_front laws images history past legal follows readable t.top a)
 
-        executes_read : IsFront (executed_on past.number history) (map read later_are)
-        executes_read =
-            let back : map content_read (map content b.later) ≡ map read parts.back = ap (λ cs. map content_read (map content cs)) (sym parts.second) ∙ contents_read parts.back in
-            front_same (executed_on past.number history) (map read parts.back ++ map read held_are) (map read later_are) (sym (map-append read parts.back held_are))
-            (front_more (executed_on past.number history) (map read parts.back) (map read held_are) (front_same (executed_on past.number history) (map content_read (map content b.later)) (map read parts.back) back executes))
+        -- the commands of which the others go up, as they are read
+        later_read : map content_read (map content b.later) ≡ map read parts.back
+        later_read = ap (λ cs. map content_read (map content cs)) (sym parts.second) ∙ accepted_read parts.back
 
-        later_many : length b.later ≡ length parts.back
-        later_many = ap length (sym parts.second) ∙ length-map parts.back asked_as
+        asked_front : IsFront asked_read (map read later_are)
+        asked_front =
+            front_same asked_read (map read parts.back ++ map read held_are) (map read later_are) (sym (map-append read parts.back held_are))
+            (front_more asked_read (map read parts.back) (map read held_are)
+            (front_same asked_read (map content_read (map content b.later)) (map read parts.back) later_read (front_map content_read b.goes_up.asked (map content b.later) b.goes_up.front)))
 
-        executed_many : length (executed_on past.number history) ≡ many
-        executed_many = asked_many laws images history past legal follows readable
+        top_few : length t.top < 10 ^ 64
+        top_few =
+            let one : length (map content t.top) ≤ length b.goes_up.asked = without_few is_storable_content (map content t.top) b.goes_up.asked b.goes_up.sent in
+            let two = front_length b.goes_up.asked (map content b.later) b.goes_up.front in
+            let three : length (map content t.top) ≡ length t.top = length-map t.top content in
+            let four : length (map content b.later) ≡ length b.later = length-map b.later content in
+            let five : length gave_up ≡ length b.answered + length b.later = ap length b.split ∙ length-append b.answered b.later in
+            let six = asked_few in omega arith
 
-        fewer : many ≤ length b.later
-        fewer =
-            let one = front_length (executed_on past.number history) (map content_read (map content b.later)) executes in
-            let two : length (map content_read (map content b.later)) ≡ length b.later = length-map (map content b.later) content_read ∙ length-map b.later content in
-            let three = executed_many in omega arith
+        is_asked : IsSubsequenceOf executed (map read later_are)
+        is_asked =
+            left_front executed asked_read (map read later_are)
+            (front_left executed top_read asked_read executes (without_left content_read is_storable_content (map content t.top) b.goes_up.asked b.goes_up.sent))
+            asked_front
 
-        shift_is : length b.answered ≡ length parts.front
-        shift_is = ap length (sym parts.first) ∙ length-map parts.front asked_as
+        goes : IsPrefixOf (through_of executed) (through_of (map read later_are))
+        goes =
+            let one : IsFront (through_of executed) (through_of top_read) = front_filter goes_through executed top_read executes in
+            let same : through_of top_read ≡ through_of asked_read = without_filter content_read is_storable_content goes_through storable_not (map content t.top) b.goes_up.asked b.goes_up.sent in
+            let two : IsFront (through_of asked_read) (through_of (map read later_are)) = front_filter goes_through asked_read (map read later_are) asked_front in
+            prefix_of (through_of executed) (through_of (map read later_are))
+            (front_then (through_of executed) (through_of asked_read) (through_of (map read later_are)) (front_same (through_of executed) (through_of top_read) (through_of asked_read) same one) two)
 
-        later_counted : AreCounted (length b.answered + 1) later_are
-        later_counted =
-            subst (λ n. AreCounted (n + 1) later_are) (sym shift_is) (counted_back 1 parts.front later_are (subst (AreCounted 1) commands_are (all_counted laws calls names)))
+        owed : IsFront (owed_in asked_are heard_are) (owed_by images past.number history)
+        owed =
+            let heard : IsFront (owed_in asked_are heard_are) (owed_in asked_are (entering t.down)) = front_flat (λ (s : Spoken). owed_at asked_are s.message s.mark) heard_are (entering t.down) heard_down.front in
+            let top : IsFront (owed_in asked_are (entering t.down)) (owed_in (numbered 1 t.top) said) = subst (λ l. IsFront l (owed_in (numbered 1 t.top) said)) (sym down_owed) b.owed in
+            let owes : owed_in (numbered 1 t.top) said ≡ owed_by images past.number history =
+            ap (owed_in (numbered 1 t.top)) said_is ∙ owed_right laws images history past legal follows readable t.top a top_few in
+            front_then (owed_in asked_are heard_are) (owed_in asked_are (entering t.down)) (owed_by images past.number history) heard
+            (front_same (owed_in asked_are (entering t.down)) (owed_in (numbered 1 t.top) said) (owed_by images past.number history) owes top)
 
-        -- what the history tells, under the tokens that the client knows
-        abbrev told_is : List Told
-        told_is = sent images past.number history
-
-        owed_is : owed_to later_are images past.number history ≡ messages_told (tokens_from (length b.answered + 1) many) told_is
-        owed_is =
-            let first : List Accepted = take many later_are in
-            let rest : List Accepted = drop many later_are in
-            let room : many ≤ length later_are = let size = length-append parts.back held_are in let one = fewer in let two = later_many in omega arith in
-            let size : length first ≡ many = length-take-le many later_are room in
-            let names_are : tokens_of first ≡ tokens_from (length b.answered + 1) many =
-            tokens_counted (length b.answered + 1) first (counted_taken (length b.answered + 1) many later_are later_counted) ∙ ap (tokens_from (length b.answered + 1)) size in
-            let enough : length (tokens_of first) ≡ length (executed_on past.number history) = length-map first (λ c. decimal c.number) ∙ size ∙ sym executed_many in
-            ap (λ cs. messages_told (tokens_of cs) told_is) (sym (take-append-drop many later_are))
-            ∙ ap (λ ns. messages_told ns told_is) (map-append (λ c. decimal c.number) first rest)
-            ∙ laws.unused images history past.number (tokens_of first) (tokens_of rest) legal enough
-            ∙ ap (λ ns. messages_told ns told_is) names_are
-
-        asked_tokens : tokens (asked (run_of past)) ≡ tokens_from 1 many
-        asked_tokens = tokens_asked (asked (run_of past)) t.top (length (entering t.goes_up.spoken) - 1) asks
-
-        passed_is : passed (numbered (length b.answered + 1) b.later) said ≡ spoken_of (owed_to later_are images past.number history)
-        passed_is =
-            let few = sent_few in
-            let size : length sent_are ≡ length parts.front + length parts.back = ap length parts.whole ∙ length-append parts.front parts.back in
-            let same = later_many in
-            let room : 1 + length b.later ≤ 2 ^ 64 = omega arith in
-            let formed : AllByRecursion (λ m. IsWellFormed m.0) (messages_told (tokens_from 1 many) told_is) =
-            subst (λ ns. AllByRecursion (λ m. IsWellFormed m.0) (messages_told ns told_is)) asked_tokens (told_formed laws images history past legal follows readable) in
-            ap (passed (numbered (length b.answered + 1) b.later)) (said_is ∙ ap (λ ns. spoken_of (messages_told ns told_is)) asked_tokens)
-            ∙ passed_on_told (length b.answered) many b.later told_is fewer room formed
-            ∙ ap spoken_of (sym owed_is)
-
-        comes_as : messages_of (t.own ++ passed (numbered (length b.answered + 1) b.later) said) ≡ messages_of t.own ++ owed_to later_are images past.number history
-        comes_as =
-            map-append (λ (s : Spoken). (s.message, s.mark)) t.own (passed (numbered (length b.answered + 1) b.later) said)
-            ∙ ap (λ ms. messages_of t.own ++ ms) (ap messages_of passed_is ∙ of_spoken (owed_to later_are images past.number history))
-
-        owed_formed : AllByRecursion (λ m. IsWellFormed m.0) (owed_to later_are images past.number history)
-        owed_formed =
-            let all : AreWritten (parts.front ++ later_are) = subst AreWritten commands_are (all_written laws calls names) in
-            let later_written : AreWritten later_are = all_behind (λ c. IsWellFormed (command_of c)) parts.front later_are all in
-            let one = front_length (executed_on past.number history) (map read later_are) executes_read in
-            let two : length (map read later_are) ≡ length later_are = length-map later_are read in
-            let three : length (tokens_of later_are) ≡ length later_are = length-map later_are (λ c. decimal c.number) in
-            laws.told images history past.number (tokens_of later_are) legal (tokens_written later_are later_written) (omega arith)
-
-        greeted_first : IsPrefixOf (heard_in client_past) (map incoming (messages_of t.own)) → executed_on past.number history ≡ []
+        greeted_first : IsFront heard_are t.own → executed ≡ []
         greeted_first heard =
-            let none : b.later ≡ [] = none_later laws calls names t.own t.own_formed heard b.answered b.later b.split b.is_own binds sent_few in
-            front_none (executed_on past.number history)
-            (front_same (executed_on past.number history) (map content_read (map content b.later)) [] (ap (λ cs. map content_read (map content cs)) none) executes)
+            let none : b.later ≡ [] = none_later laws calls names t.own t.own_formed (as_own heard) b.answered b.later b.split b.is_own binds sent_few in
+            let asked_none : b.goes_up.asked ≡ [] = front_none b.goes_up.asked (front_same b.goes_up.asked (map content b.later) [] (ap (map content) none) b.goes_up.front) in
+            let fewer : length (map content t.top) ≤ length b.goes_up.asked = without_few is_storable_content (map content t.top) b.goes_up.asked b.goes_up.sent in
+            let top_none : map content t.top ≡ [] = empty_by (map content t.top) (subst (λ l. length (map content t.top) ≤ length l) asked_none fewer) in
+            front_none executed (front_same executed top_read [] (ap (map content_read) top_none) executes)
 
         pub target_heard : Heard images history past.number past.position client_past
         target_heard = record {
@@ -243,12 +370,18 @@ module _ (laws : Laws) (calls : List ClientCall) (names : AllByRecursion HasName
           begins = t.begins;
           legal = legal;
           opened = follows.opened;
-          asked = prefix_of (executed_on past.number history) (map read later_are) executes_read;
-          told = prefix_of (heard_in client_past) (map incoming (messages_of t.own ++ owed_to later_are images past.number history))
-              (front_same (heard_in client_past) (map incoming (messages_of (t.own ++ passed (numbered (length b.answered + 1) b.later) said)))
-              (map incoming (messages_of t.own ++ owed_to later_are images past.number history)) (ap (map incoming) comes_as) (heard_down (t.own ++ passed (numbered (length b.answered + 1) b.later) said) b.comes_down));
-          readable = all_read laws (messages_of t.own ++ owed_to later_are images past.number history)
-              (all_append (λ m. IsWellFormed m.0) (messages_of t.own) (owed_to later_are images past.number history) (own_read t.own t.own_formed) owed_formed);
+          heard = heard_are;
+          are = heard_down.are;
+          readable = heard_read laws heard_are heard_formed;
+          parts = record {
+            target = b.comes_down.target;
+            marked = b.comes_down.marked;
+            front = front_then heard_are (entering t.down) (t.own ++ b.comes_down.target) heard_down.front b.comes_down.front;
+          };
+          told = heard_told;
+          owed = owed;
+          asked = is_asked;
+          through = goes;
           greeted_first = greeted_first;
           few = laws.few calls;
         }

@@ -1,82 +1,81 @@
--- Fronts of lists, and lists that are seen through a function.
-use Rattle.std.proofs.Common.{◌≡◌, ℕ, zero, suc, ◌+◌, ◌≤◌, List, [], ◌∷◌, ◌++◌, length, take, drop, map, refl, sym, ap, ◌∙◌, subst, arith, append_assoc, append-nil, length-append}
-use Rattle.std.specs.List.{AllByRecursion, flat_map}
-use Rattle.std.proofs.lemmas.List.{map-append, take-append-drop}
-use Rattle.std.proofs.lemmas.List.Concat.{flat_map-append}
+-- Fronts of lists, what is left of them, and lists that are seen through a function.
+use Rattle.std.proofs.Common.{◌≡◌, ◌≤◌, inl, inr, ⊎_elim, Bool, true, false, cond, List, [], ◌∷◌, ◌++◌, length, map, refl, sym, ap, ◌∙◌, arith, append-nil}
+use Rattle.std.specs.List.{filter}
+use Rattle.std.proofs.lemmas.List.Elements.{filter-append}
 use Rattle.channel_core.specs.Arrivals.{IsFront}
-use Rattle.target_hub.specs.Ordered.{IsPrefixOf}
+use Rattle.chain_told.specs.TellsOn.{IsWithoutSome}
+use Rattle.target_hub.specs.Ordered.{IsPrefixOf, IsSubsequenceOf}
 
 -- ---- Fronts
 
 pub front_all : {A : Type 0} → (xs : List A) → IsFront xs xs
 front_all xs = ([], sym (append-nil xs))
 
-pub front_same : {A : Type 0} → (front all next : List A) → all ≡ next → IsFront front all → IsFront front next
-front_same front all next same p = (p.0, sym same ∙ p.1)
-
-pub front_more : {A : Type 0} → (front all more : List A) → IsFront front all → IsFront front (all ++ more)
-front_more front all more p = (p.0 ++ more, ap (λ xs. xs ++ more) p.1 ∙ append_assoc front p.0 more)
-
-pub front_then : {A : Type 0} → (xs ys zs : List A) → IsFront xs ys → IsFront ys zs → IsFront xs zs
-front_then xs ys zs p q = (p.0 ++ q.0, q.1 ∙ ap (λ l. l ++ q.0) p.1 ∙ append_assoc xs p.0 q.0)
-
-pub front_map : {A B : Type 0} → (f : A → B) (xs ys : List A) → IsFront xs ys → IsFront (map f xs) (map f ys)
-front_map f xs ys p = (map f p.0, ap (map f) p.1 ∙ map-append f xs p.0)
-
-pub front_flat : {A B : Type 0} → (f : A → List B) (xs ys : List A) → IsFront xs ys → IsFront (flat_map f xs) (flat_map f ys)
-front_flat f xs ys p = (flat_map f p.0, ap (flat_map f) p.1 ∙ flat_map-append f xs p.0)
-
-pub front_none : {A : Type 0} → (xs : List A) → IsFront xs [] → xs ≡ []
-front_none [] p = refl
-front_none (x ∷ xs) p = let whole : [] ≡ x ∷ (xs ++ p.0) = p.1 in absurd cc
-
-pub front_length : {A : Type 0} → (xs ys : List A) → IsFront xs ys → length xs ≤ length ys
-front_length xs ys p = let is : length ys ≡ length xs + length p.0 = ap length p.1 ∙ length-append xs p.0 in omega arith
-
-pub front_each : {A : Type 0} → (P : A → Type 0) (xs ys : List A) → IsFront xs ys → AllByRecursion P ys → AllByRecursion P xs
-front_each P xs ys p each = by_front xs (subst (AllByRecursion P) p.1 each)
-  where
-    by_front : (front : List _) → AllByRecursion P (front ++ p.0) → AllByRecursion P front
-    by_front [] each = tt
-    by_front (x ∷ front) each = (each.0, by_front front each.1)
-
-pub take_front : {A : Type 0} → (n : ℕ) (xs : List A) → IsFront (take n xs) xs
-take_front n xs = (drop n xs, sym (take-append-drop n xs))
-
 pub prefix_of : {A : Type 0} → (xs ys : List A) → IsFront xs ys → IsPrefixOf xs ys
 prefix_of xs ys p = (p.0, sym p.1)
 
+pub front_filter : {A : Type 0} → (q : A → Bool) (xs ys : List A) → IsFront xs ys → IsFront (filter q xs) (filter q ys)
+front_filter q xs ys p = (filter q p.0, ap (filter q) p.1 ∙ filter-append q xs p.0)
+
 -- ---- One list after the other
-
-pub all_append : {A : Type 0} → (P : A → Type 0) (xs ys : List A) → AllByRecursion P xs → AllByRecursion P ys → AllByRecursion P (xs ++ ys)
-all_append P [] ys first second = second
-all_append P (x ∷ xs) ys first second = (first.0, all_append P xs ys first.1 second)
-
-pub all_behind : {A : Type 0} → (P : A → Type 0) (xs ys : List A) → AllByRecursion P (xs ++ ys) → AllByRecursion P ys
-all_behind P [] ys each = each
-all_behind P (x ∷ xs) ys each = all_behind P xs ys each.1
-
-pub all_taken : {A : Type 0} → (P : A → Type 0) (n : ℕ) (xs : List A) → AllByRecursion P xs → AllByRecursion P (take n xs)
-all_taken P zero xs each = tt
-all_taken P (suc n) [] each = tt
-all_taken P (suc n) (x ∷ xs) each = (each.0, all_taken P n xs each.1)
-
-pub take_mapped : {A B : Type 0} → (f : A → B) (n : ℕ) (xs : List A) → take n (map f xs) ≡ map f (take n xs)
-take_mapped f zero xs = refl
-take_mapped f (suc n) [] = refl
-take_mapped f (suc n) (x ∷ xs) = ap (λ ys. f x ∷ ys) (take_mapped f n xs)
-
-pub map_twice : {A B C : Type 0} → (g : B → C) (f : A → B) (xs : List A) → map g (map f xs) ≡ map (λ x. g (f x)) xs
-map_twice g f [] = refl
-map_twice g f (x ∷ xs) = ap (λ ys. g (f x) ∷ ys) (map_twice g f xs)
-
-pub none_mapped : {A B : Type 0} → (f : A → B) (xs : List A) → map f xs ≡ [] → xs ≡ []
-none_mapped f [] is = refl
-none_mapped f (x ∷ xs) is = absurd cc
 
 pub no_more : {A : Type 0} → (xs : List A) (x : A) (ys : List A) → xs ++ x ∷ ys ≡ [] → ⊥
 no_more [] x ys is = absurd cc
 no_more (y ∷ xs) x ys is = absurd cc
+
+-- ---- What is left of a list
+
+-- a front of what is left, and what is left of a front
+pub front_left : {A : Type 0} → (xs ys zs : List A) → IsFront xs ys → IsSubsequenceOf ys zs → IsSubsequenceOf xs zs
+front_left [] ys zs p left = tt
+front_left (x ∷ xs) [] zs p left = let whole : [] ≡ x ∷ (xs ++ p.0) = p.1 in absurd cc
+front_left (x ∷ xs) (y ∷ ys) [] p left = absurd left
+front_left (x ∷ xs) (y ∷ ys) (z ∷ zs) p left =
+    let whole : y ∷ ys ≡ x ∷ (xs ++ p.0) = p.1 in
+    let one : x ≡ y = cc in
+    let tails : ys ≡ xs ++ p.0 = cc in
+    ⊎_elim (λ both. inl (one ∙ both.0, front_left xs ys zs (p.0, tails) both.1)) (λ other. inr (front_left (x ∷ xs) (y ∷ ys) zs p other)) left
+
+pub left_front : {A : Type 0} → (xs ys zs : List A) → IsSubsequenceOf xs ys → IsFront ys zs → IsSubsequenceOf xs zs
+left_front [] ys zs left p = tt
+left_front (x ∷ xs) [] zs left p = absurd left
+left_front (x ∷ xs) (y ∷ ys) [] left p = let whole : [] ≡ y ∷ (ys ++ p.0) = p.1 in absurd cc
+left_front (x ∷ xs) (y ∷ ys) (z ∷ zs) left p =
+    let whole : z ∷ zs ≡ y ∷ (ys ++ p.0) = p.1 in
+    let one : y ≡ z = cc in
+    let tails : zs ≡ ys ++ p.0 = cc in
+    ⊎_elim (λ both. inl (both.0 ∙ one, left_front xs ys zs both.1 (p.0, tails))) (λ other. inr (left_front (x ∷ xs) ys zs other (p.0, tails))) left
+
+-- ---- A list without some elements of a kind, seen through a function
+
+pub without_left : {A B : Type 0} → (f : A → B) (kind : A → Bool) (xs ys : List A) → IsWithoutSome kind xs ys → IsSubsequenceOf (map f xs) (map f ys)
+without_left f kind [] ys without = tt
+without_left f kind (x ∷ xs) [] without = absurd without
+without_left f kind (x ∷ xs) (y ∷ ys) without =
+    ⊎_elim (λ both. inl (ap f both.0, without_left f kind xs ys both.1)) (λ other. inr (without_left f kind (x ∷ xs) ys other.1)) without
+
+pub without_few : {A : Type 0} → (kind : A → Bool) (xs ys : List A) → IsWithoutSome kind xs ys → length xs ≤ length ys
+without_few kind [] ys without = omega arith
+without_few kind (x ∷ xs) [] without = absurd without
+without_few kind (x ∷ xs) (y ∷ ys) without =
+    ⊎_elim (λ both. let rest = without_few kind xs ys both.1 in omega arith) (λ other. let rest = without_few kind (x ∷ xs) ys other.1 in omega arith) without
+
+-- those of another kind are the same
+module _ {A B : Type 0} (f : A → B) (kind : A → Bool) (q : B → Bool) (other : (x : A) → kind x ≡ true → q (f x) ≡ false) where
+  dropped : (y : A) (ys : List A) → kind y ≡ true → filter q (map f (y ∷ ys)) ≡ filter q (map f ys)
+  dropped y ys is = ap (λ b. cond b (f y ∷ filter q (map f ys)) (filter q (map f ys))) (other y is)
+
+  pub without_filter : (xs ys : List A) → IsWithoutSome kind xs ys → filter q (map f xs) ≡ filter q (map f ys)
+  without_filter [] [] without = refl
+  without_filter [] (y ∷ ys) without = without_filter [] ys without.1 ∙ sym (dropped y ys without.0)
+  without_filter (x ∷ xs) [] without = absurd without
+  without_filter (x ∷ xs) (y ∷ ys) without =
+      ⊎_elim
+      (λ both.
+      ap (λ l. cond (q (f x)) (f x ∷ l) l) (without_filter xs ys both.1)
+      ∙ ap (λ z. cond (q (f z)) (f z ∷ filter q (map f ys)) (filter q (map f ys))) both.0)
+      (λ more. without_filter (x ∷ xs) ys more.1 ∙ sym (dropped y ys more.0))
+      without
 
 -- ---- A list whose images are split
 

@@ -1,14 +1,16 @@
 -- The laws of the crates below.
-use Rattle.std.proofs.Common.{ℕ, ◌≤◌, List, length}
+use Rattle.std.proofs.Common.{ℕ, List}
 use Rattle.std.specs.List.{AllByRecursion}
-use Rattle.agent_node.specs.AgentLaws.{AgentTellsTheTruth}
+use Rattle.agent_node.specs.AgentLaws.{AgentTellsTheTruth, messages_told}
 use Rattle.agent_node.specs.Runs.{Call as AgentCall, after_all, no_calls}
 use Rattle.agent_node.specs.Strangers.{NoStrangersAfterAnyCalls}
 use Rattle.chain_heard.specs.Coherent.{HeardIsCoherent, NoTargetHeardIsCoherent}
-use Rattle.chain_heard.specs.Heard.{CommandsAreFew, HeardAmongIsOrdered, NoTargetHeardIsOrdered, UnusedTokensChangeNothing, messages_told}
+use Rattle.agent_told.specs.Sent.{IsOwed, IsToldRightly}
+use Rattle.chain_heard.specs.Heard.{CommandsAreFew, HeardAmongIsOrdered, HeardIsFresh, NoTargetHeardIsFresh, NoTargetHeardIsOrdered}
 use Rattle.chain_route.specs.Carrying.{CarriesAfterAllCalls}
 use Rattle.chain_through.specs.Endings.{AnsweredIsSound, AskedIsSound, ComesToSoundEnds}
 use Rattle.chain_through.specs.Through.{ComesThrough}
+use Rattle.chain_through.proofs.Spelling.{IsSpelled}
 use Rattle.chain_world.specs.Standing.{StandsAfterEverySchedule}
 use Rattle.channel_core.specs.Greeting.{WaitsForHello}
 use Rattle.channel_core.specs.QueueLaws.{QueuesNoCommand, QueuesWhatIsSent}
@@ -20,10 +22,10 @@ use Rattle.client_node.specs.Ends.{EndIsRunAfterAnyCalls}
 use Rattle.client_node.specs.Runs.{LogTellsPast, OnceAfterAnyCalls, ShownAfterAnyCalls}
 use Rattle.target_contexts.specs.declared.process.Image.{Image}
 use Rattle.target_hub.specs.History.{IsLegal}
-use Rattle.target_hub.specs.Sent.{executed_on, sent}
+use Rattle.target_hub.specs.Sent.{sent}
 use Rattle.target_hub.specs.declared.input.Input.{Input}
-use Rattle.tcf_message.specs.Fault.{IsDecimalToken, IsOneSpelling, IsReadBack}
-use Rattle.tcf_message.specs.Message.{IsToken, IsWellFormed}
+use Rattle.tcf_message.specs.Fault.{IsDecimalToken, IsReadBack}
+use Rattle.tcf_message.specs.Message.{IsToken}
 use Rattle.value_node.specs.ForwardedValue.{ForwardedValue}
 use Rattle.value_node.specs.OwnLaws.{AsksNothingBelow}
 use Rattle.value_node.specs.RelayLaws.{AfterAllCalls as AddAfterAllCalls, EndsAreRuns}
@@ -32,15 +34,14 @@ use Rattle.value_node.specs.RelayLaws.{AfterAllCalls as AddAfterAllCalls, EndsAr
 abbrev pub PastsAreReadable : Type 0
 PastsAreReadable = (images : List Image) (calls : List AgentCall) → AllByRecursion (λ past. SendsReadable past.calls) (after_all calls (no_calls images)).channels
 
--- and so can what its history tells
-abbrev pub ToldIsWritten : Type 0
-ToldIsWritten = (images : List Image) (history : List Input) (k : ℕ) (names : List (List ℕ)) → IsLegal images history → AllByRecursion IsToken names → length (executed_on k history) ≤ length names
-    → AllByRecursion (λ m. IsWellFormed m.0) (messages_told names (sent images k history))
+-- and what its history tells can be spelled, under any tokens
+abbrev pub ToldIsSpelled : Type 0
+ToldIsSpelled = (images : List Image) (history : List Input) (k : ℕ) (names : List (List ℕ)) → IsLegal images history → AllByRecursion IsToken names
+    → AllByRecursion (λ m. IsSpelled m.0) (messages_told names (sent images k history))
 
 pub record Laws : Type 0 where
   -- messages
   pub back : IsReadBack
-  pub one : IsOneSpelling
   pub decimals : IsDecimalToken
   -- the end of a client, one below which no command is sent, and the upper one of a value-add
   pub order : AfterAllCalls {T = ℕ} QueuesInOrder
@@ -73,7 +74,9 @@ pub record Laws : Type 0 where
   pub truth : AgentTellsTheTruth
   pub strangers : NoStrangersAfterAnyCalls
   pub pasts : PastsAreReadable
-  pub told : ToldIsWritten
+  pub told : ToldIsSpelled
+  pub right : IsToldRightly
+  pub owed : IsOwed
   pub adds : AddAfterAllCalls EndsAreRuns
   pub asks_nothing : AddAfterAllCalls AsksNothingBelow
   -- the way between them
@@ -82,9 +85,10 @@ pub record Laws : Type 0 where
   pub sound : ComesToSoundEnds
   -- what a client heard
   pub few : CommandsAreFew
-  pub unused : UnusedTokensChangeNothing
   pub among : HeardAmongIsOrdered
   pub no_target : NoTargetHeardIsOrdered
+  pub heard_fresh : HeardIsFresh
+  pub no_target_fresh : NoTargetHeardIsFresh
   pub heard_true : HeardIsCoherent
   pub no_target_true : NoTargetHeardIsCoherent
   -- the world

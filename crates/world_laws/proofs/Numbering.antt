@@ -1,15 +1,16 @@
 -- The channels that an agent has have numbers that differ, so each is found by its own.
-use Rattle.std.proofs.Common.{◌≡◌, ℕ, suc, zero, ◌+◌, ◌<◌, ◌≤◌, ◌==◌, ◌||◌, Bool, true, false, not, cond, nat_lt, List, [], ◌∷◌, ◌++◌, length, map, Option, Some, None, Result, Ok, Err, refl, sym, ap, ◌∙◌, subst, arith, eq-eqb, ne_eqb, one-add, ltb-true, ltb-false, lt-ltb, le-ltb}
+use Rattle.std.proofs.Common.{◌≡◌, ℕ, suc, zero, ◌+◌, ◌==◌, ◌||◌, Bool, true, false, cond, List, [], ◌∷◌, ◌++◌, map, Option, Some, None, Result, Ok, Err, refl, sym, ap, ◌∙◌, subst, eq-eqb, ne_eqb}
 use Rattle.std.specs.Prelude.{slice_get, slice_set}
-use Rattle.std.specs.List.{AllByRecursion, filter, list_any, position_or_len}
+use Rattle.std.specs.List.{AllByRecursion, filter, list_any}
 use Rattle.std.proofs.lemmas.Bool.{eqb-false, or_parts}
 use Rattle.std.proofs.lemmas.List.{map-append}
 use Rattle.std.proofs.lemmas.List.Folds.{list_any-append}
 use Rattle.agent_node.specs.Agent.{after_giving, after_input, answered_to, asked, begun, delivered, done_by, ended, executed, executed_read, going_leaves, going_tells, gone, heard, instruction_leaves, instruction_tells, is_full, is_refused, left_by, opened, read_as, ticked, ticked_by, took, took_any, turned, turned_at, turned_on, with_target}
 use Rattle.agent_node.specs.AgentLaws.{AgentFollowsHistory, AgentTellsTheTruth}
 use Rattle.agent_node.specs.AgentValue.{AgentValue}
-use Rattle.agent_node.specs.Channels.{End, answer_queued, changed, changed_at, channel_at, channel_end, end_in, event_queued, is_kept, new_channel, place_of, put_at, told_all, with_end}
+use Rattle.agent_node.specs.Channels.{End, answer_queued, changed, changed_at, channel_end, end_in, event_queued, is_kept, new_channel, place_of, put_at, told_all, with_end}
 use Rattle.agent_node.specs.Runs.{AgentRun, Call, after_all, after_call, bytes_end, called, comes, gives, input_if, no_calls, opens, ticks, turns}
+use Rattle.agent_node.proofs.Places.{found, place_found}
 use Rattle.agent_node.specs.Strangers.{NoStrangersAfterAnyCalls}
 use Rattle.agent_node.specs.declared.agent.Turned.{Turned}
 use Rattle.agent_node.specs.declared.agent.Turned.TheVariants.{Nothing}
@@ -24,7 +25,7 @@ use Rattle.tcf_message.specs.Message.{MessageValue, command, event, final, flow,
 use Rattle.tcf_message.specs.declared.message.MessageFault.{MessageFault}
 use Rattle.tcf_values.specs.declared.event.EventData.{EventData}
 use Rattle.tcf_values.specs.declared.ids.ContextId.{ContextId}
-use Rattle.world_laws.proofs.Lists.{map_twice}
+use Rattle.agent_told.proofs.Lists.{map_map}
 use Rattle.world_laws.proofs.Telling.{Reached, reached_more}
 
 abbrev number_of : Channel → ℕ
@@ -41,38 +42,6 @@ AreApart [] = Unit {0}
 AreApart (n ∷ ns) = (has n ns ≡ false) × AreApart ns
 
 -- ---- The first channel of a number
-
-abbrev found : ℕ → List Channel → Option Channel
-found k [] = None
-found k (c ∷ cs) = cond (c.number == k) (Some c) (found k cs)
-
-abbrev first_place : ℕ → List Channel → ℕ
-first_place k cs = position_or_len (λ c. c.number == k) cs
-
-abbrev within : Bool → ℕ → Option ℕ
-within flag place = cond flag (Some place) None
-
-lt_more : (p n : ℕ) → nat_lt (suc p) (suc n) ≡ nat_lt p n
-lt_more p n = by_flag (nat_lt p n) refl
-  where
-    by_flag : (flag : Bool) → nat_lt p n ≡ flag → nat_lt (suc p) (suc n) ≡ nat_lt p n
-    by_flag true is = let less : p < n = ltb-true p n is in lt-ltb (suc p) (suc n) (omega arith) ∙ sym is
-    by_flag false is = let more : n ≤ p = ltb-false p n is in le-ltb (suc p) (suc n) (omega arith) ∙ sym is
-
-behind : (flag : Bool) (place : ℕ) (c : Channel) (cs : List Channel) → channel_at (within flag (suc place)) (c ∷ cs) ≡ channel_at (within flag place) cs
-behind true place c cs = refl
-behind false place c cs = refl
-
-place_found : (k : ℕ) (cs : List Channel) → channel_at (place_of k cs) cs ≡ found k cs
-place_found k [] = refl
-place_found k (c ∷ cs) = by_flag (c.number == k) (place_found k cs)
-  where
-    by_flag : (flag : Bool) → channel_at (place_of k cs) cs ≡ found k cs
-        → channel_at (within (nat_lt (cond (not flag) (1 + first_place k cs) 0) (suc (length cs))) (cond (not flag) (1 + first_place k cs) 0)) (c ∷ cs) ≡ cond flag (Some c) (found k cs)
-    by_flag true rest = let first : nat_lt 0 (suc (length cs)) ≡ true = lt-ltb 0 (suc (length cs)) (omega arith) in rw first refl
-    by_flag false rest =
-        rw one-add
-        (ap (λ b. channel_at (within b (suc (first_place k cs))) (c ∷ cs)) (lt_more (first_place k cs) (length cs)) ∙ behind (nat_lt (first_place k cs) (length cs)) (first_place k cs) c cs ∙ rest)
 
 end_found : (k : ℕ) (cs : List Channel) → channel_end k cs ≡ end_in (found k cs)
 end_found k cs = ap end_in (place_found k cs)
@@ -122,7 +91,7 @@ changed_keeps k change cs = by_place (place_of k cs)
 
 told_keeps : (events : List EventData) (position : ℕ) (cs : List Channel) → numbers (told_all events position cs) ≡ numbers cs
 told_keeps [] position cs = refl
-told_keeps (told ∷ events) position cs = told_keeps events position (map (event_queued told position) cs) ∙ map_twice number_of (event_queued told position) cs
+told_keeps (told ∷ events) position cs = told_keeps events position (map (event_queued told position) cs) ∙ map_map number_of (event_queued told position) cs
 
 abbrev of_agent : AgentValue → List ℕ
 of_agent a = numbers a.channels

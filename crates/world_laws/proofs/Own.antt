@@ -26,13 +26,6 @@ own_more commands [] left more is = ap (λ cs. cs ++ more) is
 own_more commands (s ∷ spoken) left more is =
     (is.0, (is.1.0 ++ more, step_more commands is.1.0 more s.message is.1.1, own_more is.1.0 spoken left more is.1.2))
 
--- ---- In two parts
-
-pub own_parts : (commands : List Asked) (first second : List Spoken) (left : List Asked) → IsOwn commands (first ++ second) left → (middle : List Asked) × IsOwn commands first middle × IsOwn middle second left
-own_parts commands [] second left is = (commands, refl, is)
-own_parts commands (s ∷ first) second left is =
-    let rest = own_parts is.1.0 first second left is.1.2 in (rest.0, (is.0, (is.1.0, is.1.1, rest.1)), rest.2)
-
 -- ---- The last command is answered by the last message alone
 
 step_fewer : (commands left : List Asked) (m : MessageValue) → OwnStep commands m left → length left ≤ length commands

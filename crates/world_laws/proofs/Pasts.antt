@@ -1,11 +1,11 @@
 -- What holds of each call of the ends that an agent has, over any calls of the agent.
-use Rattle.std.proofs.Common.{ℕ, ◌+◌, ◌==◌, Bool, true, false, cond, List, [], ◌∷◌, ◌++◌, map}
+use Rattle.std.proofs.Common.{ℕ, ◌+◌, ◌==◌, Bool, true, false, cond, List, [], ◌∷◌, map}
 use Rattle.std.specs.List.{AllByRecursion}
 use Rattle.agent_node.specs.AgentValue.{AgentValue}
 use Rattle.agent_node.specs.Runs.{Past, on_number, on_open, opened_by, run_of, unless_over, with_calls}
 use Rattle.channel_core.specs.Closing.{is_closed}
 use Rattle.channel_core.specs.Runs.{Call}
-use Rattle.world_laws.proofs.Lists.{all_append}
+use Rattle.chain_through.proofs.Taking.{all_append}
 
 module _ (P : Call Unit → Type 0) where
   abbrev pub AreAll : List (Call Unit) → Type 0

@@ -10,13 +10,13 @@ use Rattle.hex.proofs.HexLemmas.{decode_of-ok}
 use Rattle.target_truth.specs.Typed.{AreTyped}
 use Rattle.tcf_schedules.specs.Line.{LineHead, chain, image}
 use Rattle.tcf_schedules.specs.Plan.{IsSingle as IsSingleStep, IsStep, Plan, cached, close, cut, deliver, opens, rounds, send, tick, times, turn}
-use Rattle.tcf_schedules.specs.Schedule.{ReadsWhatIsSaid, ReadsWithin, images_in}
+use Rattle.tcf_schedules.specs.Schedule.{ReadsWhatIsSaid, ReadsWithin, ScheduleValue, images_in, schedule_of}
 use Rattle.tcf_schedules.specs.Words.{bytes_of, bytes_or_none, dash_word}
 use Rattle.tcf_schedules.specs.declared.schedule.ChainHead.{ChainHead}
 use Rattle.tcf_schedules.specs.declared.schedule.NamedImage.{NamedImage}
 use Rattle.world_laws.specs.EndLaws.{EndsRightlyAfterEverySchedule}
-use Rattle.world_laws.specs.Playing.{CoherentOfEveryFile, EndsOfEveryFile, HoldsOfEveryFile, ReadIsPlayable}
-use Rattle.world_laws.specs.WorldLaws.{CoherentAfterEverySchedule, FaithfulAfterEverySchedule}
+use Rattle.world_laws.specs.Playing.{CoherentOfEveryFile, EndsOfEveryFile, FreshOfEveryFile, HoldsOfEveryFile, ReadIsPlayable}
+use Rattle.world_laws.specs.WorldLaws.{CoherentAfterEverySchedule, FaithfulAfterEverySchedule, FreshAfterEverySchedule}
 
 -- ---- The steps
 
@@ -81,8 +81,13 @@ file_faithful law playable file s read = law (images_of s.images) (adds_of s.cha
 pub file_ends : EndsRightlyAfterEverySchedule → ReadIsPlayable → EndsOfEveryFile
 file_ends law playable file s read = law (images_of s.images) (adds_of s.chains) s.plans (playable file s read)
 
-pub file_coherent : CoherentAfterEverySchedule → ReadsWhatIsSaid → ReadIsPlayable → CoherentOfEveryFile
-file_coherent law said playable file s read =
+file_typed : ReadsWhatIsSaid → (file : List ℕ) (s : ScheduleValue) → schedule_of file ≡ Ok s → AreTyped (images_of s.images)
+file_typed said file s read =
     let accepts = (said file s).0 read in
-    let typed : AreTyped (images_of s.images) = subst (λ (images : List NamedImage). AreTyped (images_of images)) (sym accepts.images) (heads_typed accepts.heads) in
-    law (images_of s.images) (adds_of s.chains) s.plans typed (playable file s read)
+    subst (λ (images : List NamedImage). AreTyped (images_of images)) (sym accepts.images) (heads_typed accepts.heads)
+
+pub file_coherent : CoherentAfterEverySchedule → ReadsWhatIsSaid → ReadIsPlayable → CoherentOfEveryFile
+file_coherent law said playable file s read = law (images_of s.images) (adds_of s.chains) s.plans (file_typed said file s read) (playable file s read)
+
+pub file_fresh : FreshAfterEverySchedule → ReadsWhatIsSaid → ReadIsPlayable → FreshOfEveryFile
+file_fresh law said playable file s read = law (images_of s.images) (adds_of s.chains) s.plans (file_typed said file s read) (playable file s read)

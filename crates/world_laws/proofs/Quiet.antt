@@ -1,5 +1,5 @@
 -- What comes down to a client asks it nothing, whatever it says itself.
-use Rattle.std.proofs.Common.{◌≡◌, ℕ, Bool, false, List, [], ◌∷◌, ◌++◌, map, Option, None, Ok, refl, sym, ap, ◌∙◌, subst, arith, append-nil}
+use Rattle.std.proofs.Common.{◌≡◌, Bool, false, List, [], ◌∷◌, ◌++◌, map, None, Ok, refl, sym, ap, ◌∙◌, subst, arith, append-nil}
 use Rattle.std.specs.List.{AllByRecursion, filter, flat_map}
 use Rattle.tcf_message.specs.Message.{IsWellFormed, MessageValue, command, event, final, flow, not_known, progress, reading, spelling}
 use Rattle.channel_core.specs.Arrivals.{AreSpoken, IsFront, Marked, Spoken, arrived, bytes_of, messages_in, queue_of}
@@ -12,16 +12,19 @@ use Rattle.client_node.specs.Ends.{client_end, end_calls, unknown_to}
 use Rattle.client_node.specs.Runs.{Call as ClientCall}
 use Rattle.chain_route.specs.Carrying.{AllCarry, End, Made, end_below, past_of}
 use Rattle.chain_route.specs.declared.hop.Hop.{Hop}
-use Rattle.chain_through.specs.Calling.{AskNothing, Says, asks}
+use Rattle.chain_through.specs.Calling.{AskNothing, Says, asks, entering}
 use Rattle.value_node.specs.RelayLaws.{EndsAreRuns}
 use Rattle.value_node.specs.Runs.{LowerCall, after_all, lower_after, no_calls}
 use Rattle.value_node.specs.Value.{value_services}
+use Rattle.chain_through.proofs.Fronts.{front_each, front_then}
+use Rattle.chain_told.specs.TellsOn.{comes_as}
+use Rattle.chain_through.proofs.Queues.{commanding, entering_formed, nothing_asked, queue_commands}
+use Rattle.chain_through.proofs.Spelling.{said_so}
+use Rattle.chain_through.proofs.Taking.{received_front}
+use Rattle.chain_through.proofs.Through.{none_mapped}
 use Rattle.world_laws.proofs.LowerLaws.{Laws}
-use Rattle.world_laws.proofs.Lists.{front_each, front_then}
 use Rattle.world_laws.proofs.Sending.{AsksNothing}
-use Rattle.world_laws.proofs.Spoken.{front_bytes, none_kept, queue_commands, quiet_all, said_so}
-use Rattle.world_laws.proofs.Lists.{none_mapped}
-use Rattle.world_laws.proofs.Taking.{received_front}
+use Rattle.world_laws.proofs.Spoken.{front_bytes}
 
 pub add_hello : IsWellFormed (event locator hello value_services)
 unfolding locator hello value_services
@@ -32,7 +35,7 @@ pub record ComesQuietly (came : List Marked) : Type 0 where
   pub spoken : List Spoken
   pub is_ended : Bool
   pub formed : AreSpoken spoken
-  pub quiet : AskNothing spoken
+  pub quiet : AskNothing (entering spoken)
   pub front : IsFront came (bytes_of (queue_of spoken is_ended))
 
 nothing_came : (came : List Marked) → came ≡ [] → ComesQuietly came
@@ -45,13 +48,13 @@ module _ (laws : Laws) where
       let r : EndsAreRuns (after_all m.calls (no_calls m.peer)) = laws.adds m.peer m.calls in
       laws.plain_readable value_services None ((past_of m).until_bound ++ (past_of m).since_bound) add_hello r.below_readable
 
-  below_quiet : (m : Made) → AskNothing (below_can m).spoken
+  below_quiet : (m : Made) → AskNothing (entering (below_can m).spoken)
   below_quiet m =
       let calls : List LowerCall = (past_of m).until_bound ++ (past_of m).since_bound in
       let can = below_can m in
       let none : filter is_command (lower_after calls).past.queued ≡ [] = laws.no_command value_services None calls (laws.asks_nothing m.peer m.calls) in
-      let said : map said_so (filter (λ s. asks s.message) can.spoken) ≡ [] = sym (queue_commands can.spoken can.is_ended) ∙ ap (filter is_command) (sym can.queue) ∙ none in
-      none_kept (λ s. asks s.message) can.spoken (none_mapped said_so (filter (λ s. asks s.message) can.spoken) said)
+      let said : map said_so (commanding can.spoken) ≡ [] = sym (queue_commands can.spoken can.is_ended) ∙ ap (filter is_command) (sym can.queue) ∙ none in
+      nothing_asked can.spoken (none_mapped said_so (commanding can.spoken) said)
 
   below_comes : (m : Made) (came : List Marked) → IsFront came (bytes_of (end_below (past_of m)).gave) → ComesQuietly came
   below_comes m came front =
@@ -74,7 +77,7 @@ agent_comes agent said came says quiet front = record {
   spoken = says.spoken;
   is_ended = says.is_ended;
   formed = says.formed;
-  quiet = quiet_all says.spoken (subst AskNothing (sym says.says) quiet);
+  quiet = subst AskNothing (sym says.says) quiet;
   front = front_then came (bytes_of agent.gave) (bytes_of (queue_of says.spoken says.is_ended)) front (front_bytes agent.gave (queue_of says.spoken says.is_ended) says.front);
 }
 
@@ -86,22 +89,20 @@ comes_quietly laws lower agent (hop ∷ next ∷ hops) [] said carry says quiet 
 
 -- ---- So what was taken asks nothing
 
-taken_one : (m : MessageValue) (mark : Option ℕ) (spoken : List Spoken) → reading (spelling m) ≡ Ok m → asks m ≡ false → AllByRecursion AsksNothing (messages_in spoken)
-    → AllByRecursion AsksNothing (messages_in (record { message = m; mark = mark } ∷ spoken))
-taken_one (command token service name body) mark spoken read is rest = absurd cc
-taken_one (final token body) mark spoken read is rest = (ap (λ r. unknown_to r) read, rest)
-taken_one (progress token body) mark spoken read is rest = (ap (λ r. unknown_to r) read, rest)
-taken_one (not_known token) mark spoken read is rest = (ap (λ r. unknown_to r) read, rest)
-taken_one (event service name body) mark spoken read is rest = (ap (λ r. unknown_to r) read, rest)
-taken_one (flow level) mark spoken read is rest = rest
+taken_one : (m : MessageValue) → IsWellFormed m → reading (spelling m) ≡ Ok m → asks m ≡ false → unknown_to (reading (spelling m)) ≡ []
+taken_one (command token service name body) formed read is = absurd cc
+taken_one (final token body) formed read is = ap (λ r. unknown_to r) read
+taken_one (progress token body) formed read is = ap (λ r. unknown_to r) read
+taken_one (not_known token) formed read is = ap (λ r. unknown_to r) read
+taken_one (event service name body) formed read is = ap (λ r. unknown_to r) read
+taken_one (flow level) formed read is = ap (λ r. unknown_to r) read
 
-messages_quiet : Laws → (spoken : List Spoken) → AreSpoken spoken → AskNothing spoken → AllByRecursion AsksNothing (messages_in spoken)
+messages_quiet : Laws → (spoken : List Spoken) → AreSpoken spoken → AskNothing spoken → AllByRecursion AsksNothing (map comes_as spoken)
 messages_quiet laws [] formed quiet = tt
-messages_quiet laws (s ∷ spoken) formed quiet =
-    taken_one s.message s.mark spoken (laws.back.1 s.message formed.0) quiet.0 (messages_quiet laws spoken formed.1 quiet.1)
+messages_quiet laws (s ∷ spoken) formed quiet = (taken_one s.message formed.0 (laws.back.1 s.message formed.0) quiet.0, messages_quiet laws spoken formed.1 quiet.1)
 
 pub takes_quietly : Laws → (calls : List ClientCall) → ComesQuietly (arrived (end_calls calls new_client)) → AllByRecursion AsksNothing (flat_map incoming_of (client_end calls).past.taken)
 takes_quietly laws calls c =
     let r = client_end calls in
     let rec = laws.receives client_services None (end_calls calls new_client) c.spoken c.is_ended c.formed c.front in
-    front_each AsksNothing (flat_map incoming_of r.past.taken) (messages_in c.spoken) (received_front r (messages_in c.spoken) rec.front) (messages_quiet laws c.spoken c.formed c.quiet)
+    front_each AsksNothing (flat_map incoming_of r.past.taken) (messages_in c.spoken) (received_front r (messages_in c.spoken) rec.front) (messages_quiet laws (entering c.spoken) (entering_formed c.spoken c.formed) c.quiet)

@@ -2,13 +2,13 @@
 use Rattle.std.proofs.Common.{◌≡◌, ℕ, ◌+◌, ◌-◌, ◌<◌, ◌≤◌, ◌==◌, ◌||◌, Bool, true, false, not, cond, List, [], ◌∷◌, ◌++◌, length, take, map, Option, None, refl, sym, ap, ◌∙◌, arith, append-nil, eqb-true}
 use Rattle.std.specs.Prelude.{◌^◌}
 use Rattle.std.specs.List.{AllByRecursion, filter, flat_map}
-use Rattle.channel_core.specs.Arrivals.{AreSpoken, IsFront, Spoken, arrived, bytes_of, enters, messages_in, queue_of}
+use Rattle.channel_core.specs.Arrivals.{AreSpoken, IsFront, Spoken, arrived, bytes_of, messages_in, queue_of}
 use Rattle.channel_core.specs.Beginning.{new_end}
 use Rattle.channel_core.specs.EndValue.{EndValue}
 use Rattle.channel_core.specs.QueueLaws.{is_message, is_plain, sent_in}
 use Rattle.channel_core.specs.ReceivingLaws.{CanBeRead, SaysReadable, SendsReadable, incoming_of}
 use Rattle.channel_core.specs.RunLaws.{first_byte, is_command, is_end, is_flow, sent_of}
-use Rattle.channel_core.specs.Runs.{Call, Run, after_call, after_calls, begun, called, closing, commanding, delivering, draining, ending, putting_out, sending, taking}
+use Rattle.channel_core.specs.Runs.{Call, Run, after_calls, begun, called, closing, commanding, delivering, draining, ending, putting_out, sending, taking}
 use Rattle.channel_core.specs.Wire.{hello, locator, said}
 use Rattle.channel_core.specs.declared.held.Incoming.{Incoming}
 use Rattle.channel_core.specs.declared.held.Outgoing.{Outgoing}
@@ -21,11 +21,14 @@ use Rattle.tcf_message.specs.Message.{IsWellFormed, event, reading}
 use Rattle.tcf_text.specs.Lines.{Accepted}
 use Rattle.chain_heard.specs.Heard.{asked_as, heard_in}
 use Rattle.chain_through.specs.Calling.{Calls, entering, greeting}
-use Rattle.world_laws.proofs.Accepted.{AreCounted, AreWritten, all_named, are_counted, asking_counted, command_of, counted_taken, speaking, spoken_written, written}
+use Rattle.agent_told.proofs.Lists.{map_map}
+use Rattle.chain_through.proofs.Queues.{entering_formed, queue_messages}
+use Rattle.chain_through.proofs.Spelling.{said_so, same_said}
+use Rattle.chain_through.proofs.Taking.{received_front}
+use Rattle.chain_route.proofs.Bytes.{all_taken, take_mapped}
+use Rattle.chain_through.proofs.Above.{queued_more}
+use Rattle.world_laws.proofs.Accepted.{AreCounted, AreWritten, all_named, are_counted, asking_counted, command_of, counted_taken, speaking, spoken_spelled, written}
 use Rattle.world_laws.proofs.LowerLaws.{Laws}
-use Rattle.world_laws.proofs.Lists.{all_taken, front_then, map_twice, take_mapped}
-use Rattle.world_laws.proofs.Spoken.{all_filtered, queue_messages, said_so, says_these}
-use Rattle.world_laws.proofs.Taking.{received_front}
 
 pub client_hello : IsWellFormed (event locator hello client_services)
 unfolding locator hello client_services
@@ -48,12 +51,6 @@ all_readable [] each = tt
 all_readable (call ∷ calls) each = (unknown_readable call each.0, all_readable calls each.1)
 
 -- ---- The Hello is queued first
-
-queued_more : {T : Type 0} → (calls : List (Call T)) (r : Run T) → IsFront r.past.queued (after_calls calls r).past.queued
-queued_more [] r = ([], sym (append-nil r.past.queued))
-queued_more (call ∷ calls) r =
-    let next = after_call call r in
-    front_then r.past.queued next.past.queued (after_calls calls next).past.queued (_, refl) (queued_more calls next)
 
 pub hello_first : {T : Type 0} → (body : List ℕ) (mark : Option ℕ) (calls : List (Call T)) → IsFront (said (event locator hello body) mark ∷ []) (after_calls calls (begun (new_end {T = T} body mark))).past.queued
 hello_first body mark calls = queued_more calls (begun (new_end body mark))
@@ -153,8 +150,8 @@ module _ (laws : Laws) (calls : List ClientCall) (names : AllByRecursion HasName
   commands_queued =
       (laws.sends client_services None (end_calls calls new_client)).are_sent
       ∙ ap (map (λ i. i.command.outgoing)) sent_issued
-      ∙ map_twice (λ i. i.command.outgoing) issued_as sent_commands
-      ∙ sym (map_twice said_so speaking sent_commands)
+      ∙ map_map (λ i. i.command.outgoing) issued_as sent_commands
+      ∙ sym (map_map said_so speaking sent_commands)
 
   -- ---- What it says
 
@@ -176,8 +173,8 @@ module _ (laws : Laws) (calls : List ClientCall) (names : AllByRecursion HasName
     says_so =
         let all : map said_so (entering client_can.spoken) ≡ map said_so (greeting client_services ∷ map speaking sent_commands) =
         sym (queue_messages client_can.spoken client_can.is_ended) ∙ ap (filter is_message) (sym client_can.queue) ∙ messages_queued in
-        says_these laws.one (entering client_can.spoken) (greeting client_services ∷ map speaking sent_commands) (all_filtered (λ s. IsWellFormed s.message) (λ s. enters s.message) client_can.spoken client_can.well_formed)
-        (client_hello, spoken_written sent_commands sent_written) all
+        same_said (entering client_can.spoken) (greeting client_services ∷ map speaking sent_commands) (entering_formed client_can.spoken client_can.well_formed)
+        (client_hello.0, spoken_spelled sent_commands sent_written) all
 
     pub client_calls : Calls (map asked_as sent_commands) (given_out calls new_client)
     client_calls =

@@ -1,16 +1,14 @@
--- What an agent sends can be read, and so can what its history tells.
-use Rattle.std.proofs.Common.{◌≡◌, ℕ, zero, suc, ◌+◌, ◌≤◌, ◌==◌, Bool, true, false, cond, List, [], ◌∷◌, ◌++◌, length, take, drop, map, Option, Some, None, IfSome, Result, Ok, Err, refl, sym, ap, ◌∙◌, subst, arith, append_assoc, length-append}
+-- What an agent sends can be read, and what its history tells can be spelled.
+use Rattle.std.proofs.Common.{◌≡◌, ℕ, ◌+◌, ◌≤◌, ◌==◌, Bool, true, false, cond, List, [], ◌∷◌, ◌++◌, length, map, Option, Some, None, IfSome, Result, Ok, Err, refl, sym, ap, ◌∙◌, subst, arith, append_assoc, length-append}
 use Rattle.std.specs.Prelude.{decimal}
 use Rattle.std.specs.List.{AllByRecursion}
-use Rattle.std.proofs.lemmas.List.{take-append-drop}
 use Rattle.json_values.specs.SizeLaws.{decimal_size}
 use Rattle.channel_core.specs.ReceivingLaws.{SaysReadable, SendsReadable}
-use Rattle.channel_core.specs.Runs.{Call as EndCall, delivering, ending, putting_out, sending, taking}
-use Rattle.channel_core.specs.Closing.{is_closed}
+use Rattle.channel_core.specs.Runs.{delivering, ending, putting_out, sending, taking}
 use Rattle.channel_core.specs.Wire.{hello, locator}
 use Rattle.channel_core.specs.declared.taking.Taken.{Taken}
 use Rattle.channel_core.specs.declared.taking.Taken.TheVariants as taken
-use Rattle.chain_heard.specs.Heard.{UnusedTokensChangeNothing, messages_told}
+use Rattle.chain_through.proofs.Spelling.{IsSpelled}
 use Rattle.command_tables.specs.Reading.{reading_of}
 use Rattle.command_tables.specs.ReadingLaws.{ReadingsAreLegal}
 use Rattle.target_contexts.specs.declared.process.Image.{Image}
@@ -20,7 +18,7 @@ use Rattle.target_hub.specs.HistoryLaws.{StaysBounded}
 use Rattle.target_hub.specs.HubValue.{new_target}
 use Rattle.target_hub.specs.Passing.{closed_told, tick_told}
 use Rattle.target_hub.specs.Sendable.{AnswersAreSendable, AreSendable, ClosingsTellSendable, CommandsTellSendable, IsBounded, IsSendable, TicksTellSendable}
-use Rattle.target_hub.specs.Sent.{Told, agent_services, answer_told, caller_told, event_at, events_told, executed_on, final_at, hello_at, is_through, progress_at, progress_data, sent, sent_after, tick_events_told, told_by, told_while_live, unknown_at}
+use Rattle.target_hub.specs.Sent.{Told, agent_services, answer_told, caller_told, event_at, events_told, final_at, hello_at, is_through, progress_at, progress_data, sent, sent_after, tick_events_told, told_by, told_while_live, unknown_at}
 use Rattle.target_hub.specs.declared.done.Answered.{Answered}
 use Rattle.target_hub.specs.declared.done.Answered.TheVariants.{Result as IsResult, Unknown}
 use Rattle.target_hub.specs.declared.done.Done.{Done}
@@ -28,15 +26,17 @@ use Rattle.target_hub.specs.declared.input.Input.{Input}
 use Rattle.target_hub.specs.declared.input.Input.TheVariants.{Closed, Executed, Opened, Ticked}
 use Rattle.target_hub.specs.declared.target.Target.{Target}
 use Rattle.tcf_message.specs.Fault.{IsReadBack}
-use Rattle.tcf_message.specs.Message.{IsToken, IsWellFormed, MessageValue, command, event, final, flow, most_body, not_known, progress, reading}
+use Rattle.tcf_message.specs.Message.{HasNoZero, IsToken, IsWellFormed, MessageValue, command, event, final, flow, most_body, not_known, progress, reading}
 use Rattle.tcf_message.specs.declared.message.MessageFault.{MessageFault}
 use Rattle.tcf_values.specs.declared.event.EventData.{EventData}
 use Rattle.tcf_values.specs.declared.ids.ContextId.{ContextId}
 use Rattle.agent_node.specs.Agent.{done_by, going_tells, instruction_tells, is_full, opened, read_as}
-use Rattle.agent_node.specs.AgentLaws.{AgentFollowsHistory, AgentTellsTheTruth}
+use Rattle.agent_node.specs.AgentLaws.{AgentFollowsHistory, AgentTellsTheTruth, first_token, later_tokens, messages_told}
 use Rattle.agent_node.specs.AgentValue.{AgentValue}
-use Rattle.agent_node.specs.Runs.{AgentRun, Call, Past, after_all, after_call, answer_calls, answer_of, answered_by, asked_by, bytes_end, comes, event_call, gives, hearing, next_of, no_calls, on_number, on_one, on_open, opened_by, opens, progress_call, run_of, ticked_by, ticks, took_by, turns, unless_over, with_calls}
-use Rattle.world_laws.proofs.Lists.{all_append}
+use Rattle.agent_node.specs.Runs.{AgentRun, Call, Past, after_all, after_call, answer_calls, answer_of, answered_by, asked_by, bytes_end, comes, event_call, gives, hearing, next_of, no_calls, on_number, on_one, on_open, opens, progress_call, ticked_by, ticks, took_by, turns, with_calls}
+use Rattle.chain_through.proofs.Taking.{all_append}
+use Rattle.target_truth.proofs.Fronts.{front_legal}
+use Rattle.agent_told.proofs.Sending.{inputs_push}
 use Rattle.world_laws.proofs.Pasts.{each_called, number_called, open_called, opened_called, unless_called, with_called}
 
 pub agent_hello : IsWellFormed (event locator hello agent_services)
@@ -52,7 +52,6 @@ pub record TellingLaws : Type 0 where
   pub ticks : TicksTellSendable
   pub closings : ClosingsTellSendable
   pub bounded : StaysBounded
-  pub unused : UnusedTokensChangeNothing
 
 -- an agent that has these images, after some calls
 pub record Reached (images : List Image) (r : AgentRun) : Type 0 where
@@ -105,49 +104,22 @@ tellable_if : (flag : Bool) (told : List Told) → AreTellable told → AreTella
 tellable_if true told each = each
 tellable_if false told each = tt
 
--- names that are tokens, and enough for every message
-plenty : (names : List (List ℕ)) (told : List Told) → AllByRecursion IsToken names → length told ≤ length names → AreTellable told → AllByRecursion (λ m. IsWellFormed m.0) (messages_told names told)
-plenty names [] tokens enough each = tt
-plenty names (hello_at position body ∷ told) tokens enough each = (each.0, plenty names told tokens (omega arith) each.1)
-plenty names (event_at position service name body ∷ told) tokens enough each = (each.0, plenty names told tokens (omega arith) each.1)
-plenty [] (progress_at position body ∷ told) tokens enough each = absurd (omega arith)
-plenty (n ∷ names) (progress_at position body ∷ told) tokens enough each = ((tokens.0, each.0), plenty (n ∷ names) told tokens (omega arith) each.1)
-plenty [] (final_at position through body ∷ told) tokens enough each = absurd (omega arith)
-plenty (n ∷ names) (final_at position through body ∷ told) tokens enough each = ((tokens.0, each.0), plenty names told tokens.1 (omega arith) each.1)
-plenty [] (unknown_at position through ∷ told) tokens enough each = absurd (omega arith)
-plenty (n ∷ names) (unknown_at position through ∷ told) tokens enough each =
-    let none : 0 ≤ most_body = omega arith in ((tokens.0, none), plenty names told tokens.1 (omega arith) each.1)
+first_named : (names : List (List ℕ)) → AllByRecursion IsToken names → HasNoZero (first_token names)
+first_named [] tokens = refl
+first_named (n ∷ names) tokens = tokens.0.0
 
-spare : List Told → List (List ℕ)
-spare [] = []
-spare (t ∷ told) = (49 ∷ []) ∷ spare told
+others_named : (names : List (List ℕ)) → AllByRecursion IsToken names → AllByRecursion IsToken (later_tokens names)
+others_named [] tokens = tt
+others_named (n ∷ names) tokens = tokens.1
 
-spare_tokens : (told : List Told) → AllByRecursion IsToken (spare told)
-unfolding spare
-spare_tokens [] = tt
-spare_tokens (t ∷ told) = ((refl, omega arith, omega arith), spare_tokens told)
-
-spare_many : (told : List Told) → length (spare told) ≡ length told
-unfolding spare
-spare_many [] = refl
-spare_many (t ∷ told) = ap suc (spare_many told)
-
-first_tokens : (n : ℕ) (names : List (List ℕ)) → AllByRecursion IsToken names → AllByRecursion IsToken (take n names)
-first_tokens zero names each = tt
-first_tokens (suc n) [] each = tt
-first_tokens (suc n) (x ∷ names) each = (each.0, first_tokens n names each.1)
-
-first_many : (n : ℕ) (names : List (List ℕ)) → n ≤ length names → length (take n names) ≡ n
-first_many zero names enough = refl
-first_many (suc n) [] enough = absurd (omega arith)
-first_many (suc n) (x ∷ names) enough = ap suc (first_many n names (omega arith))
-
-legal_front : (images : List Image) (before rest : List Input) → IsLegal images (before ++ rest) → IsLegal images before
-legal_front images before rest legal b input r is = legal b input (r ++ rest) (ap (λ xs. xs ++ rest) is ∙ append_assoc b (input ∷ r) rest)
-
-inputs_push : (before : List Input) (input : Input) (target : Target) → inputs_after (before ++ input ∷ []) target ≡ input_after input (inputs_after before target)
-inputs_push [] input target = refl
-inputs_push (first ∷ before) input target = inputs_push before input (input_after first target)
+-- under any tokens
+spelled : (names : List (List ℕ)) (told : List Told) → AllByRecursion IsToken names → AreTellable told → AllByRecursion (λ m. IsSpelled m.0) (messages_told names told)
+spelled names [] tokens each = tt
+spelled names (hello_at position body ∷ told) tokens each = (each.0.0, spelled names told tokens each.1)
+spelled names (event_at position service name body ∷ told) tokens each = (each.0.0, spelled names told tokens each.1)
+spelled names (progress_at position body ∷ told) tokens each = (first_named names tokens, spelled names told tokens each.1)
+spelled names (final_at position through body ∷ told) tokens each = (first_named names tokens, spelled (later_tokens names) told (others_named names tokens) each.1)
+spelled names (unknown_at position through ∷ told) tokens each = (first_named names tokens, spelled (later_tokens names) told (others_named names tokens) each.1)
 
 module _ (laws : TellingLaws) where
   input_tellable : (images : List Image) (k : ℕ) (before : List Input) (input : Input) (rest : List Input) → IsLegal images (before ++ input ∷ rest)
@@ -155,7 +127,7 @@ module _ (laws : TellingLaws) where
   input_tellable images k before (Opened channel) rest legal = tellable_if (channel == k) (hello_at (length before + 1) agent_services ∷ []) (agent_hello, tt)
   input_tellable images k before (Executed channel reading service name) rest legal =
       let target = inputs_after before (new_target images) in
-      let bounded : IsBounded target = laws.bounded images before (legal_front images before (Executed channel reading service name ∷ rest) legal) in
+      let bounded : IsBounded target = laws.bounded images before (front_legal images before (Executed channel reading service name ∷ rest) legal) in
       let allowed = legal before (Executed channel reading service name) rest refl in
       let done = executed channel service name reading target in
       all_append IsTellable (events_told (length before + 1) done.events) (cond (channel == k) (caller_told (length before + 1) reading done) [])
@@ -164,10 +136,10 @@ module _ (laws : TellingLaws) where
       (caller_tellable (length before + 1) (is_through reading) done.progress done.answer (laws.answers channel service name reading target bounded)))
   input_tellable images k before (Ticked thread) rest legal =
       let target = inputs_after before (new_target images) in
-      ticks_tellable (length before + 1) (tick_told thread target) (laws.ticks thread target (laws.bounded images before (legal_front images before (Ticked thread ∷ rest) legal)))
+      ticks_tellable (length before + 1) (tick_told thread target) (laws.ticks thread target (laws.bounded images before (front_legal images before (Ticked thread ∷ rest) legal)))
   input_tellable images k before (Closed channel) rest legal =
       let target = inputs_after before (new_target images) in
-      events_tellable (length before + 1) (closed_told channel target) (laws.closings channel target (laws.bounded images before (legal_front images before (Closed channel ∷ rest) legal)))
+      events_tellable (length before + 1) (closed_told channel target) (laws.closings channel target (laws.bounded images before (front_legal images before (Closed channel ∷ rest) legal)))
 
   rest_tellable : (images : List Image) (k : ℕ) (before : List Input) (target : Target) (rest : List Input) → target ≡ inputs_after before (new_target images) → IsLegal images (before ++ rest) → AreTellable (sent_after k before target rest)
   rest_tellable images k before target [] is legal = tt
@@ -179,19 +151,9 @@ module _ (laws : TellingLaws) where
       (rest_tellable images k (before ++ input ∷ []) (input_after input target) rest (ap (input_after input) is ∙ sym (inputs_push before input (new_target images)))
       (subst (IsLegal images) (sym (append_assoc before (input ∷ []) rest)) legal))
 
-  pub told_written : (images : List Image) (history : List Input) (k : ℕ) (names : List (List ℕ)) → IsLegal images history → AllByRecursion IsToken names → length (executed_on k history) ≤ length names
-      → AllByRecursion (λ m. IsWellFormed m.0) (messages_told names (sent images k history))
-  told_written images history k names legal tokens enough =
-      let told = sent images k history in
-      let n = length (executed_on k history) in
-      let first = take n names in
-      let many : length first ≡ n = first_many n names enough in
-      let long = first ++ spare told in
-      let same : messages_told names told ≡ messages_told long told =
-      ap (λ ns. messages_told ns told) (sym (take-append-drop n names)) ∙ laws.unused images history k first (drop n names) legal many ∙ sym (laws.unused images history k first (spare told) legal many) in
-      let room : length told ≤ length long = omega (arith, length-append first (spare told), spare_many told) in
-      subst (AllByRecursion (λ m. IsWellFormed m.0)) (sym same)
-      (plenty long told (all_append IsToken first (spare told) (first_tokens n names tokens) (spare_tokens told)) room (rest_tellable images k [] (new_target images) history refl legal))
+  pub told_spelled : (images : List Image) (history : List Input) (k : ℕ) (names : List (List ℕ)) → IsLegal images history → AllByRecursion IsToken names
+      → AllByRecursion (λ m. IsSpelled m.0) (messages_told names (sent images k history))
+  told_spelled images history k names legal tokens = spelled names (sent images k history) tokens (rest_tellable images k [] (new_target images) history refl legal)
 
   -- ---- What an agent sends
 

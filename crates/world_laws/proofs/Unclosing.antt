@@ -1,5 +1,5 @@
 -- An agent closes none of its channels by itself.
-use Rattle.std.proofs.Common.{◌≡◌, ℕ, ◌+◌, Bool, false, List, [], ◌∷◌, ◌++◌, map, Option, Some, None, Result, Ok, Err, refl}
+use Rattle.std.proofs.Common.{◌≡◌, ℕ, ◌+◌, false, List, [], ◌∷◌, ◌++◌, map, Option, Some, None, Result, Ok, Err, refl}
 use Rattle.std.specs.List.{AllByRecursion, list_any}
 use Rattle.agent_node.specs.Agent.{done_by, going_tells, instruction_tells, is_full, opened, read_as}
 use Rattle.agent_node.specs.AgentValue.{AgentValue}

@@ -4,7 +4,7 @@ use Rattle.std.specs.List.{AllByRecursion}
 use Rattle.tcf_schedules.specs.Schedule.{ScheduleValue, schedule_of}
 use Rattle.world_laws.specs.EndLaws.{EndsAllRightly}
 use Rattle.chain_world.specs.World.{IsPlayable, adds_of, images_of, new_world, run}
-use Rattle.world_laws.specs.WorldLaws.{AreCoherent, IsFaithful}
+use Rattle.world_laws.specs.WorldLaws.{AreCoherent, AreFresh, IsFaithful}
 
 -- each step of the schedule that a file says can be played
 abbrev pub ReadIsPlayable : Type 0
@@ -18,6 +18,10 @@ HoldsOfEveryFile = (file : List ℕ) (s : ScheduleValue) → schedule_of file �
 abbrev pub EndsOfEveryFile : Type 0
 EndsOfEveryFile = (file : List ℕ) (s : ScheduleValue) → schedule_of file ≡ Ok s → EndsAllRightly s.plans (run s.plans (new_world (images_of s.images) (adds_of s.chains)))
 
--- and what the clients keep is true
+-- and what the clients and the value-adds keep is true
 abbrev pub CoherentOfEveryFile : Type 0
 CoherentOfEveryFile = (file : List ℕ) (s : ScheduleValue) → schedule_of file ≡ Ok s → AreCoherent (images_of s.images) (run s.plans (new_world (images_of s.images) (adds_of s.chains)))
+
+-- and the answers that they were given are fresh
+abbrev pub FreshOfEveryFile : Type 0
+FreshOfEveryFile = (file : List ℕ) (s : ScheduleValue) → schedule_of file ≡ Ok s → AreFresh (images_of s.images) (run s.plans (new_world (images_of s.images) (adds_of s.chains)))

@@ -2,7 +2,9 @@
 use Rattle.std.specs.Prelude.{ℕ, false, List}
 use Rattle.std.specs.List.{AllByRecursion}
 use Rattle.chain_heard.specs.Coherent.{IsCoherent}
+use Rattle.chain_through.specs.Through.{KnowsTruth}
 use Rattle.target_contexts.specs.declared.process.Image.{Image}
+use Rattle.target_hub.specs.Fresh.{Fresh}
 use Rattle.target_hub.specs.History.{IsLegal}
 use Rattle.target_hub.specs.Ordered.{Ordered}
 use Rattle.target_hub.specs.declared.input.Input.{Input}
@@ -23,10 +25,18 @@ pub record IsFaithful (images : List Image) (w : WorldValue) : Type 0 where
   pub legal : IsLegal images w.history
   pub chains : AllByRecursion (ChainIsFaithful images w.history) w.chains
 
--- what the client of each chain keeps is true of the target, after each line of its log, and each line that asks the
--- cache shows what is kept then
+-- each answer with a position to a storable command, of the target or from a store on the way, is what the target answers there
+abbrev pub AreFresh : List Image → WorldValue → Type 0
+AreFresh images w = AllByRecursion (λ chain. Fresh chain.client.log images w.history) w.chains
+
+-- What the client of a chain keeps is true of the target, after each line of its log, and each line that asks the cache shows what
+-- is kept then; and what a bound value-add knows is true at the position of the last message that it took from above.
+pub record ChainIsCoherent (images : List Image) (history : List Input) (chain : ChainValue) : Type 0 where
+  pub client : IsCoherent chain.client.log images history
+  pub adds : AllByRecursion (KnowsTruth images history) chain.route.adds
+
 abbrev pub AreCoherent : List Image → WorldValue → Type 0
-AreCoherent images w = AllByRecursion (λ chain. IsCoherent chain.client.log images w.history) w.chains
+AreCoherent images w = AllByRecursion (ChainIsCoherent images w.history) w.chains
 
 -- Whatever the steps of these chains are, with so many value-adds each.
 abbrev pub FaithfulAfterEverySchedule : Type 0
@@ -37,3 +47,8 @@ FaithfulAfterEverySchedule = (images : List Image) (adds : List ℕ) (plans : Li
 abbrev pub CoherentAfterEverySchedule : Type 0
 CoherentAfterEverySchedule = (images : List Image) (adds : List ℕ) (plans : List Plan) → AreTyped images → AllByRecursion IsPlayable plans →
     AreCoherent images (run plans (new_world images adds))
+
+-- And so it is with the answers that they were given.
+abbrev pub FreshAfterEverySchedule : Type 0
+FreshAfterEverySchedule = (images : List Image) (adds : List ℕ) (plans : List Plan) → AreTyped images → AllByRecursion IsPlayable plans →
+    AreFresh images (run plans (new_world images adds))

@@ -1,7 +1,7 @@
 //! The laws of whole chains, over every schedule.
 ghost use Rattle.world_laws.specs.EndLaws.{EndsRightlyAfterEverySchedule};
-ghost use Rattle.world_laws.specs.Playing.{CoherentOfEveryFile, EndsOfEveryFile, HoldsOfEveryFile, ReadIsPlayable};
-ghost use Rattle.world_laws.specs.WorldLaws.{CoherentAfterEverySchedule, FaithfulAfterEverySchedule};
+ghost use Rattle.world_laws.specs.Playing.{CoherentOfEveryFile, EndsOfEveryFile, FreshOfEveryFile, HoldsOfEveryFile, ReadIsPlayable};
+ghost use Rattle.world_laws.specs.WorldLaws.{CoherentAfterEverySchedule, FaithfulAfterEverySchedule, FreshAfterEverySchedule};
 
 use tcf_schedules::laws::{reads_what_is_said, what_is_read_is_within};
 use value_node::Forwarded;
@@ -12,14 +12,16 @@ use value_node::Forwarded;
 /// cuts its first hop, by the end of the other side's stream only where a step cuts another hop, or where the agent refused
 /// the channel of a chain without value-adds, and never by a fault of the other side; an end of a value-add closes by no such
 /// fault, and one of the agent only since the bytes that came have ended or their stream has. And that what each client keeps
-/// is true: after each line of its log, of the target at the position of the last message.
+/// is true: after each line of its log, of the target at the position of the last message; and so is what each bound value-add
+/// knows, at the position of the last message that it took. And that each answer with a position, of the target or from a store
+/// on the way, to a command that may be answered from a store is what the target answers at that position.
 pub fn every_schedule()
     ensures faithful { FaithfulAfterEverySchedule }
     ensures ends { EndsRightlyAfterEverySchedule }
     ensures coherent { CoherentAfterEverySchedule }
+    ensures fresh { FreshAfterEverySchedule }
 {
     tcf_message::read_back();
-    tcf_message::one_spelling();
     tcf_message::decimal_token();
     channel_core::calls_with_memory_spend_nothing::<u64>();
     channel_core::calls_with_memory_spend_nothing::<()>();
@@ -51,17 +53,18 @@ pub fn every_schedule()
     target_hub::every_history_is_bounded();
     agent_node::an_agent_tells_the_truth();
     agent_node::an_agent_has_no_strangers();
+    agent_told::what_the_target_tells_is_right();
     value_node::a_value_add_relays();
     value_node::a_value_add_answers_itself();
     chain_route::each_hop_carries();
     chain_through::what_comes_through();
     chain_through::no_fault_comes_through();
-    chain_through::what_is_answered_in_order_is_sound::<u64>();
-    chain_through::what_is_answered_in_order_is_sound::<()>();
+    chain_through::what_is_answered_once_is_sound::<u64>();
+    chain_through::what_is_answered_once_is_sound::<()>();
     chain_heard::commands_are_few();
-    chain_heard::unused_tokens_change_nothing();
     chain_heard::no_target_heard_is_ordered();
     chain_heard::what_was_heard_is_ordered();
+    chain_heard::what_was_heard_is_fresh();
     chain_heard::what_was_heard_is_true();
     chain_world::a_world_stands();
 }
@@ -75,11 +78,12 @@ pub fn read_is_playable()
 }
 
 /// The law that the world is faithful that playing the schedule of a file brings about, that its ends close only as the
-/// schedule's steps say, and that what its clients keep is true.
+/// schedule's steps say, that what its clients keep and its value-adds know is true, and that the answers are fresh.
 pub fn every_file()
     ensures faithful { HoldsOfEveryFile }
     ensures ends { EndsOfEveryFile }
     ensures coherent { CoherentOfEveryFile }
+    ensures fresh { FreshOfEveryFile }
 {
     every_schedule();
     reads_what_is_said();

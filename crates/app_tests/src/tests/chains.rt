@@ -2,41 +2,41 @@
 use super::*;
 
 /// A schedule, and what its run prints, both in pieces that stand one behind the other.
-type Run = (&'static [&'static str], &'static [&'static str]);
+pub type Run = (&'static [&'static str], &'static [&'static str]);
 
-const HELLO: &str =
+pub const HELLO: &str =
     "[\"Locator\",\"RunControl\",\"Breakpoints\",\"Memory\",\"Registers\",\"Processes\",\"Trace\"]\n";
 
 /// The thread of an attached process, and of one that isn't.
-const THREAD: &str =
+pub const THREAD: &str =
     "{\"CanCount\":4,\"CanResume\":5,\"CanSuspend\":true,\"CanTerminate\":true,\"HasState\":true,\"ID\":\"P1.1\",\"IsContainer\":false,\"ParentID\":\"P1\",\"ProcessID\":\"P1\"}";
 
 const FREE_THREAD: &str =
     "{\"CanCount\":0,\"CanResume\":0,\"CanSuspend\":false,\"CanTerminate\":true,\"HasState\":true,\"ID\":\"P1.1\",\"IsContainer\":false,\"ParentID\":\"P1\",\"ProcessID\":\"P1\"}";
 
 /// The process of the image `a`, and that of the image `loop`.
-const PROC_A: &str =
+pub const PROC_A: &str =
     "{\"CanCount\":0,\"CanResume\":0,\"CanSuspend\":false,\"CanTerminate\":true,\"HasState\":false,\"ID\":\"P1\",\"IsContainer\":true,\"Name\":\"a\",\"ProcessID\":\"P1\"}";
 
-const PROC_LOOP: &str =
+pub const PROC_LOOP: &str =
     "{\"CanCount\":0,\"CanResume\":0,\"CanSuspend\":false,\"CanTerminate\":true,\"HasState\":false,\"ID\":\"P1\",\"IsContainer\":true,\"Name\":\"loop\",\"ProcessID\":\"P1\"}";
 
 /// addi x1,x0,5; sw x1,0(x0); ebreak.
-const IMAGE_A: &str = "image a 930050002320100073001000\n";
+pub const IMAGE_A: &str = "image a 930050002320100073001000\n";
 
 /// addi x1,x1,1; addi x2,x2,1; jal x0,-8.
-const IMAGE_LOOP: &str = "image loop 93801000130111006ff09fff\n";
+pub const IMAGE_LOOP: &str = "image loop 93801000130111006ff09fff\n";
 
 const OPENED: &str = "chain A 0\nopen A\nrounds 1\n";
 
 const TWO_OPENED: &str = "chain A 0\nchain B 0\nopen A\nopen B\nrounds 1\n";
 
-const START_A: &str = "send A Processes start \"\" \"a\" [] [] true\n";
+pub const START_A: &str = "send A Processes start \"\" \"a\" [] [] true\n";
 
 const START_LOOP: &str = "send A Processes start \"\" \"loop\" [] [] true\n";
 
 /// How the run ends, what it prints, and what it should print.
-fn outcome(rt: &HostRuntime, run: &Run) -> Result<(Exit, Vec<u8>, Vec<u8>), Fail> {
+pub fn outcome(rt: &HostRuntime, run: &Run) -> Result<(Exit, Vec<u8>, Vec<u8>), Fail> {
     let (schedule, text) = run;
     let (exit, told) = play(rt, joined(rt.alloc(), schedule)?.as_slice())?;
     Ok((exit, told, joined(rt.alloc(), text)?))

@@ -1,4 +1,4 @@
-//! `tcf agent` and `tcf client` over objects in memory.
+//! `tcf agent`, `tcf value` and `tcf client` over objects in memory.
 use super::*;
 use tcf_outside::Octets;
 use tcf_wires::{WireCall, WireEvent};
@@ -16,6 +16,14 @@ const SYNC: &[u8] = b"C\x001\0Locator\0sync\0\x03\x01";
 /// R 1
 const DONE: &[u8] = b"R\x001\0\x03\x01";
 
+/// C 1 Locator redirect "up"
+const REDIRECT: &[u8] = b"C\x001\0Locator\0redirect\0\"up\"\0\x03\x01";
+
+/// R 1, whose error is that the peer can't be reached, and without an error
+const UNREACHED: &[u8] = b"R\x001\0{\"Code\":5,\"Format\":\"channel-closed\"}\0\x03\x01";
+
+const REACHED: &[u8] = b"R\x001\0\0\x03\x01";
+
 /// The end of the stream.
 const END: &[u8] = b"\x03\x02";
 
@@ -24,6 +32,8 @@ enum Step {
     Opens(u64),
     Brings(u64, &'static [&'static [u8]]),
     Ends(u64),
+    /// The next connect fails.
+    Refuses,
 }
 
 /// A run of these words while this comes over the wires: how it ends, what it prints, what is taken on channels, and
@@ -50,12 +60,14 @@ fn bytes_of(alloc: Global, parts: &[&[u8]]) -> Result<Octets, Fail> {
 fn wires_of(alloc: Global, steps: &[Step]) -> Result<WireScript, Fail> {
     let mut wires = WireScript::new(alloc);
     for step in steps {
-        let event = match step {
-            Step::Opens(channel) => WireEvent::Opened(*channel),
-            Step::Brings(channel, parts) => WireEvent::Piece(*channel, bytes_of(alloc, parts)?),
-            Step::Ends(channel) => WireEvent::Ended(*channel),
-        };
-        wires.give(event)?;
+        match step {
+            Step::Opens(channel) => wires.give(WireEvent::Opened(*channel))?,
+            Step::Brings(channel, parts) => {
+                wires.give(WireEvent::Piece(*channel, bytes_of(alloc, parts)?))?
+            }
+            Step::Ends(channel) => wires.give(WireEvent::Ended(*channel))?,
+            Step::Refuses => wires.answer(None)?,
+        }
     }
     Ok(wires)
 }
@@ -71,7 +83,7 @@ fn shut_by(alloc: Global, calls: &[WireCall]) -> Result<Vec<u64>, Fail> {
     Ok(channels)
 }
 
-static RUNS: [Run; 10] = [
+static RUNS: [Run; 13] = [
     // A client is answered until Stop comes, or all turns are taken.
     Run {
         words: "agent here 3",
@@ -123,6 +135,41 @@ static RUNS: [Run; 10] = [
         text: "turns 4\n",
         taken: &[(0, &[AGENT])],
         shut: &[0],
+    },
+    // A connect of a value-add that fails is its redirect's error, and ends no run.
+    Run {
+        words: "value here up 4",
+        steps: &[
+            Step::Opens(0),
+            Step::Brings(0, &[CLIENT, REDIRECT]),
+            Step::Refuses,
+        ],
+        exit: Exit::Done,
+        text: "turns 3\n",
+        taken: &[(0, &[CLIENT, UNREACHED])],
+        shut: &[],
+    },
+    // It passes on what its peer says, and both its wires end together.
+    Run {
+        words: "value here up 9",
+        steps: &[
+            Step::Opens(0),
+            Step::Brings(0, &[CLIENT, REDIRECT]),
+            Step::Brings(1, &[AGENT]),
+            Step::Ends(1),
+        ],
+        exit: Exit::Done,
+        text: "turns 5\n",
+        taken: &[(0, &[CLIENT, REACHED, AGENT, END]), (1, &[CLIENT])],
+        shut: &[0, 1],
+    },
+    Run {
+        words: "value here up 2",
+        steps: &[Step::Opens(0), Step::Brings(0, &[CLIENT, REDIRECT])],
+        exit: Exit::Turns,
+        text: "turns 2\n",
+        taken: &[(0, &[CLIENT]), (1, &[CLIENT])],
+        shut: &[],
     },
     // A script is done, the turns are taken before that, or the other side ends.
     Run {
@@ -204,6 +251,8 @@ fn a_failed_call_of_the_wires_is_told(rt: HostRuntime) -> Result<(), Fail> {
     for (text, call) in [
         ("agent here 3", 0),
         ("agent here 3", 1),
+        ("value here up 3", 0),
+        ("value here up 3", 1),
         ("client here s 3", 0),
         ("client here s 3", 1),
     ] {

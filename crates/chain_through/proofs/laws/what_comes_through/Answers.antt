@@ -14,12 +14,16 @@ returns c =
       lower_none = c.only_what_is_sent_is_queued.ensures.none;
       upper_plain = c.only_what_is_sent_is_queued-2.ensures.plain;
       upper_sends = c.commands_are_sent_in_order.ensures;
-      upper_counts = c.each_answer_is_that_of_a_sent_command.ensures.counted;
       read_back = c.read_back.ensures;
       runs = c.a_value_add_relays.ensures.runs;
       forwards = c.a_value_add_relays.ensures.forwards;
       passes = c.a_value_add_relays.ensures.passes;
       answers = c.a_value_add_answers_itself.ensures.answers;
       asks_nothing = c.a_value_add_answers_itself.ensures.asks_nothing;
+      rightly = c.a_value_add_answers_from_what_it_heard.ensures.rightly;
+      knows = c.a_value_add_answers_from_what_it_heard.ensures.knows;
+      tells_on = c.a_value_add_tells_on.ensures;
+      same_replies = c.the_same_answer_the_same.ensures.answers;
+      reads_known = c.what_is_read_is_known.ensures;
     } in
     comes_through laws

@@ -13,7 +13,7 @@ returns-in-Sent c =
     (answer_to_sent c.args.command.now c.in-Sent.number c.in-Sent.service c.in-Sent.name c.in-Sent.asked
     c.as_slice.result.now c.as_slice-in-Sent.result.now c.as_slice-in-Sent-2.result.now c.args.body.now
     c.in-Sent.is c.as_slice.ensures c.as_slice-in-Sent.ensures c.as_slice-in-Sent-2.ensures)
-    c.hear_final.ensures
+    c.hear_final.ensures.kept
 
 pub returns-in_default : goal.returns-in_default
 returns-in_default c =

@@ -21,6 +21,12 @@ returns c =
         refusals = c.what_is_small_fits.ensures.refusals;
         reports = c.what_is_small_fits.ensures.reports;
       };
+      lessons = record {
+        facts = c.the_same_learn_the_same.ensures.facts;
+        blocks = c.the_same_learn_the_same.ensures.blocks;
+        learned = c.blocks_are_learned.ensures;
+        unanswered = c.others_stay_unanswered.ensures;
+      };
     } in
     let names : Names = record { exact = c.names_are_exact.ensures; legal = c.readings_are_legal.ensures } in
     record {

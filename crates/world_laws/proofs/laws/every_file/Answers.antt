@@ -1,4 +1,4 @@
-use Rattle.world_laws.proofs.Playable.{file_coherent, file_ends, file_faithful}
+use Rattle.world_laws.proofs.Playable.{file_coherent, file_ends, file_faithful, file_fresh}
 use Rattle.world_laws.proofs.laws.every_file.Goals as goal
 
 pub returns-clause-faithful : goal.returns-clause-faithful
@@ -9,3 +9,6 @@ returns-clause-ends c = file_ends c.every_schedule.ensures.ends c.read_is_playab
 
 pub returns-clause-coherent : goal.returns-clause-coherent
 returns-clause-coherent c = file_coherent c.every_schedule.ensures.coherent c.reads_what_is_said.ensures c.read_is_playable.ensures
+
+pub returns-clause-fresh : goal.returns-clause-fresh
+returns-clause-fresh c = file_fresh c.every_schedule.ensures.fresh c.reads_what_is_said.ensures c.read_is_playable.ensures

@@ -1,7 +1,7 @@
 use Rattle.world_laws.proofs.Ends.{ends_rightly}
-use Rattle.world_laws.proofs.Faithful.{coherent, faithful}
+use Rattle.world_laws.proofs.Faithful.{coherent, faithful, fresh}
 use Rattle.world_laws.proofs.LowerLaws.{Laws}
-use Rattle.world_laws.proofs.Telling.{TellingLaws, pasts_readable, told_written}
+use Rattle.world_laws.proofs.Telling.{TellingLaws, pasts_readable, told_spelled}
 use Rattle.world_laws.proofs.laws.every_schedule.Goals as goal
 
 pub returns : goal.returns
@@ -15,11 +15,9 @@ returns c =
       ticks = c.what_is_told_can_be_sent.ensures.ticks;
       closings = c.what_is_told_can_be_sent.ensures.closings;
       bounded = c.every_history_is_bounded.ensures;
-      unused = c.unused_tokens_change_nothing.ensures;
     } in
     let laws : Laws = record {
       back = c.read_back.ensures;
-      one = c.one_spelling.ensures;
       decimals = c.decimal_token.ensures;
       order = c.what_is_queued_goes_out_in_order.ensures;
       plain_order = c.what_is_queued_goes_out_in_order-2.ensures;
@@ -40,8 +38,8 @@ returns c =
       called = c.an_end_closes_by_a_fault_only_so.ensures.calls;
       plain_called = c.an_end_closes_by_a_fault_only_so-2.ensures.calls;
       plain_once = c.a_closed_end_stays_closed.ensures.once;
-      answered_sound = c.what_is_answered_in_order_is_sound.ensures.answered;
-      asked_sound = c.what_is_answered_in_order_is_sound-2.ensures.asked;
+      answered_sound = c.what_is_answered_once_is_sound.ensures.answered;
+      asked_sound = c.what_is_answered_once_is_sound-2.ensures.asked;
       ends = c.a_clients_end_is_a_run.ensures;
       tells = c.the_log_tells_what_was_taken.ensures;
       once = c.each_command_is_answered_once.ensures;
@@ -49,18 +47,21 @@ returns c =
       truth = c.an_agent_tells_the_truth.ensures;
       strangers = c.an_agent_has_no_strangers.ensures;
       pasts = pasts_readable telling;
-      told = told_written telling;
+      told = told_spelled telling;
+      right = c.what_the_target_tells_is_right.ensures.right;
+      owed = c.what_the_target_tells_is_right.ensures.owed;
       adds = c.a_value_add_relays.ensures.runs;
       asks_nothing = c.a_value_add_answers_itself.ensures.asks_nothing;
       carries = c.each_hop_carries.ensures;
       through = c.what_comes_through.ensures;
       sound = c.no_fault_comes_through.ensures;
       few = c.commands_are_few.ensures;
-      unused = c.unused_tokens_change_nothing.ensures;
       among = c.what_was_heard_is_ordered.ensures.among;
       no_target = c.no_target_heard_is_ordered.ensures;
+      heard_fresh = c.what_was_heard_is_fresh.ensures.heard;
+      no_target_fresh = c.what_was_heard_is_fresh.ensures.no_target;
       heard_true = c.what_was_heard_is_true.ensures.heard;
       no_target_true = c.what_was_heard_is_true.ensures.no_target;
       stands = c.a_world_stands.ensures;
     } in
-    record { faithful = faithful laws; ends = ends_rightly laws; coherent = coherent laws }
+    record { faithful = faithful laws; ends = ends_rightly laws; coherent = coherent laws; fresh = fresh laws }

@@ -1,0 +1,9 @@
+use Rattle.agent_told.proofs.Owed.{owed}
+use Rattle.agent_told.proofs.Rightly.{told_rightly}
+use Rattle.agent_told.proofs.laws.what_the_target_tells_is_right.Goals as goal
+
+pub returns : goal.returns
+returns c =
+    let nothing = c.asking_changes_nothing.ensures.nothing in
+    let same = c.asking_changes_nothing.ensures.same in
+    record { right = told_rightly c.what_is_told_is_true.ensures nothing same; owed = owed nothing same }

@@ -1,0 +1,13 @@
+pub mod Decimals
+pub mod Numbered
+pub mod Splits
+pub mod Tokens
+pub mod Keeping
+pub mod Agreeing
+pub mod Doing
+pub mod Standing
+pub mod Addressing
+pub mod Facts
+pub mod Hearing
+pub mod Storing
+pub mod Walking

@@ -1,0 +1,11 @@
+pub mod AsSaid
+pub mod Telling
+pub mod Standing
+pub mod Resting
+pub mod Taking
+pub mod AllCalls
+pub mod Levels
+pub mod Ending
+pub mod Meeting
+pub mod Making
+pub mod Answering

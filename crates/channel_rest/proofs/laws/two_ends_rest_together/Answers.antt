@@ -1,0 +1,24 @@
+use Rattle.channel_core.proofs.Feeding.{Cited}
+use Rattle.channel_rest.proofs.Levels.{Frames}
+use Rattle.channel_rest.proofs.Meeting.{all_rest_together}
+use Rattle.channel_rest.proofs.laws.two_ends_rest_together.Goals as goal
+
+pub returns : goal.returns
+returns g c =
+    let cited : Cited = record {
+      pieces = c.pieces_are_one.ensures;
+      between = c.frames_are_read.ensures.between;
+      part = c.frames_are_read.ensures.part;
+      whole = c.frames_are_read.ensures.whole;
+      escape = c.frames_are_read.ensures.escape;
+      end = c.frames_are_read.ensures.end;
+      read = c.read_back.ensures;
+      token = c.decimal_token.ensures;
+    } in
+    let frames : Frames = record {
+      between = c.frames_are_read.ensures.between;
+      whole = c.frames_are_read.ensures.whole;
+      read = c.read_back.ensures;
+      token = c.decimal_token.ensures;
+    } in
+    all_rest_together cited frames

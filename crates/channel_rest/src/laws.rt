@@ -1,0 +1,68 @@
+//! The laws of an end at one moment.
+ghost use Rattle.channel_core.specs.ReceivingLaws.{WhereAQueueComes};
+ghost use Rattle.channel_core.specs.RunLaws.{AfterAllCalls};
+ghost use Rattle.channel_rest.specs.Meeting.{WhereAllIsAnswered, WhereNothingIsUnderWay};
+ghost use Rattle.channel_rest.specs.Rest.{HearsTheEnd, IsOverAtItsEnd, LetsCommandsOut, MakesCommands, PendsUnanswered, StandsAsTaken, StaysOver, TakesAsSaid, TellsAsMessages};
+
+use stream_escape::{frames_are_read, pieces_are_one};
+use tcf_message::{decimal_token, read_back};
+
+/// The law of an end that stands, after every list of calls of a new end. What was taken is what its message says, so answers
+/// and Hellos can be told of the messages alone. Each accepted command is made of its names and its data. Where the end is
+/// open, those commands are pending whose final answer wasn't taken. It is Reopening exactly where a redirect that it sent
+/// wasn't answered, or was answered without an error and no Hello was taken behind the answer. Where its inbox has no more than
+/// 50 messages, the level that it told last lets commands out.
+pub fn an_end_stands_as_it_took<T>()
+    ensures taken { AfterAllCalls {T = T} TakesAsSaid }
+    ensures messages { AfterAllCalls {T = T} TellsAsMessages }
+    ensures commands { AfterAllCalls {T = T} MakesCommands }
+    ensures pending { AfterAllCalls {T = T} PendsUnanswered }
+    ensures state { AfterAllCalls {T = T} StandsAsTaken }
+    ensures level { AfterAllCalls {T = T} LetsCommandsOut }
+{
+    frames_are_read();
+    read_back();
+    decimal_token();
+}
+
+/// The law that an end to which all bytes of a queue with the end of the stream have come is closed, or has its last entry.
+pub fn the_end_of_a_queue_is_heard<T>()
+    ensures { WhereAQueueComes {T = T} HearsTheEnd }
+{
+    pieces_are_one();
+    frames_are_read();
+    read_back();
+    decimal_token();
+}
+
+/// The law that an end that is closed, or has its last entry, stays so, and that one whose bytes have ended is so.
+pub fn an_end_that_is_over_stays_so<T>()
+    ensures stays { AfterAllCalls {T = T} StaysOver }
+    ensures ended { IsOverAtItsEnd T }
+{}
+
+/// The law of the two ends of a hop, whatever was called of them, where what they sent can be read, their bytes haven't ended
+/// without the end of the stream, and what each queued has come to the other, all of it where that is open, and was taken. Both
+/// are closed, or both are open. Then each took what the other queued, and commands go out of it: it was told no level above 0 last, it is Live where
+/// no redirect that it sent waits for its answer or for a Hello behind that, and then it holds nothing, and nothing is pending
+/// where what it sent was answered.
+pub fn two_ends_rest_together<T, U>()
+    ensures { WhereNothingIsUnderWay T U }
+{
+    pieces_are_one();
+    frames_are_read();
+    read_back();
+    decimal_token();
+}
+
+/// The law that one of two such ends is free, where it is open and the node of the other end has answered all commands that it
+/// took, and has queued a Hello behind each answer without an error to a redirect: commands go out of it, none is held, and
+/// none is pending.
+pub fn an_answered_end_is_free<T, U>()
+    ensures { WhereAllIsAnswered T U }
+{
+    pieces_are_one();
+    frames_are_read();
+    read_back();
+    decimal_token();
+}

@@ -1,0 +1,10 @@
+mod Each
+mod Decoded
+mod Reading
+mod Messages
+mod Learned
+mod Told
+mod Registers
+mod Answered
+mod Stored
+mod States

@@ -1,0 +1,45 @@
+//! The run of `value`: value-adds are served, and the number of the events that they took is printed.
+ghost use Rattle.std.specs.Prelude.{◌≡◌};
+ghost use Rattle.tcf_outside.specs.Faults.{Rose};
+ghost use Rattle.serving_wires.specs.Calls.{Makes};
+ghost use Rattle.tcf_app.specs.Ending.{Ends, EndsIn, IsAddsEnding, adds_ending};
+
+use crate::exit::Exit;
+use crate::finish::finish_made;
+use crate::lines::turns as turns_line;
+use crate::refusing::report_wire_fault;
+use std::alloc::Global;
+use tcf_outside::Sink;
+use tcf_wires::Wires;
+use value_serving::{ServeEnd, serve_value};
+
+/// Puts the text of a serving that ended so, of so many turns.
+fn report_serving<S: Sink>(alloc: Global, end: ServeEnd, turns: u32, out: &mut S) -> Exit
+    ensures ends { Ends (adds_ending turns end) result (S.told out.old) (S.told out.new) }
+    ensures fault { result ≡ Exit.SinkFault → Rose (S.faults out.old) (S.faults out.new) }
+    ensures unharmed { (result ≡ Exit.SinkFault → ⊥) → S.faults out.new ≡ S.faults out.old }
+{
+    match end {
+        ServeEnd::Stopped { events } => finish_made(out, turns_line(alloc, events), Exit::Done),
+        ServeEnd::Turns => finish_made(out, turns_line(alloc, turns), Exit::Turns),
+        ServeEnd::WireFault => report_wire_fault(out),
+        ServeEnd::NoMemory => Exit::NoMemory,
+    }
+}
+
+/// Serves value-adds of this peer, and puts how many events they took.
+pub(crate) fn serve_adds<S: Sink, W: Wires>(
+    alloc: Global,
+    address: &str,
+    peer: &str,
+    turns: u32,
+    out: &mut S,
+    wires: &mut W,
+) -> Exit
+    ensures ends { Makes (λ calls. EndsIn (IsAddsEnding peer.now address.now turns calls) result (S.told out.old) (S.told out.new)) (W.told wires.old) (W.told wires.new) (W.faults wires.old) (W.faults wires.new) }
+    ensures fault { result ≡ Exit.SinkFault → Rose (S.faults out.old) (S.faults out.new) }
+    ensures unharmed { (result ≡ Exit.SinkFault → ⊥) → S.faults out.new ≡ S.faults out.old }
+{
+    let end = serve_value(alloc, wires, address, peer, turns);
+    report_serving(alloc, end, turns, out)
+}

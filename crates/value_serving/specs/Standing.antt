@@ -1,0 +1,114 @@
+-- How served value-adds stand after some events and answers of connects. Nothing is put here: what is queued for a wire stays,
+-- so that all that was ever queued for each wire is there.
+use Rattle.std.specs.Prelude.{ℕ, Bool, true, false, List, [], ◌∷◌, ◌++◌, fold, Option, None, Some, Ok, Err, if◌then◌else◌}
+use Rattle.std.specs.List.{flat_map}
+use Rattle.serving_wires.specs.Row.{Row}
+use Rattle.serving_wires.specs.Serving.{Nodes}
+use Rattle.tcf_wires.specs.declared.call.WireCall.{WireCall}
+use Rattle.tcf_wires.specs.declared.call.WireCall.TheVariants.{Connected, Gave}
+use Rattle.tcf_wires.specs.declared.event.WireEvent.{WireEvent}
+use Rattle.tcf_wires.specs.declared.event.WireEvent.TheVariants as events
+use Rattle.value_serving.specs.Changes.{changed_on, item_on}
+use Rattle.value_serving.specs.Order.{Order, channel_of, closes, leaves, queues}
+use Rattle.value_serving.specs.Process.{Answer, Process, asks, done, tells}
+use Rattle.value_serving.specs.Serving.{handled}
+use Rattle.value_serving.specs.declared.add.Add.{Add}
+
+-- ---- what was ever queued for a wire
+
+pub record Sent : Type 0 where
+  pub queued : List ℕ
+  pub is_closed : Bool  -- nothing more will be queued
+  pub is_left : Bool  -- another wire took its place
+
+abbrev pub unused_wire : Sent
+unused_wire = record { queued = []; is_closed = false; is_left = false }
+
+abbrev pub sent_after : Order → Sent → Sent
+sent_after (queues channel bytes) s = if s.is_closed then s else record s { queued = s.queued ++ bytes }
+sent_after (closes channel) s = record s { is_closed = true }
+sent_after (leaves channel) s = record s { is_closed = true; is_left = true }
+
+abbrev pub sent_with : Order → List (Row Sent) → List (Row Sent)
+sent_with order sent = changed_on (channel_of order) (sent_after order) sent
+
+-- a connection that came, or was made, has a wire
+abbrev pub with_wire : ℕ → List (Row Sent) → List (Row Sent)
+with_wire channel sent = sent ++ (record { channel = channel; item = unused_wire }) ∷ []
+
+abbrev pub wires_with : WireEvent → List (Row Sent) → List (Row Sent)
+wires_with (events.Opened channel) sent = with_wire channel sent
+wires_with (events.Piece channel bytes) sent = sent
+wires_with (events.Ended channel) sent = sent
+wires_with (events.Lost channel) sent = sent
+wires_with events.Idle sent = sent
+wires_with events.Stop sent = sent
+
+abbrev pub wires_after : Answer → List (Row Sent) → List (Row Sent)
+wires_after (Ok channel) sent = with_wire channel sent
+wires_after (Err refusal) sent = sent
+
+-- ---- the value-adds and their wires; the next event is waited for, or the answer of a connect
+
+pub record Standing : Type 0 where
+  pub adds : List (Row Add)
+  pub sent : List (Row Sent)
+
+pub data State : Type 0 where
+  rests : Standing → State
+  waits : Standing → (Answer → Process (List (Row Add))) → State
+
+-- a process goes on, until it is done or asks for a connection
+abbrev pub landed : List (Row Add) → List (Row Sent) → Process (List (Row Add)) → State
+landed adds sent (done news) = rests (record { adds = news; sent = sent })
+landed adds sent (tells order p) = landed adds (sent_with order sent) p
+landed adds sent (asks next) = waits (record { adds = adds; sent = sent }) next
+
+-- an event came, or a connect was answered
+pub data Heard : Type 0 where
+  came : WireEvent → Heard
+  answered : Answer → Heard
+
+abbrev pub after_one : List ℕ → State → Heard → State
+after_one peer (rests s) (came event) = landed s.adds (wires_with event s.sent) (handled peer event s.adds)
+after_one peer (rests s) (answered answer) = rests s
+after_one peer (waits s next) (came event) = waits s next
+after_one peer (waits s next) (answered answer) = landed s.adds (wires_after answer s.sent) (next answer)
+
+abbrev pub after : List ℕ → List Heard → State
+after peer heard = fold (after_one peer) (rests (record { adds = []; sent = [] })) heard
+
+-- what was heard by these calls
+abbrev pub heard_by : WireCall → List Heard
+heard_by (Gave (Ok event)) = came event ∷ []
+heard_by (Connected peer answer) = answered answer ∷ []
+heard_by call = []
+
+abbrev pub heard_in : List WireCall → List Heard
+heard_in calls = flat_map heard_by calls
+
+abbrev pub state_after : List ℕ → List WireCall → State
+state_after peer calls = after peer (heard_in calls)
+
+-- ---- what can be said of a state
+
+abbrev pub sent_in : State → List (Row Sent)
+sent_in (rests s) = s.sent
+sent_in (waits s next) = s.sent
+
+abbrev pub is_resting : State → Bool
+is_resting (rests s) = true
+is_resting (waits s next) = false
+
+abbrev pub wire_in : Option Sent → Sent
+wire_in None = unused_wire
+wire_in (Some sent) = sent
+
+abbrev pub wire_on : ℕ → State → Sent
+wire_on channel state = wire_in (item_on channel (sent_in state))
+
+abbrev pub nodes_in : State → Nodes
+nodes_in state = record {
+  served = λ events channel. (wire_on channel state).queued;
+  closed = λ events channel. (wire_on channel state).is_closed;
+}

@@ -1,0 +1,13 @@
+//! Value-adds that are served over wires: one for each connection that comes, with a wire of its own to its peer.
+#![tactic(auto)]
+
+mod add;
+mod passing;
+mod sending;
+pub mod serve;
+mod serving;
+
+pub use serve::{ServeEnd, serve_value};
+
+#[cfg(test)]
+mod tests;

@@ -1,0 +1,181 @@
+//! What came for a value-add passes through it, and a connection is made where it asks for one.
+ghost use Rattle.std.specs.Prelude.{◌≡◌, IfOk, OnErr, OnOk, Some, [], if◌then◌else◌};
+ghost use Rattle.serving_wires.specs.Calls.{Makes};
+ghost use Rattle.value_serving.specs.Adds.{emptied, is_over, bytes_for};
+ghost use Rattle.value_serving.specs.Following.{BreaksOff, BreaksOffBehind, Goes, GoesBehind};
+ghost use Rattle.value_serving.specs.Passing.{all_taken, answered, connected_on, gathered, heard, passed_on, taken};
+ghost use Rattle.value_serving.specs.Process.{asks, done};
+ghost use Rattle.value_serving.specs.Sending.{begun, closed_if, left_for, ordered};
+ghost use Rattle.value_serving.specs.Order.{queues};
+
+use crate::add::{Add, is_over, take_one, take_out};
+use crate::sending::Sending;
+use serving_wires::{Came, Intake};
+use std::alloc::{AllocError, Global};
+use tcf_wires::{WireRefusal, Wires};
+use value_node::{Side, ValueNode, ValueTurn};
+
+/// Something came on a side of a value-add: it is given to it, with what waits, as far as there is room; all messages that
+/// can be taken are taken; and what the value-add has to send is queued.
+pub(crate) fn hear<W: Wires>(
+    alloc: Global,
+    add: &mut Add,
+    side: Side,
+    came: Came,
+    sending: &mut Sending,
+    wires: &mut W,
+    peer: &str,
+) -> Result<(), AllocError>
+    ensures ok { OnOk result (Makes (Goes peer.now (W.unused wires.old) (W.unused wires.new) (heard side came add.old) (done add.new) sending.old sending.new) (W.told wires.old) (W.told wires.new) (W.faults wires.old) (W.faults wires.new)) }
+    ensures err { OnErr result (Makes (BreaksOff peer.now (W.unused wires.old) (heard side came add.old) sending.old) (W.told wires.old) (W.told wires.new) (W.faults wires.old) (W.faults wires.new)) }
+{
+    add.wait(side, came)?;
+    pass_on(alloc, add, sending, wires, peer)?;
+    gather(alloc, add, sending)
+}
+
+/// Gives the value-add what waits, as far as there is room, and takes all messages that can be taken behind each.
+fn pass_on<W: Wires>(
+    alloc: Global,
+    add: &mut Add,
+    sending: &mut Sending,
+    wires: &mut W,
+    peer: &str,
+) -> Result<(), AllocError>
+    ensures ok { OnOk result (Makes (Goes peer.now (W.unused wires.old) (W.unused wires.new) (passed_on add.old) (done add.new) sending.old sending.new) (W.told wires.old) (W.told wires.new) (W.faults wires.old) (W.faults wires.new)) }
+    ensures err { OnErr result (Makes (BreaksOff peer.now (W.unused wires.old) (passed_on add.old) sending.old) (W.told wires.old) (W.told wires.new) (W.faults wires.old) (W.faults wires.new)) }
+{
+    while add.give_next()? {
+        take_all(alloc, add, sending, wires, peer)?;
+    }
+    Ok(())
+}
+
+/// Takes all messages that can be taken.
+fn take_all<W: Wires>(
+    alloc: Global,
+    add: &mut Add,
+    sending: &mut Sending,
+    wires: &mut W,
+    peer: &str,
+) -> Result<(), AllocError>
+    ensures ok { OnOk result (Makes (Goes peer.now (W.unused wires.old) (W.unused wires.new) (all_taken add.old) (done add.new) sending.old sending.new) (W.told wires.old) (W.told wires.new) (W.faults wires.old) (W.faults wires.new)) }
+    ensures err { OnErr result (Makes (BreaksOff peer.now (W.unused wires.old) (all_taken add.old) sending.old) (W.told wires.old) (W.told wires.new) (W.faults wires.old) (W.faults wires.new)) }
+{
+    let below = add.node.waiting(Side::Below);
+    let above = add.node.waiting(Side::Above);
+    take(alloc, add, sending, wires, peer, above)?;
+    take(alloc, add, sending, wires, peer, below)
+}
+
+/// Takes so many messages, as far as there are so many.
+fn take<W: Wires>(
+    alloc: Global,
+    add: &mut Add,
+    sending: &mut Sending,
+    wires: &mut W,
+    peer: &str,
+    count: usize,
+) -> Result<(), AllocError>
+    ensures ok { OnOk result (Makes (Goes peer.now (W.unused wires.old) (W.unused wires.new) (taken count add.old) (done add.new) sending.old sending.new) (W.told wires.old) (W.told wires.new) (W.faults wires.old) (W.faults wires.new)) }
+    ensures err { OnErr result (Makes (BreaksOff peer.now (W.unused wires.old) (taken count add.old) sending.old) (W.told wires.old) (W.told wires.new) (W.faults wires.old) (W.faults wires.new)) }
+{
+    for _ in 0..count {
+        let is_taken = turn(alloc, add, sending, wires, peer)?;
+        if !is_taken {
+            return Ok(());
+        }
+    }
+    Ok(())
+}
+
+/// Takes a message, if there is one. Where the value-add asks for a connection the wires are asked for it at once. Answers
+/// whether a message was taken.
+fn turn<W: Wires>(
+    alloc: Global,
+    add: &mut Add,
+    sending: &mut Sending,
+    wires: &mut W,
+    peer: &str,
+) -> Result<bool, AllocError>
+    ensures ok { IfOk result (λ is_taken. Makes (GoesBehind peer.now (W.unused wires.old) (W.unused wires.new) add.old add.new is_taken sending.old sending.new) (W.told wires.old) (W.told wires.new) (W.faults wires.old) (W.faults wires.new)) }
+    ensures err { OnErr result (Makes (BreaksOffBehind peer.now (W.unused wires.old) add.old sending.old) (W.told wires.old) (W.told wires.new) (W.faults wires.old) (W.faults wires.new)) }
+{
+    match take_one(&mut add.node)? {
+        ValueTurn::Nothing => Ok(false),
+        ValueTurn::Took => Ok(true),
+        ValueTurn::Connect => {
+            connect(alloc, add, sending, wires, peer)?;
+            Ok(true)
+        }
+    }
+}
+
+/// Connects to the peer, and tells the value-add what became of it.
+fn connect<W: Wires>(
+    alloc: Global,
+    add: &mut Add,
+    sending: &mut Sending,
+    wires: &mut W,
+    peer: &str,
+) -> Result<(), AllocError>
+    ensures ok { OnOk result (Makes (Goes peer.now (W.unused wires.old) (W.unused wires.new) (asks (λ answer. answered answer add.old)) (done add.new) sending.old sending.new) (W.told wires.old) (W.told wires.new) (W.faults wires.old) (W.faults wires.new)) }
+    ensures err { OnErr result (Makes (BreaksOff peer.now (W.unused wires.old) (asks (λ answer. answered answer add.old)) sending.old) (W.told wires.old) (W.told wires.new) (W.faults wires.old) (W.faults wires.new)) }
+{
+    match wires.connect(peer) {
+        Ok(channel) => begin_above(alloc, add, sending, channel),
+        Err(WireRefusal::Failed) => add.node.connect_failed(),
+        Err(WireRefusal::NoMemory) => Err(AllocError),
+    }
+}
+
+/// The wire of this channel is the value-add's upper one from now on. An earlier one is left, with what came on it and waits.
+fn begin_above(
+    alloc: Global,
+    add: &mut Add,
+    sending: &mut Sending,
+    channel: u64,
+) -> Result<(), AllocError>
+    ensures add { OnOk result (add.new ≡ connected_on channel add.old) }
+    ensures sending { OnOk result (sending.new ≡ left_for add.old.above (begun channel sending.old)) }
+{
+    sending.begin(channel)?;
+    if let Some(earlier) = add.above {
+        sending.leave(earlier);
+    }
+    add.node.connected()?;
+    add.above = Some(channel);
+    add.upper = Intake::new(alloc);
+    Ok(())
+}
+
+/// Queues what the value-add has to send. Behind a side on which nothing more is said nothing more will be queued.
+pub(crate) fn gather(alloc: Global, add: &mut Add, sending: &mut Sending) -> Result<(), AllocError>
+    ensures { OnOk result ((peer : _) (unused : _) → Goes peer unused unused (gathered add.old) (done add.new) sending.old sending.new []) }
+{
+    send(alloc, &mut add.node, Side::Below, add.below, sending)?;
+    match add.above {
+        Some(channel) => send(alloc, &mut add.node, Side::Above, channel, sending),
+        None => Ok(()),
+    }
+}
+
+/// Queues what a side has to send.
+fn send(
+    alloc: Global,
+    node: &mut ValueNode,
+    side: Side,
+    channel: u64,
+    sending: &mut Sending,
+) -> Result<(), AllocError>
+    ensures node { OnOk result (node.new ≡ emptied side node.old) }
+    ensures sending { OnOk result (sending.new ≡ closed_if (is_over side node.old.relay.bind) channel (ordered (queues channel (bytes_for side node.old)) sending.old)) }
+{
+    let is_last = is_over(node.bind(), side);
+    let bytes = take_out(alloc, node, side)?;
+    sending.queue(channel, bytes.as_slice())?;
+    if is_last {
+        sending.close(channel);
+    }
+    Ok(())
+}

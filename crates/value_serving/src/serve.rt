@@ -1,0 +1,108 @@
+//! The run of served value-adds.
+ghost use Rattle.std.specs.Prelude.{◌≡◌};
+ghost use Rattle.tcf_outside.specs.Faults.{Rose};
+ghost use Rattle.serving_wires.specs.Calls.{Makes};
+ghost use Rattle.value_serving.specs.Serve.{ServesValueAdds, end_of, is_stop};
+ghost use Rattle.value_serving.specs.Turn.{TakesTurn};
+ghost use Rattle.value_serving.specs.WireLaws.{WireLaws};
+
+use crate::serving::Serving;
+use serving_wires::{
+    a_flush_is_in_place, a_flush_is_on_one_wire, an_outbox_is_what_is_left,
+    what_is_flushed_is_carried,
+};
+use std::alloc::Global;
+use tcf_wires::{WireEvent, WireRefusal, Wires};
+
+/// How the serving of value-adds ended.
+#[derive(Clone, Copy, Debug, PartialEq, Eq)]
+pub enum ServeEnd {
+    /// `Stop` came, as the last of so many events.
+    Stopped { events: u32 },
+    /// All turns were taken, and `Stop` didn't come.
+    Turns,
+    /// The address couldn't be listened on, or the wires gave nothing any more.
+    WireFault,
+    NoMemory,
+}
+
+/// Listens on the address, and serves one value-add for each connection that comes, whose peer has this ID and this
+/// address. In each of the turns, of which there are 1 to 1,000,000,000, one event is taken and goes to its value-add; all
+/// messages that can be taken are taken, from above until nothing is left there, then one from below, and again; then what
+/// is queued is put, one put a wire, in rising order of the channels.
+///
+/// Where a value-add is redirected the wires are asked at once to connect to the peer. If they can't, that is the redirect's
+/// error and no fault of the run. The new connection is the value-add's wire above; an earlier one is shut, and what was
+/// queued for it is dropped.
+///
+/// Where 64 value-adds aren't closed, a further connection gets the end of the stream and is shut. A wire is shut once
+/// nothing is left to put after its end. What a wire doesn't take is put first after the next event; what is queued for a
+/// wire that is lost is dropped, and its value-add learns of it by an event alone.
+pub fn serve_value<W: Wires>(
+    alloc: Global,
+    wires: &mut W,
+    address: &str,
+    peer: &str,
+    turns: u32,
+) -> ServeEnd
+    ensures serves { Makes (ServesValueAdds peer.now address.now turns result) (W.told wires.old) (W.told wires.new) (W.faults wires.old) (W.faults wires.new) }
+    ensures fault { result ≡ ServeEnd.WireFault → Rose (W.faults wires.old) (W.faults wires.new) }
+{
+    match try_serve(alloc, wires, address, peer, turns) {
+        Ok(end) => end,
+        Err(WireRefusal::Failed) => ServeEnd::WireFault,
+        Err(WireRefusal::NoMemory) => ServeEnd::NoMemory,
+    }
+}
+
+fn try_serve<W: Wires>(
+    alloc: Global,
+    wires: &mut W,
+    address: &str,
+    peer: &str,
+    turns: u32,
+) -> Result<ServeEnd, WireRefusal>
+    ensures serves { Makes (ServesValueAdds peer.now address.now turns (end_of result)) (W.told wires.old) (W.told wires.new) (W.faults wires.old) (W.faults wires.new) }
+    ensures fault { end_of result ≡ ServeEnd.WireFault → Rose (W.faults wires.old) (W.faults wires.new) }
+{
+    each_wire_is_carried();
+    let mut serving = Serving::new(alloc, peer)?;
+    wires.listen(address)?;
+    for before in 0..turns {
+        let is_last = take_turn(&mut serving, wires)?;
+        if is_last {
+            return Ok(ServeEnd::Stopped { events: before + 1 });
+        }
+    }
+    Ok(ServeEnd::Turns)
+}
+
+/// Takes an event and puts what is queued then. Answers whether it was `Stop`.
+fn take_turn<W: Wires>(serving: &mut Serving, wires: &mut W) -> Result<bool, WireRefusal>
+    ensures turn { Makes (TakesTurn serving.old serving.new (W.unused wires.old) (W.unused wires.new) result) (W.told wires.old) (W.told wires.new) (W.faults wires.old) (W.faults wires.new) }
+{
+    let event = wires.next()?;
+    let is_last = is_stop(&event);
+    serving.heed(event, wires)?;
+    serving.flush(wires)?;
+    Ok(is_last)
+}
+
+/// The laws of each wire, which do nothing.
+fn each_wire_is_carried()
+    ensures { WireLaws }
+{
+    an_outbox_is_what_is_left();
+    what_is_flushed_is_carried();
+    a_flush_is_in_place();
+    a_flush_is_on_one_wire();
+}
+
+fn is_stop(event: &WireEvent) -> bool
+    ensures { result ≡ is_stop event.now }
+{
+    match event {
+        WireEvent::Stop => true,
+        _ => false,
+    }
+}

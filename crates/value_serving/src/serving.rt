@@ -1,0 +1,200 @@
+//! The value-adds that are served, with their wires, and what each event makes of them.
+ghost use Rattle.std.specs.Prelude.{◌≡◌, [], IfOk, OnErr, OnOk};
+ghost use Rattle.serving_wires.specs.Calls.{Makes};
+ghost use Rattle.value_serving.specs.Flushing.{FlushesKept, GivesUpAll};
+ghost use Rattle.value_serving.specs.Following.{BreaksOff, Goes};
+ghost use Rattle.value_serving.specs.Process.{done};
+ghost use Rattle.value_serving.specs.Sending.{opened_by, begun};
+ghost use Rattle.value_serving.specs.Serving.{above_of, handled, heard_at, heard_on, kept_unless, new_serving, opened, is_above_at, is_over_at, wire_of};
+
+use crate::add::{Add, is_over, new_add};
+use crate::passing::{gather, hear};
+use crate::sending::Sending;
+use serving_wires::{Came, Roster};
+use std::alloc::{AllocError, Global};
+use std::marker::Model;
+use tcf_values::Text;
+use tcf_wires::{WireEvent, Wires};
+use value_node::Side;
+
+/// The most value-adds.
+const MOST: usize = 64;
+
+/// The end of a stream.
+const END: &[u8] = b"\x03\x02";
+
+/// The value-adds that aren't closed, one for each connection that came, and what is to be put on all wires.
+#[derive(Drop)]
+pub struct Serving {
+    alloc: Global,
+    peer: Text,
+    adds: Roster<Add>,
+    sending: Sending,
+}
+
+impl Model for Serving {
+    ghost use Rattle.std.specs.Coded.{codes};
+    ghost use Rattle.value_serving.specs.ServingValue.{ServingValue, serving_code};
+    ghost use Rattle.value_serving.specs.contracts.add.Add as one_add;
+
+    ghost Value = { ServingValue };
+
+    ghost coded = { serving_code one_add.the_row.coded (Prim.hlevel codes) };
+
+    ghost view = { λ s. record { peer = s.peer; adds = s.adds; sending = s.sending } };
+}
+
+impl Serving {
+    pub fn new(alloc: Global, peer: &str) -> Result<Serving, AllocError>
+        ensures { IfOk result (λ serving. serving ≡ new_serving peer.now) }
+    {
+        Ok(Serving {
+            alloc,
+            peer: Text::from_str(alloc, peer)?,
+            adds: Roster::new(alloc),
+            sending: Sending::new(alloc),
+        })
+    }
+
+    /// An event comes: it goes to its value-add, all messages that can be taken are taken, and what the value-add has to send
+    /// is queued.
+    #[tactic(auto, unfolding(crate::specs::Serving::handled))]
+    pub fn heed<W: Wires>(&mut self, event: WireEvent, wires: &mut W) -> Result<(), AllocError>
+        ensures peer { OnOk result (self.new.peer ≡ self.old.peer) }
+        ensures ok { OnOk result (Makes (Goes self.old.peer (W.unused wires.old) (W.unused wires.new) (handled self.old.peer event self.old.adds) (done self.new.adds) (opened_by event self.old.sending) self.new.sending) (W.told wires.old) (W.told wires.new) (W.faults wires.old) (W.faults wires.new)) }
+        ensures err { OnErr result (Makes (BreaksOff self.old.peer (W.unused wires.old) (handled self.old.peer event self.old.adds) (opened_by event self.old.sending)) (W.told wires.old) (W.told wires.new) (W.faults wires.old) (W.faults wires.new)) }
+    {
+        match event {
+            WireEvent::Opened(channel) => self.open(channel),
+            WireEvent::Piece(channel, bytes) => self.hear(channel, Came::Piece(bytes), wires),
+            WireEvent::Ended(channel) | WireEvent::Lost(channel) => {
+                self.hear(channel, Came::End, wires)
+            }
+            WireEvent::Idle | WireEvent::Stop => Ok(()),
+        }
+    }
+
+    /// A connection came. While 64 value-adds are there it is sent the end of the stream alone.
+    fn open(&mut self, channel: u64) -> Result<(), AllocError>
+        ensures peer { OnOk result (self.new.peer ≡ self.old.peer) }
+        ensures ok { OnOk result ((unused : _) → Goes self.old.peer unused unused (opened self.old.peer channel self.old.adds) (done self.new.adds) (begun channel self.old.sending) self.new.sending []) }
+    {
+        self.sending.begin(channel)?;
+        if self.adds.len() >= MOST {
+            self.sending.queue(channel, END)?;
+            self.sending.close(channel);
+            return Ok(());
+        }
+        let mut add = new_add(self.alloc, &self.peer, channel)?;
+        gather(self.alloc, &mut add, &mut self.sending)?;
+        self.adds.push(channel, add)
+    }
+
+    /// Something came on a channel. On one of no value-add it is dropped.
+    fn hear<W: Wires>(&mut self, channel: u64, came: Came, wires: &mut W) -> Result<(), AllocError>
+        ensures peer { OnOk result (self.new.peer ≡ self.old.peer) }
+        ensures ok { OnOk result (Makes (Goes self.old.peer (W.unused wires.old) (W.unused wires.new) (heard_on channel came self.old.adds) (done self.new.adds) self.old.sending self.new.sending) (W.told wires.old) (W.told wires.new) (W.faults wires.old) (W.faults wires.new)) }
+        ensures err { OnErr result (Makes (BreaksOff self.old.peer (W.unused wires.old) (heard_on channel came self.old.adds) self.old.sending) (W.told wires.old) (W.told wires.new) (W.faults wires.old) (W.faults wires.new)) }
+    {
+        if let Some((place, side)) = wire_of(&self.adds, channel) {
+            hear_at(
+                self.alloc,
+                &mut self.adds,
+                place,
+                side,
+                came,
+                &mut self.sending,
+                wires,
+                self.peer.as_str(),
+            )?;
+            forget_closed(&mut self.adds, place);
+        }
+        Ok(())
+    }
+
+    /// Puts what is queued, wire by wire in the order of their channels.
+    pub fn flush<W: Wires>(&mut self, wires: &mut W) -> Result<(), AllocError>
+        ensures peer { OnOk result (self.new.peer ≡ self.old.peer) }
+        ensures adds { OnOk result (self.new.adds ≡ self.old.adds) }
+        ensures ok { OnOk result (Makes (FlushesKept self.old.sending self.new.sending) (W.told wires.old) (W.told wires.new) (W.faults wires.old) (W.faults wires.new)) }
+        ensures err { OnErr result (Makes (GivesUpAll self.old.sending) (W.told wires.old) (W.told wires.new) (W.faults wires.old) (W.faults wires.new)) }
+        ensures numbers { W.unused wires.new ≡ W.unused wires.old }
+    {
+        self.sending.flush(wires)
+    }
+}
+
+/// Something came on a side of the value-add at a place.
+fn hear_at<W: Wires>(
+    alloc: Global,
+    adds: &mut Roster<Add>,
+    place: usize,
+    side: Side,
+    came: Came,
+    sending: &mut Sending,
+    wires: &mut W,
+    peer: &str,
+) -> Result<(), AllocError>
+    ensures ok { OnOk result (Makes (Goes peer.now (W.unused wires.old) (W.unused wires.new) (heard_at place side came adds.old) (done adds.new) sending.old sending.new) (W.told wires.old) (W.told wires.new) (W.faults wires.old) (W.faults wires.new)) }
+    ensures err { OnErr result (Makes (BreaksOff peer.now (W.unused wires.old) (heard_at place side came adds.old) sending.old) (W.told wires.old) (W.told wires.new) (W.faults wires.old) (W.faults wires.new)) }
+{
+    match adds.get_mut(place) {
+        Some(add) => hear(alloc, add, side, came, sending, wires, peer),
+        None => Ok(()),
+    }
+}
+
+/// Forgets the value-add at a place if it is closed.
+fn forget_closed(adds: &mut Roster<Add>, place: usize)
+    ensures { adds.new ≡ kept_unless (is_over_at place adds.old) place adds.old }
+{
+    if is_closed(adds, place) {
+        adds.remove(place);
+    }
+}
+
+/// Whether the value-add at a place is closed.
+fn is_closed(adds: &Roster<Add>, place: usize) -> bool
+    ensures { result ≡ is_over_at place adds.now }
+{
+    match adds.get(place) {
+        Some(add) => is_over(add.node.bind(), Side::Below),
+        None => false,
+    }
+}
+
+/// The value-add whose wire has this channel, and on which side it is.
+#[tactic(auto, unfolding(crate::specs::Serving::wire_of))]
+fn wire_of(adds: &Roster<Add>, channel: u64) -> Option<(usize, Side)>
+    ensures { result ≡ wire_of channel adds.now }
+{
+    if let Some(place) = adds.place_of(channel) {
+        return Some((place, Side::Below));
+    }
+    match above_of(adds, channel) {
+        Some(place) => Some((place, Side::Above)),
+        None => None,
+    }
+}
+
+/// The place of the value-add whose wire above has this channel.
+fn above_of(adds: &Roster<Add>, channel: u64) -> Option<usize>
+    ensures { result ≡ above_of channel adds.now }
+{
+    for place in 0..adds.len() {
+        if is_above(adds, place, channel) {
+            return Some(place);
+        }
+    }
+    None
+}
+
+/// Whether the wire above of the value-add at a place has this channel.
+fn is_above(adds: &Roster<Add>, place: usize, channel: u64) -> bool
+    ensures { result ≡ is_above_at channel place adds.now }
+{
+    match adds.get(place) {
+        Some(add) => add.above == Some(channel),
+        None => false,
+    }
+}

@@ -1,0 +1,5 @@
+pub mod Keyed
+pub mod Cached
+pub mod Changing
+pub mod Learned
+pub mod Answered

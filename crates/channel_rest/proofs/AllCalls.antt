@@ -76,7 +76,7 @@ is_new service name body tag mark r s none =
 
 -- ---- Every call
 
-abbrev RestsRun : {T : Type 0} → Run T → Type 0
+abbrev pub RestsRun : {T : Type 0} → Run T → Type 0
 RestsRun r = Rests r.past.accepted r.past.taken r.end
 
 rests_called : {T : Type 0} → (call : Call T) (r : Run T) → (is_closed r.end.state ≡ true → next_taken r.end ≡ (None, r.end)) → AlwaysStands r → RestsRun r → RestsRun (after_call call r)
@@ -102,7 +102,7 @@ rests : {T : Type 0} → (calls : List (Call T)) (r : Run T) → TakesNone r →
 rests [] r none s h = h
 rests (call ∷ calls) r none s h = rests calls (after_call call r) (λ more. none (call ∷ more)) (stands_after call r s) (rests_called call r (none []) s h)
 
-rests_all : {T : Type 0} → (hello : List ℕ) (mark : Option ℕ) (calls : List (Call T)) → RestsRun (after_calls calls (begun (new_end hello mark)))
+pub rests_all : {T : Type 0} → (hello : List ℕ) (mark : Option ℕ) (calls : List (Call T)) → RestsRun (after_calls calls (begun (new_end hello mark)))
 rests_all {T = T} hello mark calls =
     let first = begun (new_end {T = T} hello mark) in
     rests calls first (λ more. all_takes_nothing hello mark more) (stands_at_first hello mark)

@@ -1,15 +1,12 @@
 -- Where the node of the other end answered all that it took, an end is free.
-use Rattle.std.proofs.Common.{◌≡◌, ℕ, suc, ◌+◌, ◌<◌, ◌≤◌, Bool, true, false, not, cond, ◌&&◌, ◌||◌, List, [], ◌∷◌, ◌++◌, length, map, Option, None, Ok, refl, sym, ap, ◌∙◌, subst, arith, length-append}
-use Rattle.std.specs.Prelude.{◌^◌, bytes_eq, decimal}
+use Rattle.std.proofs.Common.{◌≡◌, ℕ, Bool, true, false, not, cond, ◌&&◌, ◌||◌, List, [], ◌∷◌, ◌++◌, map, Option, None, Ok, refl, sym, ap, ◌∙◌, subst, arith}
+use Rattle.std.specs.Prelude.{bytes_eq, decimal}
 use Rattle.std.specs.List.{AllByRecursion, filter, flat_map, list_any}
 use Rattle.std.proofs.lemmas.Bool.{and_parts, or_left, or_parts, or_right}
 use Rattle.std.proofs.lemmas.List.Folds.{list_any-append}
 use Rattle.std.proofs.lemmas.Slice.Eq.{bytes_eq-Decides}
-use Rattle.stream_escape.specs.Fed.{fed}
-use Rattle.stream_escape.specs.Laws.{HasRead, fresh}
-use Rattle.stream_escape.specs.Stream.{framed, most_message}
-use Rattle.stream_escape.specs.declared.stream.Item.TheVariants.{Message}
-use Rattle.tcf_message.specs.Message.{MessageValue, command, event, final, flow, not_known, progress, reading, spelling, HasNoZero, IsWellFormed, is_zero, most_body, ◌•◌}
+use Rattle.stream_escape.specs.Stream.{framed}
+use Rattle.tcf_message.specs.Message.{MessageValue, command, event, final, flow, not_known, progress, reading, spelling, HasNoZero, IsWellFormed, is_zero, ◌•◌}
 use Rattle.channel_core.specs.Arrivals.{AreSpoken, Spoken, queue_of}
 use Rattle.channel_core.specs.ReceivingLaws.{CanBeRead, incoming_of}
 use Rattle.channel_core.specs.RunLaws.{is_answered, is_command, sent_of, token_in}
@@ -21,60 +18,18 @@ use Rattle.channel_core.specs.declared.states.EndState.TheVariants.{Live}
 use Rattle.channel_core.specs.declared.taking.Taken.{Taken}
 use Rattle.channel_core.proofs.Feeding.{Cited}
 use Rattle.channel_core.proofs.Running.{all_sent_in_order}
-use Rattle.channel_core.proofs.Sizes.{spelled_size}
 use Rattle.channel_rest.specs.Meeting.{AtRest, IsAnsweredBy, RestTogether, WhereAllIsAnswered, all_heard, all_said, answers_among, does_one, hello_behind, lacks_hello_behind, redirect_in, redirects_among, run_of}
 use Rattle.channel_rest.specs.Rest.{AreAnswered, IsMade, TellsAsMessages, answered_among, hello_among, is_done_for, is_hello, lacks_answer, lacks_hello, lacks_hello_among}
 use Rattle.channel_rest.proofs.AsSaid.{all_tell}
 use Rattle.channel_rest.proofs.Levels.{Frames}
 use Rattle.channel_rest.proofs.Making.{sent_made}
 use Rattle.channel_rest.proofs.Meeting.{all_rest_together, entering, entering_formed, formed_as, queued_said, readable, said_as}
-
--- ---- Fields
-
--- two fields that end with their first zero
-field_one : (a b rest more : List ℕ) → HasNoZero a → HasNoZero b → a • rest ≡ b • more → (a ≡ b) × (rest ≡ more)
-field_one [] [] rest more first second is = (refl, cc)
-field_one [] (y ∷ b) rest more first second is =
-    let parts = or_parts (is_zero y) (list_any is_zero b) second in
-    let zero_is : y ≡ 0 = cc in
-    let zero : is_zero y ≡ true = ap is_zero zero_is in
-    let none = parts.0 in
-    absurd cc
-field_one (x ∷ a) [] rest more first second is =
-    let parts = or_parts (is_zero x) (list_any is_zero a) first in
-    let zero_is : x ≡ 0 = cc in
-    let zero : is_zero x ≡ true = ap is_zero zero_is in
-    let none = parts.0 in
-    absurd cc
-field_one (x ∷ a) (y ∷ b) rest more first second is =
-    let same : x ≡ y = cc in
-    let tail : a • rest ≡ b • more = cc in
-    let next = field_one a b rest more (or_parts (is_zero x) (list_any is_zero a) first).1 (or_parts (is_zero y) (list_any is_zero b) second).1 tail in
-    (ap (λ z. z ∷ a) same ∙ ap (λ zs. y ∷ zs) next.0, next.1)
-
-field_size : (field rest : List ℕ) → length (field • rest) ≡ length field + suc (length rest)
-field_size field rest = length-append field (0 ∷ rest)
+use Rattle.channel_rest.proofs.Spelling.{field_one, framed_one}
 
 -- ---- A command, and the message that was read of it
 
 abbrev spelled : ℕ → List ℕ → List ℕ → List ℕ → List ℕ
 spelled n service name body = spelling (command (decimal n) service name body)
-
-command_size : Frames → (n : ℕ) (service name body : List ℕ) → n < 2 ^ 64 → length service + length name + length body ≤ most_body → length (spelled n service name body) ≤ most_message
-command_size c n service name body within size =
-    let token = c.token n within in
-    let most = token.2 in
-    let whole : length (spelled n service name body) ≡ suc (suc (length (decimal n) + suc (length service + suc (length name + suc (length body))))) =
-    ap (λ m. suc (suc m)) (field_size (decimal n) (service • name • body) ∙ ap (λ m. length (decimal n) + suc m) (field_size service (name • body) ∙ ap (λ m. length service + suc m) (field_size name body))) in
-    rw whole (omega arith)
-
-framed_one : Frames → (one other : List ℕ) → length one ≤ most_message → length other ≤ most_message → framed one ≡ framed other → one ≡ other
-framed_one c one other first second is =
-    let begins : HasRead [] fresh = (c.between fresh).0 (record { ending = refl; fault = refl }) in
-    let a = (c.whole fresh one [] (framed one) first begins refl).items_are in
-    let b = (c.whole fresh other [] (framed other) second begins refl).items_are in
-    let both : Message one ∷ [] ≡ Message other ∷ [] = sym a ∙ ap (λ bytes. (fed bytes fresh).items) is ∙ b in
-    cc
 
 abbrev pub is_asking : MessageValue → Bool
 is_asking (command token service name body) = true
@@ -85,12 +40,12 @@ is_asking (event service name body) = false
 is_asking (flow level) = false
 
 -- the message is the command, and a redirect where that is one
-record IsAlike {T : Type 0} (m : MessageValue) (i : Issued T) : Type 0 where
-  service : List ℕ
-  name : List ℕ
-  body : List ℕ
-  is : m ≡ command (decimal i.command.token) service name body
-  redirects : i.command.is_redirect ≡ true → is_redirect service name ≡ true
+pub record IsAlike {T : Type 0} (m : MessageValue) (i : Issued T) : Type 0 where
+  pub service : List ℕ
+  pub name : List ℕ
+  pub body : List ℕ
+  pub is : m ≡ command (decimal i.command.token) service name body
+  pub redirects : i.command.is_redirect ≡ true → is_redirect service name ≡ true
 
 abbrev names_redirect : List ℕ → List ℕ → Type 0
 names_redirect service name = is_redirect service name ≡ true
@@ -137,18 +92,18 @@ alike_said c x i made formed asking is =
     let fits = made.fits in
     let bytes : framed (spelling x.message) ≡ framed (spelled i.command.token made.service made.name made.body) = ap (λ (o : Outgoing). o.bytes) (is ∙ ap (λ h. h.outgoing) made.is) in
     alike_one c x.message i made formed asking
-    (framed_one c (spelling x.message) (spelled i.command.token made.service made.name made.body) (spelled_size c.token x.message formed) (command_size c i.command.token made.service made.name made.body (omega arith) made.size) bytes)
+    (framed_one (spelling x.message) (spelled i.command.token made.service made.name made.body) bytes)
 
 -- ---- The commands of a queue
 
-abbrev asking : List Spoken → List Spoken
+abbrev pub asking : List Spoken → List Spoken
 asking spoken = filter (λ s. is_asking s.message) spoken
 
 -- each of them asks, and can be read
-abbrev AreAsking : List Spoken → Type 0
+abbrev pub AreAsking : List Spoken → Type 0
 AreAsking spoken = AllByRecursion (λ s. IsWellFormed s.message × (is_asking s.message ≡ true)) spoken
 
-are_asking : (spoken : List Spoken) → AreSpoken spoken → AreAsking (asking spoken)
+pub are_asking : (spoken : List Spoken) → AreSpoken spoken → AreAsking (asking spoken)
 are_asking [] all = tt
 are_asking (s ∷ spoken) all = by_flag (is_asking s.message) refl (are_asking spoken all.1)
   where
@@ -156,7 +111,7 @@ are_asking (s ∷ spoken) all = by_flag (is_asking s.message) refl (are_asking s
     by_flag true is rest = ((all.0, is), rest)
     by_flag false is rest = rest
 
-commands_said : (spoken : List Spoken) (is_ended : Bool) → filter is_command (queue_of spoken is_ended) ≡ all_said (asking spoken)
+pub commands_said : (spoken : List Spoken) (is_ended : Bool) → filter is_command (queue_of spoken is_ended) ≡ all_said (asking spoken)
 commands_said [] true = refl
 commands_said [] false = refl
 commands_said (s ∷ spoken) is_ended = by_message s.message s.mark (commands_said spoken is_ended)
@@ -170,13 +125,13 @@ commands_said (s ∷ spoken) is_ended = by_message s.message s.mark (commands_sa
     by_message (event service name body) mark rest = rest
     by_message (flow level) mark rest = rest
 
-abbrev AreAlike : {T : Type 0} → List Spoken → List (Issued T) → Type 0
+abbrev pub AreAlike : {T : Type 0} → List Spoken → List (Issued T) → Type 0
 AreAlike [] [] = Unit {0}
 AreAlike [] (i ∷ sent) = ⊥
 AreAlike (x ∷ xs) [] = ⊥
 AreAlike (x ∷ xs) (i ∷ sent) = IsAlike x.message i × AreAlike xs sent
 
-are_alike : {T : Type 0} → Frames → (xs : List Spoken) (sent : List (Issued T)) → AreAsking xs → AllByRecursion IsMade sent → all_said xs ≡ map (λ i. i.command.outgoing) sent → AreAlike xs sent
+pub are_alike : {T : Type 0} → Frames → (xs : List Spoken) (sent : List (Issued T)) → AreAsking xs → AllByRecursion IsMade sent → all_said xs ≡ map (λ i. i.command.outgoing) sent → AreAlike xs sent
 are_alike c [] [] each made is = tt
 are_alike c [] (i ∷ sent) each made is = absurd cc
 are_alike c (x ∷ xs) [] each made is = absurd cc
@@ -232,13 +187,13 @@ answered_each answers_are (x ∷ xs) (i ∷ sent) alike each =
 said_heard : Frames → (m : MessageValue) → IsWellFormed m → said_in (spelling m) ≡ said_by m
 said_heard f m formed = ap said_of (f.read.1 m formed)
 
-answered_heard : Frames → (spoken : List Spoken) → AreSpoken spoken → (n : ℕ) → answered_among (all_heard spoken) n ≡ answers_among (decimal n) spoken
+pub answered_heard : Frames → (spoken : List Spoken) → AreSpoken spoken → (n : ℕ) → answered_among (all_heard spoken) n ≡ answers_among (decimal n) spoken
 answered_heard f [] all n = refl
 answered_heard f (s ∷ spoken) all n =
     ap (λ m. list_any (λ text. bytes_eq text (decimal n)) (token_in m) || answered_among (all_heard spoken) n) (said_heard f s.message all.0)
     ∙ ap (λ b. list_any (λ text. bytes_eq text (decimal n)) (token_in (said_by s.message)) || b) (answered_heard f spoken all.1 n)
 
-hello_heard : Frames → (spoken : List Spoken) → AreSpoken spoken → hello_among (all_heard spoken) ≡ hello_behind spoken
+pub hello_heard : Frames → (spoken : List Spoken) → AreSpoken spoken → hello_among (all_heard spoken) ≡ hello_behind spoken
 hello_heard f [] all = refl
 hello_heard f (s ∷ spoken) all =
     ap (λ m. is_hello m || hello_among (all_heard spoken)) (said_heard f s.message all.0) ∙ ap (λ b. is_hello (said_by s.message) || b) (hello_heard f spoken all.1)

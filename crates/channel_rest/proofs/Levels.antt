@@ -3,10 +3,7 @@ use Rattle.std.proofs.Common.{◌≡◌, ℕ, suc, ◌+◌, ◌-◌, ◌<◌, �
 use Rattle.std.specs.Prelude.{ℤ, pos, negsuc, neg_ℤ, int_lt}
 use Rattle.std.specs.List.{filter, last_or}
 use Rattle.std.proofs.lemmas.Int.{ints}
-use Rattle.stream_escape.specs.Fed.{fed}
-use Rattle.stream_escape.specs.Laws.{BeginsBetween, HasRead, LastPartsBringMessages, fresh}
 use Rattle.stream_escape.specs.Stream.{framed}
-use Rattle.stream_escape.specs.declared.stream.Item.TheVariants.{Message}
 use Rattle.tcf_message.specs.Fault.{IsDecimalToken, IsReadBack}
 use Rattle.tcf_message.specs.Message.{MessageValue, command, event, final, flow, not_known, progress, spelling, IsLevel, IsWellFormed}
 use Rattle.channel_core.specs.Arrivals.{AreSpoken, Spoken, level_after, level_by, queue_of}
@@ -27,8 +24,8 @@ use Rattle.channel_core.specs.declared.states.EndState.TheVariants.{Live}
 use Rattle.channel_core.proofs.Commands.{AreCommands, commands_push, farewell_none, none_more, one_more, taken_out, unheld_none}
 use Rattle.channel_core.proofs.Keeping.{Keeps, KeepsAny, KeepsOut, IsTidy, closed_keeps, delivered_keeps, either_keeps, ended_keeps, greeted_open, released_keeps, taken_keeps}
 use Rattle.channel_core.proofs.Running.{Stands, always, stands_after, stands_at_first}
-use Rattle.channel_core.proofs.Sizes.{spelled_size}
 use Rattle.channel_rest.specs.Rest.{LetsCommandsOut}
+use Rattle.channel_rest.proofs.Spelling.{framed_one}
 
 -- ---- The last level is that of an inbox
 
@@ -176,22 +173,12 @@ tells_on (s ∷ spoken) is_ended all o level l = tells_first s.message s.mark sp
 
 -- the laws of streams and of messages
 pub record Frames : Type 0 where
-  pub between : BeginsBetween
-  pub whole : LastPartsBringMessages
   pub read : IsReadBack
   pub token : IsDecimalToken
 
-pub spelled_one : Frames → (m n : MessageValue) → IsWellFormed m → IsWellFormed n → framed (spelling m) ≡ framed (spelling n) → spelling m ≡ spelling n
-spelled_one c m n first second is =
-    let begins : HasRead [] fresh = (c.between fresh).0 (record { ending = refl; fault = refl }) in
-    let one = (c.whole fresh (spelling m) [] (framed (spelling m)) (spelled_size c.token m first) begins refl).items_are in
-    let two = (c.whole fresh (spelling n) [] (framed (spelling n)) (spelled_size c.token n second) begins refl).items_are in
-    let both : Message (spelling m) ∷ [] ≡ Message (spelling n) ∷ [] = sym one ∙ ap (λ bytes. (fed bytes fresh).items) is ∙ two in
-    cc
-
 level_one : Frames → (one other : ℤ) → IsWellFormed (flow one) → IsWellFormed (flow other) → framed (spelling (flow one)) ≡ framed (spelling (flow other)) → one ≡ other
 level_one c one other first second is =
-    let spelled = spelled_one c (flow one) (flow other) first second is in
+    let spelled = framed_one (spelling (flow one)) (spelling (flow other)) is in
     let first_read = c.read.1 (flow one) first in
     let second_read = c.read.1 (flow other) second in
     cc

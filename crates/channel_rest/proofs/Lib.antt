@@ -1,3 +1,4 @@
+pub mod Spelling
 pub mod AsSaid
 pub mod Telling
 pub mod Standing
@@ -9,3 +10,5 @@ pub mod Ending
 pub mod Meeting
 pub mod Making
 pub mod Answering
+pub mod Numbering
+pub mod Asking

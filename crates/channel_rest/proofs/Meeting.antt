@@ -31,7 +31,8 @@ use Rattle.channel_rest.specs.Meeting.{AtRest, HasAll, IsLasting, Side, WhereNot
 use Rattle.channel_rest.specs.Rest.{StandsAs, lacks_answer, lacks_hello}
 use Rattle.channel_rest.proofs.AllCalls.{all_pend, all_stand}
 use Rattle.channel_rest.proofs.Ending.{all_hear}
-use Rattle.channel_rest.proofs.Levels.{Frames, all_let_out, spelled_one}
+use Rattle.channel_rest.proofs.Levels.{Frames, all_let_out}
+use Rattle.channel_rest.proofs.Spelling.{framed_one}
 
 -- ---- A queue
 
@@ -56,7 +57,7 @@ some_end (o ∷ front) is = by_flag (is_end o) is (some_end front)
     by_flag false is rest = rest is
 
 -- a queue that ends so has the end of the stream
-is_told_end : (spoken : List Spoken) (is_ended : Bool) (front : List Outgoing) → queue_of spoken is_ended ≡ front ++ end_of_stream ∷ [] → is_ended ≡ true
+pub is_told_end : (spoken : List Spoken) (is_ended : Bool) (front : List Outgoing) → queue_of spoken is_ended ≡ front ++ end_of_stream ∷ [] → is_ended ≡ true
 is_told_end spoken true front is = refl
 is_told_end spoken false front is = absurd (some_end front (sym (ap (filter is_end) is) ∙ no_end spoken))
 
@@ -94,7 +95,7 @@ abbrev pub said_as : Bool → List Spoken → List Spoken
 said_as true spoken = spoken
 said_as false spoken = map (λ (s : Spoken). record s { mark = None }) spoken
 
-queue_as : (is_marked : Bool) (spoken : List Spoken) (is_ended : Bool) → as_comes is_marked (queue_of spoken is_ended) ≡ queue_of (said_as is_marked spoken) is_ended
+pub queue_as : (is_marked : Bool) (spoken : List Spoken) (is_ended : Bool) → as_comes is_marked (queue_of spoken is_ended) ≡ queue_of (said_as is_marked spoken) is_ended
 queue_as true spoken is_ended = refl
 queue_as false [] true = refl
 queue_as false [] false = refl
@@ -121,18 +122,18 @@ filter_as false (o ∷ queue) = by_flag (is_message o) (filter_as false queue)
     by_flag false rest = rest
 
 -- two lists of messages that are queued alike are taken alike
-heard_one : Frames → (xs ys : List Spoken) → AreSpoken xs → AreSpoken ys → all_said xs ≡ all_said ys → all_heard xs ≡ all_heard ys
-heard_one f [] [] first second is = refl
-heard_one f [] (y ∷ ys) first second is = absurd cc
-heard_one f (x ∷ xs) [] first second is = absurd cc
-heard_one f (x ∷ xs) (y ∷ ys) first second is =
+heard_one : (xs ys : List Spoken) → all_said xs ≡ all_said ys → all_heard xs ≡ all_heard ys
+heard_one [] [] is = refl
+heard_one [] (y ∷ ys) is = absurd cc
+heard_one (x ∷ xs) [] is = absurd cc
+heard_one (x ∷ xs) (y ∷ ys) is =
     let one : said x.message x.mark ≡ said y.message y.mark = cc in
     let rest : all_said xs ≡ all_said ys = cc in
-    let spelled : spelling x.message ≡ spelling y.message = spelled_one f x.message y.message first.0 second.0 (ap (λ (o : Outgoing). o.bytes) one) in
+    let spelled : spelling x.message ≡ spelling y.message = framed_one (spelling x.message) (spelling y.message) (ap (λ (o : Outgoing). o.bytes) one) in
     let marks : x.mark ≡ y.mark = ap (λ (o : Outgoing). o.mark) one in
     ap (λ raw. record { raw = raw; mark = x.mark } ∷ all_heard xs) spelled
     ∙ ap (λ mark. record { raw = spelling y.message; mark = mark } ∷ all_heard xs) marks
-    ∙ ap (λ ms. record { raw = spelling y.message; mark = y.mark } ∷ ms) (heard_one f xs ys first.1 second.1 rest)
+    ∙ ap (λ ms. record { raw = spelling y.message; mark = y.mark } ∷ ms) (heard_one xs ys rest)
 
 -- ---- One end hears what the other one queued
 
@@ -186,7 +187,7 @@ hears_end c is_marked s other l h front ends = by_flag (is_closed (run_of s).end
 
 -- ---- Both are closed
 
-abbrev ends_as : {T : Type 0} → (s : Side T) (cause : Cause) → (run_of s).end.state ≡ Closed cause → EndsAs (Closed cause) (run_of s).past.queued
+abbrev pub ends_as : {T : Type 0} → (s : Side T) (cause : Cause) → (run_of s).end.state ≡ Closed cause → EndsAs (Closed cause) (run_of s).past.queued
 ends_as s cause is = let P : EndState → Type 0 = λ state. EndsAs state (run_of s).past.queued in subst P is (all_end_once s.hello s.mark s.calls).ends
 
 closes_for : {T U : Type 0} → Cited → (is_marked others_are : Bool) (s : Side T) (other : Side U) → IsLasting s → IsLasting other → HasAll is_marked s other → HasAll others_are other s → (cause : Cause)
@@ -265,7 +266,7 @@ at_rest {T = T} {U = U} c f is_marked others_are s other m h g opened open_too =
   formed = formed;
   queued = queued_is;
   heard = heard_is;
-  taken = λ spoken all is. heard_is ∙ heard_one f messages spoken formed all (sym queued_is ∙ is);
+  taken = λ spoken all is. heard_is ∙ heard_one messages spoken (sym queued_is ∙ is);
   greeted = greeted_of r.end.state r opened stands begun_is;
   told = told_is;
   live = live_of r.end.state r opened stands begun_is;

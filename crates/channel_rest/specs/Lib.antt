@@ -1,2 +1,4 @@
 pub mod Rest
 pub mod Meeting
+pub mod Numbering
+pub mod Asking

@@ -1,7 +1,9 @@
 //! The laws of an end at one moment.
 ghost use Rattle.channel_core.specs.ReceivingLaws.{WhereAQueueComes};
 ghost use Rattle.channel_core.specs.RunLaws.{AfterAllCalls};
+ghost use Rattle.channel_rest.specs.Asking.{AsksNothingWaitsForNothing};
 ghost use Rattle.channel_rest.specs.Meeting.{WhereAllIsAnswered, WhereNothingIsUnderWay};
+ghost use Rattle.channel_rest.specs.Numbering.{WhatComesIsNumbered};
 ghost use Rattle.channel_rest.specs.Rest.{HearsTheEnd, IsOverAtItsEnd, LetsCommandsOut, MakesCommands, PendsUnanswered, StandsAsTaken, StaysOver, TakesAsSaid, TellsAsMessages};
 
 use stream_escape::{frames_are_read, pieces_are_one};
@@ -20,7 +22,6 @@ pub fn an_end_stands_as_it_took<T>()
     ensures state { AfterAllCalls {T = T} StandsAsTaken }
     ensures level { AfterAllCalls {T = T} LetsCommandsOut }
 {
-    frames_are_read();
     read_back();
     decimal_token();
 }
@@ -66,3 +67,19 @@ pub fn an_answered_end_is_free<T, U>()
     read_back();
     decimal_token();
 }
+
+/// The law that the commands that an end takes have the tokens 1, 2, 3 and so on, where what came to it is a front of what
+/// another end gave, which sent only what can be read.
+pub fn what_comes_is_numbered<T, U>()
+    ensures { WhatComesIsNumbered T U }
+{
+    pieces_are_one();
+    frames_are_read();
+    read_back();
+    decimal_token();
+}
+
+/// The law that an end whose node sends no command has none pending and holds none.
+pub fn who_asks_nothing_waits_for_nothing<T>()
+    ensures { AsksNothingWaitsForNothing T }
+{}

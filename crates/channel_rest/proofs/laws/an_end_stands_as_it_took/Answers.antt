@@ -20,9 +20,4 @@ pub returns-clause-state : goal.returns-clause-state
 returns-clause-state g c = all_stand
 
 pub returns-clause-level : goal.returns-clause-level
-returns-clause-level g c = all_let_out (record {
-  between = c.frames_are_read.ensures.between;
-  whole = c.frames_are_read.ensures.whole;
-  read = c.read_back.ensures;
-  token = c.decimal_token.ensures;
-})
+returns-clause-level g c = all_let_out (record { read = c.read_back.ensures; token = c.decimal_token.ensures })

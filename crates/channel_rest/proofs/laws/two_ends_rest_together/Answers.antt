@@ -15,10 +15,5 @@ returns g c =
       read = c.read_back.ensures;
       token = c.decimal_token.ensures;
     } in
-    let frames : Frames = record {
-      between = c.frames_are_read.ensures.between;
-      whole = c.frames_are_read.ensures.whole;
-      read = c.read_back.ensures;
-      token = c.decimal_token.ensures;
-    } in
+    let frames : Frames = record { read = c.read_back.ensures; token = c.decimal_token.ensures } in
     all_rest_together cited frames

@@ -10,9 +10,8 @@ use Rattle.channel_core.specs.Wire.{locator}
 use Rattle.client_log.specs.Lessons as log_lessons
 use Rattle.client_node.specs.ClientValue.{ClientValue}
 use Rattle.client_node.specs.Runs.{Past, TellsPast, tells}
-use Rattle.command_tables.specs.Reading.{reading_of}
 use Rattle.knowledge.specs.Facts.{IsPart, byte_is, nothing}
-use Rattle.knowledge.specs.Learning.{Message, learned}
+use Rattle.knowledge.specs.Learning.{Message, learn_all, learned}
 use Rattle.target_contexts.specs.declared.process.Image.{Image}
 use Rattle.target_hub.specs.Fresh.{target_at}
 use Rattle.target_hub.specs.declared.input.Input.{Input}
@@ -32,13 +31,14 @@ use Rattle.value_node.specs.Deeds.{command_asked}
 use Rattle.chain_heard.proofs.Filtered.{last_mark_told}
 use Rattle.chain_heard.proofs.Heard.{FrontOf, front_of, none_asked, own_no_command, own_readable, taken_lines}
 use Rattle.chain_heard.proofs.Known.{Counted}
-use Rattle.chain_heard.proofs.Lessons.{Answering, AreAlike, final_by, found_under, front_taught}
+use Rattle.chain_heard.proofs.Lessons.{Answering, AreAlike, found_under, front_taught}
 use Rattle.chain_heard.proofs.Lines.{AreLinesOf, IsNoCommand, IsReadable, LinesCut, MessagesCut, line_mark, lines_cut, messages_cut}
 use Rattle.agent_told.proofs.Lists.{all_front}
 use Rattle.chain_heard.proofs.Marks.{IsUnmarked, mark_now, own_unmarked}
 use Rattle.chain_heard.proofs.Own.{First, first_of}
 use Rattle.chain_heard.proofs.Placed.{bare_lines, last_bare, mark_pushed}
-use Rattle.chain_heard.proofs.Teaching.{AnswerTeaches, LeavesNothing, TeachesNothing, both_leave, hello_teaches, locator_teaches}
+use Rattle.chain_told.proofs.Agreeing.{learn_append}
+use Rattle.chain_through.proofs.OwnLessons.{TeachesNothing, hello_teaches, own_teaches}
 
 -- ---- what is kept is a part of what was learned
 
@@ -146,6 +146,13 @@ heard_coherent law images history k position c p typed past once shown heard = r
 
 -- ---- nothing of the target
 
+-- where nothing is known, nothing is known behind these messages
+abbrev LeavesNothing : List Message → Type 0
+LeavesNothing messages = learn_all messages nothing ≡ nothing
+
+both_leave : (xs ys : List Message) → LeavesNothing xs → LeavesNothing ys → LeavesNothing (xs ++ ys)
+both_leave xs ys first second = learn_append xs ys nothing ∙ ap (learn_all ys) first ∙ second
+
 -- what value-adds say themselves teaches nothing
 own_teach : (all done commands : List Accepted) (own : List Spoken) (asked left : List Asked) → Counted all → all ≡ done ++ commands → map asked_as commands ≡ asked → IsOwn asked own left
     → AllByRecursion (λ s. LeavesNothing (lesson (map asked_as all) s.message)) own
@@ -166,9 +173,7 @@ own_teach all done commands (s ∷ own) asked left counted split are is =
         let service : first.command.service ≡ locator = ap (λ (a : Asked). a.service) first.same ∙ at in
         let under : command_under d.token (map asked_as all) ≡ Some (asked_as first.command) =
         subst (λ t. command_under t (map asked_as all) ≡ Some (asked_as first.command)) token (found_under all done first.rest first.command counted place) in
-        let taught : TeachesNothing (value.lesson_of (command_asked (asked_as first.command)) body) =
-        subst TeachesNothing (final_by (reading_of first.command.service first.command.name first.command.body) body)
-        (subst (λ name. AnswerTeaches body (reading_of name first.command.name first.command.body)) (sym service) (locator_teaches first.command.name first.command.body body)) in (
+        let taught : TeachesNothing (value.lesson_of (command_asked (asked_as first.command)) body) = own_teaches (asked_as first.command) body service in (
           subst (λ m. LeavesNothing (lesson (map asked_as all) m)) (sym named)
               (subst (λ c. TeachesNothing (value.lesson_of (option_and_then command_asked c) body)) (sym under) taught),
           behind (done ++ first.command ∷ []) first.rest (place ∙ sym (append_assoc done (first.command ∷ []) first.rest)) first.behind,

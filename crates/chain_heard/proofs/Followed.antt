@@ -10,7 +10,7 @@ use Rattle.channel_core.specs.Wire.{hello, locator}
 use Rattle.client_node.specs.Runs.{is_hello, tells}
 use Rattle.target_contexts.specs.declared.process.Image.{Image}
 use Rattle.target_hub.specs.History.{IsLegal}
-use Rattle.target_hub.specs.Ordered.{FollowsTarget, IsPrefixOf, IsSubsequenceOf, OpensAt, through}
+use Rattle.target_hub.specs.Ordered.{AllCame, FollowsTarget, IsPrefixOf, IsSubsequenceOf, OpensAt, through}
 use Rattle.target_hub.specs.Received.{answer_of, goes_through, is_owed, is_through_number, read, received, told_of}
 use Rattle.target_hub.specs.Sent.{Told, agent_services, event_at, executed_on, final_at, hello_at, progress_at, sent, unknown_at}
 use Rattle.target_hub.specs.declared.input.Input.{Input}
@@ -23,8 +23,9 @@ use Rattle.value_node.specs.Asked.{Asked}
 use Rattle.value_node.specs.OwnMessages.{BeginsWithHello, IsOwn}
 use Rattle.chain_heard.specs.Heard.{asked_as, through_of}
 use Rattle.chain_told.specs.Told as told
-use Rattle.chain_told.specs.Told.{AreToldRightly, IsOpen, IsOwed, IsToldRightly, command_under, is_any_storable, is_ended, is_storable, owed_at, owed_in}
+use Rattle.chain_told.specs.Told.{AreToldRightly, IsOpen, IsOwed, IsToldRightly, command_under, is_any_storable, is_ended, owed_at, owed_in}
 use Rattle.agent_told.specs.Sent.{bare, owed_by}
+use Rattle.chain_through.proofs.Fronts.{front_whole}
 use Rattle.chain_heard.proofs.Filtered.{flat_told, from_behind, from_hello_told, silent_answer, silent_bare, silent_told}
 use Rattle.chain_heard.proofs.Flags.{flag_of}
 use Rattle.chain_heard.proofs.Known.{Counted, apart, counted_few, known_number}
@@ -235,25 +236,42 @@ owed_lines images history all heard counted right (s ∷ told) before (y ∷ ys)
 abbrev pub told_in : List Accepted → ℕ → List LogLine → List Told
 told_in all position ys = hello_at position agent_services ∷ flat_map (told_of all) ys
 
+-- what was heard owes what these lines say, whoever answered it
+owed_told : (log : List LogLine) (images : List Image) (history : List Input) (k position : ℕ) (answered later : List Accepted)
+    → (hears : Hears log images history k position answered later) (shape : Shape (filter tells log) hears.own hears.rest position)
+    → owed_in (map asked_as (answered ++ later)) hears.heard ≡ map bare (filter is_owed (told_in (answered ++ later) position shape.behind))
+owed_told log images history k position answered later hears shape =
+    let all : List Accepted = answered ++ later in
+    let commands : List Asked = map asked_as all in
+    let none : AllByRecursion IsUnmarked hears.own = own_unmarked hears.own (map asked_as answered) [] hears.is_own in
+    let behind : map bare (filter is_owed (flat_map (told_of all) shape.behind)) ≡ owed_in commands hears.rest =
+    owed_lines images history all hears.heard hears.counted hears.right hears.rest (hears.own ++ greeting position ∷ []) shape.behind position
+    (hears.split ∙ sym (append_assoc hears.own (greeting position ∷ []) hears.rest)) hears.rises shape.behind_are in
+    ap (owed_in commands) hears.split ∙ flat_map-append (λ (s : Spoken). owed_at commands s.message s.mark) hears.own (greeting position ∷ hears.rest)
+    ∙ ap (λ l. l ++ owed_in commands (greeting position ∷ hears.rest)) (none_owed commands hears.own none)
+    ∙ ap (λ l. greeting position ∷ l) (sym behind)
+
 pub told_front : (log : List LogLine) (images : List Image) (history : List Input) (k position : ℕ) (answered later : List Accepted)
     → (hears : Hears log images history k position answered later) (shape : Shape (filter tells log) hears.own hears.rest position)
     → IsPrefixOf (filter is_owed (told_in (answered ++ later) position shape.behind)) (filter is_owed (sent images k history))
 told_front log images history k position answered later hears shape =
     let all : List Accepted = answered ++ later in
-    let commands : List Asked = map asked_as all in
     let starts : Begins images history k position = begins images history k position hears.legal hears.opened in
-    let none : AllByRecursion IsUnmarked hears.own = own_unmarked hears.own (map asked_as answered) [] hears.is_own in
-    let behind : map bare (filter is_owed (flat_map (told_of all) shape.behind)) ≡ owed_in commands hears.rest =
-    owed_lines images history all hears.heard hears.counted hears.right hears.rest (hears.own ++ greeting position ∷ []) shape.behind position
-    (hears.split ∙ sym (append_assoc hears.own (greeting position ∷ []) hears.rest)) hears.rises shape.behind_are in
-    let owed : owed_in commands hears.heard ≡ map bare (filter is_owed (told_in all position shape.behind)) =
-    ap (owed_in commands) hears.split ∙ flat_map-append (λ (s : Spoken). owed_at commands s.message s.mark) hears.own (greeting position ∷ hears.rest)
-    ∙ ap (λ l. l ++ owed_in commands (greeting position ∷ hears.rest)) (none_owed commands hears.own none)
-    ∙ ap (λ l. greeting position ∷ l) (sym behind) in
+    let owed = owed_told log images history k position answered later hears shape in
     bare_front (filter is_owed (told_in all position shape.behind)) (filter is_owed (sent images k history))
     (all_good (told_in all position shape.behind) (tt, lines_plain all hears.rest shape.behind shape.behind_are))
     (all_good (sent images k history) (subst (AllByRecursion IsPlain) (sym starts.first) (tt, climbs_plain position starts.rest starts.climbs)))
     (hears.owed.0, ap (λ l. l ++ hears.owed.0) (sym owed) ∙ sym hears.owed.1)
+
+-- and all of it, where all that is owed was heard
+told_all : (log : List LogLine) (images : List Image) (history : List Input) (k position : ℕ) (answered later : List Accepted)
+    → (hears : Hears log images history k position answered later) (shape : Shape (filter tells log) hears.own hears.rest position)
+    → owed_in (map asked_as (answered ++ later)) hears.heard ≡ owed_by images k history
+    → filter is_owed (told_in (answered ++ later) position shape.behind) ≡ filter is_owed (sent images k history)
+told_all log images history k position answered later hears shape all =
+    let front = told_front log images history k position answered later hears shape in
+    front_whole bare (filter is_owed (told_in (answered ++ later) position shape.behind)) (filter is_owed (sent images k history)) (front.0, sym front.1)
+    (sym (owed_told log images history k position answered later hears shape) ∙ all)
 
 -- ---- the answers so far
 
@@ -344,6 +362,14 @@ from_is log own rest position shape rises =
     from_hello_told log ∙ ap from_hello shape.messages_are ∙ from_behind shape.first (hello_line ∷ shape.behind) refl
     ∙ ap (λ b. cond b (from_hello shape.behind) (hello_line ∷ shape.behind)) none
 
+received_is : (log : List LogLine) (images : List Image) (history : List Input) (k position : ℕ) (answered later : List Accepted)
+    → (hears : Hears log images history k position answered later) (shape : Shape (filter tells log) hears.own hears.rest position)
+    → received log ≡ told_in (answered ++ later) position shape.behind
+received_is log images history k position answered later hears shape =
+    let all : List Accepted = answered ++ later in
+    ap (λ commands. flat_map (told_of commands) (from_hello log)) hears.commands
+    ∙ sym (flat_told (told_of all) (silent_told all) (from_hello log)) ∙ ap (flat_map (told_of all)) (from_is log hears.own hears.rest position shape hears.rises)
+
 pub follows : (log : List LogLine) (images : List Image) (history : List Input) (k position : ℕ) (answered later : List Accepted)
     → Hears log images history k position answered later → FollowsTarget log images history k
 follows log images history k position answered later hears =
@@ -352,9 +378,7 @@ follows log images history k position answered later hears =
     let from = from_is log hears.own hears.rest position shape hears.rises in
     let bare : AllByRecursion IsBare shape.first =
     bare_lines hears.own shape.first (own_unmarked hears.own (map asked_as answered) [] hears.is_own) shape.first_are in
-    let told_is : received log ≡ told_in all position shape.behind =
-    ap (λ commands. flat_map (told_of commands) (from_hello log)) hears.commands
-    ∙ sym (flat_told (told_of all) (silent_told all) (from_hello log)) ∙ ap (flat_map (told_of all)) from in
+    let told_is = received_is log images history k position answered later hears shape in
     let turn = turn_behind log images history k position answered later hears shape hears.rest [] shape.behind (sym (append-nil hears.rest)) hears.rises shape.behind_are in
     let answers_are : flat_map (answer_of (accepted log)) (from_hello log) ≡ numbers (filter goes_through turn.done) =
     ap (λ commands. flat_map (answer_of commands) (from_hello log)) hears.commands
@@ -374,3 +398,10 @@ follows log images history k position answered later hears =
       answers = (numbers (filter goes_through turn.rest), ap (λ l. l ++ numbers (filter goes_through turn.rest)) answers_are ∙ parts);
       accepted = subst (IsSubsequenceOf (executed_on k history)) commands_are (behind_subsequence (executed_on k history) (map read later) (map read answered) hears.asked);
     }
+
+-- where it heard all that is owed, all has come
+pub came_all : (log : List LogLine) (images : List Image) (history : List Input) (k position : ℕ) (answered later : List Accepted)
+    → (hears : Hears log images history k position answered later) → owed_in (map asked_as (answered ++ later)) hears.heard ≡ owed_by images k history → AllCame log images history k
+came_all log images history k position answered later hears all =
+    let shape = shape_of (filter tells log) hears.heard hears.own hears.rest position hears.split hears.lines_are in
+    ap (filter is_owed) (received_is log images history k position answered later hears shape) ∙ told_all log images history k position answered later hears shape all

@@ -1,33 +1,33 @@
 -- What the log of a client owes to the history, by what the client heard.
-use Rattle.std.proofs.Common.{◌≡◌, ℕ, ◌<◌, ◌^◌, inl, inr, false, true≢false, List, [], ◌∷◌, ◌++◌, length, map, filter, Option, Some, None, Ok, refl, ap, ap₂, sym, ◌∙◌, subst, arith}
-use Rattle.std.specs.List.{AllByRecursion, Contains, range_with_len}
+use Rattle.std.proofs.Common.{◌≡◌, ℕ, ◌<◌, ◌^◌, inl, inr, Bool, true, false, true≢false, List, [], ◌∷◌, ◌++◌, length, map, filter, Option, Some, None, Ok, refl, ap, ap₂, sym, ◌∙◌, subst, arith}
+use Rattle.std.specs.List.{AllByRecursion, Contains, list_any, range_with_len}
 use Rattle.std.proofs.lemmas.Bool.Decides.{eqb_tells}
 use Rattle.channel_core.specs.Arrivals.{IsFront, Spoken}
 use Rattle.channel_core.specs.declared.held.Incoming.{Incoming}
 use Rattle.client_node.specs.ClientValue.{ClientValue}
 use Rattle.client_node.specs.Runs.{Past, TellsPast, tells}
 use Rattle.target_contexts.specs.declared.process.Image.{Image}
-use Rattle.target_hub.specs.Ordered.{FollowsTarget, IsChannelOf, IsPlaced, IsPrefixOf, OpensAt, Ordered, hello_position}
+use Rattle.target_hub.specs.Ordered.{AllCame, FollowsTarget, IsChannelOf, IsPlaced, IsPrefixOf, OpensAt, Ordered, hello_position}
 use Rattle.target_hub.specs.Sent.{agent_services, executed_on}
 use Rattle.target_hub.specs.declared.input.Input.{Input}
 use Rattle.target_hub.specs.declared.input.Input.TheVariants.{Opened}
 use Rattle.tcf_message.specs.Message.{MessageValue, reading, spelling}
 use Rattle.tcf_text.specs.Each.{Each}
 use Rattle.tcf_text.specs.Lines.{Accepted, accepted, from_hello}
-use Rattle.tcf_text.specs.Once.{Once, numbers}
+use Rattle.tcf_text.specs.Once.{Once, is_end, numbers}
 use Rattle.tcf_text.specs.declared.log.LogLine.{LogLine}
 use Rattle.value_node.specs.Asked.{Asked}
 use Rattle.value_node.specs.OwnMessages.{BeginsWithHello, IsOwn, OwnStep, a_hello, a_result, an_unknown}
-use Rattle.chain_heard.specs.Heard.{Heard, HeardAmongIsOrdered, HeardIsOrdered, HeardNoTarget, NoTargetHeardIsOrdered, asked_as, heard_in, incoming, messages_of}
+use Rattle.chain_heard.specs.Heard.{Heard, HeardAll, HeardAmongIsOrdered, HeardIsOrdered, HeardNoTarget, NoTargetHeardIsOrdered, asked_as, heard_in, incoming, messages_of}
 use Rattle.chain_told.specs.TellsOn.{comes_as}
 use Rattle.agent_told.specs.Sent.{owed_by}
 use Rattle.chain_told.specs.Told.{AreToldRightly, owed_in}
 use Rattle.chain_heard.proofs.Filtered.{each_placed, from_hello_told, from_none, hello_position_told}
-use Rattle.chain_heard.proofs.Followed.{Hears, follows, from_is, shape_of}
+use Rattle.chain_heard.proofs.Followed.{Hears, came_all, follows, from_is, shape_of}
 use Rattle.chain_heard.proofs.Known.{Counted}
 use Rattle.chain_heard.proofs.Lines.{AreLinesOf, IsFew, IsNoCommand, IsReadable, lines_heard}
 use Rattle.agent_told.proofs.Lists.{all_front, front_first, front_rest, in_one, no_front}
-use Rattle.chain_heard.proofs.Marks.{HeardSo, IsUnmarked, heard_so, no_command_heard, nothing_heard, own_unmarked, target_heard}
+use Rattle.chain_heard.proofs.Marks.{Greeted, HeardSo, IsUnmarked, heard_so, no_command_heard, nothing_heard, own_unmarked, target_heard}
 use Rattle.chain_heard.proofs.Numbers.{lines_few}
 use Rattle.chain_heard.proofs.Placed.{IsBare, bare_first_placed, bare_lines, begins_front, greets_first, no_placed, rising_lines, told_behind_placed}
 use Rattle.chain_heard.proofs.Elements.{all_cuts, SameCut, same_cut}
@@ -41,16 +41,16 @@ pub record HearsNothing (log : List LogLine) : Type 0 where
   pub begins : BeginsWithHello heard
   pub lines_are : AreLinesOf heard (filter tells log)
 
-bare_ordered : (log : List LogLine) (images : List Image) (history : List Input) (channels : List ℕ) → HearsNothing log
-    → ((j : ℕ) → Contains channels j → executed_on j history ≡ []) → Ordered false log images history channels
-bare_ordered log images history channels hears silent =
+bare_ordered : (log : List LogLine) (images : List Image) (history : List Input) (channels : List ℕ) (quiet : Bool) → HearsNothing log
+    → ((j : ℕ) → Contains channels j → executed_on j history ≡ []) → Ordered quiet log images history channels
+bare_ordered log images history channels quiet hears silent =
     let bare : AllByRecursion IsBare (filter tells log) = bare_lines hears.heard (filter tells log) hears.bare hears.lines_are in
     let no_hello : hello_position (from_hello log) ≡ None =
     sym (hello_position_told (from_hello log)) ∙ ap hello_position (from_hello_told log) ∙ ap hello_position (from_none (filter tells log) (no_placed (filter tells log) bare)) in
     record {
       positions = each_placed history log (bare_first_placed history (filter tells log) bare (greets_first hears.heard (filter tells log) hears.bare hears.begins hears.lines_are));
       follows = λ j is. absurd (unplaced is.position (sym no_hello ∙ is.hello));
-      all_when_quiet = λ quiet. absurd (true≢false (sym quiet));
+      all_when_quiet = λ resting open_yet j is. absurd (unplaced is.position (sym no_hello ∙ is.hello));
       others = λ j there other. silent j there;
     }
   where
@@ -85,10 +85,11 @@ its_channel log images history k position answered later hears j is =
     same_place : (one two : ℕ) → Some one ≡ Some two → one ≡ two
     same_place one two e = cc
 
-something_ordered : (log : List LogLine) (images : List Image) (history : List Input) (k position : ℕ) (answered later : List Accepted) (channels : List ℕ)
-    → Hears log images history k position answered later → ((j : ℕ) → Contains channels j → (j ≡ k → ⊥) → executed_on j history ≡ [])
-    → Ordered false log images history channels
-something_ordered log images history k position answered later channels hears silent =
+something_ordered : (log : List LogLine) (images : List Image) (history : List Input) (k position : ℕ) (answered later : List Accepted) (channels : List ℕ) (quiet : Bool)
+    → (hears : Hears log images history k position answered later) → ((j : ℕ) → Contains channels j → (j ≡ k → ⊥) → executed_on j history ≡ [])
+    → (quiet ≡ true → list_any is_end log ≡ false → owed_in (map asked_as (answered ++ later)) hears.heard ≡ owed_by images k history)
+    → Ordered quiet log images history channels
+something_ordered log images history k position answered later channels quiet hears silent complete =
     let shape = shape_of (filter tells log) hears.heard hears.own hears.rest position hears.split hears.lines_are in
     let its : IsChannelOf log history k =
     record { position = position; hello = hello_there log images history k position answered later hears; opened = hears.opened } in
@@ -101,7 +102,9 @@ something_ordered log images history k position answered later channels hears si
       follows = λ j is.
           subst (FollowsTarget log images history) (its_channel log images history k position answered later hears j is)
           (follows log images history k position answered later hears);
-      all_when_quiet = λ quiet. absurd (true≢false (sym quiet));
+      all_when_quiet = λ resting open_yet j is.
+          subst (AllCame log images history) (its_channel log images history k position answered later hears j is)
+          (came_all log images history k position answered later hears (complete resting open_yet));
       others = λ j there other. silent j there (λ same. other (subst (IsChannelOf log history) (sym same) its));
     }
 
@@ -126,45 +129,68 @@ pub data Hearing (log : List LogLine) (images : List Image) (history : List Inpu
   of_nothing : HearsNothing log → executed_on k history ≡ [] → Hearing log images history k position answered later
   of_target : Hears log images history k position answered later → Hearing log images history k position answered later
 
-hearing_so : (images : List Image) (history : List Input) (k position : ℕ) (c : ClientValue) (p : Past) → TellsPast c p → Once false c.log
-    → (heard : Heard images history k position p) → HeardSo heard.own heard.heard position → Hearing c.log images history k position heard.answered heard.later
-hearing_so images history k position c p past once heard (nothing_heard rest split) =
-    let lines = taken_lines c p past once heard.few heard.heard heard.are heard.readable (none_asked images history (map asked_as p.commands) heard.heard heard.told) in
-    let none = own_unmarked heard.own (map asked_as heard.answered) [] heard.is_own in
-    of_nothing (record {
-      heard = heard.heard;
-      bare = all_front IsUnmarked heard.heard rest (subst (AllByRecursion IsUnmarked) split none);
-      begins = begins_front heard.heard rest heard.own split heard.begins;
-      lines_are = lines;
-    }) (heard.greeted_first (rest, split))
-hearing_so images history k position c p past once heard (target_heard g) =
-    let lines = taken_lines c p past once heard.few heard.heard heard.are heard.readable (none_asked images history (map asked_as p.commands) heard.heard heard.told) in
-    let asked = heard.commands in
-    of_target (record {
-      legal = heard.legal;
-      opened = heard.opened;
-      commands = past.commands ∙ asked;
-      counted = subst Counted asked (record { counted = past.counted; few = heard.few });
-      own = heard.own;
-      is_own = heard.is_own;
-      begins = heard.begins;
-      heard = heard.heard;
-      rest = g.rest;
-      split = g.split;
-      rises = g.rises;
-      right = subst (λ commands. AreToldRightly images history (map asked_as commands) heard.heard) asked heard.told;
-      lines_are = lines;
-      owed = subst (λ commands. IsFront (owed_in (map asked_as commands) heard.heard) (owed_by images k history)) asked heard.owed;
-      asked = heard.asked;
-      goes = heard.through;
-    })
+module _ (images : List Image) (history : List Input) (k position : ℕ) (c : ClientValue) (p : Past) (past : TellsPast c p) (once : Once false c.log) (heard : Heard images history k position p) where
+  heard_lines : AreLinesOf heard.heard (filter tells c.log)
+  heard_lines = taken_lines c p past once heard.few heard.heard heard.are heard.readable (none_asked images history (map asked_as p.commands) heard.heard heard.told)
 
-pub hearing : (images : List Image) (history : List Input) (k position : ℕ) (c : ClientValue) (p : Past) → TellsPast c p → Once false c.log
-    → (heard : Heard images history k position p) → Hearing c.log images history k position heard.answered heard.later
-hearing images history k position c p past once heard =
-    hearing_so images history k position c p past once heard
-    (heard_so images history k position (map asked_as p.commands) heard.heard heard.own heard.parts.target heard.legal heard.opened heard.told heard.owed
-    (own_unmarked heard.own (map asked_as heard.answered) [] heard.is_own) heard.parts.marked heard.parts.front)
+  nothing_so : (rest : List Spoken) → heard.own ≡ heard.heard ++ rest → HearsNothing c.log
+  nothing_so rest split = record {
+    heard = heard.heard;
+    bare = all_front IsUnmarked heard.heard rest (subst (AllByRecursion IsUnmarked) split (own_unmarked heard.own (map asked_as heard.answered) [] heard.is_own));
+    begins = begins_front heard.heard rest heard.own split heard.begins;
+    lines_are = heard_lines;
+  }
+
+  target_so : Greeted heard.own heard.heard position → Hears c.log images history k position heard.answered heard.later
+  target_so g =
+      let asked = heard.commands in
+      record {
+        legal = heard.legal;
+        opened = heard.opened;
+        commands = past.commands ∙ asked;
+        counted = subst Counted asked (record { counted = past.counted; few = heard.few });
+        own = heard.own;
+        is_own = heard.is_own;
+        begins = heard.begins;
+        heard = heard.heard;
+        rest = g.rest;
+        split = g.split;
+        rises = g.rises;
+        right = subst (λ commands. AreToldRightly images history (map asked_as commands) heard.heard) asked heard.told;
+        lines_are = heard_lines;
+        owed = subst (λ commands. IsFront (owed_in (map asked_as commands) heard.heard) (owed_by images k history)) asked heard.owed;
+        asked = heard.asked;
+        goes = heard.through;
+      }
+
+  hearing_so : HeardSo heard.own heard.heard position → Hearing c.log images history k position heard.answered heard.later
+  hearing_so (nothing_heard rest split) = of_nothing (nothing_so rest split) (heard.greeted_first (rest, split))
+  hearing_so (target_heard g) = of_target (target_so g)
+
+  how_heard : HeardSo heard.own heard.heard position
+  how_heard =
+      heard_so images history k position (map asked_as p.commands) heard.heard heard.own heard.parts.target heard.legal heard.opened heard.told heard.owed
+      (own_unmarked heard.own (map asked_as heard.answered) [] heard.is_own) heard.parts.marked heard.parts.front
+
+  pub hearing : Hearing c.log images history k position heard.answered heard.later
+  hearing = hearing_so how_heard
+
+  -- ---- it follows the history
+
+  module _ (channels : List ℕ) (quiet : Bool) (silent : (j : ℕ) → Contains channels j → (j ≡ k → ⊥) → executed_on j history ≡ [])
+      (complete : quiet ≡ true → list_any is_end c.log ≡ false → HeardAll images history k p heard.heard) where
+    ordered_so : HeardSo heard.own heard.heard position → Ordered quiet c.log images history channels
+    unfolding target_so
+    ordered_so (nothing_heard rest split) =
+        bare_ordered c.log images history channels quiet (nothing_so rest split)
+        (λ j there. elim (eqb_tells j k) as (λ _. executed_on j history ≡ [])
+        [ inl is ↦ ap (λ n. executed_on n history) is.1 ∙ heard.greeted_first (rest, split) | inr is ↦ silent j there is.1 ])
+    ordered_so (target_heard g) =
+        something_ordered c.log images history k position heard.answered heard.later channels quiet (target_so g) silent
+        (λ resting open_yet. subst (λ commands. owed_in (map asked_as commands) heard.heard ≡ owed_by images k history) heard.commands (complete resting open_yet))
+
+    ordered : Ordered quiet c.log images history channels
+    ordered = ordered_so how_heard
 
 -- ---- where nothing of the target was heard
 
@@ -211,22 +237,12 @@ hears_nothing c p past once heard =
 
 -- ---- the laws
 
-either_ordered : (log : List LogLine) (images : List Image) (history : List Input) (k position : ℕ) (answered later : List Accepted) (channels : List ℕ)
-    → ((j : ℕ) → Contains channels j → (j ≡ k → ⊥) → executed_on j history ≡ []) → Hearing log images history k position answered later
-    → Ordered false log images history channels
-either_ordered log images history k position answered later channels silent (of_nothing hears early) =
-    bare_ordered log images history channels hears
-    (λ j there. elim (eqb_tells j k) as (λ _. executed_on j history ≡ []) [ inl is ↦ ap (λ n. executed_on n history) is.1 ∙ early | inr is ↦ silent j there is.1 ])
-either_ordered log images history k position answered later channels silent (of_target hears) =
-    something_ordered log images history k position answered later channels hears silent
-
 pub heard_among : HeardAmongIsOrdered
-heard_among images history k position c p channels past once heard silent =
-    either_ordered c.log images history k position heard.answered heard.later channels silent (hearing images history k position c p past once heard)
+heard_among images history k position c p channels quiet past once heard silent complete = ordered images history k position c p past once heard channels quiet silent complete
 
 pub heard_alone : HeardIsOrdered
 heard_alone images history k position c p past once heard =
-    heard_among images history k position c p (k ∷ []) past once heard (λ j there other. absurd (other (in_one k j there)))
+    heard_among images history k position c p (k ∷ []) false past once heard (λ j there other. absurd (other (in_one k j there))) (λ resting. absurd (true≢false (sym resting)))
 
 pub no_target_ordered : NoTargetHeardIsOrdered
-no_target_ordered images history c p channels past once heard silent = bare_ordered c.log images history channels (hears_nothing c p past once heard) silent
+no_target_ordered images history c p channels quiet past once heard silent = bare_ordered c.log images history channels quiet (hears_nothing c p past once heard) silent

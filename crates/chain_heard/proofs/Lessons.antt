@@ -30,7 +30,7 @@ use Rattle.chain_heard.proofs.Known.{Counted, apart, counted_few, number_at, sam
 use Rattle.chain_heard.proofs.Lines.{AreFew, AreLinesOf, IsLineOf, IsOfFew, says_event, says_final, says_hello, says_progress, says_unknown}
 use Rattle.agent_told.proofs.Lists.{all_front}
 use Rattle.chain_heard.proofs.Numbers.{InParts, in_parts, numbers_below}
-use Rattle.chain_heard.proofs.Teaching.{learn_both}
+use Rattle.chain_told.proofs.Agreeing.{learn_append}
 use Rattle.chain_heard.proofs.Elements.{all_two}
 
 -- ---- a command by its number
@@ -116,7 +116,7 @@ AreAlike xs ys = (known : Facts) → learn_all xs known ≡ learn_all ys known
 same_alike : (xs ys : List Message) → xs ≡ ys → AreAlike xs ys
 same_alike xs ys same known = ap (λ l. learn_all l known) same
 
-pub final_by : (reading : Reading) (body : List ℕ) → final_message (Some reading) body ≡ value.lesson_of (command_in reading) body
+final_by : (reading : Reading) (body : List ℕ) → final_message (Some reading) body ≡ value.lesson_of (command_in reading) body
 final_by (readings.Known command) body = refl
 final_by readings.Unknown body = refl
 final_by (readings.Bad index code) body = refl
@@ -163,7 +163,7 @@ lessons_first before x xs =
 
 both_alike : (xs us ys vs : List Message) → AreAlike xs ys → AreAlike us vs → AreAlike (xs ++ us) (ys ++ vs)
 both_alike xs us ys vs first second known =
-    learn_both xs us known ∙ ap (learn_all us) (first known) ∙ second (learn_all ys known) ∙ sym (learn_both ys vs known)
+    learn_append xs us known ∙ ap (learn_all us) (first known) ∙ second (learn_all ys known) ∙ sym (learn_append ys vs known)
 
 -- these lines of the log tell these messages
 abbrev AreTaught : (log before xs after : List LogLine) → Type 0

@@ -13,6 +13,5 @@ pub mod Followed
 pub mod Heard
 pub mod Early
 pub mod Fresh
-pub mod Teaching
 pub mod Lessons
 pub mod Coherent

@@ -1,6 +1,6 @@
 -- What a client heard of the target, and what its log owes to the history by it.
-use Rattle.std.specs.Prelude.{ℕ, ◌≡◌, ◌^◌, ◌<◌, false, List, [], ◌∷◌, ◌++◌, length, map, decimal, filter, Option, None, Ok}
-use Rattle.std.specs.List.{AllByRecursion, Contains, flat_map}
+use Rattle.std.specs.Prelude.{ℕ, ◌≡◌, ◌^◌, ◌<◌, Bool, true, false, List, [], ◌∷◌, ◌++◌, length, map, decimal, filter, Option, None, Ok}
+use Rattle.std.specs.List.{AllByRecursion, Contains, flat_map, list_any}
 use Rattle.agent_told.specs.Sent.{owed_by}
 use Rattle.chain_through.specs.Through.{ComeDown}
 use Rattle.chain_told.specs.TellsOn.{comes_as}
@@ -20,7 +20,7 @@ use Rattle.target_hub.specs.declared.input.Input.{Input}
 use Rattle.target_truth.specs.Typed.{AreTyped}
 use Rattle.tcf_message.specs.Message.{MessageValue, reading, spelling}
 use Rattle.tcf_text.specs.Lines.{Accepted}
-use Rattle.tcf_text.specs.Once.{Once}
+use Rattle.tcf_text.specs.Once.{Once, is_end}
 use Rattle.value_node.specs.Asked.{Asked}
 use Rattle.value_node.specs.OwnMessages.{BeginsWithHello, IsOwn}
 
@@ -92,13 +92,18 @@ pub record HeardNoTarget (p : Past) : Type 0 where
 
 -- ---- the laws
 
+-- but for answers to storable commands it heard all that the history owes
+abbrev pub HeardAll : List Image → List Input → ℕ → Past → List Spoken → Type 0
+HeardAll images history k p heard = owed_in (map asked_as p.commands) heard ≡ owed_by images k history
+
 -- The log of a client that heard the target on the channel k follows the history, where no other channel of these
--- executes a command.
+-- executes a command; and where it heard all of it while nothing was under way and the log had no end, all has come.
 abbrev pub HeardAmongIsOrdered : Type 0
-HeardAmongIsOrdered = (images : List Image) (history : List Input) (k position : ℕ) (c : ClientValue) (p : Past) (channels : List ℕ)
-    → TellsPast c p → Once false c.log → Heard images history k position p
+HeardAmongIsOrdered = (images : List Image) (history : List Input) (k position : ℕ) (c : ClientValue) (p : Past) (channels : List ℕ) (quiet : Bool)
+    → TellsPast c p → Once false c.log → (h : Heard images history k position p)
     → ((j : ℕ) → Contains channels j → (j ≡ k → ⊥) → executed_on j history ≡ [])
-    → Ordered false c.log images history channels
+    → (quiet ≡ true → list_any is_end c.log ≡ false → HeardAll images history k p h.heard)
+    → Ordered quiet c.log images history channels
 
 -- So it is where there is no other channel.
 abbrev pub HeardIsOrdered : Type 0
@@ -111,9 +116,9 @@ CommandsAreFew = (calls : List Call) → length (past_of calls no_past).commands
 
 -- The log of a client that heard nothing of the target follows the history, where its channels execute nothing.
 abbrev pub NoTargetHeardIsOrdered : Type 0
-NoTargetHeardIsOrdered = (images : List Image) (history : List Input) (c : ClientValue) (p : Past) (channels : List ℕ)
+NoTargetHeardIsOrdered = (images : List Image) (history : List Input) (c : ClientValue) (p : Past) (channels : List ℕ) (quiet : Bool)
     → TellsPast c p → Once false c.log → HeardNoTarget p → ((j : ℕ) → Contains channels j → executed_on j history ≡ [])
-    → Ordered false c.log images history channels
+    → Ordered quiet c.log images history channels
 
 -- Each answer with a position, of the target or from a store, to a storable command is what the target answers there.
 abbrev pub HeardIsFresh : Type 0

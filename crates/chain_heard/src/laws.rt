@@ -8,7 +8,8 @@ use client_node::the_log_tells_what_was_taken;
 /// The law that the log of a client follows the history of the target, where its messages are, in order, what the value-adds
 /// on the way said themselves and then messages with positions, each told rightly, which are, but for answers to storable commands,
 /// a front of what the history owes to its channel; and the commands that the channel executes are, in order, some of those that
-/// the value-adds didn't answer before they were bound, with all that go through.
+/// the value-adds didn't answer before they were bound, with all that go through. Where all that is owed was heard while nothing
+/// is under way, and the log has no end, all of it has come.
 pub fn what_was_heard_is_ordered()
     ensures among { HeardAmongIsOrdered }
     ensures alone { HeardIsOrdered }

@@ -1,12 +1,13 @@
 -- What a call of a value-add adds to what its two ends gave, and to what came to them.
 use Rattle.std.proofs.Common.{◌≡◌, Bool, true, false, List, [], ◌∷◌, ◌++◌, Option, Some, None, refl, sym, ap, ◌∙◌, subst, append_assoc, append-nil}
-use Rattle.std.specs.Prelude.{IsSome, not, option_map, unwrap_or}
+use Rattle.std.specs.Prelude.{IsSome, is_some, not, option_map, unwrap_or}
 use Rattle.channel_core.specs.Beginning.{new_end}
 use Rattle.value_node.specs.RelayLaws.{AfterAllCalls, EndsAreRuns}
 use Rattle.value_node.specs.Runs.{Call, LowerCall, Past, UpperCall, ValueRun, after_all, after_call, no_calls, only_if, own_by, passing_by, upper_by, with_calls}
 use Rattle.value_node.specs.Value.{value_services}
 use Rattle.chain_route.specs.Carrying.{End, Made, end_above, end_below, past_of}
 use Rattle.chain_route.proofs.EndCalls.{AreIdle, end_by, idle_end}
+use Rattle.chain_route.proofs.Flows.{Tip, used}
 
 -- ---- One call more
 
@@ -72,17 +73,27 @@ upper_none : (call : Call) (r : ValueRun) → r.past.connection ≡ None → Add
 upper_none call r is adds =
     ap (λ p. p.connection) adds ∙ ap (option_map (λ xs. xs ++ upper_by call r.value.relay)) is
 
-pub end_of_calls : (p : Past) (calls : List UpperCall) → ConnectedWith p calls → end_above p ≡ upper_end calls
-end_of_calls p calls is = ap (λ c. upper_end (unwrap_or c [])) is
+-- the end above it, which is used once it has connected
+abbrev tip_with : Option (List UpperCall) → Tip
+tip_with connection = record { end = upper_end (unwrap_or connection []); is_used = is_some connection }
+
+abbrev pub tip_of : Past → Tip
+tip_of p = record { end = end_above p; is_used = is_some p.connection }
+
+abbrev pub tip_above : Made → Tip
+tip_above m = tip_of (past_of m)
+
+pub end_of_calls : (p : Past) (calls : List UpperCall) → ConnectedWith p calls → tip_of p ≡ used (upper_end calls)
+end_of_calls p calls is = ap tip_with is
 
 pub end_of_none : (p : Past) → p.connection ≡ None → end_above p ≡ upper_end []
 end_of_none p is = ap (λ c. upper_end (unwrap_or c [])) is
 
 -- its end above with the calls that were added, whichever it has
 above_by : (connection : Option (List UpperCall)) (more : List UpperCall) → AreIdle more
-    → upper_end (unwrap_or (option_map (λ xs. xs ++ more) connection) []) ≡ upper_end (unwrap_or connection [])
+    → tip_with (option_map (λ xs. xs ++ more) connection) ≡ tip_with connection
 above_by None more idle = refl
-above_by (Some calls) more idle = idle_end (new_end value_services None) calls more idle
+above_by (Some calls) more idle = ap used (idle_end (new_end value_services None) calls more idle)
 
 -- a connection stays
 some_by : (connection : Option (List UpperCall)) (more : List UpperCall) → IsSome connection → IsSome (option_map (λ xs. xs ++ more) connection)
@@ -100,9 +111,9 @@ module _ (runs : AfterAllCalls EndsAreRuns) where
       ap (λ r. end_below r.past) (call_run call m) ∙ ap lower_end (lower_more call (run_of m) (facts_of m).unbound adds)
 
   pub above_added : (call : Call) (m : Made) (calls : List UpperCall) → ConnectedWith (past_of m) calls → Adds call (run_of m)
-      → end_above (past_of (with_call call m)) ≡ upper_end (calls ++ upper_by call (run_of m).value.relay)
+      → tip_above (with_call call m) ≡ used (upper_end (calls ++ upper_by call (run_of m).value.relay))
   above_added call m calls is adds =
-      ap (λ r. end_above r.past) (call_run call m)
+      ap (λ r. tip_of r.past) (call_run call m)
       ∙ end_of_calls (after_call call (run_of m)).past (calls ++ upper_by call (run_of m).value.relay) (upper_more call (run_of m) calls is adds)
 
   pub still_connected : (call : Call) (m : Made) → Adds call (run_of m) → IsSome (past_of m).connection → IsSome (past_of (with_call call m)).connection
@@ -116,7 +127,7 @@ module _ (runs : AfterAllCalls EndsAreRuns) where
   below_same call m adds idle =
       below_added call m adds ∙ idle_end (new_end value_services None) (lower_calls (past_of m)) (lower_added call (run_of m)) idle
 
-  pub above_same : (call : Call) (m : Made) → Adds call (run_of m) → AreIdle (upper_by call (run_of m).value.relay) → end_above (past_of (with_call call m)) ≡ end_above (past_of m)
+  pub above_same : (call : Call) (m : Made) → Adds call (run_of m) → AreIdle (upper_by call (run_of m).value.relay) → tip_above (with_call call m) ≡ tip_above m
   above_same call m adds idle =
-      ap (λ r. end_above r.past) (call_run call m) ∙ ap end_above adds
+      ap (λ r. tip_of r.past) (call_run call m) ∙ ap tip_of adds
       ∙ above_by (past_of m).connection (upper_by call (run_of m).value.relay) idle

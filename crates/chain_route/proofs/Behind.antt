@@ -3,10 +3,12 @@ use Rattle.std.proofs.Common.{◌≡◌, ℕ, zero, suc, ◌+◌, ◌-◌, ◌<�
 use Rattle.std.specs.Prelude.{IsSome, slice_get}
 use Rattle.channel_core.specs.Arrivals.{IsFront, bytes_of}
 use Rattle.value_node.specs.Runs.{UpperCall}
-use Rattle.chain_route.specs.Carrying.{End, HopCarries, Made, end_above, end_below, past_of}
+use Rattle.chain_route.specs.Carrying.{End, Made, end_above, end_below, past_of}
 use Rattle.chain_route.specs.declared.hop.Hop.{Hop}
 use Rattle.chain_route.proofs.Each.{EachCarries, IsUnconnected}
+use Rattle.chain_route.proofs.Adds.{tip_above}
 use Rattle.chain_route.proofs.Anew.{AreDeadBehind}
+use Rattle.chain_route.proofs.Flows.{HopHolds, Tip}
 use Rattle.chain_route.proofs.Reaching.{Awaits, waits_unheard}
 use Rattle.chain_route.proofs.Unheard.{Laws, unheard_unconnected}
 use Rattle.chain_route.proofs.Ways.{Way, way_above}
@@ -15,7 +17,7 @@ abbrev pub Gave : Made → Made → Type 0
 Gave m other = IsFront (end_below (past_of other)).came (bytes_of (end_above (past_of m)).gave)
 
 -- what came to a value-add is a front of what the one below it gave
-gave_next : (at : ℕ) (lower : End) (hops : List Hop) (made : List Made) (agent : End) (m other : Made) → slice_get made at ≡ Some m → slice_get made (suc at) ≡ Some other
+gave_next : (at : ℕ) (lower : Tip) (hops : List Hop) (made : List Made) (agent : End) (m other : Made) → slice_get made at ≡ Some m → slice_get made (suc at) ≡ Some other
     → EachCarries lower hops made agent → Gave m other
 gave_next at lower [] made agent m other there next all = absurd all
 gave_next at lower (h ∷ hops) [] agent m other there next all = absurd cc
@@ -24,9 +26,9 @@ gave_next zero lower (h ∷ g ∷ hops) (x ∷ []) agent m other there next all 
 gave_next zero lower (h ∷ g ∷ hops) (x ∷ y ∷ made) agent m other there next all =
     let is_m : x ≡ m = cc in
     let is_other : y ≡ other = cc in
-    let carries : HopCarries g (end_above (past_of x)) (end_below (past_of y)) = all.1.0 in
+    let carries : HopHolds g (tip_above x) (end_below (past_of y)) = all.1.0 in
     subst (λ a. Gave a other) is_m (subst (λ b. Gave x b) is_other carries.up_front)
-gave_next (suc at) lower (h ∷ g ∷ hops) (x ∷ made) agent m other there next all = gave_next at (end_above (past_of x)) (g ∷ hops) made agent m other there next all.1
+gave_next (suc at) lower (h ∷ g ∷ hops) (x ∷ made) agent m other there next all = gave_next at (tip_above x) (g ∷ hops) made agent m other there next all.1
 
 -- the agent wasn't reached, and all hops behind that one are dead
 pub record EndsBehind (at : ℕ) (hops : List Hop) (is_reached : Bool) : Type 0 where
@@ -40,7 +42,7 @@ not_true : (b : Bool) → (b ≡ true → ⊥) → b ≡ false
 not_true true none = absurd (none refl)
 not_true false none = refl
 
-nothing_behind : (at : ℕ) (lower : End) (hops : List Hop) (made : List Made) (agent : End) (is_reached : Bool) (m : Made) → slice_get made at ≡ Some m
+nothing_behind : (at : ℕ) (lower : Tip) (hops : List Hop) (made : List Made) (agent : End) (is_reached : Bool) (m : Made) → slice_get made at ≡ Some m
     → ((other : Made) → slice_get made (suc at) ≡ Some other → IsUnconnected other) → at + 1 < length hops - 1
     → Way lower hops made agent is_reached → EndsBehind at hops is_reached
 nothing_behind at lower [] made agent is_reached m there next more way = absurd way.all
@@ -61,10 +63,10 @@ nothing_behind zero lower (h ∷ g ∷ f ∷ e ∷ hops) (x ∷ y ∷ []) agent 
 nothing_behind zero lower (h ∷ g ∷ f ∷ hops) (x ∷ y ∷ z ∷ made) agent is_reached m there next more way = absurd (some_none y (next y refl) way.connected.1.0)
 nothing_behind (suc at) lower (h ∷ g ∷ f ∷ hops) (x ∷ []) agent is_reached m there next more way = absurd cc
 nothing_behind (suc at) lower (h ∷ g ∷ f ∷ hops) (x ∷ y ∷ made) agent is_reached m there next more way =
-    let rest = nothing_behind at (end_above (past_of x)) (g ∷ f ∷ hops) (y ∷ made) agent is_reached m there next (omega (arith, more)) (way_above lower h g (f ∷ hops) x y made agent is_reached way) in
+    let rest = nothing_behind at (tip_above x) (g ∷ f ∷ hops) (y ∷ made) agent is_reached m there next (omega (arith, more)) (way_above lower h g (f ∷ hops) x y made agent is_reached way) in
     record { unreached = rest.unreached; dead = rest.dead }
 
-pub ends_behind : Laws → (at : ℕ) (lower : End) (hops : List Hop) (made : List Made) (agent : End) (is_reached : Bool) (m : Made) → slice_get made at ≡ Some m → Awaits m
+pub ends_behind : Laws → (at : ℕ) (lower : Tip) (hops : List Hop) (made : List Made) (agent : End) (is_reached : Bool) (m : Made) → slice_get made at ≡ Some m → Awaits m
     → at + 1 < length hops - 1 → Way lower hops made agent is_reached → EndsBehind at hops is_reached
 ends_behind laws at lower hops made agent is_reached m there waits more way =
     nothing_behind at lower hops made agent is_reached m there

@@ -17,7 +17,7 @@ use Rattle.chain_route.proofs.Anew.{AreDeadBehind, fresh_made}
 use Rattle.chain_route.proofs.Behind.{EndsBehind, ends_behind}
 use Rattle.chain_route.proofs.Bytes.{take_mapped}
 use Rattle.chain_route.proofs.Flows.{fresh_end}
-use Rattle.chain_route.proofs.Holding.{Holds, with_route}
+use Rattle.chain_route.proofs.Holding.{Holds, client_tip, with_route}
 use Rattle.chain_route.proofs.Joining.{carried_holds}
 use Rattle.chain_route.proofs.Losses.{loses_same, losses_anew, losses_set, lost_same}
 use Rattle.chain_route.proofs.Moving.{call_value}
@@ -102,13 +102,13 @@ module _ (laws : Laws) (at : ℕ) (calls : List Call) (r : RouteRun) (h : Holds 
       ∙ ap (λ v. slice_set (map value_of front) at v) (sym (call_value connects m))
       ∙ set_mapped value_of at front (anew m)
 
-  way_now : Way (end_of r.past.client) begun.hops made_now (end_of r.past.agent) r.past.is_reached
+  way_now : Way (client_tip r.past) begun.hops made_now (end_of r.past.agent) r.past.is_reached
   way_now =
       let agent : end_of r.past.agent ≡ fresh_end = ap end_of (h.unreached behind.unreached) in
       record {
-        all = subst (λ e. EachCarries (end_of r.past.client) begun.hops made_now e) (sym agent)
-            (turned_anew at peer (end_of r.past.client) r.route.hops h.made m (anew m) there behind.dead (below_anew m waits) (above_anew m waits)
-            (subst (λ e. EachCarries (end_of r.past.client) r.route.hops h.made e) agent h.way.all));
+        all = subst (λ e. EachCarries (client_tip r.past) begun.hops made_now e) (sym agent)
+            (turned_anew at peer (client_tip r.past) r.route.hops h.made m (anew m) there behind.dead (below_anew m waits) (above_anew m waits)
+            (subst (λ e. EachCarries (client_tip r.past) r.route.hops h.made e) agent h.way.all));
         connected = new_connected at peer h.made r.past.is_reached m (anew m) there (connected_anew m waits) behind.unreached h.way.connected;
         reached = λ is. let no : true ≡ false = sym is ∙ behind.unreached in absurd cc;
         unreached = λ is. last_behind (suc at) r.route.hops (hop_connected []) behind.dead (h.way.unreached is);
@@ -156,6 +156,6 @@ connects_kept laws at calls r h m there waits =
         → Holds calls (with_route (cond {A = Bool × RouteValue} flag (false, with_carried Below (suc at) (joined (suc at) (made_at (suc at) r.route))) (true, r.route)).1 r)
     by_flag true is =
         let less = ltb-true (suc at) (last_of r.route) is in
-        let behind = ends_behind laws at (end_of r.past.client) r.route.hops h.made (end_of r.past.agent) r.past.is_reached m there waits (omega (arith, less)) h.way in
+        let behind = ends_behind laws at (client_tip r.past) r.route.hops h.made (end_of r.past.agent) r.past.is_reached m there waits (omega (arith, less)) h.way in
         joined_holds laws at calls r h m there waits behind
     by_flag false is = h

@@ -1,17 +1,19 @@
 -- What each hop of a way carries, and apart from it what was made last: there the end below the next hop was never used.
-use Rattle.std.proofs.Common.{◌≡◌, ◌+◌, ◌<◌, ℕ, zero, suc, List, [], ◌∷◌, ◌++◌, length, take, Some, None, refl, ap, subst, arith}
-use Rattle.std.specs.Prelude.{slice_get, slice_set}
+use Rattle.std.proofs.Common.{◌≡◌, ◌+◌, ◌<◌, ◌⊎◌, inl, inr, ℕ, zero, suc, Bool, true, false, List, [], ◌∷◌, ◌++◌, length, take, Option, Some, None, refl, ap, subst, arith}
+use Rattle.std.specs.Prelude.{is_some, slice_get, slice_set}
 use Rattle.std.specs.List.{AllByRecursion}
+use Rattle.value_node.specs.Runs.{UpperCall}
 use Rattle.chain_route.specs.Carrying.{AllCarry, End, HopCarries, IsDead, IsUnused, Made, end_above, end_below, past_of}
 use Rattle.chain_route.specs.declared.hop.Hop.{Hop}
-use Rattle.chain_route.proofs.Adds.{end_of_none}
+use Rattle.chain_route.proofs.Adds.{end_of_none, tip_above}
+use Rattle.chain_route.proofs.Flows.{HopHolds, Tip}
 
 -- ---- Each hop carries, whatever is known of an end that was never used
 
-abbrev pub EachCarries : End → List Hop → List Made → End → Type 0
+abbrev pub EachCarries : Tip → List Hop → List Made → End → Type 0
 EachCarries lower [] made agent = ⊥
-EachCarries lower (hop ∷ hops) (m ∷ made) agent = HopCarries hop lower (end_below (past_of m)) × EachCarries (end_above (past_of m)) hops made agent
-EachCarries lower (hop ∷ []) [] agent = HopCarries hop lower agent
+EachCarries lower (hop ∷ hops) (m ∷ made) agent = HopHolds hop lower (end_below (past_of m)) × EachCarries (tip_above m) hops made agent
+EachCarries lower (hop ∷ []) [] agent = HopHolds hop lower agent
 EachCarries lower (hop ∷ hops) [] agent = AllByRecursion IsDead (hop ∷ hops)
 
 -- ---- The value-add that was made last hasn't connected
@@ -45,12 +47,39 @@ last_anew (suc (suc at)) (x ∷ y ∷ made) m next new there is = last_anew (suc
 unused_above : (m : Made) → IsUnconnected m → IsUnused (end_above (past_of m))
 unused_above m none = let is = end_of_none (past_of m) none in (ap (λ e. e.gave) is, ap (λ e. e.came) is)
 
-pub all_carry : (lower : End) (hops : List Hop) (made : List Made) (agent : End) → (length made ≡ 0 → 1 < length hops → IsUnused lower) → (length made + 1 < length hops → LastUnconnected made)
-    → EachCarries lower hops made agent → AllCarry lower hops made agent
-all_carry lower [] made agent unused last all = absurd all
-all_carry lower (hop ∷ []) [] agent unused last all = all
-all_carry lower (hop ∷ h ∷ hops) [] agent unused last all = (unused refl (omega arith), all)
-all_carry lower (hop ∷ hops) (m ∷ []) agent unused last all =
-    (all.0, all_carry (end_above (past_of m)) hops [] agent (λ none more. unused_above m (last (omega (arith, more)))) (λ more. tt) all.1)
-all_carry lower (hop ∷ hops) (m ∷ n ∷ made) agent unused last all =
-    (all.0, all_carry (end_above (past_of m)) hops (n ∷ made) agent (λ none more. absurd (omega (arith, none))) (λ more. last (omega (arith, more))) all.1)
+unused_tip : (m : Made) → is_some (past_of m).connection ≡ false → IsUnused (end_above (past_of m))
+unused_tip m none = by_connection (past_of m).connection refl none
+  where
+    by_connection : (connection : Option (List UpperCall)) → (past_of m).connection ≡ connection → is_some connection ≡ false → IsUnused (end_above (past_of m))
+    by_connection None is unused = unused_above m is
+    by_connection (Some calls) is unused = absurd cc
+
+-- one hop
+carries_of_holds : (hop : Hop) (lower : Tip) (upper : End) → (lower.is_used ≡ false → IsUnused lower.end) → HopHolds hop lower upper → HopCarries hop lower.end upper
+carries_of_holds hop lower upper unused h = record {
+  up = h.up;
+  up_front = h.up_front;
+  down = h.down;
+  down_front = h.down_front;
+  dead = h.dead;
+  lasting = h.lasting;
+  lost = λ dead. by_flag lower.is_used refl dead;
+}
+  where
+    by_flag : (flag : Bool) → lower.is_used ≡ flag → hop.is_live ≡ false → IsUnused lower.end ⊎ (lower.end.is_lost ≡ true)
+    by_flag true is dead = inr (h.lost dead is)
+    by_flag false is dead = inl (unused is)
+
+pub all_carry : (lower : Tip) (hops : List Hop) (made : List Made) (agent : End) → (lower.is_used ≡ false → IsUnused lower.end) → (length made ≡ 0 → 1 < length hops → IsUnused lower.end)
+    → (length made + 1 < length hops → LastUnconnected made) → EachCarries lower hops made agent → AllCarry lower.end hops made agent
+all_carry lower [] made agent idle unused last all = absurd all
+all_carry lower (hop ∷ []) [] agent idle unused last all = carries_of_holds hop lower agent idle all
+all_carry lower (hop ∷ h ∷ hops) [] agent idle unused last all = (unused refl (omega arith), all)
+all_carry lower (hop ∷ hops) (m ∷ []) agent idle unused last all = (
+  carries_of_holds hop lower (end_below (past_of m)) idle all.0,
+  all_carry (tip_above m) hops [] agent (unused_tip m) (λ none more. unused_above m (last (omega (arith, more)))) (λ more. tt) all.1,
+)
+all_carry lower (hop ∷ hops) (m ∷ n ∷ made) agent idle unused last all = (
+  carries_of_holds hop lower (end_below (past_of m)) idle all.0,
+  all_carry (tip_above m) hops (n ∷ made) agent (unused_tip m) (λ none more. absurd (omega (arith, none))) (λ more. last (omega (arith, more))) all.1,
+)

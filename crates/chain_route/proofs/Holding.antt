@@ -6,22 +6,26 @@ use Rattle.std.specs.List.{AllByRecursion}
 use Rattle.value_node.specs.RelayLaws.{AfterAllCalls, EndsAreRuns}
 use Rattle.value_node.specs.ValueValue.{ValueValue}
 use Rattle.value_node.specs.declared.states.Side.{Side}
-use Rattle.chain_route.specs.Carrying.{AllLoseByCuts, Carries, IsGoneBy, IsUnused, Made, end_of, value_of}
+use Rattle.chain_route.specs.Carrying.{AllLoseByCuts, IsGoneBy, IsUnused, LosesByCut, Made, end_of, value_of}
 use Rattle.chain_route.specs.Passing.{Pair, delivered, pair}
 use Rattle.chain_route.specs.Route.{beside, delivered_at, pair_put, with_pair}
 use Rattle.chain_route.specs.RouteValue.{RouteValue}
-use Rattle.chain_route.specs.Runs.{Call, RouteRun, no_talk}
+use Rattle.chain_route.specs.Runs.{Call, Past, RouteRun, no_talk}
 use Rattle.chain_route.specs.declared.hop.Hop.{Hop}
-use Rattle.chain_route.proofs.Each.{all_carry}
+use Rattle.chain_route.proofs.Flows.{Tip}
 use Rattle.chain_route.proofs.Stepping.{IsOpenAt, delivered_step}
 use Rattle.chain_route.proofs.Losses.{loses_same, losses_set}
-use Rattle.chain_route.proofs.Moving.{Step}
+use Rattle.chain_route.proofs.Moving.{Moves, Step}
 use Rattle.chain_route.proofs.Ways.{IsMapped, Way, get_mapped, is_open, set_length, set_mapped, way_moved}
+
+-- the client's end
+abbrev pub client_tip : Past → Tip
+client_tip p = record { end = end_of p.client; is_used = p.is_joined }
 
 pub record Holds (calls : List Call) (r : RouteRun) : Type 0 where
   pub made : List Made
   pub adds : r.route.adds ≡ map value_of made
-  pub way : Way (end_of r.past.client) r.route.hops made (end_of r.past.agent) r.past.is_reached
+  pub way : Way (client_tip r.past) r.route.hops made (end_of r.past.agent) r.past.is_reached
   pub unmade : r.past.is_joined ≡ false → made ≡ []
   pub unjoined : r.past.is_joined ≡ false → r.past.client ≡ no_talk
   pub unreached : r.past.is_reached ≡ false → r.past.agent ≡ no_talk
@@ -33,48 +37,46 @@ pub record Holds (calls : List Call) (r : RouteRun) : Type 0 where
   pub losses : AllLoseByCuts calls 0 made
 
 -- the client used its end for nothing before
-unused_client : (calls : List Call) (r : RouteRun) (h : Holds calls r) → length h.made ≡ 0 → 1 < length r.route.hops → IsUnused (end_of r.past.client)
+pub idle_client : (calls : List Call) (r : RouteRun) (h : Holds calls r) → r.past.is_joined ≡ false → IsUnused (end_of r.past.client)
+idle_client calls r h is = let talk = h.unjoined is in subst (λ t. IsUnused (end_of t)) (sym talk) (refl, refl)
+
+pub unused_client : (calls : List Call) (r : RouteRun) (h : Holds calls r) → length h.made ≡ 0 → 1 < length r.route.hops → IsUnused (end_of r.past.client)
 unused_client calls r h none more = by_flag r.past.is_joined refl
   where
     by_flag : (flag : Bool) → r.past.is_joined ≡ flag → IsUnused (end_of r.past.client)
     by_flag true is = let some = h.started is more in absurd (omega (arith, none, some))
-    by_flag false is = let talk = h.unjoined is in subst (λ t. IsUnused (end_of t)) (sym talk) (refl, refl)
-
-pub carries_of : (calls : List Call) (r : RouteRun) → Holds calls r → Carries calls r
-carries_of calls r h = record {
-  made = h.made;
-  adds = h.adds;
-  hops = all_carry (end_of r.past.client) r.route.hops h.made (end_of r.past.agent) (unused_client calls r h) h.way.unconnected h.way.all;
-  connected = h.way.connected;
-  reached = h.way.reached;
-  earlier = h.earlier;
-  losses = h.losses;
-}
+    by_flag false is = idle_client calls r h is
 
 -- ---- A value-add and a hop beside it change
 
 abbrev pub with_route : RouteValue → RouteRun → RouteRun
 with_route route r = record r { route = route }
 
+module _ (side : Side) (at : ℕ) (calls : List Call) (r : RouteRun) (h : Holds calls r) where
+  pub moved_holds : (m next : Made) (hop after : Hop) → slice_get h.made at ≡ Some m → slice_get r.route.hops (beside side at) ≡ Some hop → Moves side m next hop after
+      → (LosesByCut calls at m → LosesByCut calls at next) → Holds calls (with_route (with_pair side at (pair (value_of next) after) r.route) r)
+  moved_holds m next hop after there hop_is moves loses = record {
+    made = slice_set h.made at next;
+    adds = ap (λ vs. slice_set vs at (value_of next)) h.adds ∙ set_mapped value_of at h.made next;
+    way = way_moved side at (client_tip r.past) r.route.hops h.made (end_of r.past.agent) r.past.is_reached m next hop after there hop_is moves h.way;
+    unmade = λ is. ap (λ ms. slice_set ms at next) (h.unmade is);
+    unjoined = h.unjoined;
+    unreached = h.unreached;
+    none_earlier = h.none_earlier;
+    wanted = h.wanted;
+    unstarted = h.unstarted;
+    started = λ is more. omega (arith, set_length at h.made next, h.started is (omega (arith, more, set_length (beside side at) r.route.hops after)));
+    earlier = h.earlier;
+    losses = losses_set calls at h.made m next there loses h.losses;
+  }
+
 module _ (side : Side) (at : ℕ) (change : Pair → Pair) (calls : List Call) where
   pair_holds : (r : RouteRun) (h : Holds calls r) (m : Made) (hop : Hop) → slice_get h.made at ≡ Some m → slice_get r.route.hops (beside side at) ≡ Some hop
       → Step side m hop (change (pair (value_of m) hop)) → Holds calls (with_route (with_pair side at (change (pair (value_of m) hop)) r.route) r)
   pair_holds r h m hop there hop_is step =
       let p = change (pair (value_of m) hop) in
-      record {
-        made = slice_set h.made at step.next;
-        adds = ap (λ vs. slice_set vs at p.add) h.adds ∙ ap (λ v. slice_set (map value_of h.made) at v) (sym step.value) ∙ set_mapped value_of at h.made step.next;
-        way = way_moved side at (end_of r.past.client) r.route.hops h.made (end_of r.past.agent) r.past.is_reached m step.next hop p.hop there hop_is step.moves h.way;
-        unmade = λ is. ap (λ ms. slice_set ms at step.next) (h.unmade is);
-        unjoined = h.unjoined;
-        unreached = h.unreached;
-        none_earlier = h.none_earlier;
-        wanted = h.wanted;
-        unstarted = h.unstarted;
-        started = λ is more. omega (arith, set_length at h.made step.next, h.started is (omega (arith, more, set_length (beside side at) r.route.hops p.hop)));
-        earlier = h.earlier;
-        losses = losses_set calls at h.made m step.next there (loses_same calls at m step.next step.moves.lost) h.losses;
-      }
+      subst (λ v. Holds calls (with_route (with_pair side at (pair v p.hop) r.route) r)) step.value
+      (moved_holds side at calls r h m step.next hop p.hop there hop_is step.moves (loses_same calls at m step.next step.lost))
 
   pub on_pair_holds : (r : RouteRun) → ((m : Made) (hop : Hop) → (hop.is_live ≡ true → IsOpenAt side m) → Step side m hop (change (pair (value_of m) hop)))
       → Holds calls r → Holds calls (with_route (pair_put change side at (slice_get r.route.adds at) (slice_get r.route.hops (beside side at)) r.route) r)
@@ -83,7 +85,7 @@ module _ (side : Side) (at : ℕ) (change : Pair → Pair) (calls : List Call) w
       by_made : (v : ValueValue) (hop : Hop) → IsMapped value_of h.made at v → slice_get r.route.hops (beside side at) ≡ Some hop
           → Holds calls (with_route (with_pair side at (change (pair v hop)) r.route) r)
       by_made v hop m hop_is =
-          let has_end = is_open side at (end_of r.past.client) r.route.hops h.made (end_of r.past.agent) r.past.is_reached m.from hop m.there hop_is h.way in
+          let has_end = is_open side at (client_tip r.past) r.route.hops h.made (end_of r.past.agent) r.past.is_reached m.from hop m.there hop_is h.way in
           subst (λ x. Holds calls (with_route (with_pair side at (change (pair x hop)) r.route) r)) m.value (pair_holds r h m.from hop m.there hop_is (steps m.from hop has_end))
 
       by_parts : (add : Option ValueValue) (hop : Option Hop) → slice_get r.route.adds at ≡ add → slice_get r.route.hops (beside side at) ≡ hop

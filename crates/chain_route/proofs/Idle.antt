@@ -1,4 +1,4 @@
--- A turn of a value-add, or the end of its bytes, brings nothing to its ends and gives nothing out.
+-- A turn of a value-add brings nothing to its ends and gives nothing out.
 use Rattle.std.proofs.Common.{ℕ, ◌+◌, Bool, true, false, cond, List, [], ◌∷◌, ◌++◌, length, Option, Some, None}
 use Rattle.std.specs.Prelude.{Result, Ok, Err}
 use Rattle.channel_core.specs.Sending.{refusal_of}
@@ -11,7 +11,7 @@ use Rattle.tcf_message.specs.declared.message.MessageFault.{MessageFault}
 use Rattle.value_node.specs.ForwardedValue.{ForwardedValue}
 use Rattle.value_node.specs.Own.{own_reply, redirect_done, redirect_failed}
 use Rattle.value_node.specs.Passing.{Upper}
-use Rattle.value_node.specs.Runs.{LowerCall, UpperCall, answering, asked_above, asked_above_in, asked_below, asked_below_in, before_hello_below, bound_above, bound_below, bytes_end, closing_if, closing_in, ended_below, event_calls, final_calls, own_by, own_calls, passing_any, passing_by, passing_from, passing_on, progress_calls, refused_by, refusing, stored_for, took_above_above, took_above_below, took_below_above, took_below_below, turns, upper_by, upper_from}
+use Rattle.value_node.specs.Runs.{LowerCall, UpperCall, answering, asked_above, asked_above_in, asked_below, asked_below_in, before_hello_below, bound_above, bound_below, closing_if, closing_in, ended_below, event_calls, final_calls, own_by, own_calls, passing_any, passing_by, passing_from, passing_on, progress_calls, refused_by, refusing, stored_for, took_above_above, took_above_below, took_below_above, took_below_below, turns, upper_by, upper_from}
 use Rattle.value_node.specs.Value.{pending_above, takes_above, takes_below}
 use Rattle.value_node.specs.declared.own.Own.{Own}
 use Rattle.value_node.specs.declared.own.Own.TheVariants as own
@@ -194,7 +194,7 @@ above_above (Some (taken.Progress token incoming)) bind = tt
 above_above (Some (taken.Final tag incoming)) bind = tt
 above_above (Some (taken.Closed cause)) bind = in_idle ForwardedValue bind
 
--- ---- A turn, and the end of the bytes
+-- ---- A turn
 
 lower_turn : (side : Side) (v : Relay) → AreIdle (own_by (turns side) v ++ passing_by (turns side) v)
 lower_turn Below v =
@@ -209,21 +209,9 @@ upper_turn side v None = tt
 upper_turn Below v (Some e) = if_idle (takes_below v.bind v.upper) (took_below_above (next_taken v.lower).0 v e) (below_above (next_taken v.lower).0 v e)
 upper_turn Above v (Some e) = if_idle (takes_above v.bind) (_ ∷ took_above_above (next_taken e).0 v.bind) (tt, above_above (next_taken e).0 v.bind)
 
-upper_end : (side : Side) (v : Relay) (upper : Option Upper) → AreIdle (upper_from (bytes_end side) v upper)
-upper_end side v None = tt
-upper_end Below v (Some e) = tt
-upper_end Above v (Some e) = (tt, tt)
-
-lower_end : (side : Side) (v : Relay) → AreIdle (own_by (bytes_end side) v ++ passing_by (bytes_end side) v)
-lower_end Below v = (tt, tt)
-lower_end Above v = tt
-
 pub record IsQuiet (lower : List LowerCall) (upper : List UpperCall) : Type 0 where
   pub below : AreIdle lower
   pub above : AreIdle upper
 
 pub turn_is_quiet : (side : Side) (v : Relay) → IsQuiet (own_by (turns side) v ++ passing_by (turns side) v) (upper_by (turns side) v)
 turn_is_quiet side v = record { below = lower_turn side v; above = upper_turn side v v.upper }
-
-pub end_is_quiet : (side : Side) (v : Relay) → IsQuiet (own_by (bytes_end side) v ++ passing_by (bytes_end side) v) (upper_by (bytes_end side) v)
-end_is_quiet side v = record { below = lower_end side v; above = upper_end side v v.upper }

@@ -5,7 +5,7 @@ use Rattle.value_node.specs.RelayLaws.{AfterAllCalls, EndsAreRuns}
 use Rattle.value_node.specs.ValueValue.{ValueValue}
 use Rattle.value_node.specs.declared.states.Side.{Side}
 use Rattle.value_node.specs.declared.states.Side.TheVariants.{Below}
-use Rattle.chain_route.specs.Carrying.{HopCarries, IsDead, end_of}
+use Rattle.chain_route.specs.Carrying.{IsDead, end_of}
 use Rattle.chain_route.specs.Hop.{connected as hop_connected}
 use Rattle.chain_route.specs.Passing.{carried}
 use Rattle.chain_route.specs.Route.{connected, joined, last_of, made_at, peer_of, with_carried}
@@ -14,8 +14,8 @@ use Rattle.chain_route.specs.Runs.{Call, Past, RouteRun, joined_by}
 use Rattle.chain_route.specs.declared.hop.Hop.{Hop}
 use Rattle.chain_route.proofs.Each.{EachCarries}
 use Rattle.chain_route.proofs.Anew.{dead_above, fresh_made}
-use Rattle.chain_route.proofs.Flows.{begun_carries, fresh_end}
-use Rattle.chain_route.proofs.Holding.{Holds, on_pair_holds, with_route}
+use Rattle.chain_route.proofs.Flows.{HopHolds, begun_carries, fresh_end, used}
+use Rattle.chain_route.proofs.Holding.{Holds, client_tip, on_pair_holds, with_route}
 use Rattle.chain_route.proofs.Stepping.{carried_step}
 
 pub carried_holds : AfterAllCalls EndsAreRuns → (side : Side) (at : ℕ) (calls : List Call) (r : RouteRun) → Holds calls r → Holds calls (with_route (with_carried side at r.route) r)
@@ -57,13 +57,13 @@ first_made calls (x ∷ g ∷ hops) adds p none unwanted more h =
     let unreached : p.is_reached ≡ false = h.unstarted none in
     let no_client : end_of p.client ≡ fresh_end = ap end_of (h.unjoined none) in
     let no_agent : end_of p.agent ≡ fresh_end = ap end_of (h.unreached unreached) in
-    let dead : AllByRecursion IsDead (x ∷ g ∷ hops) = subst (λ ms. EachCarries (end_of p.client) (x ∷ g ∷ hops) ms (end_of p.agent)) (h.unmade none) h.way.all in
+    let dead : AllByRecursion IsDead (x ∷ g ∷ hops) = subst (λ ms. EachCarries (client_tip p) (x ∷ g ∷ hops) ms (end_of p.agent)) (h.unmade none) h.way.all in
     record {
       made = fresh_made (peer_of 0 route) ∷ [];
       adds = refl;
       way = record {
-        all = subst (λ e. EachCarries (end_of p.client) (hop_connected [] ∷ g ∷ hops) (fresh_made (peer_of 0 route) ∷ []) e) (sym no_agent)
-            (subst (λ e. HopCarries (hop_connected []) e fresh_end) (sym no_client) begun_carries, dead_above g hops dead.1);
+        all = subst (λ e. EachCarries (used (end_of p.client)) (hop_connected [] ∷ g ∷ hops) (fresh_made (peer_of 0 route) ∷ []) e) (sym no_agent)
+            (subst (λ e. HopHolds (hop_connected []) (used e) fresh_end) (sym no_client) (begun_carries true), dead_above g hops dead.1);
         connected = λ is. absurd (both is unreached);
         reached = λ is. absurd (both is unreached);
         unreached = h.way.unreached;

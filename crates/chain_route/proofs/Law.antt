@@ -1,5 +1,5 @@
 -- After every list of calls a way carries.
-use Rattle.std.proofs.Common.{◌≡◌, ℕ, zero, suc, ◌||◌, Bool, true, false, cond, List, [], ◌∷◌, refl, eq-eqb}
+use Rattle.std.proofs.Common.{◌≡◌, ℕ, zero, suc, ◌||◌, Bool, true, false, cond, List, [], ◌∷◌, refl, arith, eq-eqb}
 use Rattle.std.specs.List.{AllByRecursion, list_any}
 use Rattle.std.proofs.lemmas.Bool.{or_left, or_right}
 use Rattle.channel_core.specs.declared.held.Outgoing.{Outgoing}
@@ -11,9 +11,10 @@ use Rattle.chain_route.specs.Route.{connected, hops_of, more_hops, reached, sent
 use Rattle.chain_route.specs.Runs.{Call, RouteRun, after_all, after_call, arrives_down, arrives_up, cuts, delivers, gives, is_waiting, joined_by, joins, no_calls, reached_past, reaches, sends_down, sends_up, turns, with_agent, with_client}
 use Rattle.chain_route.specs.declared.hop.Hop.{Hop}
 use Rattle.chain_route.proofs.Anew.{dead_above}
+use Rattle.chain_route.proofs.CallSettles.{IsSettled, call_settled, carries_of}
 use Rattle.chain_route.proofs.Cutting.{cuts_holds}
 use Rattle.chain_route.proofs.Ended.{arrives_down_holds, arrives_up_holds, sends_down_holds, sends_up_holds}
-use Rattle.chain_route.proofs.Holding.{Holds, carries_of, delivers_holds}
+use Rattle.chain_route.proofs.Holding.{Holds, delivers_holds}
 use Rattle.chain_route.proofs.Joining.{joins_kept}
 use Rattle.chain_route.proofs.Reached.{reaches_kept}
 use Rattle.chain_route.proofs.Turned.{turns_kept}
@@ -54,6 +55,9 @@ new_holds calls adds =
       earlier = tt;
       losses = tt;
     }
+
+new_settled : (adds : ℕ) → IsSettled (no_calls adds)
+new_settled adds = record { fits = omega arith; each = λ i v there. absurd cc }
 
 -- ---- Each call of them
 
@@ -104,14 +108,24 @@ module _ (laws : Laws) (calls : List Call) where
   call_holds (turns side at) r among h = turns_holds side at r h
   call_holds (cuts hop) r among h = cuts_holds runs calls hop r (among hop (eq-eqb hop hop refl)) h
 
-  all_hold : (rest : List Call) (r : RouteRun) → ((hop : ℕ) → list_any (is_cut_of hop) rest ≡ true → list_any (is_cut_of hop) calls ≡ true) → Holds calls r → Holds calls (after_all rest r)
-  all_hold [] r among h = h
-  all_hold (call ∷ rest) r among h =
+  -- it holds, and nothing is left queued
+  record Stands (r : RouteRun) : Type 0 where
+    holds : Holds calls r
+    settled : IsSettled r
+
+  all_hold : (rest : List Call) (r : RouteRun) → ((hop : ℕ) → list_any (is_cut_of hop) rest ≡ true → list_any (is_cut_of hop) calls ≡ true) → Stands r → Stands (after_all rest r)
+  all_hold [] r among s = s
+  all_hold (call ∷ rest) r among s =
       all_hold rest (after_call call r) (λ hop is. among hop (or_right (is_cut_of hop call) (list_any (is_cut_of hop) rest) is))
-      (call_holds call r (λ hop is. among hop (or_left (is_cut_of hop call) (list_any (is_cut_of hop) rest) is)) h)
+      (record {
+        holds = call_holds call r (λ hop is. among hop (or_left (is_cut_of hop call) (list_any (is_cut_of hop) rest) is)) s.holds;
+        settled = call_settled laws r s.holds s.settled call;
+      })
 
   carries_after : (adds : ℕ) → Carries calls (after_all calls (no_calls adds))
-  carries_after adds = carries_of calls (after_all calls (no_calls adds)) (all_hold calls (no_calls adds) (λ hop is. is) (new_holds calls adds))
+  carries_after adds =
+      let s = all_hold calls (no_calls adds) (λ hop is. is) (record { holds = new_holds calls adds; settled = new_settled adds }) in
+      carries_of calls (after_all calls (no_calls adds)) s.holds s.settled
 
 pub carries_after_all : Laws → CarriesAfterAllCalls
 carries_after_all laws adds calls = carries_after laws calls adds

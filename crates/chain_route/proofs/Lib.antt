@@ -21,8 +21,13 @@ pub mod Stepping
 pub mod Ways
 pub mod Holding
 pub mod Ended
+pub mod CutRoutes
 pub mod Cutting
 pub mod Unheard
+pub mod Waits
+pub mod Settled
+pub mod Settling
+pub mod CallSettles
 pub mod Joining
 pub mod Reaching
 pub mod Behind

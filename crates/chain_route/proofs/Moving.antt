@@ -11,20 +11,19 @@ use Rattle.value_node.specs.ValueValue.{ValueValue}
 use Rattle.value_node.specs.declared.relay.Relay.{Relay}
 use Rattle.value_node.specs.declared.states.Side.{Side}
 use Rattle.value_node.specs.declared.states.Side.TheVariants.{Below, Above}
-use Rattle.chain_route.specs.Carrying.{End, IsDead, Made, end_above, end_below, past_of, value_of, was_lost_above}
+use Rattle.chain_route.specs.Carrying.{End, IsDead, Made, end_below, past_of, value_of, was_lost_above}
 use Rattle.chain_route.specs.Hop.{sent_from}
 use Rattle.chain_route.specs.Passing.{Pair, queue_of, queued_at, queued_on}
 use Rattle.chain_route.specs.declared.hop.Hop.{Hop}
-use Rattle.chain_route.proofs.Adds.{above_added, above_same, below_added, below_same, call_run, end_of_calls, facts_of, lower_calls, still_connected, still_unconnected, upper_end, with_call}
+use Rattle.chain_route.proofs.Adds.{above_added, above_same, below_added, below_same, call_run, end_of_calls, facts_of, lower_calls, still_connected, still_unconnected, tip_above, upper_end, with_call}
 use Rattle.chain_route.proofs.EndCalls.{AreIdle, put_end}
 use Rattle.chain_route.proofs.Each.{IsUnconnected}
-use Rattle.chain_route.proofs.Flows.{CarriesAt, dead_given, gave_more, side_given}
-use Rattle.chain_route.proofs.Losses.{lost_same}
+use Rattle.chain_route.proofs.Flows.{CarriesAt, Tip, dead_given, gave_more, grown, side_given, used}
 use Rattle.chain_route.proofs.Towers.{IsMoved, end_at}
 
 -- the end on the other side is as it was
 abbrev pub RestsAt : Side → Made → Made → Type 0
-RestsAt Below m next = end_above (past_of next) ≡ end_above (past_of m)
+RestsAt Below m next = tip_above next ≡ tip_above m
 RestsAt Above m next = end_below (past_of next) ≡ end_below (past_of m)
 
 pub record Moves (side : Side) (m next : Made) (hop after : Hop) : Type 0 where
@@ -32,11 +31,10 @@ pub record Moves (side : Side) (m next : Made) (hop after : Hop) : Type 0 where
   pub rests : RestsAt side m next
   pub connected : IsSome (past_of m).connection → IsSome (past_of next).connection
   pub unconnected : IsUnconnected m → IsUnconnected next
-  pub lost : was_lost_above next ≡ was_lost_above m
 
 pub moves_still : (side : Side) (m : Made) (hop : Hop) → Moves side m m hop hop
-moves_still Below m hop = record { moved = record { carries = λ other h. h; dead = λ d. d }; rests = refl; connected = λ is. is; unconnected = λ none. none; lost = refl }
-moves_still Above m hop = record { moved = record { carries = λ other h. h; dead = λ d. d }; rests = refl; connected = λ is. is; unconnected = λ none. none; lost = refl }
+moves_still Below m hop = record { moved = record { carries = λ other h. h; dead = λ d. d }; rests = refl; connected = λ is. is; unconnected = λ none. none }
+moves_still Above m hop = record { moved = record { carries = λ other h. h; dead = λ d. d }; rests = refl; connected = λ is. is; unconnected = λ none. none }
 
 pub rests_on : (side : Side) (m next last : Made) → RestsAt side m next → RestsAt side next last → RestsAt side m last
 rests_on Below m next last p q = q ∙ p
@@ -48,12 +46,11 @@ moves_on side m next last hop after end p q = record {
   rests = rests_on side m next last p.rests q.rests;
   connected = λ is. q.connected (p.connected is);
   unconnected = λ none. q.unconnected (p.unconnected none);
-  lost = q.lost ∙ p.lost;
 }
 
-pub moved_by : (side : Side) (m next : Made) (hop after : Hop) (grown : End → End) → end_at side next ≡ grown (end_at side m)
-    → ((own other : End) → CarriesAt side hop own other → CarriesAt side after (grown own) other) → (IsDead hop → IsDead after) → IsMoved side m next hop after
-moved_by side m next hop after grown is carries dead = record {
+pub moved_by : (side : Side) (m next : Made) (hop after : Hop) (more : End → End) → end_at side next ≡ grown more (end_at side m)
+    → ((own other : Tip) → CarriesAt side hop own other → CarriesAt side after (grown more own) other) → (IsDead hop → IsDead after) → IsMoved side m next hop after
+moved_by side m next hop after more is carries dead = record {
   carries = λ other h. subst (λ e. CarriesAt side after e other) (sym is) (carries (end_at side m) other h);
   dead = dead;
 }
@@ -63,12 +60,15 @@ pub record Step (side : Side) (m : Made) (hop : Hop) (p : Pair) : Type 0 where
   pub next : Made
   pub value : value_of next ≡ p.add
   pub moves : Moves side m next hop p.hop
+  pub lost : was_lost_above next ≡ was_lost_above m
 
-pub step_on : (side : Side) (m next : Made) (hop after : Hop) (p : Pair) → Moves side m next hop after → Step side next after p → Step side m hop p
-step_on side m next hop after p moves step = record {
+pub step_on : (side : Side) (m next : Made) (hop after : Hop) (p : Pair) → Moves side m next hop after → was_lost_above next ≡ was_lost_above m → Step side next after p
+    → Step side m hop p
+step_on side m next hop after p moves lost step = record {
   next = step.next;
   value = step.value;
   moves = moves_on side m next step.next hop after p.hop moves step.moves;
+  lost = step.lost ∙ lost;
 }
 
 pub call_value : (call : Call) (m : Made) → value_of (with_call call m) ≡ called call (value_of m)
@@ -135,14 +135,13 @@ module _ (runs : AfterAllCalls EndsAreRuns) where
       let next = with_call (gives Below) m in
       let v = (value_of m).relay in
       let queue : (below (past_of m)).end.queued ≡ out ∷ rest = sym (ap (λ e. e.queued) (facts_of runs m).lower) ∙ fresh_queue Below (value_of m) (facts_of runs m).unspent ∙ is in
-      let grown : end_below (past_of next) ≡ gave_more (out ∷ []) (end_below (past_of m)) =
-      below_added runs (gives Below) m refl ∙ put_end (new_end value_services None) (lower_calls (past_of m)) out rest queue in
+      let more : end_at Below next ≡ grown (gave_more (out ∷ [])) (end_at Below m) =
+      ap used (below_added runs (gives Below) m refl ∙ put_end (new_end value_services None) (lower_calls (past_of m)) out rest queue) in
       record {
-        moved = moved_by Below m next hop (sent_from Below (out ∷ []) hop) (gave_more (out ∷ [])) grown (side_given Below (out ∷ []) hop) (dead_given Below (out ∷ []) hop);
+        moved = moved_by Below m next hop (sent_from Below (out ∷ []) hop) (gave_more (out ∷ [])) more (side_given Below (out ∷ []) hop) (dead_given Below (out ∷ []) hop);
         rests = above_same runs (gives Below) m refl (give_below v v.upper);
         connected = still_connected runs (gives Below) m refl;
         unconnected = still_unconnected runs (gives Below) m refl;
-        lost = lost_same (gives Below) m refl;
       }
   gives_moves Above m hop out rest is =
       let next = with_call (gives Above) m in
@@ -150,15 +149,14 @@ module _ (runs : AfterAllCalls EndsAreRuns) where
       let on : queue_of v.upper ≡ out ∷ rest = fresh_queue Above (value_of m) (facts_of runs m).unspent ∙ is in
       let has = queue_has_upper m out rest on in
       let queue : (upper_after has.calls).end.queued ≡ out ∷ rest = sym (ap queue_of has.upper) ∙ on in
-      let grown : end_above (past_of next) ≡ gave_more (out ∷ []) (end_above (past_of m)) =
+      let more : end_at Above next ≡ grown (gave_more (out ∷ [])) (end_at Above m) =
       above_added runs (gives Above) m has.calls has.connection refl
-      ∙ ap (λ u. upper_end (has.calls ++ upper_from (gives Above) v u)) has.upper
-      ∙ put_end (new_end value_services None) has.calls out rest queue
-      ∙ ap (gave_more (out ∷ [])) (sym (end_of_calls (past_of m) has.calls has.connection)) in
+      ∙ ap (λ u. used (upper_end (has.calls ++ upper_from (gives Above) v u))) has.upper
+      ∙ ap used (put_end (new_end value_services None) has.calls out rest queue)
+      ∙ ap (grown (gave_more (out ∷ []))) (sym (end_of_calls (past_of m) has.calls has.connection)) in
       record {
-        moved = moved_by Above m next hop (sent_from Above (out ∷ []) hop) (gave_more (out ∷ [])) grown (side_given Above (out ∷ []) hop) (dead_given Above (out ∷ []) hop);
+        moved = moved_by Above m next hop (sent_from Above (out ∷ []) hop) (gave_more (out ∷ [])) more (side_given Above (out ∷ []) hop) (dead_given Above (out ∷ []) hop);
         rests = below_same runs (gives Above) m refl tt;
         connected = still_connected runs (gives Above) m refl;
         unconnected = still_unconnected runs (gives Above) m refl;
-        lost = lost_same (gives Above) m refl;
       }

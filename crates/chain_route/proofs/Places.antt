@@ -2,11 +2,11 @@
 use Rattle.std.proofs.Common.{◌≡◌, ℕ, zero, suc, ◌+◌, ◌-◌, List, [], ◌∷◌, length, Some, refl, sym, subst, arith}
 use Rattle.std.specs.Prelude.{slice_get, slice_set}
 use Rattle.std.specs.List.{AllByRecursion}
-use Rattle.chain_route.specs.Carrying.{End, HopCarries, IsDead, Made, end_above, end_below, past_of}
-use Rattle.chain_route.specs.Hop.{no_hop}
+use Rattle.chain_route.specs.Carrying.{End, IsDead, Made, end_below, past_of}
 use Rattle.chain_route.specs.declared.hop.Hop.{Hop}
+use Rattle.chain_route.proofs.Adds.{tip_above}
 use Rattle.chain_route.proofs.Each.{EachCarries}
-use Rattle.chain_route.proofs.Flows.{cut_carries}
+use Rattle.chain_route.proofs.Flows.{HopHolds, Tip}
 
 -- ---- Hops beyond the last value-add that was made
 
@@ -15,36 +15,24 @@ all_set i [] hop after there dead all = all
 all_set zero (h ∷ hops) hop after there dead all = let is : h ≡ hop = cc in (dead (subst IsDead is all.0), all.1)
 all_set (suc i) (h ∷ hops) hop after there dead all = (all.0, all_set i hops hop after there dead all.1)
 
-pub dead_set : (i : ℕ) (lower : End) (first h : Hop) (hops : List Hop) (agent : End) (hop after : Hop) → slice_get (h ∷ hops) i ≡ Some hop → (IsDead hop → IsDead after)
+pub dead_set : (i : ℕ) (lower : Tip) (first h : Hop) (hops : List Hop) (agent : End) (hop after : Hop) → slice_get (h ∷ hops) i ≡ Some hop → (IsDead hop → IsDead after)
     → AllByRecursion IsDead (first ∷ h ∷ hops) → EachCarries lower (first ∷ slice_set (h ∷ hops) i after) [] agent
 dead_set zero lower first h hops agent hop after there dead all = (all.0, all_set zero (h ∷ hops) hop after there dead all.1)
 dead_set (suc i) lower first h hops agent hop after there dead all = (all.0, all_set (suc i) (h ∷ hops) hop after there dead all.1)
 
--- ---- A hop is cut
-
-pub cut_at : (at : ℕ) (lower : End) (hops : List Hop) (made : List Made) (agent : End) (hop : Hop) → slice_get hops at ≡ Some hop
-    → EachCarries lower hops made agent → EachCarries lower (slice_set hops at no_hop) made agent
-cut_at at lower [] made agent hop there all = absurd all
-cut_at zero lower (h ∷ hops) (m ∷ made) agent hop there all = (cut_carries h lower (end_below (past_of m)) all.0, all.1)
-cut_at zero lower (h ∷ []) [] agent hop there all = cut_carries h lower agent all
-cut_at zero lower (h ∷ g ∷ hops) [] agent hop there all = (refl, all.1)
-cut_at (suc at) lower (h ∷ hops) (m ∷ made) agent hop there all = (all.0, cut_at at (end_above (past_of m)) hops made agent hop there all.1)
-cut_at (suc at) lower (h ∷ []) [] agent hop there all = all
-cut_at (suc at) lower (h ∷ g ∷ hops) [] agent hop there all = dead_set at lower h g hops agent hop no_hop there (λ d. refl) all
-
 -- ---- A value-add whose ends stay as they are
 
-pub same_ends : (at : ℕ) (lower : End) (hops : List Hop) (made : List Made) (agent : End) (m next : Made) → slice_get made at ≡ Some m
-    → end_below (past_of next) ≡ end_below (past_of m) → end_above (past_of next) ≡ end_above (past_of m)
+pub same_ends : (at : ℕ) (lower : Tip) (hops : List Hop) (made : List Made) (agent : End) (m next : Made) → slice_get made at ≡ Some m
+    → end_below (past_of next) ≡ end_below (past_of m) → tip_above next ≡ tip_above m
     → EachCarries lower hops made agent → EachCarries lower hops (slice_set made at next) agent
 same_ends at lower [] made agent m next there below above all = absurd all
 same_ends at lower (h ∷ hops) [] agent m next there below above all = all
 same_ends zero lower (h ∷ hops) (x ∷ made) agent m next there below above all =
     let is : x ≡ m = cc in
-    let first : HopCarries h lower (end_below (past_of m)) = subst (λ y. HopCarries h lower (end_below (past_of y))) is all.0 in
-    let rest : EachCarries (end_above (past_of m)) hops made agent = subst (λ y. EachCarries (end_above (past_of y)) hops made agent) is all.1 in
-    (subst (λ e. HopCarries h lower e) (sym below) first, subst (λ e. EachCarries e hops made agent) (sym above) rest)
-same_ends (suc at) lower (h ∷ hops) (x ∷ made) agent m next there below above all = (all.0, same_ends at (end_above (past_of x)) hops made agent m next there below above all.1)
+    let first : HopHolds h lower (end_below (past_of m)) = subst (λ y. HopHolds h lower (end_below (past_of y))) is all.0 in
+    let rest : EachCarries (tip_above m) hops made agent = subst (λ y. EachCarries (tip_above y) hops made agent) is all.1 in
+    (subst (λ e. HopHolds h lower e) (sym below) first, subst (λ e. EachCarries e hops made agent) (sym above) rest)
+same_ends (suc at) lower (h ∷ hops) (x ∷ made) agent m next there below above all = (all.0, same_ends at (tip_above x) hops made agent m next there below above all.1)
 
 -- ---- The last hop, with the agent's end above it
 
@@ -69,14 +57,14 @@ pub has_last : (hop : Hop) (hops : List Hop) → HasLast (hop ∷ hops)
 has_last hop [] = record { last = hop; there = refl }
 has_last hop (h ∷ hops) = let rest = has_last h hops in record { last = rest.last; there = rest.there }
 
-pub last_changed : (agent next lower : End) (hops : List Hop) (made : List Made) (last after : Hop) → slice_get hops (last_place hops) ≡ Some last
-    → ((l : End) → HopCarries last l agent → HopCarries after l next) → (IsDead last → IsDead after)
+pub last_changed : (agent next : End) (lower : Tip) (hops : List Hop) (made : List Made) (last after : Hop) → slice_get hops (last_place hops) ≡ Some last
+    → ((l : Tip) → HopHolds last l agent → HopHolds after l next) → (IsDead last → IsDead after)
     → EachCarries lower hops made agent → EachCarries lower (slice_set hops (last_place hops) after) made next
 last_changed agent next lower [] made last after is carries dead all = absurd all
 last_changed agent next lower (hop ∷ []) (m ∷ made) last after is carries dead all = absurd all.1
 last_changed agent next lower (hop ∷ []) [] last after is carries dead all =
-    let same : hop ≡ last = cc in carries lower (subst (λ h. HopCarries h lower agent) same all)
+    let same : hop ≡ last = cc in carries lower (subst (λ h. HopHolds h lower agent) same all)
 last_changed agent next lower (hop ∷ h ∷ hops) (m ∷ made) last after is carries dead all =
-    (all.0, last_changed agent next (end_above (past_of m)) (h ∷ hops) made last after is carries dead all.1)
+    (all.0, last_changed agent next (tip_above m) (h ∷ hops) made last after is carries dead all.1)
 last_changed agent next lower (hop ∷ h ∷ hops) [] last after is carries dead all =
     dead_set (last_place (h ∷ hops)) lower hop h hops next last after is dead all

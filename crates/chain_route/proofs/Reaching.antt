@@ -1,5 +1,5 @@
 -- The upper end of a value-add begins anew below a hop that is connected.
-use Rattle.std.proofs.Common.{◌≡◌, ℕ, zero, suc, ◌+◌, ◌&&◌, Bool, true, false, cond, List, [], ◌∷◌, ◌++◌, length, map, take, Option, Some, None, refl, sym, ap, ◌∙◌, subst, arith}
+use Rattle.std.proofs.Common.{◌≡◌, ℕ, zero, suc, ◌+◌, Bool, true, false, cond, List, [], ◌∷◌, ◌++◌, length, map, take, Option, Some, None, refl, sym, ap, ◌∙◌, subst, arith}
 use Rattle.std.specs.Prelude.{IfSome, IsSome, option_to_list, slice_get, slice_set, unwrap_or}
 use Rattle.std.specs.List.{AllByRecursion, list_any}
 use Rattle.channel_core.specs.Arrivals.{IsFront, bytes_of}
@@ -14,15 +14,16 @@ use Rattle.value_node.specs.Value.{awaits, is_free, is_opening}
 use Rattle.value_node.specs.declared.relay.Relay.{Relay}
 use Rattle.value_node.specs.declared.states.Bind.{Bind}
 use Rattle.value_node.specs.declared.states.Bind.TheVariants.{Unbound, Opening, Bound, Closed}
-use Rattle.chain_route.specs.Carrying.{End, HopCarries, IsGoneBy, Made, end_above, end_below, past_of, value_of}
+use Rattle.chain_route.specs.Carrying.{End, IsGoneBy, Made, end_above, end_below, past_of, value_of}
 use Rattle.chain_route.specs.Hop.{connected}
 use Rattle.chain_route.specs.Runs.{awaits_of, given_by}
 use Rattle.chain_route.specs.declared.hop.Hop.{Hop}
 use Rattle.chain_route.proofs.Each.{EachCarries}
-use Rattle.chain_route.proofs.Adds.{call_run, facts_of, with_call}
+use Rattle.chain_route.proofs.Adds.{call_run, facts_of, tip_above, tip_of, with_call}
 use Rattle.chain_route.proofs.Anew.{AreDeadBehind, dead_above, fresh_made}
-use Rattle.chain_route.proofs.Flows.{begun_carries, fresh_end}
+use Rattle.chain_route.proofs.Flows.{HopHolds, Tip, begun_carries, fresh_end, used}
 use Rattle.chain_route.proofs.Unsent.{unsent_above}
+use Rattle.chain_route.proofs.Waits.{both_true}
 
 -- ---- The value-add connects: below nothing changes, and above it begins anew
 
@@ -38,8 +39,8 @@ past_anew m waits = ap (λ r. r.past) (call_run connects m) ∙ ap (λ b. cond b
 pub below_anew : (m : Made) → Awaits m → end_below (past_of (anew m)) ≡ end_below (past_of m)
 below_anew m waits = ap end_below (past_anew m waits)
 
-pub above_anew : (m : Made) → Awaits m → end_above (past_of (anew m)) ≡ fresh_end
-above_anew m waits = ap end_above (past_anew m waits)
+pub above_anew : (m : Made) → Awaits m → tip_above (anew m) ≡ used fresh_end
+above_anew m waits = ap tip_of (past_anew m waits)
 
 pub connected_anew : (m : Made) → Awaits m → IsSome (past_of (anew m)).connection
 connected_anew m waits = subst (λ p. IsSome p.connection) (sym (past_anew m waits)) refl
@@ -57,10 +58,6 @@ waits_in zero (m ∷ made) is = record { m = m; there = refl; waits = is }
 waits_in (suc at) (m ∷ made) is = let rest = waits_in at made is in record { m = rest.m; there = rest.there; waits = rest.waits }
 
 -- ---- One that waits has taken no Hello from above
-
-both_true : (a b : Bool) → (a && b) ≡ true → (a ≡ true) × (b ≡ true)
-both_true true b is = (refl, is)
-both_true false b is = absurd cc
 
 unbound_by : (bind : Bind) (v : Relay) (p : Past) → is_opening bind ≡ true → StandsWell bind v p → p.is_bound ≡ false
 unbound_by Unbound v p is stands = stands.2
@@ -105,17 +102,19 @@ module _ (runs : AfterAllCalls EndsAreRuns) where
 abbrev pub opened : Bool → Hop
 opened did = connected (given_by did)
 
-pub opened_carries : (did : Bool) → HopCarries (opened did) fresh_end (record { gave = given_by did; came = [] })
+pub opened_carries : (did : Bool) → HopHolds (opened did) (used fresh_end) (record { gave = given_by did; came = []; is_lost = false })
 opened_carries did = record {
   up = λ live. refl;
   up_front = ([], refl);
   down = λ live. refl;
   down_front = (bytes_of (given_by did), refl);
   dead = λ none. absurd cc;
+  lasting = λ live. (refl, refl);
+  lost = λ none. absurd cc;
 }
 
-pub reached_all : (at : ℕ) (lower : End) (hops : List Hop) (made : List Made) (agent next : End) (m m1 : Made) (after : Hop) → slice_get made at ≡ Some m → length hops ≡ at + 2
-    → end_below (past_of m1) ≡ end_below (past_of m) → end_above (past_of m1) ≡ fresh_end → HopCarries after fresh_end next
+pub reached_all : (at : ℕ) (lower : Tip) (hops : List Hop) (made : List Made) (agent next : End) (m m1 : Made) (after : Hop) → slice_get made at ≡ Some m → length hops ≡ at + 2
+    → end_below (past_of m1) ≡ end_below (past_of m) → tip_above m1 ≡ used fresh_end → HopHolds after (used fresh_end) next
     → EachCarries lower hops made agent → EachCarries lower (slice_set hops (suc at) after) (slice_set made at m1) next
 reached_all at lower [] made agent next m m1 after there size below above carries all = absurd all
 reached_all at lower (h ∷ hops) [] agent next m m1 after there size below above carries all = absurd cc
@@ -124,15 +123,15 @@ reached_all zero lower (h ∷ g ∷ f ∷ hops) (x ∷ made) agent next m m1 aft
 reached_all zero lower (h ∷ g ∷ []) (x ∷ y ∷ made) agent next m m1 after there size below above carries all = absurd all.1.1
 reached_all zero lower (h ∷ g ∷ []) (x ∷ []) agent next m m1 after there size below above carries all =
     let is : x ≡ m = cc in
-    let first : HopCarries h lower (end_below (past_of m)) = subst (λ y. HopCarries h lower (end_below (past_of y))) is all.0 in
-    (subst (λ e. HopCarries h lower e) (sym below) first, subst (λ e. HopCarries after e next) (sym above) carries)
+    let first : HopHolds h lower (end_below (past_of m)) = subst (λ y. HopHolds h lower (end_below (past_of y))) is all.0 in
+    (subst (λ e. HopHolds h lower e) (sym below) first, subst (λ e. HopHolds after e next) (sym above) carries)
 reached_all (suc at) lower (h ∷ g ∷ hops) (x ∷ made) agent next m m1 after there size below above carries all =
-    (all.0, reached_all at (end_above (past_of x)) (g ∷ hops) made agent next m m1 after there (omega (arith, size)) below above carries all.1)
+    (all.0, reached_all at (tip_above x) (g ∷ hops) made agent next m m1 after there (omega (arith, size)) below above carries all.1)
 
 -- ---- A value-add connects to one that is made anew
 
-pub turned_anew : (at : ℕ) (peer : List ℕ) (lower : End) (hops : List Hop) (made : List Made) (m m1 : Made) → slice_get made at ≡ Some m → AreDeadBehind (suc at) hops
-    → end_below (past_of m1) ≡ end_below (past_of m) → end_above (past_of m1) ≡ fresh_end
+pub turned_anew : (at : ℕ) (peer : List ℕ) (lower : Tip) (hops : List Hop) (made : List Made) (m m1 : Made) → slice_get made at ≡ Some m → AreDeadBehind (suc at) hops
+    → end_below (past_of m1) ≡ end_below (past_of m) → tip_above m1 ≡ used fresh_end
     → EachCarries lower hops made fresh_end
     → EachCarries lower (slice_set hops (suc at) (connected [])) (slice_set (take (suc at) made ++ fresh_made peer ∷ []) at m1) fresh_end
 turned_anew at peer lower [] made m m1 there dead below above all = absurd all
@@ -141,7 +140,7 @@ turned_anew at peer lower (h ∷ []) (x ∷ made) m m1 there dead below above al
 turned_anew zero peer lower (h ∷ g ∷ []) (x ∷ made) m m1 there dead below above all = absurd dead
 turned_anew zero peer lower (h ∷ g ∷ f ∷ hops) (x ∷ made) m m1 there dead below above all =
     let is : x ≡ m = cc in
-    let first : HopCarries h lower (end_below (past_of m)) = subst (λ y. HopCarries h lower (end_below (past_of y))) is all.0 in
-    (subst (λ e. HopCarries h lower e) (sym below) first, (subst (λ e. HopCarries (connected []) e fresh_end) (sym above) begun_carries, dead_above f hops dead))
+    let first : HopHolds h lower (end_below (past_of m)) = subst (λ y. HopHolds h lower (end_below (past_of y))) is all.0 in
+    (subst (λ e. HopHolds h lower e) (sym below) first, (subst (λ e. HopHolds (connected []) e fresh_end) (sym above) (begun_carries true), dead_above f hops dead))
 turned_anew (suc at) peer lower (h ∷ g ∷ hops) (x ∷ made) m m1 there dead below above all =
-    (all.0, turned_anew at peer (end_above (past_of x)) (g ∷ hops) made m m1 there dead below above all.1)
+    (all.0, turned_anew at peer (tip_above x) (g ∷ hops) made m m1 there dead below above all.1)

@@ -1,7 +1,7 @@
 -- What a value-add and a hop beside it come to when its queue goes out, and when bytes arrive.
 use Rattle.std.proofs.Common.{◌≡◌, ℕ, Bool, true, false, ◌&&◌, cond, nat_lt, List, [], ◌∷◌, ◌++◌, drop, Option, None, refl, sym, ap, ◌∙◌, subst, append_assoc, append-nil}
 use Rattle.std.specs.Prelude.{IsSome}
-use Rattle.channel_core.specs.Arrivals.{bytes_of, marked}
+use Rattle.channel_core.specs.Arrivals.{Marked, bytes_of, marked}
 use Rattle.channel_core.specs.Beginning.{new_end}
 use Rattle.channel_core.specs.declared.held.Outgoing.{Outgoing}
 use Rattle.value_node.specs.RelayLaws.{AfterAllCalls, EndsAreRuns}
@@ -18,7 +18,7 @@ use Rattle.chain_route.proofs.Adds.{above_added, above_same, below_added, below_
 use Rattle.chain_route.proofs.Carried.{add_goes_on, add_is_empty, none_sent, sent_on}
 use Rattle.chain_route.proofs.Each.{IsUnconnected}
 use Rattle.chain_route.proofs.EndCalls.{come_end}
-use Rattle.chain_route.proofs.Flows.{came_more, dead_came, side_came}
+use Rattle.chain_route.proofs.Flows.{Tip, came_more, dead_came, grown, side_came, used}
 use Rattle.chain_route.proofs.Losses.{lost_same}
 use Rattle.chain_route.proofs.Moving.{Moves, RestsAt, Step, call_value, come_below, given_is, gives_moves, has_upper, moved_by, moves_still, rests_on, step_on}
 use Rattle.chain_route.proofs.Towers.{end_at}
@@ -27,6 +27,10 @@ use Rattle.chain_route.proofs.Towers.{end_at}
 abbrev pub IsOpenAt : Side → Made → Type 0
 IsOpenAt Below m = Unit {0}
 IsOpenAt Above m = IsSome (past_of m).connection
+
+-- with these bytes come
+abbrev with_came : Tip → List Marked → Tip
+with_came t came = record t { end = record t.end { came = came } }
 
 tail_is : (out x : Outgoing) (rest xs : List Outgoing) → out ∷ rest ≡ x ∷ xs → rest ≡ xs
 tail_is out x rest xs is = ap (drop 1) is
@@ -42,6 +46,7 @@ module _ (runs : AfterAllCalls EndsAreRuns) where
         next = m;
         value = sym empty.1;
         moves = subst (λ h. Moves side m m hop h) (sym (ap (λ q. sent_from side q hop) is ∙ none_sent side hop)) (moves_still side m hop);
+        lost = refl;
       }
 
   queue_step : (queue : List Outgoing) (side : Side) (m : Made) (hop : Hop) → queued_at side (value_of m) ≡ queue → Step side m hop (carried side (pair (value_of m) hop))
@@ -59,7 +64,7 @@ module _ (runs : AfterAllCalls EndsAreRuns) where
       ∙ ap (λ x. pair x (sent_from side (queued_at side (after_giving side v)) hop1)) goes.same
       ∙ ap (pair (emptied side v)) (sent_on side out (queued_at side (after_giving side v)) hop)
       ∙ ap (λ q. pair (emptied side v) (sent_from side q hop)) (sym goes.queue) in
-      subst (Step side m hop) same (step_on side m m1 hop hop1 (carried side (pair (value_of m1) hop1)) (gives_moves runs side m hop out rest is) step)
+      subst (Step side m hop) same (step_on side m m1 hop hop1 (carried side (pair (value_of m1) hop1)) (gives_moves runs side m hop out rest is) (lost_same (gives side) m refl) step)
 
   pub carried_step : (side : Side) (m : Made) (hop : Hop) → Step side m hop (carried side (pair (value_of m) hop))
   carried_step side m hop = queue_step (queued_at side (value_of m)) side m hop refl
@@ -67,15 +72,15 @@ module _ (runs : AfterAllCalls EndsAreRuns) where
   -- ---- Bytes arrive
 
   comes_end : (side : Side) (piece : List ℕ) (mark : Option ℕ) (m : Made) → IsOpenAt side m
-      → end_at side (with_call (comes side piece mark) m) ≡ came_more (marked piece mark) (end_at side m)
+      → end_at side (with_call (comes side piece mark) m) ≡ grown (came_more (marked piece mark)) (end_at side m)
   comes_end Below piece mark m has_end =
-      below_added runs (comes Below piece mark) m refl ∙ come_end (new_end value_services None) (lower_calls (past_of m)) piece mark
+      ap used (below_added runs (comes Below piece mark) m refl ∙ come_end (new_end value_services None) (lower_calls (past_of m)) piece mark)
   comes_end Above piece mark m has_end =
       let has = has_upper runs m has_end in
       above_added runs (comes Above piece mark) m has.calls has.connection refl
-      ∙ ap (λ u. upper_end (has.calls ++ upper_from (comes Above piece mark) (value_of m).relay u)) has.upper
-      ∙ come_end (new_end value_services None) has.calls piece mark
-      ∙ ap (came_more (marked piece mark)) (sym (end_of_calls (past_of m) has.calls has.connection))
+      ∙ ap (λ u. used (upper_end (has.calls ++ upper_from (comes Above piece mark) (value_of m).relay u))) has.upper
+      ∙ ap used (come_end (new_end value_services None) has.calls piece mark)
+      ∙ ap (grown (came_more (marked piece mark))) (sym (end_of_calls (past_of m) has.calls has.connection))
 
   comes_rests : (side : Side) (piece : List ℕ) (mark : Option ℕ) (m : Made) → RestsAt side m (with_call (comes side piece mark) m)
   comes_rests Below piece mark m = above_same runs (comes Below piece mark) m refl (come_below piece mark (value_of m).relay (value_of m).relay.upper)
@@ -85,7 +90,7 @@ module _ (runs : AfterAllCalls EndsAreRuns) where
   record Came (side : Side) (parts : List Outgoing) (m : Made) : Type 0 where
     next : Made
     value : value_of next ≡ parts_came side parts (value_of m)
-    grown : end_at side next ≡ came_more (bytes_of parts) (end_at side m)
+    more : end_at side next ≡ grown (came_more (bytes_of parts)) (end_at side m)
     rests : RestsAt side m next
     connected : IsSome (past_of m).connection → IsSome (past_of next).connection
     unconnected : IsUnconnected m → IsUnconnected next
@@ -103,7 +108,7 @@ module _ (runs : AfterAllCalls EndsAreRuns) where
   parts_came_to [] side m has_end = record {
     next = m;
     value = refl;
-    grown = ap (λ bs. record { gave = (end_at side m).gave; came = bs }) (sym (append-nil (end_at side m).came));
+    more = ap (with_came (end_at side m)) (sym (append-nil (end_at side m).end.came));
     rests = rests_same side m;
     connected = λ is. is;
     unconnected = λ none. none;
@@ -112,17 +117,17 @@ module _ (runs : AfterAllCalls EndsAreRuns) where
   parts_came_to (part ∷ parts) side m has_end =
       let call = comes side part.bytes part.mark in
       let m1 = with_call call m in
-      let more = parts_came_to parts side m1 (still_open side part.bytes part.mark m has_end) in
+      let rest = parts_came_to parts side m1 (still_open side part.bytes part.mark m has_end) in
       let front = marked part.bytes part.mark in
       record {
-        next = more.next;
-        value = more.value ∙ ap (parts_came side parts) (call_value call m);
-        grown = more.grown ∙ ap (came_more (bytes_of parts)) (comes_end side part.bytes part.mark m has_end)
-            ∙ ap (λ bs. record { gave = (end_at side m).gave; came = bs }) (append_assoc (end_at side m).came front (bytes_of parts));
-        rests = rests_on side m m1 more.next (comes_rests side part.bytes part.mark m) more.rests;
-        connected = λ is. more.connected (still_connected runs call m refl is);
-        unconnected = λ none. more.unconnected (still_unconnected runs call m refl none);
-        lost = more.lost ∙ lost_same call m refl;
+        next = rest.next;
+        value = rest.value ∙ ap (parts_came side parts) (call_value call m);
+        more = rest.more ∙ ap (grown (came_more (bytes_of parts))) (comes_end side part.bytes part.mark m has_end)
+            ∙ ap (with_came (end_at side m)) (append_assoc (end_at side m).end.came front (bytes_of parts));
+        rests = rests_on side m m1 rest.next (comes_rests side part.bytes part.mark m) rest.rests;
+        connected = λ is. rest.connected (still_connected runs call m refl is);
+        unconnected = λ none. rest.unconnected (still_unconnected runs call m refl none);
+        lost = rest.lost ∙ lost_same call m refl;
       }
 
   came_step : (side : Side) (count : ℕ) (m : Made) (hop : Hop) → IsOpenAt side m → Step side m hop (came side count (pair (value_of m) hop))
@@ -133,12 +138,12 @@ module _ (runs : AfterAllCalls EndsAreRuns) where
         next = c.next;
         value = c.value;
         moves = record {
-          moved = moved_by side m c.next hop (arrived_at side count hop) (came_more (bytes_of parts)) c.grown (side_came side count hop) (dead_came side count hop);
+          moved = moved_by side m c.next hop (arrived_at side count hop) (came_more (bytes_of parts)) c.more (side_came side count hop) (dead_came side count hop);
           rests = c.rests;
           connected = c.connected;
           unconnected = c.unconnected;
-          lost = c.lost;
         };
+        lost = c.lost;
       }
 
   -- as one piece, and the end may answer with a level
@@ -157,6 +162,6 @@ module _ (runs : AfterAllCalls EndsAreRuns) where
           let first = came_step side count m hop (has_end (live hop.is_live (nat_lt (waiting_at side (value_of m).relay) most_waiting) is)) in
           let after = (came side count p).hop in
           let then : Step side first.next after (carried side (pair (value_of first.next) after)) = carried_step side first.next after in
-          step_on side m first.next hop after (carried side (came side count p)) first.moves
+          step_on side m first.next hop after (carried side (came side count p)) first.moves first.lost
           (subst (λ x. Step side first.next after (carried side (pair x after))) first.value then)
-      by_flag false is = record { next = m; value = refl; moves = moves_still side m hop }
+      by_flag false is = record { next = m; value = refl; moves = moves_still side m hop; lost = refl }

@@ -1,6 +1,6 @@
 -- A value-add takes an entry, and connects where it is redirected: a way carries on.
 use Rattle.std.proofs.Common.{◌≡◌, ℕ, ◌&&◌, Bool, true, false, cond, List, Option, Some, None, refl, sym, ap, ◌∙◌, subst}
-use Rattle.std.specs.Prelude.{Err, Ok, Result, option_map, slice_get, slice_set}
+use Rattle.std.specs.Prelude.{Err, Ok, Result, slice_get, slice_set}
 use Rattle.channel_core.specs.Taking.{next_taken}
 use Rattle.channel_core.specs.declared.taking.Taken.{Taken}
 use Rattle.channel_core.specs.declared.taking.Taken.TheVariants as taken
@@ -24,7 +24,7 @@ use Rattle.value_node.specs.declared.states.Side.TheVariants.{Below, Above}
 use Rattle.value_node.specs.declared.states.ValueTurn.{ValueTurn}
 use Rattle.value_node.specs.declared.states.ValueTurn.TheVariants.{Nothing, Took, Connect}
 use Rattle.chain_route.specs.Carrying.{Made, past_of, value_of}
-use Rattle.chain_route.specs.Passing.{carried, emptied, without_queue}
+use Rattle.chain_route.specs.Passing.{carried, emptied}
 use Rattle.chain_route.specs.Route.{beside, connected_after, pair_put, turn_put, turned, with_carried}
 use Rattle.chain_route.specs.RouteValue.{RouteValue}
 use Rattle.chain_route.specs.Runs.{Call, RouteRun, awaits_of}
@@ -37,19 +37,16 @@ use Rattle.chain_route.proofs.Idle.{turn_is_quiet}
 use Rattle.chain_route.proofs.Joining.{carried_holds}
 use Rattle.chain_route.proofs.Losses.{loses_same, lost_same}
 use Rattle.chain_route.proofs.Reaching.{waits_in}
+use Rattle.chain_route.proofs.Settled.{still_free}
 use Rattle.chain_route.proofs.Unheard.{Laws}
 use Rattle.chain_route.proofs.Ways.{IsMapped, get_mapped, get_set}
 
 -- ---- What is carried leaves it waiting
 
-upper_waits : (opening : Bool) (upper : Option Upper) → (opening && is_free (option_map without_queue upper)) ≡ (opening && is_free upper)
-upper_waits opening None = refl
-upper_waits opening (Some e) = refl
-
 waits_by : (side : Side) (spent : Bool) (v : Relay) → awaits (emptied side (record { relay = v; is_spent = spent })).relay ≡ awaits v
 waits_by side true v = refl
 waits_by Below false v = refl
-waits_by Above false v = upper_waits (is_opening v.bind) v.upper
+waits_by Above false v = ap (λ b. is_opening v.bind && b) (still_free v.upper)
 
 emptied_waits : (side : Side) (v : ValueValue) → awaits (emptied side v).relay ≡ awaits v.relay
 emptied_waits side v = waits_by side v.is_spent v.relay

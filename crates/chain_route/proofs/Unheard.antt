@@ -7,6 +7,7 @@ use Rattle.channel_core.specs.Beginning.{new_end}
 use Rattle.channel_core.specs.Farewell.{leaving_behind}
 use Rattle.channel_core.specs.Greeting.{WaitsForHello, is_greeting}
 use Rattle.channel_core.specs.Laws.{listed}
+use Rattle.channel_core.specs.QueueLaws.{ClosesOnlySo}
 use Rattle.channel_core.specs.ReceivingLaws.{QueuesReadable, ReceivesInOrder, SendsReadable, WhereAQueueComes, incoming_of, received}
 use Rattle.channel_core.specs.RunLaws.{AfterAllCalls as AfterEndCalls, EndsOnce, QueuesInOrder, is_command}
 use Rattle.channel_core.specs.Runs.{Call, Run, after_call, after_calls, begun, closing, commanding, delivering, draining, ending, putting_out, sending, taking}
@@ -34,12 +35,13 @@ pub record Laws : Type 0 where
   pub connects : AfterAllCalls ConnectsWhenAsked
   pub waits : AfterEndCalls {T = ForwardedValue} WaitsForHello
   pub once : AfterEndCalls {T = ForwardedValue} EndsOnce
+  pub closes : AfterEndCalls {T = ForwardedValue} ClosesOnlySo
   pub in_order : AfterEndCalls {T = ForwardedValue} QueuesInOrder
   pub readable : QueuesReadable ForwardedValue
   pub receives : WhereAQueueComes {T = Unit} ReceivesInOrder
   pub read_back : IsReadBack
 
-value_hello : IsWellFormed (event locator hello value_services)
+pub value_hello : IsWellFormed (event locator hello value_services)
 unfolding locator hello value_services
 value_hello = ((refl, refl), omega arith)
 
@@ -127,7 +129,7 @@ taken_front (call ∷ calls) r = taken_by call calls r (taken_front calls (after
 
 -- ---- So it hasn't connected
 
-readable_by : (connection : Option (List UpperCall)) → IfSome connection SendsReadable → SendsReadable (unwrap_or connection [])
+pub readable_by : (connection : Option (List UpperCall)) → IfSome connection SendsReadable → SendsReadable (unwrap_or connection [])
 readable_by None is = tt
 readable_by (Some calls) is = is
 

@@ -3,10 +3,12 @@ use Rattle.std.proofs.Common.{◌≡◌, ℕ, zero, suc, ◌+◌, ◌<◌, Bool,
 use Rattle.std.specs.Prelude.{IsSome, slice_get, slice_set}
 use Rattle.value_node.specs.declared.states.Side.{Side}
 use Rattle.value_node.specs.declared.states.Side.TheVariants.{Below, Above}
-use Rattle.chain_route.specs.Carrying.{End, HaveConnected, IsDead, Made, end_above, past_of}
+use Rattle.chain_route.specs.Carrying.{End, HaveConnected, IsDead, Made, past_of}
 use Rattle.chain_route.specs.Route.{beside}
 use Rattle.chain_route.specs.declared.hop.Hop.{Hop}
+use Rattle.chain_route.proofs.Adds.{tip_above}
 use Rattle.chain_route.proofs.Each.{EachCarries, LastUnconnected, last_kept}
+use Rattle.chain_route.proofs.Flows.{Tip}
 use Rattle.chain_route.proofs.Moving.{Moves}
 use Rattle.chain_route.proofs.Places.{last_place}
 use Rattle.chain_route.proofs.Stepping.{IsOpenAt}
@@ -74,14 +76,14 @@ connected_set (suc (suc i)) (x ∷ y ∷ made) is_reached m next there keeps hav
 
 -- ---- A way
 
-pub record Way (lower : End) (hops : List Hop) (made : List Made) (agent : End) (is_reached : Bool) : Type 0 where
+pub record Way (lower : Tip) (hops : List Hop) (made : List Made) (agent : End) (is_reached : Bool) : Type 0 where
   pub all : EachCarries lower hops made agent
   pub connected : HaveConnected made is_reached
   pub reached : is_reached ≡ true → length hops ≡ length made + 1
   pub unreached : is_reached ≡ false → LastDead hops  -- none is in flight on the hop to the agent
   pub unconnected : length made + 1 < length hops → LastUnconnected made  -- not all value-adds were made
 
-all_moved : (side : Side) (at : ℕ) (lower : End) (hops : List Hop) (made : List Made) (agent : End) (m next : Made) (hop after : Hop)
+all_moved : (side : Side) (at : ℕ) (lower : Tip) (hops : List Hop) (made : List Made) (agent : End) (m next : Made) (hop after : Hop)
     → slice_get made at ≡ Some m → slice_get hops (beside side at) ≡ Some hop → Moves side m next hop after
     → EachCarries lower hops made agent → EachCarries lower (slice_set hops (beside side at) after) (slice_set made at next) agent
 all_moved Below at lower hops made agent m next hop after there hop_is moves all = below_changed at lower hops made agent m next hop after there hop_is moves.moved moves.rests all
@@ -89,7 +91,7 @@ all_moved Above at lower hops made agent m next hop after there hop_is moves all
     subst (λ i. EachCarries lower (slice_set hops i after) (slice_set made at next) agent) (sym (add-one at))
     (above_changed at lower hops made agent m next hop after there (subst (λ i. slice_get hops i ≡ Some hop) (add-one at) hop_is) moves.moved moves.rests all)
 
-pub way_moved : (side : Side) (at : ℕ) (lower : End) (hops : List Hop) (made : List Made) (agent : End) (is_reached : Bool) (m next : Made) (hop after : Hop)
+pub way_moved : (side : Side) (at : ℕ) (lower : Tip) (hops : List Hop) (made : List Made) (agent : End) (is_reached : Bool) (m next : Made) (hop after : Hop)
     → slice_get made at ≡ Some m → slice_get hops (beside side at) ≡ Some hop → Moves side m next hop after
     → Way lower hops made agent is_reached → Way lower (slice_set hops (beside side at) after) (slice_set made at next) agent is_reached
 way_moved side at lower hops made agent is_reached m next hop after there hop_is moves way = record {
@@ -105,12 +107,12 @@ way_moved side at lower hops made agent is_reached m next hop after there hop_is
 
 -- ---- Where a hop is live the value-add below it has connected
 
-not_live : (h : Hop) → h.is_live ≡ true → IsDead h → ⊥
+pub not_live : (h : Hop) → h.is_live ≡ true → IsDead h → ⊥
 not_live h live dead = let no : false ≡ true = sym (ap (λ x. x.is_live) dead) ∙ live in absurd cc
 
 -- the way from the next value-add on
-pub way_above : (lower : End) (h g : Hop) (hops : List Hop) (x y : Made) (made : List Made) (agent : End) (is_reached : Bool)
-    → Way lower (h ∷ g ∷ hops) (x ∷ y ∷ made) agent is_reached → Way (end_above (past_of x)) (g ∷ hops) (y ∷ made) agent is_reached
+pub way_above : (lower : Tip) (h g : Hop) (hops : List Hop) (x y : Made) (made : List Made) (agent : End) (is_reached : Bool)
+    → Way lower (h ∷ g ∷ hops) (x ∷ y ∷ made) agent is_reached → Way (tip_above x) (g ∷ hops) (y ∷ made) agent is_reached
 way_above lower h g hops x y made agent is_reached way = record {
   all = way.all.1;
   connected = way.connected.1;
@@ -119,7 +121,7 @@ way_above lower h g hops x y made agent is_reached way = record {
   unconnected = λ more. way.unconnected (omega (arith, more));
 }
 
-above_live : (at : ℕ) (lower : End) (hops : List Hop) (made : List Made) (agent : End) (is_reached : Bool) (m : Made) (hop : Hop)
+above_live : (at : ℕ) (lower : Tip) (hops : List Hop) (made : List Made) (agent : End) (is_reached : Bool) (m : Made) (hop : Hop)
     → slice_get made at ≡ Some m → slice_get hops (suc at) ≡ Some hop → hop.is_live ≡ true → Way lower hops made agent is_reached → IsSome (past_of m).connection
 above_live at lower [] made agent is_reached m hop there hop_is live way = absurd way.all
 above_live at lower (h ∷ hops) [] agent is_reached m hop there hop_is live way = absurd cc
@@ -138,9 +140,9 @@ above_live zero lower (h ∷ g ∷ hops) (x ∷ y ∷ made) agent is_reached m h
     let is_m : x ≡ m = cc in subst (λ z. IsSome (past_of z).connection) is_m way.connected.0
 above_live (suc at) lower (h ∷ g ∷ hops) (x ∷ []) agent is_reached m hop there hop_is live way = absurd cc
 above_live (suc at) lower (h ∷ g ∷ hops) (x ∷ y ∷ made) agent is_reached m hop there hop_is live way =
-    above_live at (end_above (past_of x)) (g ∷ hops) (y ∷ made) agent is_reached m hop there hop_is live (way_above lower h g hops x y made agent is_reached way)
+    above_live at (tip_above x) (g ∷ hops) (y ∷ made) agent is_reached m hop there hop_is live (way_above lower h g hops x y made agent is_reached way)
 
-pub is_open : (side : Side) (at : ℕ) (lower : End) (hops : List Hop) (made : List Made) (agent : End) (is_reached : Bool) (m : Made) (hop : Hop)
+pub is_open : (side : Side) (at : ℕ) (lower : Tip) (hops : List Hop) (made : List Made) (agent : End) (is_reached : Bool) (m : Made) (hop : Hop)
     → slice_get made at ≡ Some m → slice_get hops (beside side at) ≡ Some hop → Way lower hops made agent is_reached → hop.is_live ≡ true → IsOpenAt side m
 is_open Below at lower hops made agent is_reached m hop there hop_is way live = tt
 is_open Above at lower hops made agent is_reached m hop there hop_is way live =

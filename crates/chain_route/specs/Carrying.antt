@@ -1,39 +1,44 @@
 -- What a way carries, over any calls: each hop carries what one of its nodes gave it to the other one.
-use Rattle.std.specs.Prelude.{ℕ, ◌≡◌, ◌+◌, ◌==◌, Bool, true, false, List, [], ◌∷◌, ◌++◌, length, map, unwrap_or, IsSome, None}
+use Rattle.std.specs.Prelude.{ℕ, ◌≡◌, ◌⊎◌, ◌+◌, ◌==◌, Bool, true, false, List, [], ◌∷◌, ◌++◌, length, map, unwrap_or, IsSome, None}
 use Rattle.std.specs.List.{AllByRecursion, list_any}
 use Rattle.channel_core.specs.Arrivals.{IsFront, Marked, arrived, bytes_of}
 use Rattle.channel_core.specs.Beginning.{new_end}
 use Rattle.channel_core.specs.QueueLaws.{sent_in}
 use Rattle.channel_core.specs.ReceivingLaws.{SendsReadable}
 use Rattle.channel_core.specs.declared.held.Outgoing.{Outgoing}
+use Rattle.channel_faults.specs.Faults.{is_ending}
 use Rattle.value_node.specs.RelayLaws.{IsGivenUp}
 use Rattle.value_node.specs.Runs as value
 use Rattle.value_node.specs.Runs.{UpperCall, above, below, bytes_end, comes, connects, fails, gives, turns as value_turns, upper_after}
-use Rattle.value_node.specs.Value.{value_services}
+use Rattle.value_node.specs.Value.{awaits, value_services}
 use Rattle.value_node.specs.ValueValue.{ValueValue}
 use Rattle.value_node.specs.declared.states.Side.TheVariants.{Below, Above}
 use Rattle.chain_route.specs.Hop.{no_hop}
-use Rattle.chain_route.specs.Runs.{Call, Past, RouteRun, Talk, after_all, arrives_down, arrives_up, cuts, delivers, joins, no_calls, reaches, sends_down, sends_up, turns}
+use Rattle.chain_route.specs.Passing.{queue_of}
+use Rattle.chain_route.specs.Route.{is_live, last_of}
+use Rattle.chain_route.specs.Runs.{Call, Past, RouteRun, Talk, after_all, arrives_down, arrives_up, cuts, delivers, is_waiting, joins, no_calls, reaches, sends_down, sends_up, turns}
 use Rattle.chain_route.specs.declared.hop.Hop.{Hop}
 
--- ---- one end of a hop: what its node gave, and the bytes that came to it, with their marks
+-- ---- one end of a hop: what its node gave, the bytes that came to it, with their marks, and whether these have ended without
+-- the end of the stream
 
 pub record End : Type 0 where
   pub gave : List Outgoing
   pub came : List Marked
+  pub is_lost : Bool
 
 abbrev pub end_of : Talk → End
-end_of talk = record { gave = talk.gave; came = bytes_of talk.got }
+end_of talk = record { gave = talk.gave; came = bytes_of talk.got; is_lost = talk.is_lost }
 
 -- a value-add's, below it since it was made, and above it since its connection
 abbrev pub past_after : List ℕ → List value.Call → value.Past
 past_after peer calls = (value.after_all calls (value.no_calls peer)).past
 
 abbrev pub end_below : value.Past → End
-end_below p = record { gave = (below p).past.given; came = arrived (p.until_bound ++ p.since_bound) }
+end_below p = record { gave = (below p).past.given; came = arrived (p.until_bound ++ p.since_bound); is_lost = list_any is_ending (p.until_bound ++ p.since_bound) }
 
 abbrev pub end_above : value.Past → End
-end_above p = record { gave = (above p).past.given; came = arrived (unwrap_or p.connection []) }
+end_above p = record { gave = (above p).past.given; came = arrived (unwrap_or p.connection []); is_lost = list_any is_ending (unwrap_or p.connection []) }
 
 -- it gave nothing, and nothing came to it
 abbrev pub IsUnused : End → Type 0
@@ -48,6 +53,9 @@ pub record HopCarries (hop : Hop) (lower upper : End) : Type 0 where
   pub down : hop.is_live ≡ true → bytes_of upper.gave ≡ lower.came ++ bytes_of hop.down
   pub down_front : IsFront lower.came (bytes_of upper.gave)
   pub dead : hop.is_live ≡ false → hop ≡ no_hop  -- nothing is in flight on one that isn't live
+  -- one that is live was lost at neither end; else the lower end was never used, or the hop was lost to it
+  pub lasting : hop.is_live ≡ true → (lower.is_lost ≡ false) × (upper.is_lost ≡ false)
+  pub lost : hop.is_live ≡ false → IsUnused lower ⊎ (lower.is_lost ≡ true)
 
 abbrev pub IsDead : Hop → Type 0
 IsDead hop = hop ≡ no_hop
@@ -78,6 +86,19 @@ abbrev pub HaveConnected : List Made → Bool → Type 0
 HaveConnected [] is_reached = Unit {0}
 HaveConnected (m ∷ []) is_reached = is_reached ≡ true → IsSome (past_of m).connection
 HaveConnected (m ∷ made) is_reached = IsSome (past_of m).connection × HaveConnected made is_reached
+
+-- all that a value-add queued was given
+pub record GivesAll (v : ValueValue) : Type 0 where
+  pub below : v.relay.lower.queued ≡ []
+  pub above : queue_of v.relay.upper ≡ []
+
+-- and none waits for a connection, but the last one for the agent
+abbrev pub NoneAwaits : RouteRun → Type 0
+NoneAwaits r = is_waiting r ≡ false → AllByRecursion (λ v. awaits v.relay ≡ false) r.route.adds
+
+-- while the agent isn't reached the last hop isn't live
+abbrev pub IsUnreached : RouteRun → Type 0
+IsUnreached r = r.past.is_reached ≡ false → is_live (last_of r.route) r.route ≡ false
 
 -- the agent is reached when all value-adds were made
 abbrev pub IsReachedLast : List Made → List Hop → Past → Type 0
@@ -137,6 +158,9 @@ pub record Carries (calls : List Call) (r : RouteRun) : Type 0 where
   pub reached : IsReachedLast made r.route.hops r.past
   pub earlier : AllByRecursion IsGoneBy r.past.earlier
   pub losses : AllLoseByCuts calls 0 made
+  pub given : AllByRecursion GivesAll r.route.adds
+  pub none_awaits : NoneAwaits r
+  pub unreached : IsUnreached r
 
 -- After every list of calls of a new way, with so many value-adds.
 abbrev pub CarriesAfterAllCalls : Type 0

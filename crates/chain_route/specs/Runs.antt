@@ -1,12 +1,12 @@
 -- A way over any calls, and what its client and the agent gave it and got of it.
-use Rattle.std.specs.Prelude.{ℕ, ◌-◌, ◌==◌, Bool, true, false, ◌||◌, if◌then◌else◌, List, [], ◌∷◌, ◌++◌, slice_get, Option, Some, None}
+use Rattle.std.specs.Prelude.{ℕ, ◌-◌, ◌==◌, Bool, true, false, ◌||◌, ◌&&◌, if◌then◌else◌, List, [], ◌∷◌, ◌++◌, slice_get, Option, Some, None}
 use Rattle.channel_core.specs.Wire.{end_of_stream}
 use Rattle.channel_core.specs.declared.held.Outgoing.{Outgoing}
 use Rattle.value_node.specs.Value.{awaits}
 use Rattle.value_node.specs.ValueValue.{ValueValue}
 use Rattle.value_node.specs.declared.states.Side.{Side}
 use Rattle.chain_route.specs.Lane.{arriving}
-use Rattle.chain_route.specs.Route.{arrived_down, arrived_up, connected, cut, delivered_at, flight_down, flight_up, last_of, new_route, reached, sent_down, sent_up, turned}
+use Rattle.chain_route.specs.Route.{arrived_down, arrived_up, connected, cut, delivered_at, flight_down, flight_up, is_live, last_of, new_route, reached, sent_down, sent_up, turned}
 use Rattle.chain_route.specs.RouteValue.{RouteValue}
 
 -- ---- the calls that change a way
@@ -22,13 +22,14 @@ pub data Call : Type 0 where
   turns : (side : Side) (at : ℕ) → Call  -- a value-add takes an entry
   cuts : (hop : ℕ) → Call
 
--- what the client, or the agent, gave its hop since that was connected, and what came to it there
+-- what the client, or the agent, gave its hop since that was connected, what came to it there, and whether it was lost
 pub record Talk : Type 0 where
   pub gave : List Outgoing
   pub got : List Outgoing
+  pub is_lost : Bool
 
 abbrev pub no_talk : Talk
-no_talk = record { gave = []; got = [] }
+no_talk = record { gave = []; got = []; is_lost = false }
 
 pub record Past : Type 0 where
   pub is_wanted : Bool  -- the client wants a channel of the agent, and no value-add is between them
@@ -76,7 +77,7 @@ reached_past did p = record p {
   is_wanted = false;
   is_joined = true;
   is_reached = true;
-  agent = record { gave = given_by did; got = [] };
+  agent = record { gave = given_by did; got = []; is_lost = false };
   earlier = earlier_of p;
 }
 
@@ -92,6 +93,15 @@ gives outs talk = record talk { gave = talk.gave ++ outs }
 abbrev pub gets : List Outgoing → Talk → Talk
 gets outs talk = record talk { got = talk.got ++ outs }
 
+-- a hop that is cut, where it is live, is lost to the client and to the agent at its ends
+abbrev pub loses_if : Bool → Talk → Talk
+loses_if true talk = record talk { is_lost = true }
+loses_if false talk = talk
+
+abbrev pub cut_past : ℕ → RouteValue → Past → Past
+cut_past hop r p =
+    record p { client = loses_if (is_live hop r && (hop == 0)) p.client; agent = loses_if (is_live hop r && (hop == last_of r)) p.agent }
+
 abbrev pub after_call : Call → RouteRun → RouteRun
 after_call joins r = if r.past.is_wanted || r.past.is_joined then r else joined_by (connected 0 r.route) r.past
 after_call (reaches did) r = if is_waiting r then record { route = reached did r.route; past = reached_past did r.past } else r
@@ -105,7 +115,7 @@ after_call (arrives_down count) r =
     record { route = arrived_down count r.route; past = with_client (gets (arriving count (flight_down r.route)) r.past.client) r.past }
 after_call (delivers side at count) r = record r { route = delivered_at side at count r.route }
 after_call (turns side at) r = record r { route = (turned side at r.route).1 }
-after_call (cuts hop) r = record r { route = (cut hop r.route).1 }
+after_call (cuts hop) r = record { route = (cut hop r.route).1; past = cut_past hop r.route r.past }
 
 abbrev pub after_all : List Call → RouteRun → RouteRun
 after_all [] r = r

@@ -6,6 +6,10 @@ use value_node::Forwarded;
 /// The law that each hop of a way carries what one of its nodes gave it to the other one, in order and with its marks, and
 /// that each value-add is what its calls make of a new one, whatever the calls of the way are. The bytes above a value-add end
 /// only where the hop above it is cut by one of these calls.
+///
+/// A hop that is live was lost at neither end, and one that isn't was lost to the end below it, where that was ever used. All that
+/// a value-add queued was given, none waits for a connection but the last one for the agent, and the last hop isn't live before
+/// the agent is reached.
 pub fn each_hop_carries()
     ensures { CarriesAfterAllCalls }
 {
@@ -13,6 +17,7 @@ pub fn each_hop_carries()
     value_node::a_value_add_answers_itself();
     channel_core::no_command_goes_out_before_the_hello::<Forwarded>();
     channel_core::a_closed_end_stays_closed::<Forwarded>();
+    channel_core::an_end_closes_only_so::<Forwarded>();
     channel_core::what_is_queued_goes_out_in_order::<Forwarded>();
     channel_core::what_is_queued_can_be_read::<Forwarded>();
     channel_core::what_was_queued_is_received::<()>();

@@ -20,6 +20,7 @@ use Rattle.value_node.specs.Deeds.{heard_in}
 use Rattle.value_node.specs.RelayLaws.{asked_by, asked_in, asked_since, told_from}
 use Rattle.value_node.specs.Runs.{Past, above, below, below_since_bound, below_until_bound, lower_after}
 use Rattle.value_node.specs.Value.{value_services}
+use Rattle.chain_route.proofs.Unheard.{value_hello}
 use Rattle.chain_route.specs.Carrying.{End, HopCarries, Made, end_above, end_below, past_of}
 use Rattle.chain_route.specs.declared.hop.Hop.{Hop}
 use Rattle.chain_told.specs.Told.{numbered}
@@ -27,7 +28,7 @@ use Rattle.chain_told.specs.TellsOn.{tells}
 use Rattle.chain_through.specs.Calling.{Calls, all_asking, entering, greeting}
 use Rattle.chain_through.proofs.Above.{asked_written, hello_enters, queued_more}
 use Rattle.chain_through.proofs.Fronts.{IsMapped, front_each, front_flat, front_mapped, front_same, front_then}
-use Rattle.chain_through.proofs.Facts.{Laws, below_read, calls_above, deeds_of, facts_of, run_of, value_hello}
+use Rattle.chain_through.proofs.Facts.{Laws, below_read, calls_above, deeds_of, facts_of, run_of}
 use Rattle.chain_through.proofs.Hearing.{AreReadable}
 use Rattle.chain_told.proofs.Numbered.{numbered_parts, under}
 use Rattle.chain_through.proofs.Owning.{own_spelled}
@@ -182,7 +183,7 @@ module _ (laws : Laws) where
   written_until m = all_written laws.read_back (below_until_bound (past_of m)).past.taken
 
   -- all that it says is what it queued
-  says_queued : (m : Made) → map said_so (entering (below_read laws m).spoken) ≡ filter is_message (below (past_of m)).past.queued
+  pub says_queued : (m : Made) → map said_so (entering (below_read laws m).spoken) ≡ filter is_message (below (past_of m)).past.queued
   says_queued m = let can = below_read laws m in sym (queue_messages can.spoken can.is_ended) ∙ ap (filter is_message) (sym can.queue)
 
   -- what it says itself begins with its Hello

@@ -15,18 +15,19 @@ use Rattle.value_node.specs.Deeds.{Deed, answers, asked_in, forwards, hears, les
 use Rattle.value_node.specs.OwnLaws.{IsBoundBy}
 use Rattle.value_node.specs.OwnMessages.{BeginsWithHello, IsOwn}
 use Rattle.value_node.specs.RelayLaws.{PassesAllOn}
+use Rattle.value_node.specs.Runs.{above}
 use Rattle.chain_route.specs.Carrying.{Made, end_above, past_of, value_of}
 use Rattle.chain_told.specs.Told.{AreToldRightly, AreTrueAt, IsToldRightly, is_ended, is_stored, numbered, owed_at, owed_in}
-use Rattle.chain_told.specs.TellsOn.{Begins, IsWithoutSome, TellsSo, tells}
+use Rattle.chain_told.specs.TellsOn.{Begins, IsWithoutSome, TellsSo, comes_as, tells}
 use Rattle.chain_through.specs.Calling.{entering}
-use Rattle.chain_through.specs.Through.{AreBound, GoUp, IsMarked, KnowsTruth, content, is_storable_content}
+use Rattle.chain_through.specs.Through.{AreBound, GoUp, IsMarked, KnowsTruth, TakesAll, TakesAllOf, content, is_storable_content}
 use Rattle.chain_through.proofs.Above.{CallsUp, asked_written}
 use Rattle.chain_through.proofs.Below.{SaysBelow, Took, begins_more}
 use Rattle.chain_through.proofs.Doing.{AnswersStorable, content_numbered, each_deed, few_sent, without_content, without_front, without_then}
 use Rattle.chain_through.proofs.Facts.{Laws, deeds_of, run_of}
 use Rattle.chain_told.proofs.Splits.{contains_cases}
 use Rattle.chain_through.proofs.Found.{IsNumbered}
-use Rattle.chain_through.proofs.Fronts.{front_flat, front_more, front_same, front_then}
+use Rattle.chain_through.proofs.Fronts.{front_flat, front_more, front_same, front_then, front_whole}
 use Rattle.chain_through.proofs.Hearing.{kept_true, true_in}
 use Rattle.chain_told.proofs.Numbered.{AreParts, length_numbered, numbered_again, numbered_append, numbered_parts, under}
 use Rattle.chain_through.proofs.Owning.{IsPassed, all_answered, bound_further, own_behind, own_passed, own_then}
@@ -36,7 +37,8 @@ use Rattle.chain_through.proofs.Taking.{all_append}
 use Rattle.chain_through.proofs.Telling.{AnswersMarked, TellsOwnFirst, tells_own_first}
 use Rattle.chain_through.proofs.ToldLists.{told_front, told_more}
 use Rattle.chain_through.proofs.Unknowing.{nothing_stored}
-use Rattle.chain_through.proofs.Ways.{Way, WayBound, are_bound}
+use Rattle.chain_through.proofs.Queues.{entering_formed}
+use Rattle.chain_through.proofs.Ways.{Way, WayBound, are_bound, takes_all}
 
 -- ---- Lists
 
@@ -120,6 +122,12 @@ module _ (laws : Laws) (images : List Image) (history : List Input) (legal : IsL
       let small : length (take n sent ++ drop n sent) < 10 ^ 64 = subst (λ cs. length cs < 10 ^ 64) (sym parts) sent_small in
       told_front images history (numbered 1 sent) b.heard (entering w.down) b.front
       (subst (λ cs. AreToldRightly images history (numbered 1 cs) (entering w.down)) parts (told_more images history (take n sent) (drop n sent) small (entering w.down) w.told))
+
+  -- where it took all that was said above it, it heard all that comes to it
+  heard_all : TakesAllOf (above (past_of m)) made said → b.heard ≡ entering w.down
+  heard_all takes =
+      let all : TakesAll (above (past_of m)) (entering w.down) = takes_all (above (past_of m)) made said (entering w.down) (entering_formed w.down w.formed) w.says_all takes in
+      front_whole comes_as b.heard (entering w.down) b.front (sym b.are ∙ passes.heard ∙ all)
 
   -- an answer from the store has a position, since without one nothing is known
   marked_place : (front back : List Deed) (d : Deed) → deeds ≡ front ++ d ∷ back → AnswersMarked d
@@ -350,6 +358,7 @@ module _ (laws : Laws) (images : List Image) (history : List Input) (legal : IsL
         goes_up = go_up g.goes_up;
         comes_down = record { target = t.target; marked = t.marked; front = down_front };
         owed = subst (λ l. IsFront l (owed_in (numbered 1 w.top) said)) (sym (owed_whole commands took.more took.parts few)) owed;
+        all_owed = λ takes. owed_whole commands took.more took.parts few ∙ ap (owed_in sent) (heard_all takes.0) ∙ g.all_owed takes.1;
         alone = λ none. absurd cc;
         bound_by = λ some. bound_by made g;
       }

@@ -1,12 +1,10 @@
 -- The laws of the crates below, and what they say of each value-add.
-use Rattle.std.proofs.Common.{List, [], ◌++◌, Option, Some, None, refl, arith}
-use Rattle.std.specs.Prelude.{IfSome, unwrap_or}
+use Rattle.std.proofs.Common.{List, [], ◌++◌, None}
+use Rattle.std.specs.Prelude.{unwrap_or}
 use Rattle.tcf_message.specs.Fault.{IsReadBack}
-use Rattle.tcf_message.specs.Message.{IsWellFormed, event}
 use Rattle.channel_core.specs.QueueLaws.{QueuesNoCommand, QueuesWhatIsSent}
-use Rattle.channel_core.specs.ReceivingLaws.{CanBeRead, QueuesReadable, ReceivesInOrder, SendsReadable, WhereAQueueComes}
+use Rattle.channel_core.specs.ReceivingLaws.{CanBeRead, QueuesReadable, ReceivesInOrder, WhereAQueueComes}
 use Rattle.channel_core.specs.RunLaws.{AfterAllCalls as AfterEndCalls, QueuesInOrder, SendsInOrder}
-use Rattle.channel_core.specs.Wire.{hello, locator}
 use Rattle.value_node.specs.ForwardedValue.{ForwardedValue}
 use Rattle.value_node.specs.OwnLaws.{AnswersItself, AsksNothingBelow}
 use Rattle.knowledge.specs.Laws.{ReadIsKnown, RepliesStaySame}
@@ -14,6 +12,7 @@ use Rattle.value_node.specs.Deeds.{Deed, deeds_from}
 use Rattle.value_node.specs.RelayLaws.{AfterAllCalls, AfterAllDeeds, AnswersRightly, EndsAreRuns, ForwardsInOrder, KnowsWhatItHeard, PassesAllOn}
 use Rattle.value_node.specs.Runs.{UpperCall, ValueRun, above, after_all, below, no_calls}
 use Rattle.value_node.specs.Value.{value_services}
+use Rattle.chain_route.proofs.Unheard.{readable_by, value_hello}
 use Rattle.chain_route.specs.Carrying.{Made, past_of}
 use Rattle.chain_told.specs.TellsOn.{TellsOn}
 
@@ -51,14 +50,6 @@ deeds_of m = deeds_from m.calls (no_calls m.peer)
 -- the calls of its upper end since its last connection
 abbrev pub calls_above : Made → List UpperCall
 calls_above m = unwrap_or (past_of m).connection []
-
-pub value_hello : IsWellFormed (event locator hello value_services)
-unfolding locator hello value_services
-value_hello = ((refl, refl), omega arith)
-
-readable_by : (connection : Option (List UpperCall)) → IfSome connection SendsReadable → SendsReadable (unwrap_or connection [])
-readable_by None is = tt
-readable_by (Some calls) is = is
 
 module _ (laws : Laws) (m : Made) where
   pub facts_of : EndsAreRuns (run_of m)

@@ -1,5 +1,5 @@
 -- Fronts of lists.
-use Rattle.std.proofs.Common.{◌≡◌, ◌+◌, ◌≤◌, List, [], ◌∷◌, ◌++◌, length, map, refl, sym, ap, ◌∙◌, subst, arith, append_assoc, length-append}
+use Rattle.std.proofs.Common.{◌≡◌, ◌+◌, ◌≤◌, List, [], ◌∷◌, ◌++◌, length, map, refl, sym, ap, ◌∙◌, subst, arith, append_assoc, append-nil, length-append}
 use Rattle.std.specs.List.{AllByRecursion, flat_map}
 use Rattle.std.proofs.lemmas.List.{map-append}
 use Rattle.std.proofs.lemmas.List.Concat.{flat_map-append}
@@ -52,3 +52,17 @@ front_mapped f (x ∷ xs) (z ∷ zs) p =
     let tails : map f xs ≡ zs ++ p.0 = cc in
     let rest = front_mapped f xs zs (p.0, tails) in
     record { origin = x ∷ rest.origin; front = (rest.front.0, ap (λ l. x ∷ l) rest.front.1); are = ap (λ y. y ∷ zs) (sym first) ∙ ap (λ l. f x ∷ l) rest.are }
+
+-- a front that is mapped to the same is the whole
+none_more : {A B : Type 0} → (f : A → B) (front more : List A) → map f front ≡ map f (front ++ more) → more ≡ []
+none_more f [] [] same = refl
+none_more f [] (x ∷ more) same = absurd cc
+none_more f (x ∷ front) more same =
+    let whole : f x ∷ map f front ≡ f x ∷ map f (front ++ more) = same in
+    let tails : map f front ≡ map f (front ++ more) = cc in
+    none_more f front more tails
+
+pub front_whole : {A B : Type 0} → (f : A → B) (front all : List A) → IsFront front all → map f front ≡ map f all → front ≡ all
+front_whole f front all p same =
+    let none : p.0 ≡ [] = none_more f front p.0 (same ∙ ap (map f) p.1) in
+    sym (p.1 ∙ ap (λ l. front ++ l) none ∙ append-nil front)

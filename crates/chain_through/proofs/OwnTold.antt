@@ -7,7 +7,7 @@ use Rattle.std.proofs.lemmas.Slice.Eq.{bytes_eq-Decides}
 use Rattle.channel_core.specs.Arrivals.{Spoken}
 use Rattle.channel_core.specs.Wire.{Said, answers, asks, goes_on, greets, said_by, tells}
 use Rattle.knowledge.specs.Facts.{Facts, IsPart, Knows, nothing}
-use Rattle.knowledge.specs.Learning.{Message, learn, learn_all, learned}
+use Rattle.knowledge.specs.Learning.{learn, learn_all, learned}
 use Rattle.target_contexts.specs.declared.process.Image.{Image}
 use Rattle.target_hub.specs.declared.input.Input.{Input}
 use Rattle.tcf_message.specs.Message.{MessageValue, command, event, final, flow, not_known, progress}
@@ -16,6 +16,7 @@ use Rattle.value_node.specs.Deeds.{command_asked, mark_after}
 use Rattle.value_node.specs.OwnMessages.{IsOwn, OwnStep, a_hello, a_result, an_unknown}
 use Rattle.value_node.specs.Store.{lesson_of}
 use Rattle.chain_told.specs.Told.{AreToldRightly, AreTrueAt, ComesAt, IsAnswered, IsOwed, command_under, ends, is_ended, lesson, lessons, mark_from, mark_of, numbered, owed_in, owed_at}
+use Rattle.chain_told.proofs.Agreeing.{learn_append}
 use Rattle.chain_told.proofs.Decimals.{decimal_one}
 use Rattle.chain_told.proofs.Splits.{contains_cases}
 use Rattle.chain_through.proofs.Found.{found_at}
@@ -182,10 +183,6 @@ owes_none commands (s ∷ own) unmarked = ap (λ mark. owed_at commands s.messag
 
 -- ---- It teaches nothing, and answers its own commands
 
-learn_both : (xs ys : List Message) (known : Facts) → learn_all (xs ++ ys) known ≡ learn_all ys (learn_all xs known)
-learn_both [] ys known = refl
-learn_both (x ∷ xs) ys known = learn_both xs ys (learn x known)
-
 module _ (whole : List Asked) (few : length whole < 10 ^ 64) where
   abbrev sent : List Asked
   sent = numbered 1 whole
@@ -227,7 +224,7 @@ module _ (whole : List Asked) (few : length whole < 10 ^ 64) where
   teaches_from done commands left [] are is = refl
   teaches_from done commands left (s ∷ own) are is =
       let next = step_further done commands is.1.0 s.message are is.1.1 in
-      learn_both (lesson sent s.message) (lessons sent own) nothing ∙ ap (learn_all (lessons sent own)) (step_teaches done commands is.1.0 s.message are is.1.1)
+      learn_append (lesson sent s.message) (lessons sent own) nothing ∙ ap (learn_all (lessons sent own)) (step_teaches done commands is.1.0 s.message are is.1.1)
       ∙ teaches_from next.0 next.1 left own next.2 (subst (λ cs. IsOwn cs own left) next.3 is.1.2)
 
   pub own_learned : (left : List Asked) (own : List Spoken) → IsOwn sent own left → IsPart (learned (lessons sent own)) nothing

@@ -17,7 +17,7 @@ use Rattle.chain_told.specs.TellsOn.{IsWithoutSome}
 use Rattle.chain_through.specs.Calling.{AskNothing, Calls, Says, entering, given_of}
 use Rattle.chain_through.specs.Through.{AreBound, ComesThrough, IsMarked, IsSaidRightly, KnowsTruth, content, is_storable_content}
 use Rattle.chain_through.proofs.Above.{CallsUp, below_gives, calls_on}
-use Rattle.chain_through.proofs.Below.{begins_own, none_since, own_greets, says_below, says_own, took}
+use Rattle.chain_through.proofs.Below.{begins_own, none_since, own_greets, says_below, says_own, says_queued, took}
 use Rattle.chain_through.proofs.Bound.{answered, begins, down_begins, goes_through, is_own, knows_truth, later, own, own_formed, own_since, split, stops_through, told_down}
 use Rattle.chain_through.proofs.Doing.{few_sent}
 use Rattle.chain_through.proofs.Facts.{Laws, below_read, deeds_of, facts_of, run_of}
@@ -26,7 +26,7 @@ use Rattle.chain_told.proofs.Numbered.{length_numbered, numbered_append}
 use Rattle.chain_through.proofs.Owning.{own_behind}
 use Rattle.chain_through.proofs.OwnTold.{own_told}
 use Rattle.chain_through.proofs.Queues.{entering_formed}
-use Rattle.chain_through.proofs.Ways.{Way, WayBound, are_bound, through_way, way_none, way_unused}
+use Rattle.chain_through.proofs.Ways.{Way, WayBound, are_bound, none_came, through_way, way_none}
 
 pub none_behind : {A : Type 0} → (xs ys : List A) → xs ++ ys ≡ [] → ys ≡ []
 none_behind [] ys none = none
@@ -97,6 +97,7 @@ module _ (laws : Laws) (images : List Image) (history : List Input) (legal : IsL
         comes_down = comes_down hop lower m carries;
         told = told_down laws images history legal m made commands given g.rest said count few t g.are given_few up w down b bound;
         greets = λ greets. down_begins laws images history legal m made commands given g.rest said count few t g.are given_few up w down b bound;
+        says_all = sym (says_queued laws m);
         own = own laws images history legal m made commands given g.rest said count few t g.are given_few up w down b bound;
         own_formed = own_formed laws images history legal m made commands given g.rest said count few t g.are given_few up w down b bound;
         begins = begins laws images history legal m made commands given g.rest said count few t g.are given_few up w down b bound;
@@ -167,6 +168,7 @@ module _ (laws : Laws) (images : List Image) (history : List Input) (legal : IsL
         comes_down = comes_down hop lower m carries;
         told = subst (AreToldRightly images history (numbered 1 given)) (sym says) (own_told given given_few images history (mine.left ++ others) mine.own whole);
         greets = λ greets. subst BeginsWithHello (sym says) begins;
+        says_all = sym (says_queued laws m);
         own = mine.own;
         own_formed = subst AreSpoken says (entering_formed can.spoken can.well_formed);
         begins = begins;
@@ -213,8 +215,9 @@ module _ (laws : Laws) (images : List Image) (history : List Input) (legal : IsL
   pub way : (made : List Made) (lower agent : End) (hops : List Hop) (commands : List Asked) (said : List Spoken) → AllCarry lower hops made agent → (calls : Calls commands lower.gave) → length commands < 2 ^ 64 → Says said agent.gave
       → AskNothing said → AllByRecursion IsMarked said → IsSaidRightly images history lower made said → Way images history commands lower calls made said
   way [] lower agent [] commands said carry calls few says quiet marked rightly = absurd carry
-  way [] lower agent (hop ∷ []) commands said carry calls few says quiet marked rightly = way_none images history hop lower agent commands said carry calls says marked (rightly commands few calls)
-  way [] lower agent (hop ∷ next ∷ hops) commands said carry calls few says quiet marked rightly = way_unused images history lower commands said carry.0 calls marked
+  way [] lower agent (hop ∷ []) commands said carry calls few says quiet marked rightly = way_none images history lower agent commands said carry.down_front calls says marked (rightly commands few calls)
+  way [] lower agent (hop ∷ next ∷ hops) commands said carry calls few says quiet marked rightly =
+      way_none images history lower agent commands said (none_came lower (bytes_of agent.gave) carry.0) calls says marked (rightly commands few calls)
   way (m ∷ made) lower agent [] commands said carry calls few says quiet marked rightly = absurd carry
   way (m ∷ made) lower agent (hop ∷ hops) commands said carry calls few says quiet marked rightly =
       let up = calls_on laws m hops made agent said carry.1 says quiet in

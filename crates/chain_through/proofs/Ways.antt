@@ -1,17 +1,17 @@
 -- What comes through a way, and the way without value-adds.
 use Rattle.std.proofs.Common.{◌≡◌, ℕ, suc, ◌+◌, ◌-◌, ◌≤◌, Bool, true, false, ◌⊎◌, inl, inr, List, [], ◌∷◌, ◌++◌, length, map, refl, sym, ap, ◌∙◌, subst, arith, append-nil}
 use Rattle.std.specs.List.{AllByRecursion}
-use Rattle.channel_core.specs.Arrivals.{AreSpoken, IsFront, Spoken, bytes_of, marked as marked_bytes, queue_of}
+use Rattle.channel_core.specs.Arrivals.{AreSpoken, IsFront, Marked, Spoken, bytes_of, marked as marked_bytes, queue_of}
+use Rattle.channel_core.specs.Runs.{Run}
 use Rattle.target_contexts.specs.declared.process.Image.{Image}
 use Rattle.target_hub.specs.declared.input.Input.{Input}
 use Rattle.value_node.specs.Asked.{Asked}
 use Rattle.value_node.specs.OwnLaws.{IsBoundBy}
 use Rattle.value_node.specs.OwnMessages.{BeginsWithHello, IsOwn}
-use Rattle.chain_route.specs.Carrying.{End, HopCarries, IsUnused, Made, past_of, value_of}
-use Rattle.chain_route.specs.declared.hop.Hop.{Hop}
+use Rattle.chain_route.specs.Carrying.{End, IsUnused, Made, past_of, value_of}
 use Rattle.chain_told.specs.Told.{AreToldRightly, numbered, owed_in}
 use Rattle.chain_through.specs.Calling.{Calls, Says, all_asking, entering, given_of, greeting}
-use Rattle.chain_through.specs.Through.{AreBound, ComeDown, GoUp, IsMarked, KnowsTruth, Through, content, is_storable_content, top_end}
+use Rattle.chain_through.specs.Through.{AllTakeAll, AreBound, ComeDown, GoUp, IsMarked, IsSaidBelow, KnowsTruth, TakesAll, TakesAllOf, Through, content, is_storable_content, top_end}
 use Rattle.chain_through.proofs.Doing.{without_same}
 use Rattle.chain_through.proofs.Fronts.{front_flat, front_length, front_then}
 use Rattle.chain_told.proofs.Numbered.{numbered_append}
@@ -22,6 +22,7 @@ pub record WayBound (commands : List Asked) (made : List Made) (took behind left
   pub goes_up : GoUp behind top
   pub comes_down : ComeDown own heard
   pub owed : IsFront (owed_in (numbered 1 commands) heard) (owed_in (numbered 1 top) said)
+  pub all_owed : AllTakeAll made said → owed_in (numbered 1 commands) heard ≡ owed_in (numbered 1 top) said
   pub alone : made ≡ [] → (took ≡ []) × (own ≡ [])
   pub bound_by : (made ≡ [] → ⊥) → IsBoundBy own (numbered 1 took)
 
@@ -39,6 +40,7 @@ pub record Way (images : List Image) (history : List Input) (commands : List Ask
   pub comes_down : IsFront lower.came (bytes_of (queue_of down is_ended))
   pub told : AreToldRightly images history (numbered 1 (given_of commands calls.spoken)) (entering down)
   pub greets : BeginsWithHello said → BeginsWithHello (entering down)
+  pub says_all : IsSaidBelow made said (entering down)
   pub own : List Spoken
   pub own_formed : AreSpoken own
   pub begins : BeginsWithHello own
@@ -63,6 +65,7 @@ through_way images history commands lower calls made said w =
       is_ended = w.is_ended;
       formed = w.formed;
       comes_down = w.comes_down;
+      says_all = w.says_all;
       told = w.told;
       own = w.own;
       own_formed = w.own_formed;
@@ -76,6 +79,7 @@ through_way images history commands lower calls made said w =
         is_own = subst (λ cs. IsOwn (numbered 1 w.took) w.own cs) b.all w.is_own;
         comes_down = b.comes_down;
         owed = b.owed;
+        all_owed = b.all_owed;
         alone = b.alone;
         bound_by = b.bound_by;
       };
@@ -86,6 +90,11 @@ through_way images history commands lower calls made said w =
         comes_down = u.comes_down;
       };
     }
+
+-- an end that took all that is said above it took this
+pub takes_all : {T : Type 0} → (r : Run T) (made : List Made) (said down : List Spoken) → AreSpoken down → IsSaidBelow made said down → TakesAllOf r made said → TakesAll r down
+takes_all r [] said down formed is takes = subst (TakesAll r) (sym is) takes
+takes_all r (m ∷ made) said down formed is takes = takes down formed is
 
 -- ---- Whether all are bound
 
@@ -115,20 +124,23 @@ calls_few commands end calls =
 all_go_up : (commands : List Asked) → GoUp commands commands
 all_go_up commands = record { asked = map content commands; front = ([], sym (append-nil (map content commands))); sent = without_same is_storable_content (map content commands) }
 
-pub way_none : (images : List Image) (history : List Input) (hop : Hop) (lower agent : End) (commands : List Asked) (said : List Spoken) → HopCarries hop lower agent → (calls : Calls commands lower.gave) → Says said agent.gave
+-- what comes down without value-adds is what the agent gave, or a front of it
+pub way_none : (images : List Image) (history : List Input) (lower agent : End) (commands : List Asked) (said : List Spoken) → IsFront lower.came (bytes_of agent.gave) → (calls : Calls commands lower.gave) → Says said agent.gave
     → AllByRecursion IsMarked said → AreToldRightly images history (numbered 1 (given_of commands calls.spoken)) said → Way images history commands lower calls [] said
-way_none images history hop lower agent commands said carries calls says marked told =
+way_none images history lower agent commands said came calls says marked told =
     let queue = queue_of says.spoken says.is_ended in
     let gave : IsFront (bytes_of agent.gave) (bytes_of queue) = front_flat (λ o. marked_bytes o.bytes o.mark) agent.gave queue says.front in
+    let owed : owed_in (numbered 1 commands) (entering says.spoken) ≡ owed_in (numbered 1 commands) said = ap (owed_in (numbered 1 commands)) says.says in
     record {
       top = commands;
       goes_up = calls;
       down = says.spoken;
       is_ended = says.is_ended;
       formed = says.formed;
-      comes_down = front_then lower.came (bytes_of agent.gave) (bytes_of queue) carries.down_front gave;
+      comes_down = front_then lower.came (bytes_of agent.gave) (bytes_of queue) came gave;
       told = subst (AreToldRightly images history (numbered 1 (given_of commands calls.spoken))) (sym says.says) told;
       greets = λ begins. subst BeginsWithHello (sym says.says) begins;
+      says_all = says.says;
       own = [];
       own_formed = tt;
       begins = tt;
@@ -142,45 +154,14 @@ way_none images history hop lower agent commands said carries calls says marked 
         all = refl;
         goes_up = all_go_up commands;
         comes_down = record { target = said; marked = marked; front = ([], sym says.says ∙ sym (append-nil (entering says.spoken))) };
-        owed = ([], ap (owed_in (numbered 1 commands)) (sym says.says) ∙ sym (append-nil (owed_in (numbered 1 commands) (entering says.spoken))));
+        owed = ([], sym owed ∙ sym (append-nil (owed_in (numbered 1 commands) (entering says.spoken))));
+        all_owed = λ takes. owed;
         alone = λ none. (refl, refl);
         bound_by = λ some. absurd (some refl);
       };
       unbound = λ none. absurd (none tt);
     }
 
-nothing_told : (images : List Image) (history : List Input) (commands : List Asked) → AreToldRightly images history commands []
-nothing_told images history commands [] rest s are = absurd cc
-nothing_told images history commands (x ∷ before) rest s are = absurd cc
-
--- no connection leads to the agent
-pub way_unused : (images : List Image) (history : List Input) (lower : End) (commands : List Asked) (said : List Spoken) → IsUnused lower → (calls : Calls commands lower.gave) → AllByRecursion IsMarked said
-    → Way images history commands lower calls [] said
-way_unused images history lower commands said unused calls marked = record {
-  top = commands;
-  goes_up = calls;
-  down = [];
-  is_ended = false;
-  formed = tt;
-  comes_down = ([], sym (append-nil lower.came ∙ unused.1));
-  told = nothing_told images history (numbered 1 (given_of commands calls.spoken));
-  greets = λ begins. tt;
-  own = [];
-  own_formed = tt;
-  begins = tt;
-  took = [];
-  behind = commands;
-  split = refl;
-  left = [];
-  is_own = refl;
-  adds = tt;
-  bound = λ all. record {
-    all = refl;
-    goes_up = all_go_up commands;
-    comes_down = record { target = said; marked = marked; front = (said, refl) };
-    owed = (owed_in (numbered 1 commands) said, refl);
-    alone = λ none. (refl, refl);
-    bound_by = λ some. absurd (some refl);
-  };
-  unbound = λ none. absurd (none tt);
-}
+-- where no connection leads to the agent nothing came of that yet
+pub none_came : (lower : End) (gave : List Marked) → IsUnused lower → IsFront lower.came gave
+none_came lower gave unused = (gave, ap (λ came. came ++ gave) (sym unused.1))

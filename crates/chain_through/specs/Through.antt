@@ -1,11 +1,16 @@
 -- What goes up a way and comes down it, at one moment.
-use Rattle.std.specs.Prelude.{ℕ, ◌≡◌, ◌<◌, ◌^◌, true, Bool, List, [], ◌∷◌, ◌++◌, length, map, Option, IsSome}
-use Rattle.std.specs.List.{AllByRecursion}
+use Rattle.std.specs.Prelude.{ℕ, ◌≡◌, ◌<◌, ◌^◌, true, Bool, List, [], ◌∷◌, ◌++◌, filter, length, map, Option, IsSome}
+use Rattle.std.specs.List.{AllByRecursion, flat_map}
 use Rattle.channel_core.specs.Arrivals.{AreSpoken, IsFront, Spoken, bytes_of, queue_of}
+use Rattle.channel_core.specs.QueueLaws.{is_message}
+use Rattle.channel_core.specs.ReceivingLaws.{incoming_of}
+use Rattle.channel_core.specs.Runs.{Run}
+use Rattle.channel_core.specs.Wire.{said as said_as}
+use Rattle.channel_core.specs.declared.held.Outgoing.{Outgoing}
 use Rattle.chain_route.specs.Carrying.{AllCarry, End, Made, end_above, past_of, value_of}
 use Rattle.chain_route.specs.declared.hop.Hop.{Hop}
 use Rattle.chain_told.specs.Told.{AreToldRightly, AreTrueAt, is_stored, numbered, owed_in}
-use Rattle.chain_told.specs.TellsOn.{IsWithoutSome}
+use Rattle.chain_told.specs.TellsOn.{IsWithoutSome, comes_as}
 use Rattle.knowledge.specs.Facts.{Facts}
 use Rattle.knowledge.specs.KnowledgeValue.{has_block_byte}
 use Rattle.target_contexts.specs.declared.process.Image.{Image}
@@ -14,6 +19,7 @@ use Rattle.target_hub.specs.declared.input.Input.{Input}
 use Rattle.value_node.specs.Asked.{Asked}
 use Rattle.value_node.specs.OwnLaws.{IsBoundBy}
 use Rattle.value_node.specs.OwnMessages.{BeginsWithHello, IsOwn}
+use Rattle.value_node.specs.Runs.{above, below}
 use Rattle.value_node.specs.Store.{StoreValue}
 use Rattle.value_node.specs.Value.{command_of}
 use Rattle.value_node.specs.ValueValue.{ValueValue}
@@ -57,6 +63,33 @@ pub record ComeDown (own heard : List Spoken) : Type 0 where
   pub marked : AllByRecursion IsMarked target
   pub front : IsFront heard (own ++ target)
 
+-- ---- where nothing is under way
+
+-- messages as they are queued
+abbrev pub all_said : List Spoken → List Outgoing
+all_said spoken = map (λ s. said_as s.message s.mark) spoken
+
+-- an end took all these messages
+abbrev pub TakesAll : {T : Type 0} → Run T → List Spoken → Type 0
+TakesAll r spoken = flat_map incoming_of r.past.taken ≡ map comes_as spoken
+
+-- it took all that the first of these value-adds said below, in whatever messages that is written; or all that the agent says
+abbrev pub TakesAllOf : {T : Type 0} → Run T → List Made → List Spoken → Type 0
+TakesAllOf r [] said = TakesAll r said
+TakesAllOf r (m ∷ made) said = (spoken : List Spoken) → AreSpoken spoken → filter is_message (below (past_of m)).past.queued ≡ all_said spoken → TakesAll r spoken
+
+-- each value-add took all that was said above it
+abbrev pub AllTakeAll : List Made → List Spoken → Type 0
+AllTakeAll [] said = Unit {0}
+AllTakeAll (m ∷ made) said = TakesAllOf (above (past_of m)) made said × AllTakeAll made said
+
+-- these are the messages that the first of these value-adds said below; or all that the agent says
+abbrev pub IsSaidBelow : List Made → List Spoken → List Spoken → Type 0
+IsSaidBelow [] said down = down ≡ said
+IsSaidBelow (m ∷ made) said down = filter is_message (below (past_of m)).past.queued ≡ all_said down
+
+-- ---- the whole
+
 -- The client's commands are those that the value-adds answered themselves before they were bound, and the others; so are the
 -- messages that come down. But for answers to storable commands those of the target are what the agent says.
 pub record IsBoundThrough (commands : List Asked) (made : List Made) (top : List Asked) (own said heard : List Spoken) : Type 0 where
@@ -67,6 +100,7 @@ pub record IsBoundThrough (commands : List Asked) (made : List Made) (top : List
   pub is_own : IsOwn (numbered 1 answered) own []
   pub comes_down : ComeDown own heard
   pub owed : IsFront (owed_in (numbered 1 commands) heard) (owed_in (numbered 1 top) said)
+  pub all_owed : AllTakeAll made said → owed_in (numbered 1 commands) heard ≡ owed_in (numbered 1 top) said
   -- without value-adds nothing is answered by one; else the last that one answered is the redirect to the agent
   pub alone : made ≡ [] → (answered ≡ []) × (own ≡ [])
   pub bound_by : (made ≡ [] → ⊥) → IsBoundBy own (numbered 1 answered)
@@ -93,6 +127,7 @@ pub record Through (images : List Image) (history : List Input) (commands : List
   pub is_ended : Bool
   pub formed : AreSpoken down
   pub comes_down : IsFront lower.came (bytes_of (queue_of down is_ended))
+  pub says_all : IsSaidBelow made said (entering down)
   pub told : AreToldRightly images history (numbered 1 (given_of commands calls.spoken)) (entering down)
   pub own : List Spoken
   pub own_formed : AreSpoken own

@@ -15,8 +15,9 @@ use value_node::Forwarded;
 ///
 /// Where all value-adds are bound the commands that go up the last hop are, in order and with their data and their marks, those
 /// that the client sent behind the ones that the value-adds answered themselves before, but for some storable ones; and but for
-/// answers to storable commands the messages that come down behind the value-adds' own are what the agent said. Where one isn't
-/// bound nothing goes up the last hop, and nothing comes down but what the value-adds say themselves.
+/// answers to storable commands the messages that come down behind the value-adds' own are, in order, a front of what the agent
+/// said, and all of it where each value-add took all that was said above it. Where one isn't bound nothing goes up the last hop,
+/// and nothing comes down but what the value-adds say themselves.
 pub fn what_comes_through()
     ensures { ComesThrough }
 {

@@ -1,23 +1,25 @@
 -- The steps of a chain that the agent has no part in.
-use Rattle.std.proofs.Common.{◌≡◌, ℕ, zero, suc, Bool, true, false, ◌&&◌, cond, nat_lt, List, [], ◌∷◌, ◌++◌, Option, Some, None, refl, sym, ap, ◌∙◌, subst, append-nil}
+use Rattle.std.proofs.Common.{◌≡◌, ℕ, zero, suc, Bool, true, false, ◌&&◌, ◌||◌, cond, nat_lt, List, [], ◌∷◌, ◌++◌, Option, Some, None, refl, sym, ap, ◌∙◌, subst, append-nil}
 use Rattle.std.specs.Prelude.{is_some, option_map}
-use Rattle.std.specs.List.{AllByRecursion}
+use Rattle.std.specs.List.{AllByRecursion, list_any}
 use Rattle.agent_node.specs.Runs.{Past}
 use Rattle.cached_lines.specs.declared.what.CachedWhat.{CachedWhat}
 use Rattle.channel_core.specs.Arrivals.{arrived, bytes_of}
 use Rattle.channel_core.specs.EndValue.{EndValue}
 use Rattle.channel_core.specs.declared.held.Outgoing.{Outgoing}
+use Rattle.channel_faults.specs.Faults.{is_ending}
 use Rattle.client_node.specs.Client.{client_services, new_client, waiting_on}
 use Rattle.client_node.specs.ClientValue.{ClientValue}
 use Rattle.client_node.specs.Ends.{IsEndAfter, end_calls, given_out}
 use Rattle.client_node.specs.Runs.{Call as ClientCall, asks, called, closes, comes, run, sends, turns}
 use Rattle.tcf_message.specs.Message.{HasNoZero}
 use Rattle.value_node.specs.declared.states.Side.{Side}
-use Rattle.chain_route.specs.Lane.{arriving, size_in}
+use Rattle.chain_route.specs.Lane.{arriving, size_in, staying}
 use Rattle.chain_route.specs.Passing.{most_bytes, most_waiting}
+use Rattle.chain_route.specs.Hop as hop
 use Rattle.chain_route.specs.Route.{arrived_down, delivered_at, flight_down, is_live, sent_up}
 use Rattle.chain_route.specs.RouteValue.{RouteValue}
-use Rattle.chain_route.specs.Runs.{Call, RouteRun, after_call, arrives_down, delivers, gives as talk_gives, sends_up, with_client}
+use Rattle.chain_route.specs.Runs.{Call, RouteRun, after_call, arrives_down, is_waiting, delivers, gives as talk_gives, sends_up, with_client}
 use Rattle.chain_route.proofs.Resting.{again}
 use Rattle.chain_world.specs.Chain.{all_down, all_taken_down, asked, came_down, carried_up, closed, delivered_down, pieces_down, queue_of, sent, takes_down, turned_down, turns_down}
 use Rattle.chain_world.specs.ChainValue.{ChainValue}
@@ -25,18 +27,24 @@ use Rattle.chain_world.specs.Standing.{MayBeCalled}
 use Rattle.chain_world.specs.World.{all_to_add}
 use Rattle.chain_world.proofs.Agents.{Laws}
 use Rattle.chain_world.proofs.Bytes.{bytes_more}
-use Rattle.chain_world.proofs.Clients.{IsFreshIn, IsLater, IsQuiet, coming, coming_arrived, coming_given, coming_run, empties, giving, opened_kept, quiet_arrived, quiet_given}
+use Rattle.chain_world.proofs.Calls.{or_none}
+use Rattle.chain_world.proofs.Clients.{IsFreshIn, IsLater, IsQuiet, coming, coming_arrived, coming_endless, coming_given, coming_run, empties, giving, opened_kept, quiet_arrived, quiet_endless, quiet_given}
 use Rattle.chain_world.proofs.Fitting.{Agrees, Fits, IsWay, MayCall, MayGo, Place, is_more, is_way_holds, way_on}
 use Rattle.chain_world.proofs.Lists.{all_append}
 use Rattle.chain_world.proofs.Pairs.{in_pieces}
 use Rattle.chain_world.proofs.Routes.{none_sent}
 use Rattle.chain_world.proofs.Talks.{talked_same, talks_same}
+use Rattle.chain_world.proofs.Unawaited.{delivered_unawaited, hop_unawaited}
 
 pub and_first : (a b : Bool) → (a && b) ≡ true → a ≡ true
 and_first true b is = refl
 and_first false b is = is
 
--- ---- A call of the client that brings nothing and gives nothing out
+-- ---- A call of the client that brings and ends nothing and gives nothing out
+
+-- more calls that don't end its bytes
+none_lost : (before : Bool) (none lost more : Bool) → lost ≡ before → more ≡ (before || none) → none ≡ false → lost ≡ more
+none_lost before none lost more is then isnt = is ∙ sym (then ∙ ap (λ b. before || b) isnt ∙ or_none before)
 
 pub client_agrees : (p : Place) (pasts : List Past) (chain : ChainValue) (calls : List ClientCall) (now : RouteRun) (call : ClientCall) → IsQuiet call → MayCall p call → Agrees p pasts chain calls now
     → Agrees p pasts (record chain { client = called call chain.client }) (calls ++ call ∷ []) now
@@ -48,6 +56,7 @@ client_agrees p pasts chain calls now call quiet may a =
       route = a.route;
       gave = a.gave ∙ sym (more.gave ∙ ap (λ outs. given_out calls new_client ++ outs) (quiet_given call chain.client quiet) ∙ append-nil (given_out calls new_client));
       got = a.got ∙ sym (more.got ∙ ap (λ bs. arrived (end_calls calls new_client) ++ bs) (quiet_arrived call chain.client quiet) ∙ append-nil (arrived (end_calls calls new_client)));
+      lost = none_lost (list_any is_ending (end_calls calls new_client)) _ now.past.client.is_lost _ a.lost more.lost (quiet_endless call chain.client quiet);
       talks = a.talks;
       talked = a.talked;
     }
@@ -60,6 +69,7 @@ client_fits p pasts adds chain call quiet may later f = record {
   way = f.way;
   agrees = client_agrees p pasts chain f.calls f.now call quiet may f.agrees;
   unwanted = f.unwanted;
+  settled = f.settled;
   opened = opened_kept call chain.client later ∙ f.opened;
 }
 
@@ -75,21 +85,22 @@ pub record IsInside (call : Call) (change : RouteValue → RouteValue) : Type 0 
 pub inside_agrees : (p : Place) (pasts : List Past) (chain : ChainValue) (calls : List ClientCall) (now : RouteRun) (change : RouteValue → RouteValue) → Agrees p pasts chain calls now
     → Agrees p pasts (record chain { route = change chain.route }) calls (record now { route = change now.route })
 inside_agrees p pasts chain calls now change a =
-    record { client = a.client; allowed = a.allowed; route = ap change a.route; gave = a.gave; got = a.got; talks = a.talks; talked = a.talked }
+    record { client = a.client; allowed = a.allowed; route = ap change a.route; gave = a.gave; got = a.got; lost = a.lost; talks = a.talks; talked = a.talked }
 
-pub inside_fits : (p : Place) (pasts : List Past) (adds : ℕ) (chain : ChainValue) (call : Call) (change : RouteValue → RouteValue) → MayGo p call → IsInside call change → Fits p pasts adds chain
-    → Fits p pasts adds (record chain { route = change chain.route })
-inside_fits p pasts adds chain call change may inside f = record {
+pub inside_fits : (p : Place) (pasts : List Past) (adds : ℕ) (chain : ChainValue) (call : Call) (change : RouteValue → RouteValue) → MayGo p call → IsInside call change → (f : Fits p pasts adds chain)
+    → is_waiting (record f.now { route = change f.now.route }) ≡ false → Fits p pasts adds (record chain { route = change chain.route })
+inside_fits p pasts adds chain call change may inside f settled = record {
   calls = f.calls;
   now = record f.now { route = change f.now.route };
   way = subst (IsWay p adds) (inside.is f.now) (way_on p adds call f.now may f.way);
   agrees = inside_agrees p pasts chain f.calls f.now change f.agrees;
   unwanted = f.unwanted;
+  settled = settled;
   opened = f.opened;
 }
 
 pub delivers_fits : (p : Place) (pasts : List Past) (adds : ℕ) (side : Side) (at count : ℕ) (chain : ChainValue) → Fits p pasts adds chain → Fits p pasts adds (record chain { route = delivered_at side at count chain.route })
-delivers_fits p pasts adds side at count chain f = inside_fits p pasts adds chain (delivers side at count) (delivered_at side at count) tt (record { is = λ x. refl }) f
+delivers_fits p pasts adds side at count chain f = inside_fits p pasts adds chain (delivers side at count) (delivered_at side at count) tt (record { is = λ x. refl }) f (delivered_unawaited side at count f.now f.settled)
 
 again_fits : (p : Place) (pasts : List Past) (adds : ℕ) (n : ℕ) (side : Side) (at : ℕ) (chain : ChainValue) → Fits p pasts adds chain → Fits p pasts adds (record chain { route = again (delivered_at side at most_bytes) n chain.route })
 again_fits p pasts adds zero side at chain f = f
@@ -126,7 +137,7 @@ module _ (laws : Laws) (p : Place) (pasts : List Past) (adds : ℕ) where
   fresh_of None calls is = tt
   fresh_of (Some e) calls is = ap (λ x. x.is_spent) is ∙ laws.fresh_client client_services None (end_calls calls new_client)
 
-  fresh_client : (c : ClientValue) (calls : List ClientCall) → c ≡ run calls new_client → IsFreshIn c.channel
+  pub fresh_client : (c : ClientValue) (calls : List ClientCall) → c ≡ run calls new_client → IsFreshIn c.channel
   fresh_client c calls is = fresh_of c.channel calls (subst (λ x. IsEndAfter x.channel (end_calls calls new_client)) (sym is) (laws.ends calls).end)
 
   pub up_fits : (chain : ChainValue) → Fits p pasts adds chain → Fits p pasts adds (carried_up chain)
@@ -152,10 +163,12 @@ module _ (laws : Laws) (p : Place) (pasts : List Past) (adds : ℕ) where
               route = ap (sent_up queue) f.agrees.route;
               gave = ap (λ outs. outs ++ queue) f.agrees.gave ∙ sym (more.gave ∙ ap (λ outs. given_out f.calls new_client ++ outs) e.given);
               got = f.agrees.got ∙ sym (more.got ∙ ap (λ bs. arrived (end_calls f.calls new_client) ++ bs) e.arrived ∙ append-nil (arrived (end_calls f.calls new_client)));
+              lost = none_lost (list_any is_ending (end_calls f.calls new_client)) _ f.now.past.client.is_lost _ f.agrees.lost more.lost e.endless;
               talks = talks_same chain.channel f.now.past next.past pasts (record { reached = refl; agent = refl; earlier = refl }) f.agrees.talks;
               talked = talked_same f.now.past next.past pasts chain.earlier refl f.agrees.talked;
             };
             unwanted = f.unwanted;
+            settled = hop_unawaited (hop.sent_up queue) 0 f.now next.past refl f.settled;
             opened = emptied_opened chain.client.channel _ ∙ f.opened;
           }
       by_flag false is =
@@ -172,10 +185,12 @@ module _ (laws : Laws) (p : Place) (pasts : List Past) (adds : ℕ) where
               route = ap (λ outs. sent_up outs chain.route) none ∙ none_sent chain.route ∙ f.agrees.route;
               gave = f.agrees.gave ∙ sym (more.gave ∙ ap (λ outs. given_out f.calls new_client ++ outs) (e.given ∙ none) ∙ append-nil (given_out f.calls new_client));
               got = f.agrees.got ∙ sym (more.got ∙ ap (λ bs. arrived (end_calls f.calls new_client) ++ bs) e.arrived ∙ append-nil (arrived (end_calls f.calls new_client)));
+              lost = none_lost (list_any is_ending (end_calls f.calls new_client)) _ f.now.past.client.is_lost _ f.agrees.lost more.lost e.endless;
               talks = f.agrees.talks;
               talked = f.agrees.talked;
             };
             unwanted = f.unwanted;
+            settled = f.settled;
             opened = emptied_opened chain.client.channel _ ∙ f.opened;
           }
 
@@ -192,7 +207,7 @@ module _ (laws : Laws) (p : Place) (pasts : List Past) (adds : ℕ) where
   -- ---- What is in flight comes down
 
   -- where the client's hop is live it was connected
-  joined_where_live : (chain : ChainValue) → (f : Fits p pasts adds chain) → is_live 0 chain.route ≡ true → f.now.past.is_joined ≡ true
+  pub joined_where_live : (chain : ChainValue) → (f : Fits p pasts adds chain) → is_live 0 chain.route ≡ true → f.now.past.is_joined ≡ true
   joined_where_live chain f live = by_flag f.now.past.is_joined refl
     where
       by_flag : (flag : Bool) → f.now.past.is_joined ≡ flag → f.now.past.is_joined ≡ true
@@ -219,10 +234,12 @@ module _ (laws : Laws) (p : Place) (pasts : List Past) (adds : ℕ) where
           gave = f.agrees.gave ∙ sym (more.gave ∙ ap (λ outs. given_out f.calls new_client ++ outs) (coming_given parts chain.client) ∙ append-nil (given_out f.calls new_client));
           got = ap (λ outs. bytes_of (f.now.past.client.got ++ outs)) same ∙ bytes_more f.now.past.client.got parts ∙ ap (λ bs. bs ++ bytes_of parts) f.agrees.got
               ∙ ap (λ bs. arrived (end_calls f.calls new_client) ++ bs) (sym (coming_arrived parts chain.client opened)) ∙ sym more.got;
+          lost = none_lost (list_any is_ending (end_calls f.calls new_client)) _ f.now.past.client.is_lost _ f.agrees.lost more.lost (coming_endless parts chain.client);
           talks = talks_same chain.channel f.now.past now.past pasts (record { reached = refl; agent = refl; earlier = refl }) f.agrees.talks;
           talked = talked_same f.now.past now.past pasts chain.earlier refl f.agrees.talked;
         };
         unwanted = f.unwanted;
+        settled = hop_unawaited (λ h. record h { down = staying count h.down }) 0 f.now now.past refl f.settled;
         opened = ap (λ c. is_some c.channel) (sym (coming_run parts chain.client)) ∙ coming_opened parts chain.client opened ∙ sym (joined_where_live chain f live);
       }
     where

@@ -1,7 +1,7 @@
 -- What each call of a client adds to what its end was given and gave out.
 use Rattle.std.proofs.Common.{◌≡◌, ℕ, ◌+◌, length, Bool, true, false, cond, List, [], ◌∷◌, ◌++◌, map, Option, Some, None, refl, sym, ap, ◌∙◌, subst, append_assoc, append-nil}
 use Rattle.std.specs.Prelude.{is_some}
-use Rattle.std.specs.List.{AllByRecursion}
+use Rattle.std.specs.List.{AllByRecursion, list_any}
 use Rattle.channel_core.specs.Arrivals.{arrived, bytes_of, marked}
 use Rattle.channel_core.specs.Closing.{closed_own, is_closed}
 use Rattle.channel_core.specs.EndValue.{EndValue}
@@ -14,6 +14,7 @@ use Rattle.channel_core.specs.declared.states.Cause.TheVariants.{Own}
 use Rattle.channel_core.specs.declared.held.Outgoing.{Outgoing}
 use Rattle.channel_core.specs.declared.taking.Taken.{Taken}
 use Rattle.channel_core.specs.declared.taking.Taken.TheVariants as taken
+use Rattle.channel_faults.specs.Faults.{is_ending}
 use Rattle.client_node.specs.Client.{closed_for, noted, refused_for, sent_or_refused, took, turned_by, with_channel, without_first}
 use Rattle.client_node.specs.Lines.{event_line, final_line, hello_line, progress_line, why_of}
 use Rattle.tcf_text.specs.declared.log.RefusedWhy.{RefusedWhy}
@@ -23,7 +24,7 @@ use Rattle.client_node.specs.Runs.{Call, asks, bytes_end, called, closes, comes,
 use Rattle.tcf_message.specs.Message.{reading}
 use Rattle.tcf_text.specs.declared.log.LogLine.{LogLine}
 use Rattle.chain_world.specs.Chain.{client_emptied, parts_came, queue_of}
-use Rattle.chain_world.proofs.Calls.{AreIdle, idle_arrived}
+use Rattle.chain_world.proofs.Calls.{AreIdle, idle_arrived, idle_endless}
 
 pub run_more : (calls more : List Call) (c : ClientValue) → run (calls ++ more) c ≡ run more (run calls c)
 run_more [] more c = refl
@@ -41,13 +42,13 @@ given_more (call ∷ calls) more c =
     ap (λ xs. given_by call c ++ xs) (given_more calls more (called call c))
     ∙ sym (append_assoc (given_by call c) (given_out calls (called call c)) (given_out more (run calls (called call c))))
 
--- ---- Calls that bring nothing and give nothing out
+-- ---- Calls that bring and end nothing and give nothing out
 
 abbrev pub IsQuiet : Call → Type 0
 IsQuiet opens = Unit {0}
 IsQuiet (sends service name body) = Unit {0}
 IsQuiet (comes piece mark) = ⊥
-IsQuiet bytes_end = Unit {0}
+IsQuiet bytes_end = ⊥
 IsQuiet turns = Unit {0}
 IsQuiet closes = Unit {0}
 IsQuiet gives = ⊥
@@ -81,7 +82,7 @@ quiet_on : (call : Call) (e : EndValue ℕ) → IsQuiet call → AreIdle (calls_
 quiet_on opens e quiet = tt
 quiet_on (sends service name body) e quiet = (tt, tt)
 quiet_on (comes piece mark) e quiet = absurd quiet
-quiet_on bytes_end e quiet = (tt, tt)
+quiet_on bytes_end e quiet = absurd quiet
 quiet_on turns e quiet = (tt, turn_idle (next_taken e).0 (next_taken e).1.pending)
 quiet_on closes e quiet = closing_idle (is_closed e.state) e refl
 quiet_on gives e quiet = absurd quiet
@@ -95,11 +96,15 @@ pub quiet_arrived : (call : Call) (c : ClientValue) → IsQuiet call → arrived
 quiet_arrived call c quiet =
     ap arrived (append-nil (end_calls_by call c)) ∙ idle_arrived (end_calls_by call c) (quiet_by call c.channel c.log c.is_spent quiet)
 
+pub quiet_endless : (call : Call) (c : ClientValue) → IsQuiet call → list_any is_ending (end_calls (call ∷ []) c) ≡ false
+quiet_endless call c quiet =
+    ap (list_any is_ending) (append-nil (end_calls_by call c)) ∙ idle_endless (end_calls_by call c) (quiet_by call c.channel c.log c.is_spent quiet)
+
 pub quiet_given : (call : Call) (c : ClientValue) → IsQuiet call → given_out (call ∷ []) c ≡ []
 quiet_given opens c quiet = refl
 quiet_given (sends service name body) c quiet = refl
 quiet_given (comes piece mark) c quiet = absurd quiet
-quiet_given bytes_end c quiet = refl
+quiet_given bytes_end c quiet = absurd quiet
 quiet_given turns c quiet = refl
 quiet_given closes c quiet = refl
 quiet_given gives c quiet = absurd quiet
@@ -122,6 +127,7 @@ pub record Empties (c : ClientValue) (queue : List Outgoing) : Type 0 where
   pub client : run (giving queue) c ≡ client_emptied c
   pub given : given_out (giving queue) c ≡ queue
   pub arrived : arrived (end_calls (giving queue) c) ≡ []
+  pub endless : list_any is_ending (end_calls (giving queue) c) ≡ false
 
 gives_them : (queue : List Outgoing) (e : EndValue ℕ) (log : List LogLine) (spent : Bool) → e.is_spent ≡ false
     → run (giving queue) (client_of (Some (record e { queued = queue })) log spent) ≡ client_of (Some (record e { queued = [] })) log spent
@@ -144,12 +150,17 @@ calls_them [] channel log spent = refl
 calls_them (o ∷ queue) None log spent = calls_them queue None log spent
 calls_them (o ∷ queue) (Some e) log spent = calls_them queue (Some (without_first e)) log spent
 
+endless_them : (queue : List Outgoing) (channel : Option (EndValue ℕ)) (log : List LogLine) (spent : Bool) → list_any is_ending (end_calls (giving queue) (client_of channel log spent)) ≡ false
+endless_them [] channel log spent = refl
+endless_them (o ∷ queue) None log spent = endless_them queue None log spent
+endless_them (o ∷ queue) (Some e) log spent = endless_them queue (Some (without_first e)) log spent
+
 abbrev pub IsFreshIn : Option (EndValue ℕ) → Type 0
 IsFreshIn None = Unit {0}
 IsFreshIn (Some e) = e.is_spent ≡ false
 
 empties_on : (channel : Option (EndValue ℕ)) (log : List LogLine) (spent : Bool) → IsFreshIn channel → Empties (client_of channel log spent) (queue_of channel)
-empties_on None log spent fresh = record { client = refl; given = refl; arrived = refl }
+empties_on None log spent fresh = record { client = refl; given = refl; arrived = refl; endless = refl }
 empties_on (Some e) log spent fresh =
     let queue_is : queue_of (Some e) ≡ e.queued = ap (λ b. cond b [] e.queued) fresh in
     let P : List Outgoing → Type 0 = λ q. Empties (client_of (Some e) log spent) q in
@@ -158,6 +169,7 @@ empties_on (Some e) log spent fresh =
       client = gives_them e.queued e log spent fresh ∙ ap (λ b. client_of (Some (cond b e (record e { queued = [] }))) log spent) (sym fresh);
       given = given_them e.queued e log spent fresh;
       arrived = calls_them e.queued (Some e) log spent;
+      endless = endless_them e.queued (Some e) log spent;
     })
 
 pub empties : (c : ClientValue) → IsFreshIn c.channel → Empties c (queue_of c.channel)
@@ -180,6 +192,14 @@ pub coming_given : (parts : List Outgoing) (c : ClientValue) → given_out (comi
 coming_given [] c = refl
 coming_given (part ∷ parts) c = coming_given parts (called (comes part.bytes part.mark) c)
 
+pub coming_endless : (parts : List Outgoing) (c : ClientValue) → list_any is_ending (end_calls (coming parts) c) ≡ false
+coming_endless parts c = by_channel parts c.channel c.log c.is_spent
+  where
+    by_channel : (parts : List Outgoing) (channel : Option (EndValue ℕ)) (log : List LogLine) (spent : Bool) → list_any is_ending (end_calls (coming parts) (client_of channel log spent)) ≡ false
+    by_channel [] channel log spent = refl
+    by_channel (part ∷ parts) None log spent = by_channel parts None log spent
+    by_channel (part ∷ parts) (Some e) log spent = by_channel parts (Some (delivered part.bytes part.mark e)) log spent
+
 -- on an opened channel
 coming_on : (parts : List Outgoing) (e : EndValue ℕ) (log : List LogLine) (spent : Bool) → arrived (end_calls (coming parts) (client_of (Some e) log spent)) ≡ bytes_of parts
 coming_on [] e log spent = refl
@@ -193,6 +213,21 @@ coming_arrived parts c opened = by_channel c.channel c.log c.is_spent opened
     by_channel : (channel : Option (EndValue ℕ)) (log : List LogLine) (spent : Bool) → is_some channel ≡ true → arrived (end_calls (coming parts) (client_of channel log spent)) ≡ bytes_of parts
     by_channel None log spent is = absurd cc
     by_channel (Some e) log spent is = coming_on parts e log spent
+
+-- ---- Its bytes end
+
+-- all that the call does here, on an opened channel
+pub record Loses (c : ClientValue) : Type 0 where
+  pub given : given_out (bytes_end ∷ []) c ≡ []
+  pub arrived : arrived (end_calls (bytes_end ∷ []) c) ≡ []
+  pub ends : list_any is_ending (end_calls (bytes_end ∷ []) c) ≡ true
+
+pub loses_so : (c : ClientValue) → is_some c.channel ≡ true → Loses c
+loses_so c opened = by_channel c.channel c.log c.is_spent opened
+  where
+    by_channel : (channel : Option (EndValue ℕ)) (log : List LogLine) (spent : Bool) → is_some channel ≡ true → Loses (client_of channel log spent)
+    by_channel None log spent is = absurd cc
+    by_channel (Some e) log spent is = record { given = refl; arrived = refl; ends = refl }
 
 -- ---- A channel that was opened stays
 

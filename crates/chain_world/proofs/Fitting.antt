@@ -1,20 +1,22 @@
 -- A chain stands, with the run of its way: what its client and its way have to say of each other.
-use Rattle.std.proofs.Common.{◌≡◌, ℕ, false, List, [], ◌∷◌, ◌++◌, refl, sym, ap, ◌∙◌, subst}
-use Rattle.std.specs.Prelude.{is_some}
-use Rattle.std.specs.List.{AllByRecursion}
-use Rattle.agent_node.specs.Runs.{Past}
+use Rattle.std.proofs.Common.{◌≡◌, ℕ, suc, false, ◌||◌, List, [], ◌∷◌, ◌++◌, Option, Some, None, refl, sym, ap, ◌∙◌, subst}
+use Rattle.std.specs.Prelude.{IfSome, is_some}
+use Rattle.std.specs.List.{AllByRecursion, list_any}
+use Rattle.agent_node.specs.Runs.{Past, run_of}
 use Rattle.channel_core.specs.Arrivals.{arrived, bytes_of}
+use Rattle.channel_faults.specs.Faults.{is_ending}
 use Rattle.client_node.specs.Client.{new_client}
 use Rattle.client_node.specs.ClientValue.{ClientValue}
 use Rattle.client_node.specs.Ends.{HasNames, end_calls, given_out}
 use Rattle.client_node.specs.Runs.{Call as ClientCall, run}
-use Rattle.chain_route.specs.Runs.{Call, RouteRun, after_all, after_call, no_calls}
+use Rattle.chain_route.specs.Runs.{Call, Past as WayPast, RouteRun, Talk, after_all, after_call, is_waiting, no_calls}
 use Rattle.tcf_schedules.specs.Plan.{Plan}
 use Rattle.chain_world.specs.ChainValue.{ChainValue}
-use Rattle.chain_world.specs.Standing.{ChainStands, MayBeCalled, MayHappen, Talked, TalksOn}
-use Rattle.chain_world.proofs.Calls.{arrived_more}
+use Rattle.chain_world.specs.Standing.{AllStand, ChainStands, MayBeCalled, MayHappen, Talked, Talks, TalksOn, past_at}
+use Rattle.chain_world.proofs.Calls.{arrived_more, endings_more}
 use Rattle.chain_world.proofs.Clients.{end_calls_more, given_more, run_more}
 use Rattle.chain_world.proofs.Lists.{all_append}
+use Rattle.chain_world.proofs.Talks.{Talking, TalkingOn}
 use Rattle.chain_world.proofs.Ways.{WayHolds, way_holds}
 
 -- the place of a chain, and the steps of the schedule
@@ -55,6 +57,7 @@ pub record IsMore (calls more : List ClientCall) (c : ClientValue) : Type 0 wher
   pub client : run (calls ++ more) new_client ≡ run more c
   pub gave : given_out (calls ++ more) new_client ≡ given_out calls new_client ++ given_out more c
   pub got : arrived (end_calls (calls ++ more) new_client) ≡ arrived (end_calls calls new_client) ++ arrived (end_calls more c)
+  pub lost : list_any is_ending (end_calls (calls ++ more) new_client) ≡ (list_any is_ending (end_calls calls new_client) || list_any is_ending (end_calls more c))
 
 pub is_more : (calls more : List ClientCall) (c : ClientValue) → c ≡ run calls new_client → IsMore calls more c
 is_more calls more c is = record {
@@ -62,6 +65,8 @@ is_more calls more c is = record {
   gave = given_more calls more new_client ∙ ap (λ x. given_out calls new_client ++ given_out more x) (sym is);
   got = ap arrived (end_calls_more calls more new_client) ∙ arrived_more (end_calls calls new_client) (end_calls more (run calls new_client))
       ∙ ap (λ x. arrived (end_calls calls new_client) ++ arrived (end_calls more x)) (sym is);
+  lost = ap (list_any is_ending) (end_calls_more calls more new_client) ∙ endings_more (end_calls calls new_client) (end_calls more (run calls new_client))
+      ∙ ap (λ x. list_any is_ending (end_calls calls new_client) || list_any is_ending (end_calls more x)) (sym is);
 }
 
 -- ---- A chain
@@ -73,7 +78,8 @@ pub record Agrees (p : Place) (pasts : List Past) (chain : ChainValue) (calls : 
   pub route : chain.route ≡ now.route
   pub gave : now.past.client.gave ≡ given_out calls new_client
   pub got : bytes_of now.past.client.got ≡ arrived (end_calls calls new_client)
-  pub talks : TalksOn chain.channel now.past pasts
+  pub lost : now.past.client.is_lost ≡ list_any is_ending (end_calls calls new_client)
+  pub talks : TalkingOn chain.channel now.past pasts
   pub talked : AllByRecursion (Talked now.past pasts) chain.earlier
 
 pub record Fits (p : Place) (pasts : List Past) (adds : ℕ) (chain : ChainValue) : Type 0 where
@@ -82,11 +88,8 @@ pub record Fits (p : Place) (pasts : List Past) (adds : ℕ) (chain : ChainValue
   pub way : IsWay p adds now
   pub agrees : Agrees p pasts chain calls now
   pub unwanted : now.past.is_wanted ≡ false
+  pub settled : is_waiting now ≡ false
   pub opened : is_some chain.client.channel ≡ now.past.is_joined
-
-both_each : (p : Place) (calls : List ClientCall) → AllByRecursion HasNames calls → AllByRecursion (MayBeCalled p.plans p.at) calls → AllByRecursion (MayCall p) calls
-both_each p [] names may = tt
-both_each p (call ∷ calls) names may = ((names.0, may.0), both_each p calls names.1 may.1)
 
 names_of : (p : Place) (calls : List ClientCall) → AllByRecursion (MayCall p) calls → AllByRecursion HasNames calls
 names_of p [] all = tt
@@ -96,26 +99,20 @@ may_of : (p : Place) (calls : List ClientCall) → AllByRecursion (MayCall p) ca
 may_of p [] all = tt
 may_of p (call ∷ calls) all = (all.0.1, may_of p calls all.1)
 
-pub fits_of : (p : Place) (pasts : List Past) (adds : ℕ) (chain : ChainValue) → ChainStands p.plans pasts p.at adds chain → Fits p pasts adds chain
-fits_of p pasts adds chain s = record {
-  calls = s.calls;
-  now = after_all s.ways (no_calls adds);
-  way = record { ways = s.ways; may = s.may_happen; is = refl };
-  agrees = record {
-    client = s.client;
-    allowed = both_each p s.calls s.names s.may_be_called;
-    route = s.way;
-    gave = s.gave;
-    got = s.got;
-    talks = s.talks;
-    talked = s.talked;
-  };
-  unwanted = s.unwanted;
-  opened = s.opened;
-}
+-- all that its client, and the agent, queued for it was given out
+pub record GaveOut (pasts : List Past) (chain : ChainValue) : Type 0 where
+  pub client : IfSome chain.client.channel (λ e. e.queued ≡ [])
+  pub agent : (k : ℕ) → chain.channel ≡ Some k → IfSome (past_at k pasts) (λ p. (run_of p).end.queued ≡ [])
 
-pub stands_of : (p : Place) (pasts : List Past) (adds : ℕ) (chain : ChainValue) → Fits p pasts adds chain → ChainStands p.plans pasts p.at adds chain
-stands_of p pasts adds chain f =
+talks_of : (past : Option Past) (talk : Talk) → IfSome past (λ p. (run_of p).end.queued ≡ []) → Talking past talk → Talks past talk
+talks_of past talk given t = record { gave = t.gave; given = given; lost = t.lost; came = t.came; front = t.front }
+
+talks_on : (channel : Option ℕ) (p : WayPast) (pasts : List Past) → ((k : ℕ) → channel ≡ Some k → IfSome (past_at k pasts) (λ p. (run_of p).end.queued ≡ [])) → TalkingOn channel p pasts → TalksOn channel p pasts
+talks_on None p pasts given t = t
+talks_on (Some k) p pasts given t = (t.0, talks_of (past_at k pasts) p.agent (given k refl) t.1)
+
+pub stands_of : (p : Place) (pasts : List Past) (adds : ℕ) (chain : ChainValue) → Fits p pasts adds chain → GaveOut pasts chain → ChainStands p.plans pasts p.at adds chain
+stands_of p pasts adds chain f gave =
     let is : after_all f.way.ways (no_calls adds) ≡ f.now = f.way.is in
     record {
       calls = f.calls;
@@ -126,9 +123,30 @@ stands_of p pasts adds chain f =
       names = names_of p f.calls f.agrees.allowed;
       way = f.agrees.route ∙ ap (λ x. x.route) (sym is);
       unwanted = ap (λ x. x.past.is_wanted) is ∙ f.unwanted;
+      settled = ap is_waiting is ∙ f.settled;
+      given = gave.client;
+      lost = ap (λ x. x.past.client.is_lost) is ∙ f.agrees.lost;
       opened = f.opened ∙ ap (λ x. x.past.is_joined) (sym is);
       gave = ap (λ x. x.past.client.gave) is ∙ f.agrees.gave;
       got = ap (λ x. bytes_of x.past.client.got) is ∙ f.agrees.got;
-      talks = subst (λ x. TalksOn chain.channel x.past pasts) (sym is) f.agrees.talks;
+      talks = talks_on chain.channel (after_all f.way.ways (no_calls adds)).past pasts gave.agent (subst (λ x. TalkingOn chain.channel x.past pasts) (sym is) f.agrees.talks);
       talked = subst (λ x. AllByRecursion (Talked x.past pasts) chain.earlier) (sym is) f.agrees.talked;
     }
+
+-- ---- All chains
+
+abbrev pub place_of : List Plan → ℕ → Place
+place_of plans at = record { plans = plans; at = at }
+
+-- from this place on, each by the number of its value-adds
+abbrev pub AllFit : List Plan → List Past → ℕ → List ℕ → List ChainValue → Type 0
+AllFit plans pasts at [] [] = Unit {0}
+AllFit plans pasts at (adds ∷ rest) (chain ∷ chains) = Fits (place_of plans at) pasts adds chain × AllFit plans pasts (suc at) rest chains
+AllFit plans pasts at _ _ = ⊥
+
+pub all_stand : (plans : List Plan) (pasts : List Past) (at : ℕ) (adds : List ℕ) (chains : List ChainValue) → AllByRecursion (GaveOut pasts) chains → AllFit plans pasts at adds chains → AllStand plans pasts at adds chains
+all_stand plans pasts at [] [] gave all = tt
+all_stand plans pasts at [] (chain ∷ chains) gave all = absurd all
+all_stand plans pasts at (n ∷ adds) [] gave all = absurd all
+all_stand plans pasts at (n ∷ adds) (chain ∷ chains) gave all =
+    (stands_of (place_of plans at) pasts n chain all.0 gave.0, all_stand plans pasts (suc at) adds chains gave.1 all.1)

@@ -1,5 +1,5 @@
 -- What becomes of a chain where the agent's channels go on: while they stay as they are to it, it stands as before.
-use Rattle.std.proofs.Common.{◌≡◌, ℕ, true, List, [], ◌++◌, map, Option, Some, None, refl, sym, ap, ◌∙◌, subst}
+use Rattle.std.proofs.Common.{◌≡◌, ℕ, true, false, List, [], ◌++◌, map, Option, Some, None, refl, sym, ap, ◌∙◌, subst}
 use Rattle.std.specs.Prelude.{option_to_list}
 use Rattle.std.specs.List.{Contains}
 use Rattle.std.proofs.lemmas.List.Elements.{Contains-append_left, Contains-append_right}
@@ -7,16 +7,16 @@ use Rattle.agent_node.specs.AgentValue.{AgentValue}
 use Rattle.agent_node.specs.Runs.{AgentRun, Call, Past, after_all, no_calls}
 use Rattle.client_node.specs.Runs.{Call as ClientCall}
 use Rattle.chain_route.specs.RouteValue.{RouteValue}
-use Rattle.chain_route.specs.Runs.{Call as WayCall, RouteRun, Talk, after_call as way_call, with_agent}
+use Rattle.chain_route.specs.Runs.{Call as WayCall, RouteRun, Talk, after_call as way_call, is_waiting, with_agent}
 use Rattle.target_contexts.specs.declared.process.Image.{Image}
 use Rattle.chain_world.specs.Chain.{Both, both, channels_of}
 use Rattle.chain_world.specs.ChainValue.{ChainValue}
-use Rattle.chain_world.specs.Standing.{AllDiffer, Talks, TalksOn, past_at}
+use Rattle.chain_world.specs.Standing.{AllDiffer, past_at}
 use Rattle.chain_world.proofs.Agents.{Laws, Reached, after_more}
 use Rattle.chain_world.proofs.Fitting.{Agrees, Fits, IsWay, MayGo, Place, way_on}
 use Rattle.chain_world.proofs.Numbers.{here}
 use Rattle.chain_world.proofs.Pasts.{Keeps, grows_none, grows_then}
-use Rattle.chain_world.proofs.Talks.{IsCameSame, came_grown, same_above, talked_kept, talks_kept}
+use Rattle.chain_world.proofs.Talks.{IsCameSame, Talking, TalkingOn, came_grown, same_above, talked_kept, talks_kept}
 
 -- ---- The agent goes on
 
@@ -76,6 +76,7 @@ agrees_after laws p pasts after chain calls now same a = record {
   route = a.route;
   gave = a.gave;
   got = a.got;
+  lost = a.lost;
   talks = talks_kept laws chain.channel now.past now.past pasts after (same_above now.past) same.keeps a.talks;
   talked = talked_kept now.past now.past pasts after chain.earlier (λ got has. has) same.came a.talked;
 }
@@ -87,6 +88,7 @@ fits_after laws p pasts after adds chain same f = record {
   way = f.way;
   agrees = agrees_after laws p pasts after chain f.calls f.now same f.agrees;
   unwanted = f.unwanted;
+  settled = f.settled;
   opened = f.opened;
 }
 
@@ -95,17 +97,18 @@ fits_kept laws p pasts after adds chain keeps f = fits_after laws p pasts after 
 
 -- ---- A call of the way that the agent has a part in
 
-talks_on : (channel : Option ℕ) (k : ℕ) (now : RouteRun) (pasts after : List Past) (talk : Talk) → channel ≡ Some k → (Talks (past_at k pasts) now.past.agent → Talks (past_at k after) talk)
-    → TalksOn channel now.past pasts → TalksOn channel (with_agent talk now.past) after
+talks_on : (channel : Option ℕ) (k : ℕ) (now : RouteRun) (pasts after : List Past) (talk : Talk) → channel ≡ Some k → (Talking (past_at k pasts) now.past.agent → Talking (past_at k after) talk)
+    → TalkingOn channel now.past pasts → TalkingOn channel (with_agent talk now.past) after
 talks_on None k now pasts after talk is then t = absurd cc
 talks_on (Some i) k now pasts after talk is then t =
-    let same : i ≡ k = cc in (t.0, subst (λ n. Talks (past_at n after) talk) (sym same) (then (subst (λ n. Talks (past_at n pasts) now.past.agent) same t.1)))
+    let same : i ≡ k = cc in (t.0, subst (λ n. Talking (past_at n after) talk) (sym same) (then (subst (λ n. Talking (past_at n pasts) now.past.agent) same t.1)))
 
 pub agent_fits : (p : Place) (pasts after : List Past) (adds : ℕ) (chain : ChainValue) (k : ℕ) (f : Fits p pasts adds chain) (call : WayCall) (change : RouteValue → RouteValue) (talk : Talk) → chain.channel ≡ Some k → MayGo p call
     → way_call call f.now ≡ record { route = change f.now.route; past = with_agent talk f.now.past }
-    → (Talks (past_at k pasts) f.now.past.agent → Talks (past_at k after) talk) → ((j : ℕ) → Contains chain.earlier j → IsCameSame pasts after j)
+    → is_waiting (record { route = change f.now.route; past = with_agent talk f.now.past }) ≡ false
+    → (Talking (past_at k pasts) f.now.past.agent → Talking (past_at k after) talk) → ((j : ℕ) → Contains chain.earlier j → IsCameSame pasts after j)
     → Fits p after adds (record chain { route = change chain.route })
-agent_fits p pasts after adds chain k f call change talk is may does talks same =
+agent_fits p pasts after adds chain k f call change talk is may does settled talks same =
     let past = with_agent talk f.now.past in
     record {
       calls = f.calls;
@@ -117,15 +120,17 @@ agent_fits p pasts after adds chain k f call change talk is may does talks same 
         route = ap change f.agrees.route;
         gave = f.agrees.gave;
         got = f.agrees.got;
+        lost = f.agrees.lost;
         talks = talks_on chain.channel k f.now pasts after talk is talks f.agrees.talks;
         talked = talked_kept f.now.past past pasts after chain.earlier (λ got has. has) same f.agrees.talked;
       };
       unwanted = f.unwanted;
+      settled = settled;
       opened = f.opened;
     }
 
 -- the agent's hop was connected
-pub is_reached : (channel : Option ℕ) (k : ℕ) (now : RouteRun) (pasts : List Past) → channel ≡ Some k → TalksOn channel now.past pasts → now.past.is_reached ≡ true
+pub is_reached : (channel : Option ℕ) (k : ℕ) (now : RouteRun) (pasts : List Past) → channel ≡ Some k → TalkingOn channel now.past pasts → now.past.is_reached ≡ true
 is_reached None k now pasts is t = absurd cc
 is_reached (Some i) k now pasts is t = t.0
 

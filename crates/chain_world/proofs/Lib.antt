@@ -9,23 +9,28 @@ pub mod Sizes
 mod Calls
 mod Bytes
 mod Clients
-mod Pasts
+pub mod Pasts
 mod Emptying
-mod Agents
+pub mod Agents
 mod Numbers
 mod Pairs
 mod Shut
 mod Waiting
+mod Opened
+mod Settled
+mod Unawaited
 mod Steady
 mod Ways
 mod Talks
 mod Fitting
 mod Chains
 mod Keeping
+mod Cutting
 mod Steps
 mod Places
 mod Worlds
 mod Reaching
 mod Opening
+mod Gave
 mod Playing
 pub mod Counted

@@ -17,18 +17,19 @@ use Rattle.chain_route.specs.RouteValue.{RouteValue}
 use Rattle.chain_route.specs.Runs.{RouteRun, after_call, joined_by, joins, turns}
 use Rattle.chain_world.specs.Chain.{carried_up, channels_of, is_opened, none_reached, opened_by, reached}
 use Rattle.chain_world.specs.ChainValue.{ChainValue}
-use Rattle.chain_world.specs.Standing.{AllStand, AreBelow, AreNumbered, Talks, past_at}
+use Rattle.chain_world.specs.Standing.{AreBelow, AreNumbered, past_at}
 use Rattle.chain_world.specs.World.{add_turned, after_number, carried, connected_at, on_chain, on_some, opened_at, opened_from as world_opened_from, opening, reached_at, reached_by, reached_from, reached_if, reached_with, with_chain, with_input, with_route}
 use Rattle.chain_world.specs.WorldValue.{WorldValue}
 use Rattle.chain_world.proofs.Agents.{Laws, Reached, reached_more}
 use Rattle.chain_world.proofs.Chains.{client_agrees, inside_agrees, inside_fits, up_fits}
-use Rattle.chain_world.proofs.Fitting.{Agrees, Fits, IsWay, is_way_holds, way_on}
+use Rattle.chain_world.proofs.Fitting.{Agrees, AllFit, Fits, IsWay, is_way_holds, place_of, way_on}
 use Rattle.chain_world.proofs.Lists.{all_append, all_map, get_set, set_twice}
 use Rattle.chain_world.proofs.Numbers.{HasMore, all_channels, at_contains, each_all, set_below, set_contains, set_differ, set_new}
 use Rattle.chain_world.proofs.Pasts.{Keeps, apart_flag, at_more, at_new, keeps_same}
-use Rattle.chain_world.proofs.Places.{StandsAt, place_of, set_stands, stands_at}
+use Rattle.chain_world.proofs.Places.{StandsAt, set_stands, stands_at}
 use Rattle.chain_world.proofs.Reaching.{Waits, new_talk, reached_chain, reached_fits}
-use Rattle.chain_world.proofs.Talks.{IsCameSame, came_grown, talked_same, talks_same}
+use Rattle.chain_world.proofs.Talks.{IsCameSame, Talking, came_grown, talked_same, talks_same}
+use Rattle.chain_world.proofs.Unawaited.{joined_unawaited, turned_unawaited}
 use Rattle.chain_world.proofs.Ways.{connected_last, joined_waits, turned_joined, turned_waits}
 use Rattle.chain_world.proofs.Worlds.{Standing, carried_stands, chain_stands}
 
@@ -44,10 +45,10 @@ unpast k numbers (past ∷ pasts) below owned =
     let less : past.number < k = each_all (λ j. j < k) numbers below past.number owned.0 in
     ap (λ b. cond b (Some past) (past_at k pasts)) (apart_flag past.number k (λ same. let is : past.number ≡ k = same in omega arith)) ∙ unpast k numbers pasts below owned.1
 
-begins_by : (did : Bool) (k : ℕ) (a : AgentValue) (pasts : List Past) → past_at k pasts ≡ None → Talks (past_at k (pasts_opened did k a pasts)) (new_talk did)
+begins_by : (did : Bool) (k : ℕ) (a : AgentValue) (pasts : List Past) → past_at k pasts ≡ None → Talking (past_at k (pasts_opened did k a pasts)) (new_talk did)
 begins_by true k a pasts none =
-    subst (λ past. Talks past (new_talk true)) (sym (at_new k pasts (new_past k a) none (eq-eqb k k refl))) (record { gave = refl; came = λ takes. refl; front = ([], refl) })
-begins_by false k a pasts none = subst (λ past. Talks past (new_talk false)) (sym none) (record { gave = refl; came = λ takes. absurd cc; front = ([], refl) })
+    subst (λ past. Talking past (new_talk true)) (sym (at_new k pasts (new_past k a) none (eq-eqb k k refl))) (record { gave = refl; lost = refl; came = λ takes. refl; front = ([], refl) })
+begins_by false k a pasts none = subst (λ past. Talking past (new_talk false)) (sym none) (record { gave = refl; lost = tt; came = λ takes. absurd cc; front = ([], refl) })
 
 opened_keeps : (did : Bool) (k : ℕ) (a : AgentValue) (pasts : List Past) (j : ℕ) → j < k → Keeps j pasts (pasts_opened did k a pasts)
 opened_keeps true k a pasts j less =
@@ -125,7 +126,7 @@ module _ (laws : Laws) (plans : List Plan) (images : List Image) (adds : List �
       abbrev opened_run : Bool → AgentValue → AgentRun
       opened_run did a = record { agent = a; history = s.run.history ++ input_if did (Opened k); channels = after did }
 
-      chains : (did : Bool) → AllStand plans (after did) 0 adds (slice_set w.chains at (next_of did))
+      chains : (did : Bool) → AllFit plans (after did) 0 adds (slice_set w.chains at (next_of did))
       chains did =
           set_stands laws plans s.run.channels (after did) adds w.chains at here.count c (next_of did) numbered.differ there here.there
           (λ j has apart. opened_keeps did k s.run.agent s.run.channels j (each_all (λ i. i < k) (all_channels w.chains) numbered.below j has)) (fits did) s.chains
@@ -199,6 +200,7 @@ module _ (laws : Laws) (plans : List Plan) (images : List Image) (adds : List �
           route = a.route;
           gave = a.gave;
           got = a.got;
+          lost = a.lost;
           talks = talks_same c.channel f.now.past now.past pasts (record { reached = refl; agent = refl; earlier = refl }) a.talks;
           talked = talked_same f.now.past now.past pasts c.earlier refl a.talked;
         } in
@@ -226,10 +228,12 @@ module _ (laws : Laws) (plans : List Plan) (images : List Image) (adds : List �
             route = refl;
             gave = a.gave;
             got = a.got;
+            lost = a.lost;
             talks = talks_same c.channel f.now.past now.past pasts (record { reached = refl; agent = refl; earlier = refl }) a.talks;
             talked = talked_same f.now.past now.past pasts c.earlier refl a.talked;
           };
           unwanted = f.unwanted;
+          settled = joined_unawaited f.now q now.past refl same f.settled;
           opened = refl;
         }
 
@@ -258,9 +262,10 @@ module _ (laws : Laws) (plans : List Plan) (images : List Image) (adds : List �
   pub add_stands : (at add : ℕ) (side : Side) (w : WorldValue) → Standing plans images adds w → Standing plans images adds (add_turned at add side (slice_get w.chains at) w)
   add_stands at add side w s = by_place (slice_get w.chains at) refl
     where
-      turned : (c : ChainValue) (q : RouteValue) (did : Bool) → way_turned side add c.route ≡ (did, q) → (pasts : List Past) (count : ℕ) → Fits (place_of plans at) pasts count c → Fits (place_of plans at) pasts count (record c { route = q })
-      turned c q did is pasts count f =
-          subst (λ (x : Bool × RouteValue). Fits (place_of plans at) pasts count (record c { route = x.1 })) is (inside_fits (place_of plans at) pasts count c (turns side add) (λ r. (way_turned side add r).1) tt (record { is = λ x. refl }) f)
+      turned : (c : ChainValue) (q : RouteValue) → way_turned side add c.route ≡ (false, q) → (pasts : List Past) (count : ℕ) → Fits (place_of plans at) pasts count c → Fits (place_of plans at) pasts count (record c { route = q })
+      turned c q is pasts count f =
+          let isnt : (way_turned side add f.now.route).0 ≡ false = ap (λ r. (way_turned side add r).0) (sym f.agrees.route) ∙ ap (λ (x : Bool × RouteValue). x.0) is in
+          subst (λ (x : Bool × RouteValue). Fits (place_of plans at) pasts count (record c { route = x.1 })) is (inside_fits (place_of plans at) pasts count c (turns side add) (λ r. (way_turned side add r).1) tt (record { is = λ x. refl }) f (turned_unawaited side add f.now isnt f.settled))
 
       waits : (c : ChainValue) (q : RouteValue) → way_turned side add c.route ≡ (true, q) → (pasts : List Past) (count : ℕ) → Fits (place_of plans at) pasts count c → Waits (place_of plans at) pasts count (record c { route = q })
       waits c q is pasts count f =
@@ -278,7 +283,7 @@ module _ (laws : Laws) (plans : List Plan) (images : List Image) (adds : List �
 
       by_pair : (c : ChainValue) (x : Bool × RouteValue) → slice_get w.chains at ≡ Some c → way_turned side add c.route ≡ x → Standing plans images adds (reached_if at (with_route x c) w)
       by_pair c (true, q) there is = reached_stands at c (record c { route = q }) w s there refl (waits c q is)
-      by_pair c (false, q) there is = chain_stands laws plans images adds at c (record c { route = q }) w there refl (turned c q false is) s
+      by_pair c (false, q) there is = chain_stands laws plans images adds at c (record c { route = q }) w there refl (turned c q is) s
 
       by_place : (there : Option ChainValue) → slice_get w.chains at ≡ there → Standing plans images adds (add_turned at add side there w)
       by_place None is = s

@@ -30,7 +30,7 @@ client_twice : (o : Option (EndValue ℕ)) (c : ClientValue) → client_emptied 
 client_twice None c = refl
 client_twice (Some e) c = ap (λ x. record c { channel = Some x }) (emptied_by e.is_spent e)
 
-client_none : (o : Option (EndValue ℕ)) (c : ClientValue) → queue_of (client_emptied (record c { channel = o })).channel ≡ []
+pub client_none : (o : Option (EndValue ℕ)) (c : ClientValue) → queue_of (client_emptied (record c { channel = o })).channel ≡ []
 client_none None c = refl
 client_none (Some e) c = none_by e.is_spent e
 

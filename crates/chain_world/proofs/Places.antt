@@ -7,9 +7,9 @@ use Rattle.tcf_schedules.specs.Plan.{Plan}
 use Rattle.agent_node.specs.Runs.{Past}
 use Rattle.chain_world.specs.Chain.{channels_of}
 use Rattle.chain_world.specs.ChainValue.{ChainValue}
-use Rattle.chain_world.specs.Standing.{AllDiffer, AllStand}
+use Rattle.chain_world.specs.Standing.{AllDiffer}
 use Rattle.chain_world.proofs.Agents.{Laws}
-use Rattle.chain_world.proofs.Fitting.{Fits, Place, fits_of, stands_of}
+use Rattle.chain_world.proofs.Fitting.{AllFit, Fits, Place, place_of}
 use Rattle.chain_world.proofs.Keeping.{fits_kept}
 use Rattle.chain_world.proofs.Numbers.{all_channels, at_contains, differ_parts}
 use Rattle.chain_world.proofs.Pasts.{Keeps}
@@ -23,9 +23,6 @@ behind : (from at : ℕ) → from_place from at ≡ from + at
 behind from zero = omega arith
 behind from (suc at) = let rest = behind (suc from) at in omega (arith, rest)
 
-abbrev pub place_of : List Plan → ℕ → Place
-place_of plans at = record { plans = plans; at = at }
-
 pub first_place : (plans : List Plan) (at : ℕ) → place_of plans (from_place 0 at) ≡ place_of plans at
 first_place plans at =
     let first = behind 0 at in
@@ -37,36 +34,36 @@ pub record StandsAt (p : Place) (pasts : List Past) (adds : List ℕ) (at : ℕ)
   pub there : slice_get adds at ≡ Some count
   pub fits : Fits p pasts count c
 
-from_stands : (plans : List Plan) (pasts : List Past) (from : ℕ) (adds : List ℕ) (chains : List ChainValue) (at : ℕ) (c : ChainValue) → slice_get chains at ≡ Some c → AllStand plans pasts from adds chains
+from_stands : (plans : List Plan) (pasts : List Past) (from : ℕ) (adds : List ℕ) (chains : List ChainValue) (at : ℕ) (c : ChainValue) → slice_get chains at ≡ Some c → AllFit plans pasts from adds chains
     → StandsAt (place_of plans (from_place from at)) pasts adds at c
 from_stands plans pasts from [] [] at c is all = absurd cc
 from_stands plans pasts from [] (x ∷ chains) at c is all = absurd all
 from_stands plans pasts from (n ∷ adds) [] at c is all = absurd all
 from_stands plans pasts from (n ∷ adds) (x ∷ chains) zero c is all =
-    let same : x ≡ c = cc in let p = place_of plans from in record { count = n; there = refl; fits = subst (Fits p pasts n) same (fits_of p pasts n x all.0) }
+    let same : x ≡ c = cc in let p = place_of plans from in record { count = n; there = refl; fits = subst (Fits p pasts n) same all.0 }
 from_stands plans pasts from (n ∷ adds) (x ∷ chains) (suc at) c is all =
     let rest = from_stands plans pasts (suc from) adds chains at c is all.1 in record { count = rest.count; there = rest.there; fits = rest.fits }
 
-pub stands_at : (plans : List Plan) (pasts : List Past) (adds : List ℕ) (chains : List ChainValue) (at : ℕ) (c : ChainValue) → slice_get chains at ≡ Some c → AllStand plans pasts 0 adds chains
+pub stands_at : (plans : List Plan) (pasts : List Past) (adds : List ℕ) (chains : List ChainValue) (at : ℕ) (c : ChainValue) → slice_get chains at ≡ Some c → AllFit plans pasts 0 adds chains
     → StandsAt (place_of plans at) pasts adds at c
 stands_at plans pasts adds chains at c is all = subst (λ p. StandsAt p pasts adds at c) (first_place plans at) (from_stands plans pasts 0 adds chains at c is all)
 
 -- all of them, while the agent's channels are the same to them
-pub each_kept : Laws → (plans : List Plan) (pasts after : List Past) (from : ℕ) (adds : List ℕ) (chains : List ChainValue) → ((j : ℕ) → Contains (all_channels chains) j → Keeps j pasts after) → AllStand plans pasts from adds chains
-    → AllStand plans after from adds chains
+pub each_kept : Laws → (plans : List Plan) (pasts after : List Past) (from : ℕ) (adds : List ℕ) (chains : List ChainValue) → ((j : ℕ) → Contains (all_channels chains) j → Keeps j pasts after) → AllFit plans pasts from adds chains
+    → AllFit plans after from adds chains
 each_kept laws plans pasts after from [] [] keeps all = tt
 each_kept laws plans pasts after from [] (x ∷ chains) keeps all = absurd all
 each_kept laws plans pasts after from (n ∷ adds) [] keeps all = absurd all
 each_kept laws plans pasts after from (n ∷ adds) (x ∷ chains) keeps all =
     let p = place_of plans from in (
-      stands_of p after n x (fits_kept laws p pasts after n x (λ j has. keeps j (Contains-append_left (channels_of x) (all_channels chains) j has)) (fits_of p pasts n x all.0)),
+      fits_kept laws p pasts after n x (λ j has. keeps j (Contains-append_left (channels_of x) (all_channels chains) j has)) all.0,
       each_kept laws plans pasts after (suc from) adds chains (λ j has. keeps j (Contains-append_right (channels_of x) (all_channels chains) j has)) all.1,
     )
 
 -- the one at a place changes, and the agent goes on for it
 from_set : Laws → (plans : List Plan) (pasts after : List Past) (from : ℕ) (adds : List ℕ) (chains : List ChainValue) (at count : ℕ) (c next : ChainValue) → AllDiffer (all_channels chains) → slice_get chains at ≡ Some c
     → slice_get adds at ≡ Some count → ((j : ℕ) → Contains (all_channels chains) j → (Contains (channels_of c) j → ⊥) → Keeps j pasts after) → Fits (place_of plans (from_place from at)) after count next
-    → AllStand plans pasts from adds chains → AllStand plans after from adds (slice_set chains at next)
+    → AllFit plans pasts from adds chains → AllFit plans after from adds (slice_set chains at next)
 from_set laws plans pasts after from [] [] at count c next differ is there keeps f all = tt
 from_set laws plans pasts after from [] (x ∷ chains) at count c next differ is there keeps f all = absurd all
 from_set laws plans pasts after from (n ∷ adds) [] at count c next differ is there keeps f all = absurd all
@@ -75,20 +72,20 @@ from_set laws plans pasts after from (n ∷ adds) (x ∷ chains) zero count c ne
     let counted : count ≡ n = cc in
     let p = place_of plans from in
     let parts = differ_parts (channels_of x) (all_channels chains) differ in (
-      stands_of p after n next (subst (λ m. Fits p after m next) counted f),
+      subst (λ m. Fits p after m next) counted f,
       each_kept laws plans pasts after (suc from) adds chains
           (λ j has. keeps j (Contains-append_right (channels_of x) (all_channels chains) j has) (λ own. parts.apart j (subst (λ y. Contains (channels_of y) j) (sym same) own) has)) all.1,
     )
 from_set laws plans pasts after from (n ∷ adds) (x ∷ chains) (suc at) count c next differ is there keeps f all =
     let p = place_of plans from in
     let parts = differ_parts (channels_of x) (all_channels chains) differ in (
-      stands_of p after n x (fits_kept laws p pasts after n x
-          (λ j has. keeps j (Contains-append_left (channels_of x) (all_channels chains) j has) (λ own. parts.apart j has (at_contains chains at c j is own))) (fits_of p pasts n x all.0)),
+      fits_kept laws p pasts after n x
+          (λ j has. keeps j (Contains-append_left (channels_of x) (all_channels chains) j has) (λ own. parts.apart j has (at_contains chains at c j is own))) all.0,
       from_set laws plans pasts after (suc from) adds chains at count c next parts.second is there (λ j has apart. keeps j (Contains-append_right (channels_of x) (all_channels chains) j has) apart) f all.1,
     )
 
 pub set_stands : Laws → (plans : List Plan) (pasts after : List Past) (adds : List ℕ) (chains : List ChainValue) (at count : ℕ) (c next : ChainValue) → AllDiffer (all_channels chains) → slice_get chains at ≡ Some c
     → slice_get adds at ≡ Some count → ((j : ℕ) → Contains (all_channels chains) j → (Contains (channels_of c) j → ⊥) → Keeps j pasts after) → Fits (place_of plans at) after count next
-    → AllStand plans pasts 0 adds chains → AllStand plans after 0 adds (slice_set chains at next)
+    → AllFit plans pasts 0 adds chains → AllFit plans after 0 adds (slice_set chains at next)
 set_stands laws plans pasts after adds chains at count c next differ is there keeps f all =
     from_set laws plans pasts after 0 adds chains at count c next differ is there keeps (subst (λ p. Fits p after count next) (sym (first_place plans at)) f) all

@@ -1,8 +1,11 @@
 -- What holds of a world holds after every schedule.
 use Rattle.std.proofs.Common.{◌≡◌, ℕ, zero, suc, ◌+◌, ◌-◌, ◌==◌, ◌||◌, ◌&&◌, Bool, true, false, cond, nat_lt, List, [], ◌∷◌, length, Option, Some, None, refl, sym, ap, ◌∙◌, subst, inl, eq-eqb}
-use Rattle.std.specs.Prelude.{slice_get}
+use Rattle.std.specs.Prelude.{IfSome, slice_get}
 use Rattle.std.specs.List.{AllByRecursion, list_any}
-use Rattle.agent_node.specs.Runs.{Past, no_calls}
+use Rattle.agent_node.specs.Agent.{ticked}
+use Rattle.agent_node.specs.AgentValue.{AgentValue}
+use Rattle.agent_node.specs.Runs.{AgentRun, Past, no_calls, run_of}
+use Rattle.channel_core.specs.EndValue.{EndValue}
 use Rattle.target_contexts.specs.declared.process.Image.{Image}
 use Rattle.tcf_schedules.specs.Plan.{Plan, cached, close, cut as cut_plan, deliver, opens, rounds as rounds_plan, send, tick, times, turn}
 use Rattle.value_node.specs.declared.states.Side.{Side}
@@ -10,19 +13,22 @@ use Rattle.value_node.specs.declared.states.Side.TheVariants.{Below, Above}
 use Rattle.client_node.specs.Client.{waiting_on}
 use Rattle.chain_route.specs.Lane.{size_in}
 use Rattle.chain_route.specs.Passing.{most_bytes}
-use Rattle.chain_route.specs.Route.{delivered_at as way_delivered, flight_down}
-use Rattle.chain_world.specs.Chain.{all_down, all_taken_down, all_up, asked, came_down, carried_up, channels_of, closed, cut, delivered_down, delivered_over, delivered_under, is_opened, pieces_down, sent, takes_down, turned_down, turning, turns_down}
+use Rattle.chain_route.specs.Route.{delivered_at as way_delivered, flight_down, last_of, new_route}
+use Rattle.chain_route.specs.Runs.{no_calls as way_begun}
+use Rattle.chain_world.specs.Chain.{Both, all_down, all_taken_down, all_up, asked, came_down, carried_up, channels_of, closed, cut, delivered_down, delivered_over, delivered_under, is_opened, pieces_down, queue_of, sent, takes_down, turned_down, turned_on, turning, turns_down}
 use Rattle.chain_world.specs.ChainValue.{ChainValue}
-use Rattle.chain_world.specs.Standing.{AllStand, AreNumbered, StandsAfterEverySchedule, closes_at, cuts_at}
-use Rattle.chain_world.specs.World.{IsPlayable, add_rounded, add_turned, adds_in, adds_rounded, agent_taken, agent_turned, all_round_down, all_to_add, delivered_at, new_chains, new_world, on_chain, played, repeated, round_all, round_at, round_from, round_of, rounded_down, rounded_up, rounds, run, turn_of_add, turn_of_agent, turned_at, turned_down_at, turned_up_at, waiting_at_add, waiting_in_chain}
+use Rattle.chain_world.specs.Standing.{AreNumbered, StandsAfterEverySchedule, closes_at, cuts_at, past_at}
+use Rattle.chain_world.specs.World.{IsPlayable, add_rounded, add_turned, adds_in, adds_rounded, agent_taken, agent_turned, all_round_down, all_to_add, delivered_at, new_chains, new_world, on_chain, played, repeated, round_all, round_at, round_from, round_of, rounded_down, rounded_up, rounds, run, tick_of, turn_of_add, turn_of_agent, turned_at, turned_down_at, turned_up_at, waiting_at_add, waiting_in_chain, with_agent}
 use Rattle.chain_world.specs.WorldValue.{WorldValue}
-use Rattle.chain_world.proofs.Agents.{Laws}
-use Rattle.chain_world.proofs.Chains.{all_fits, all_to_add_fits, asked_fits, closed_fits, delivered_fits, delivers_fits, sent_fits, turned_fits}
-use Rattle.chain_world.proofs.Fitting.{Fits}
+use Rattle.chain_world.proofs.Agents.{Laws, Reached, has_queue}
+use Rattle.chain_world.proofs.Chains.{all_fits, all_to_add_fits, asked_fits, closed_fits, delivered_fits, delivers_fits, fresh_client, sent_fits, turned_fits}
+use Rattle.chain_world.proofs.Clients.{IsFreshIn}
+use Rattle.chain_world.proofs.Fitting.{AllFit, Fits, GaveOut, place_of}
+use Rattle.chain_world.proofs.Gave.{AgentGave, ClientGave, GaveAll, IsGiving, IsGivingUp, NoneAt, add_gives, all_up_gives, asked_gives, closed_gives, cut_gives, first_gave, input_gives, on_chain_gives, opened_gives, over_gives, sent_gives, taken_gives, to_add_gives, turned_gives, under_gives, with_agent_gives}
+use Rattle.chain_world.proofs.Keeping.{IsMove}
 use Rattle.chain_world.proofs.Lists.{all_map}
 use Rattle.chain_world.proofs.Numbers.{all_channels}
 use Rattle.chain_world.proofs.Opening.{add_stands, opened_stands}
-use Rattle.chain_world.proofs.Places.{place_of}
 use Rattle.chain_world.proofs.Steps.{all_up_move, cut_move, over_move}
 use Rattle.chain_world.proofs.Worlds.{Standing, carried_stands, on_chain_stands, stands_so, tick_stands, turn_stands, with_agent_stands}
 
@@ -82,11 +88,23 @@ taken_channels c = turns_channels (waiting_on (all_down c).client.channel) (all_
 
 module _ (laws : Laws) (plans : List Plan) (images : List Image) (adds : List ℕ) where
   abbrev Holds : WorldValue → Type 0
-  Holds w = Standing plans images adds w
+  Holds w = Standing plans images adds w × GaveAll w
 
   either : (flag : Bool) (one other : WorldValue) → Holds one → Holds other → Holds (cond flag one other)
   either true one other first second = first
   either false one other first second = second
+
+  -- ---- A step of one chain
+
+  agent_step : (step : ChainValue → AgentValue → Both) (at : ℕ) → IsMove images (place_of plans at) step → IsGiving step → (w : WorldValue) → Holds w → Holds (with_agent step at w)
+  agent_step step at move gives w s = (with_agent_stands laws plans images adds step at move w s.0, with_agent_gives step at gives w s.1)
+
+  chain_step : (change : ChainValue → ChainValue) (at : ℕ) → ((pasts : List Past) (count : ℕ) (c : ChainValue) → Fits (place_of plans at) pasts count c → Fits (place_of plans at) pasts count (change c))
+      → IsGivingUp change → ((c : ChainValue) → channels_of (change c) ≡ channels_of c) → (w : WorldValue) → Holds w → Holds (on_chain change at w)
+  chain_step change at fits gives same w s = (on_chain_stands laws plans images adds change at fits same w s.0, on_chain_gives change at gives w s.1)
+
+  add_step : (at add : ℕ) (side : Side) (w : WorldValue) → Holds w → Holds (add_turned at add side (slice_get w.chains at) w)
+  add_step at add side w s = (add_stands laws plans images adds at add side w s.0, add_gives at add side w s.1)
 
   -- ---- Pieces
 
@@ -98,8 +116,8 @@ module _ (laws : Laws) (plans : List Plan) (images : List Image) (adds : List �
       by_flag false = delivers_fits (place_of plans at) pasts n Above (hop - 1) count c f
 
   delivered_stands : (at hop : ℕ) (up : Bool) (count : ℕ) (w : WorldValue) → Holds w → Holds (delivered_at at hop up count w)
-  delivered_stands at hop true count w s = with_agent_stands laws plans images adds (delivered_over hop count) at (over_move laws images (place_of plans at) hop count) w s
-  delivered_stands at hop false count w s = on_chain_stands laws plans images adds (delivered_under hop count) at (under_fits at hop count) (under_channels hop count) w s
+  delivered_stands at hop true count w s = agent_step (delivered_over hop count) at (over_move laws images (place_of plans at) hop count) (over_gives hop count) w s
+  delivered_stands at hop false count w s = chain_step (delivered_under hop count) at (under_fits at hop count) (under_gives hop count) (under_channels hop count) w s
 
   -- ---- Turns
 
@@ -108,7 +126,10 @@ module _ (laws : Laws) (plans : List Plan) (images : List Image) (adds : List �
     where
       by_place : (there : Option ChainValue) → Holds (agent_turned at there w)
       by_place None = s
-      by_place (Some c) = carried_stands laws plans images adds _ (turn_stands laws plans images adds (turning c.earlier c.channel w.agent) w s)
+      by_place (Some c) =
+          let k = turning c.earlier c.channel w.agent in
+          let next = turned_on k w.agent in
+          (carried_stands laws plans images adds _ (turn_stands laws plans images adds k w s.0), input_gives next.0 (record w { agent = next.1 }) s.1.clients)
 
   up_stands : (at node : ℕ) (w : WorldValue) → Holds w → Holds (turned_up_at at node w)
   up_stands at node w s =
@@ -116,12 +137,12 @@ module _ (laws : Laws) (plans : List Plan) (images : List Image) (adds : List �
       let add = add_turned at (node - 1) Below there w in
       let last = agent_turned at there w in
       either (node == 0) w (cond (nat_lt (node - 1) (adds_in there)) add last) s
-      (either (nat_lt (node - 1) (adds_in there)) add last (add_stands laws plans images adds at (node - 1) Below w s) (agent_stands at w s))
+      (either (nat_lt (node - 1) (adds_in there)) add last (add_step at (node - 1) Below w s) (agent_stands at w s))
 
   down_stands : (at node : ℕ) (w : WorldValue) → Holds w → Holds (turned_down_at at node w)
   down_stands at node w s =
       either (node == 0) (on_chain turned_down at w) (add_turned at (node - 1) Above (slice_get w.chains at) w)
-      (on_chain_stands laws plans images adds turned_down at (turned_fits laws (place_of plans at)) (λ c. refl) w s) (add_stands laws plans images adds at (node - 1) Above w s)
+      (chain_step turned_down at (turned_fits laws (place_of plans at)) turned_gives (λ c. refl) w s) (add_step at (node - 1) Above w s)
 
   turned_stands : (at node : ℕ) (up : Bool) (w : WorldValue) → Holds w → Holds (turned_at at node up w)
   turned_stands at node true w s = up_stands at node w s
@@ -136,8 +157,8 @@ module _ (laws : Laws) (plans : List Plan) (images : List Image) (adds : List �
   rounded_stands : (at add : ℕ) (side : Side) (w : WorldValue) → Holds w → Holds (add_rounded at add side w)
   rounded_stands at add side w s =
       let next : WorldValue = on_chain (all_to_add side add) at w in
-      repeated_stands (waiting_at_add side add (slice_get next.chains at)) (turn_of_add at add side) (λ v t. add_stands laws plans images adds at add side v t) next
-      (on_chain_stands laws plans images adds (all_to_add side add) at (λ pasts n c f. all_to_add_fits (place_of plans at) pasts n side add c f) (λ c. refl) w s)
+      repeated_stands (waiting_at_add side add (slice_get next.chains at)) (turn_of_add at add side) (λ v t. add_step at add side v t) next
+      (chain_step (all_to_add side add) at (λ pasts n c f. all_to_add_fits (place_of plans at) pasts n side add c f) (to_add_gives side add) (λ c. refl) w s)
 
   ups_stand : (n add at : ℕ) (w : WorldValue) → Holds w → Holds (adds_rounded n add at w)
   ups_stand zero add at w s = s
@@ -149,7 +170,7 @@ module _ (laws : Laws) (plans : List Plan) (images : List Image) (adds : List �
 
   round_up_stands : (at : ℕ) (w : WorldValue) → Holds w → Holds (rounded_up at w)
   round_up_stands at w s =
-      let n = adds_in (slice_get w.chains at) in with_agent_stands laws plans images adds all_up at (all_up_move laws images (place_of plans at)) (adds_rounded n 0 at w) (ups_stand n 0 at w s)
+      let n = adds_in (slice_get w.chains at) in agent_step all_up at (all_up_move laws images (place_of plans at)) all_up_gives (adds_rounded n 0 at w) (ups_stand n 0 at w s)
 
   taken_stands : (at : ℕ) (w : WorldValue) → Holds w → Holds (agent_taken at w)
   taken_stands at w s = repeated_stands (waiting_in_chain (slice_get w.chains at) w) (turn_of_agent at) (agent_stands at) w s
@@ -158,7 +179,7 @@ module _ (laws : Laws) (plans : List Plan) (images : List Image) (adds : List �
   round_of_stands at w s =
       let up = rounded_up at w in
       let taken = agent_taken at up in
-      on_chain_stands laws plans images adds (λ c. all_taken_down (all_down c)) at (all_fits laws (place_of plans at)) taken_channels (all_round_down at taken)
+      chain_step (λ c. all_taken_down (all_down c)) at (all_fits laws (place_of plans at)) taken_gives taken_channels (all_round_down at taken)
       (downs_stand (adds_in (slice_get taken.chains at)) at taken (taken_stands at up (round_up_stands at w s)))
 
   round_at_stands : (at : ℕ) (w : WorldValue) → Holds w → Holds (round_at at w)
@@ -179,20 +200,21 @@ module _ (laws : Laws) (plans : List Plan) (images : List Image) (adds : List �
   -- ---- Every step
 
   played_stands : (plan : Plan) → IsAmong plans plan → IsPlayable plan → (w : WorldValue) → Holds w → Holds (played plan w)
-  played_stands (opens at) among playable w s = opened_stands laws plans images adds at w s
+  played_stands (opens at) among playable w s = (opened_stands laws plans images adds at w s.0, opened_gives at w s.1)
   played_stands (send at service name body) among playable w s =
-      on_chain_stands laws plans images adds (sent service name body) at (λ pasts n c f. sent_fits laws (place_of plans at) pasts n service name body c playable f) (λ c. refl) w s
+      chain_step (sent service name body) at (λ pasts n c f. sent_fits laws (place_of plans at) pasts n service name body c playable f) (sent_gives service name body) (λ c. refl) w s
   played_stands (deliver at hop up count) among playable w s = delivered_stands at hop up count w s
   played_stands (turn at node up) among playable w s = turned_stands at node up w s
-  played_stands (tick thread) among playable w s = tick_stands laws plans images adds thread w s
+  played_stands (tick thread) among playable w s =
+      let next = ticked thread w.agent in (tick_stands laws plans images adds thread w s.0, input_gives (tick_of next.0 thread) (record w { agent = next.1 }) s.1.clients)
   played_stands (close at) among playable w s =
       let may = among.closing at (eq-eqb at at refl) in
-      on_chain_stands laws plans images adds closed at (λ pasts n c f. closed_fits laws (place_of plans at) pasts n c may f) (λ c. refl) w s
+      chain_step closed at (λ pasts n c f. closed_fits laws (place_of plans at) pasts n c may f) closed_gives (λ c. refl) w s
   played_stands (cut_plan at hop) among playable w s =
       let is : cuts_at at hop (cut_plan at hop) ≡ true = ap (λ b. b && (hop == hop)) (eq-eqb at at refl) ∙ eq-eqb hop hop refl in
-      with_agent_stands laws plans images adds (cut hop) at (cut_move laws images (place_of plans at) hop (among.cutting at hop is)) w s
+      agent_step (cut hop) at (cut_move laws images (place_of plans at) hop (among.cutting at hop is)) (cut_gives hop) w s
   played_stands (cached at what) among playable w s =
-      on_chain_stands laws plans images adds (asked what) at (λ pasts n c f. asked_fits (place_of plans at) pasts n what c f) (λ c. refl) w s
+      chain_step (asked what) at (λ pasts n c f. asked_fits (place_of plans at) pasts n what c f) (asked_gives what) (λ c. refl) w s
   played_stands (rounds_plan count) among playable w s = rounds_stand count w s
   played_stands (times count plan) among playable w s =
       repeated_stands count (played plan) (played_stands plan (record { closing = among.closing; cutting = among.cutting }) playable.1) w s
@@ -203,23 +225,21 @@ module _ (laws : Laws) (plans : List Plan) (images : List Image) (adds : List �
 
 -- ---- The first world
 
-first_chains : (plans : List Plan) (from : ℕ) (adds : List ℕ) → AllStand plans [] from adds (new_chains adds)
+never_waits : (flag : Bool) → cond flag false false ≡ false
+never_waits true = refl
+never_waits false = refl
+
+first_chains : (plans : List Plan) (from : ℕ) (adds : List ℕ) → AllFit plans [] from adds (new_chains adds)
 first_chains plans from [] = tt
 first_chains plans from (n ∷ adds) = (
   record {
     calls = [];
-    ways = [];
-    may_be_called = tt;
-    may_happen = tt;
-    client = refl;
-    names = tt;
-    way = refl;
+    now = way_begun n;
+    way = record { ways = []; may = tt; is = refl };
+    agrees = record { client = refl; allowed = tt; route = refl; gave = refl; got = refl; lost = refl; talks = inl (refl, refl); talked = tt };
     unwanted = refl;
+    settled = never_waits (last_of (new_route n) == 0);
     opened = refl;
-    gave = refl;
-    got = refl;
-    talks = inl refl;
-    talked = tt;
   },
   first_chains plans (suc from) adds,
 )
@@ -238,6 +258,36 @@ first_stands plans images adds = record {
   numbered = subst (AreNumbered (Some 0) []) (sym (no_channels adds)) (record { differ = tt; below = tt; owned = tt });
 }
 
+-- ---- Each world
+
+module _ (laws : Laws) (images : List Image) where
+  gave_client : (channel : Option (EndValue ℕ)) → IsFreshIn channel → queue_of channel ≡ [] → IfSome channel (λ e. e.queued ≡ [])
+  gave_client None fresh none = tt
+  gave_client (Some e) fresh none = sym (ap (λ b. cond b [] e.queued) fresh) ∙ none
+
+  gave_agent : (k : ℕ) (r : AgentRun) → Reached images r → NoneAt r.agent k → IfSome (past_at k r.channels) (λ p. (run_of p).end.queued ≡ [])
+  gave_agent k r reached none = by_past (past_at k r.channels) refl
+    where
+      by_past : (there : Option Past) → past_at k r.channels ≡ there → IfSome there (λ p. (run_of p).end.queued ≡ [])
+      by_past None is = tt
+      by_past (Some past) is = (has_queue laws images k r reached).past past is ∙ none
+
+  gave_out : (plans : List Plan) (r : AgentRun) (agent : AgentValue) (at : ℕ) (adds : List ℕ) (chains : List ChainValue) → Reached images r → r.agent ≡ agent
+      → AllFit plans r.channels at adds chains → AllByRecursion ClientGave chains → AllByRecursion (AgentGave agent) chains → AllByRecursion (GaveOut r.channels) chains
+  gave_out plans r agent at [] [] reached same all clients agents = tt
+  gave_out plans r agent at [] (c ∷ chains) reached same all clients agents = absurd all
+  gave_out plans r agent at (n ∷ adds) [] reached same all clients agents = absurd all
+  gave_out plans r agent at (n ∷ adds) (c ∷ chains) reached same all clients agents = (
+    record {
+      client = gave_client c.client.channel (fresh_client laws (place_of plans at) r.channels n c.client all.0.calls all.0.agrees.client) clients.0;
+      agent = λ k is. gave_agent k r reached (subst (λ a. NoneAt a k) (sym same) (agents.0 k is));
+    },
+    gave_out plans r agent (suc at) adds chains reached same all.1 clients.1 agents.1,
+  )
+
 pub always_stands : Laws → StandsAfterEverySchedule
 always_stands laws images adds plans playable =
-    stands_so plans images adds (run plans (new_world images adds)) (run_stands laws plans images adds plans (all_among plans) playable (new_world images adds) (first_stands plans images adds))
+    let first = new_world images adds in
+    let w = run plans first in
+    let h : Standing plans images adds w × GaveAll w = run_stands laws plans images adds plans (all_among plans) playable first (first_stands plans images adds, first_gave first adds refl) in
+    stands_so plans images adds w h.0 (gave_out laws images plans h.0.run w.agent 0 adds w.chains h.0.reached h.0.agent h.0.chains h.1.clients h.1.agents)

@@ -72,16 +72,16 @@ changed_first k change (c ∷ cs) = by_flag (c.number == k) (changed_first k cha
         (ap (λ b. changed_at (within b (suc (first_place k cs))) change (c ∷ cs)) (lt_more (first_place k cs) (length cs))
         ∙ changed_behind (nat_lt (first_place k cs) (length cs)) (first_place k cs) change c cs ∙ ap (λ xs. c ∷ xs) rest)
 
-found_here : (k : ℕ) (c : Channel) (cs : List Channel) → (c.number == k) ≡ true → found k (c ∷ cs) ≡ Some c
+pub found_here : (k : ℕ) (c : Channel) (cs : List Channel) → (c.number == k) ≡ true → found k (c ∷ cs) ≡ Some c
 found_here k c cs is = ap (λ b. cond b (Some c) (found k cs)) is
 
-found_later : (k : ℕ) (c : Channel) (cs : List Channel) → (c.number == k) ≡ false → found k (c ∷ cs) ≡ found k cs
+pub found_later : (k : ℕ) (c : Channel) (cs : List Channel) → (c.number == k) ≡ false → found k (c ∷ cs) ≡ found k cs
 found_later k c cs is = ap (λ b. cond b (Some c) (found k cs)) is
 
-first_here : (k : ℕ) (change : End → End) (c : Channel) (cs : List Channel) → (c.number == k) ≡ true → in_first k change (c ∷ cs) ≡ with_end (change c.end) c ∷ cs
+pub first_here : (k : ℕ) (change : End → End) (c : Channel) (cs : List Channel) → (c.number == k) ≡ true → in_first k change (c ∷ cs) ≡ with_end (change c.end) c ∷ cs
 first_here k change c cs is = ap (λ b. cond b (with_end (change c.end) c ∷ cs) (c ∷ in_first k change cs)) is
 
-first_later : (k : ℕ) (change : End → End) (c : Channel) (cs : List Channel) → (c.number == k) ≡ false → in_first k change (c ∷ cs) ≡ c ∷ in_first k change cs
+pub first_later : (k : ℕ) (change : End → End) (c : Channel) (cs : List Channel) → (c.number == k) ≡ false → in_first k change (c ∷ cs) ≡ c ∷ in_first k change cs
 first_later k change c cs is = ap (λ b. cond b (with_end (change c.end) c ∷ cs) (c ∷ in_first k change cs)) is
 
 -- changed twice

@@ -10,10 +10,11 @@ use Rattle.chain_route.specs.Route.{reached as way_reached}
 use Rattle.chain_route.specs.Runs.{Past as WayPast, RouteRun, Talk, earlier_of, given_by, is_waiting, reached_past, reaches}
 use Rattle.chain_world.specs.Chain.{channels_of, numbered}
 use Rattle.chain_world.specs.ChainValue.{ChainValue}
-use Rattle.chain_world.specs.Standing.{Talked, Talks, TalksOn, past_at}
+use Rattle.chain_world.specs.Standing.{Talked, past_at}
 use Rattle.chain_world.proofs.Fitting.{Agrees, Fits, IsWay, Place, way_on}
 use Rattle.chain_world.proofs.Lists.{all_append}
-use Rattle.chain_world.proofs.Talks.{IsCameSame, talked_kept}
+use Rattle.chain_world.proofs.Talks.{IsCameSame, Talking, TalkingOn, talked_kept}
+use Rattle.chain_world.proofs.Unawaited.{reached_unawaited}
 
 -- a chain whose way waits for a channel of the agent
 pub record Waits (p : Place) (pasts : List Past) (adds : ℕ) (chain : ChainValue) : Type 0 where
@@ -33,7 +34,7 @@ earlier_kept p got has = by_flag p.is_reached
     by_flag true = Contains-append_left p.earlier (p.agent.got ∷ []) got has
     by_flag false = has
 
-last_earlier : (channel : Option ℕ) (did : Bool) (p : WayPast) (pasts : List Past) → TalksOn channel p pasts → AllByRecursion (Talked (reached_past did p) pasts) (option_to_list channel)
+last_earlier : (channel : Option ℕ) (did : Bool) (p : WayPast) (pasts : List Past) → TalkingOn channel p pasts → AllByRecursion (Talked (reached_past did p) pasts) (option_to_list channel)
 last_earlier None did p pasts t = tt
 last_earlier (Some k) did p pasts t =
     let has : Contains (earlier_of p) p.agent.got = subst (λ flag. Contains (cond flag (p.earlier ++ p.agent.got ∷ []) p.earlier) p.agent.got) (sym t.0) (Contains-push p.earlier p.agent.got) in
@@ -48,14 +49,14 @@ all_earlier p did now pasts chain calls a =
 -- ---- The new channel
 
 abbrev pub new_talk : Bool → Talk
-new_talk did = record { gave = given_by did; got = [] }
+new_talk did = record { gave = given_by did; got = []; is_lost = false }
 
 -- what is said of it at once
 abbrev pub BeginsOn : Option ℕ → Bool → List Past → Type 0
 BeginsOn None did pasts = did ≡ false
-BeginsOn (Some k) did pasts = Talks (past_at k pasts) (new_talk did)
+BeginsOn (Some k) did pasts = Talking (past_at k pasts) (new_talk did)
 
-begins_so : (channel : Option ℕ) (did : Bool) (p : WayPast) (pasts : List Past) → BeginsOn channel did pasts → TalksOn channel (reached_past did p) pasts
+begins_so : (channel : Option ℕ) (did : Bool) (p : WayPast) (pasts : List Past) → BeginsOn channel did pasts → TalkingOn channel (reached_past did p) pasts
 begins_so None did p pasts is = inr (ap given_by is)
 begins_so (Some k) did p pasts t = (refl, t)
 
@@ -77,9 +78,11 @@ reached_fits p pasts after adds chain channel did begins same w =
         route = ap (way_reached did) w.agrees.route;
         gave = w.agrees.gave;
         got = w.agrees.got;
+        lost = w.agrees.lost;
         talks = begins_so channel did w.now.past after begins;
         talked = talked_kept past past pasts after (channels_of chain) (λ got has. has) same (all_earlier p did w.now pasts chain w.calls w.agrees);
       };
       unwanted = refl;
+      settled = reached_unawaited did w.now;
       opened = w.opened;
     }

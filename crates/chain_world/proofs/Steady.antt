@@ -160,7 +160,7 @@ below_steady at r = by_flag (at == 0)
     by_flag true = steady_none r
     by_flag false = upper_steady (at - 1) r
 
-joined_steady : (at : ℕ) (r : RouteValue) → IsSteady r (joined at r)
+pub joined_steady : (at : ℕ) (r : RouteValue) → IsSteady r (joined at r)
 joined_steady at r =
     let next = on_hop (λ h. hop.connected []) at r in steady_then r next (joined at r) (hop_steady (λ h. hop.connected []) at r) (below_steady at next)
 

@@ -1,6 +1,7 @@
 -- The steps of a chain and the agent.
-use Rattle.std.proofs.Common.{◌≡◌, ℕ, zero, suc, ◌==◌, Bool, true, false, not, cond, List, [], ◌∷◌, Option, Some, None, refl, sym, ap, ◌∙◌, subst, append-nil, eqb-true, eq-eqb, inl, inr}
-use Rattle.std.specs.Prelude.{option_to_list}
+use Rattle.std.proofs.Common.{◌≡◌, ℕ, zero, suc, ◌==◌, Bool, true, false, not, cond, List, [], ◌∷◌, Option, Some, None, refl, sym, ap, ◌∙◌, subst, eqb-true, eq-eqb, inl, inr}
+use Rattle.std.proofs.lemmas.Option.{none-some, same_Some}
+use Rattle.std.specs.Prelude.{option_map, option_to_list}
 use Rattle.std.specs.List.{Contains, list_any}
 use Rattle.channel_core.specs.Closing.{is_closed}
 use Rattle.channel_core.specs.Runs.{ending}
@@ -8,24 +9,27 @@ use Rattle.channel_core.specs.declared.held.Outgoing.{Outgoing}
 use Rattle.client_node.specs.Runs.{bytes_end as client_bytes_end, called}
 use Rattle.target_contexts.specs.declared.process.Image.{Image}
 use Rattle.agent_node.specs.Channels.{channel_end}
-use Rattle.agent_node.specs.Runs.{AgentRun, Past, after_all, after_call as agent_call, bytes_end, on_number, run_of}
+use Rattle.agent_node.specs.Runs.{AgentRun, Past, after_all, after_call as agent_call, bytes_end, run_of, with_calls}
 use Rattle.value_node.specs.declared.states.Side.TheVariants.{Below}
-use Rattle.chain_route.specs.Lane.{arriving, size_in}
+use Rattle.chain_route.specs.Hop as hop
+use Rattle.chain_route.specs.Lane.{arriving, size_in, staying}
 use Rattle.chain_route.specs.Passing.{most_bytes}
 use Rattle.chain_route.specs.Route as route
 use Rattle.chain_route.specs.Route.{arrived_up, delivered_at, flight_up, last_of, sent_down}
 use Rattle.chain_route.specs.RouteValue.{RouteValue}
-use Rattle.chain_route.specs.Runs.{RouteRun, Talk, arrives_up, cuts, gets, gives, sends_down, with_agent}
+use Rattle.chain_route.specs.Runs.{RouteRun, Talk, arrives_up, gets, gives, sends_down, with_agent}
 use Rattle.chain_world.specs.Chain.{Both, all_dropped, all_up, both, came_up, carried_down, carried_from, channels_of, client_cut, cut, cut_by, delivered_over, delivered_to, delivered_up, ended_from, parts_delivered, pieces_up, queue_of, takes_up}
 use Rattle.chain_world.specs.ChainValue.{ChainValue}
-use Rattle.chain_world.specs.Standing.{AllDiffer, cuts_at, Talks, came_to, past_at}
-use Rattle.chain_world.proofs.Agents.{Laws, Reached, Touch, calls_of, gifts, gifts_emptied, gifts_past, has_queue, leaves_others, pieces, pieces_agent, pieces_closed, pieces_none, pieces_open, reached_more}
-use Rattle.chain_world.proofs.Chains.{client_fits, delivers_fits, inside_fits}
+use Rattle.chain_world.specs.Standing.{AllDiffer, cuts_at, came_to, past_at}
+use Rattle.chain_world.proofs.Agents.{Laws, Reached, Touch, an_end, calls_of, gifts, gifts_emptied, gifts_past, has_queue, leaves_others, pieces, pieces_agent, pieces_closed, pieces_none, pieces_open, reached_more}
+use Rattle.chain_world.proofs.Chains.{delivers_fits}
+use Rattle.chain_world.proofs.Cutting.{cut_fits}
 use Rattle.chain_world.proofs.Fitting.{Fits, Place}
-use Rattle.chain_world.proofs.Keeping.{Goes, IsMove, IsSameTo, Moved, agent_fits, earlier_channel, fits_after, goes_none, goes_of, goes_then, is_reached, moved_then, own_channel, reached_goes, same_to, still}
+use Rattle.chain_world.proofs.Keeping.{Goes, IsMove, IsSameTo, Moved, agent_fits, earlier_channel, fits_after, goes_none, goes_of, goes_then, is_reached, moved_then, own_channel, reached_goes, still}
 use Rattle.chain_world.proofs.Numbers.{differ_parts, first_or, here, later, none_in}
-use Rattle.chain_world.proofs.Pasts.{keeps_one, keeps_same, numbers_mapped, on_number_keeps}
-use Rattle.chain_world.proofs.Talks.{HasQueued, IsCameSame, came_put, talks_dropped, talks_put, talks_taken}
+use Rattle.chain_world.proofs.Pasts.{at_one, keeps_same}
+use Rattle.chain_world.proofs.Talks.{HasQueued, IsCameSame, Talking, came_cut, came_put, talks_dropped, talks_put, talks_taken}
+use Rattle.chain_world.proofs.Unawaited.{cut_last, hop_unawaited}
 
 -- ---- What a channel queued is given out
 
@@ -38,7 +42,20 @@ came_gifts k j queue r = by_flag (j == k) refl
         subst (IsCameSame r.channels (after_all (calls_of k (gifts queue)) r).channels) (sym same) (ap came_to (gifts_past k queue r) ∙ came_put queue (past_at k r.channels))
     by_flag false is = ap came_to ((leaves_others k (gifts queue) r).others j (λ same. let yes : (j == k) ≡ true = eq-eqb j k same in absurd cc))
 
--- what is queued for these channels is dropped
+-- ---- The bytes of a channel end
+
+ended_past : (k j : ℕ) (r : AgentRun) → j ≡ k → past_at j (agent_call (bytes_end k) r).channels ≡ option_map (with_calls (ending ∷ [])) (past_at j r.channels)
+ended_past k j r same = subst (λ n. past_at n (agent_call (bytes_end k) r).channels ≡ option_map (with_calls (ending ∷ [])) (past_at n r.channels)) (sym same) (at_one k (ending ∷ []) r.channels)
+
+came_ended : (k j : ℕ) (r : AgentRun) → IsCameSame r.channels (agent_call (bytes_end k) r).channels j
+came_ended k j r = by_flag (j == k) refl
+  where
+    by_flag : (flag : Bool) → (j == k) ≡ flag → IsCameSame r.channels (agent_call (bytes_end k) r).channels j
+    by_flag true is = ap came_to (ended_past k j r (eqb-true j k is)) ∙ came_cut (past_at j r.channels)
+    by_flag false is = ap came_to ((leaves_others k (an_end ∷ []) r).others j (λ same. let yes : (j == k) ≡ true = eq-eqb j k same in absurd cc))
+
+-- ---- What is queued for these channels is dropped
+
 record Dropped (r : AgentRun) (channels : List ℕ) : Type 0 where
   next : AgentRun
   goes : Goes r next channels
@@ -107,7 +124,8 @@ module _ (laws : Laws) (images : List Image) (p : Place) where
             channels_are = refl;
             fits = agent_fits p r.channels next.channels adds c k f (sends_down queue) (sent_down queue) (gives queue f.now.past.agent) is tt
                 (ap (λ b. cond {A = RouteRun} b (record { route = sent_down queue f.now.route; past = past }) f.now) reaches)
-                (λ t. subst (λ there. Talks there (gives queue f.now.past.agent)) (sym (gifts_past k queue r)) (talks_put queue (past_at k r.channels) f.now.past.agent (queued_at k r reached) t))
+                (hop_unawaited (hop.sent_down queue) (last_of f.now.route) f.now past refl f.settled)
+                (λ t. subst (λ there. Talking there (gives queue f.now.past.agent)) (sym (gifts_past k queue r)) (talks_put queue (past_at k r.channels) f.now.past.agent (queued_at k r reached) t))
                 (λ j has. came_gifts k j queue r);
           }
 
@@ -131,69 +149,57 @@ module _ (laws : Laws) (images : List Image) (p : Place) where
   abbrev pub MayCut : ℕ → Type 0
   MayCut hop = list_any (cuts_at p.at hop) p.plans ≡ true
 
-  gone_goes : (k : ℕ) (r : AgentRun) (channels : List ℕ) → Goes r (agent_call (bytes_end k) r) channels
-  gone_goes k r channels = record {
-    calls = bytes_end k ∷ [];
-    is = refl;
-    history = append-nil r.history;
-    numbers = numbers_mapped (on_number k (ending ∷ [])) (on_number_keeps k (ending ∷ [])) r.channels;
-    others = λ j apart. keeps_one k (ending ∷ []) (tt, tt) j r.channels;
-  }
-
-  gone_move : (r : AgentRun) (adds : ℕ) (c : ChainValue) (channel : Option ℕ) → Fits p r.channels adds c → Moved p r adds (channels_of c) (both c (ended_from channel r.agent))
-  gone_move r adds c None f = still p r adds (channels_of c) c refl f
-  gone_move r adds c (Some k) f =
-      let next = agent_call (bytes_end k) r in
-      record {
-        next = next;
-        goes = gone_goes k r (channels_of c);
-        agent = refl;
-        channels_are = refl;
-        fits = fits_after laws p r.channels next.channels adds c (same_to c r.channels next.channels (λ j has. keeps_one k (ending ∷ []) (tt, tt) j r.channels)) f;
-      }
-
-  client_gone : (pasts : List Past) (adds hop : ℕ) (c : ChainValue) → MayCut hop → Fits p pasts adds c → Fits p pasts adds (client_cut hop c)
-  client_gone pasts adds hop c may f = by_flag (hop == 0) refl
-    where
-      by_flag : (flag : Bool) → (hop == 0) ≡ flag → Fits p pasts adds (cond flag (record c { client = called client_bytes_end c.client }) c)
-      by_flag true is = client_fits p pasts adds c client_bytes_end tt (tt, subst MayCut (eqb-true hop 0 is) may) tt f
-      by_flag false is = f
-
-  client_channels : (hop : ℕ) (c : ChainValue) → channels_of (client_cut hop c) ≡ channels_of c
-  client_channels hop c = by_flag (hop == 0)
-    where
-      by_flag : (flag : Bool) → channels_of (cond flag (record c { client = called client_bytes_end c.client }) c) ≡ channels_of c
-      by_flag true = refl
-      by_flag false = refl
+  client_channels : (first : Bool) (c next : ChainValue) → channels_of next ≡ channels_of c → channels_of (cond first next c) ≡ channels_of c
+  client_channels true c next same = same
+  client_channels false c next same = refl
 
   pub cut_move : (hop : ℕ) → MayCut hop → IsMove images p (cut hop)
   cut_move hop may r adds c reached differ f = by_pair (route.cut hop c.route) refl
     where
-      lost : (last : Bool) (d : ChainValue) (channel : Option ℕ) → channels_of d ≡ channels_of c → Fits p r.channels adds d → Moved p r adds (channels_of c) (both d (cond last (ended_from channel r.agent) r.agent))
-      lost true d channel same g = subst (λ ks. Moved p r adds ks (both d (ended_from channel r.agent))) same (gone_move r adds d channel g)
-      lost false d channel same g = still p r adds (channels_of c) d same g
-
       by_pair : (x : Bool × RouteValue) → route.cut hop c.route ≡ x → Moved p r adds (channels_of c) (cut_by hop x c r.agent)
       by_pair (false, q) is = still p r adds (channels_of c) c refl f
-      by_pair (true, q) is =
-          let d : ChainValue = record c { route = q } in
-          let g : Fits p r.channels adds d = subst (λ (x : Bool × RouteValue). Fits p r.channels adds (record c { route = x.1 })) is (inside_fits p r.channels adds c (cuts hop) (λ x. (route.cut hop x).1) may (record { is = λ x. refl }) f) in
-          lost (hop == last_of q) (client_cut hop d) c.channel (client_channels hop d) (client_gone r.channels adds hop d may g)
+      by_pair (true, q) is = by_last (hop == last_of q) refl c.channel refl
+        where
+          d : ChainValue
+          d = record c { route = q }
+
+          last_is : last_of q ≡ last_of c.route
+          last_is = ap (λ (x : Bool × RouteValue). last_of x.1) (sym is) ∙ cut_last hop c.route
+
+          channels_are : channels_of (client_cut hop d) ≡ channels_of c
+          channels_are = client_channels (hop == 0) d (record d { client = called client_bytes_end d.client }) refl
+
+          by_last : (last : Bool) → (hop == last_of q) ≡ last → (channel : Option ℕ) → c.channel ≡ channel → Moved p r adds (channels_of c) (both (client_cut hop d) (cond last (ended_from channel r.agent) r.agent))
+          by_last false is_last channel there =
+              still p r adds (channels_of c) (client_cut hop d) channels_are
+              (cut_fits laws p r.channels r.channels adds hop c q false may is (ap (λ n. hop == n) (sym last_is) ∙ is_last) (λ k on. refl) (λ j has. refl) f (hop == 0) refl)
+          by_last true is_last None there =
+              still p r adds (channels_of c) (client_cut hop d) channels_are
+              (cut_fits laws p r.channels r.channels adds hop c q true may is (ap (λ n. hop == n) (sym last_is) ∙ is_last) (λ k on. absurd (none-some k (sym there ∙ on))) (λ j has. refl) f (hop == 0) refl)
+          by_last true is_last (Some k) there =
+              let next = agent_call (bytes_end k) r in
+              record {
+                next = next;
+                goes = goes_of r next (k ∷ []) (channels_of c) (one_of k (channels_of c) (own_channel c k there)) (touched k (an_end ∷ []) r);
+                agent = refl;
+                channels_are = channels_are;
+                fits = cut_fits laws p r.channels next.channels adds hop c q true may is (ap (λ n. hop == n) (sym last_is) ∙ is_last) (λ j on. ended_past k j r (same_Some j k (sym on ∙ there))) (λ j has. came_ended k j r) f (hop == 0) refl;
+              }
 
   -- ---- What is in flight comes up
 
-  abbrev TalksThen : ℕ → AgentRun → List Outgoing → Talk → Type 0
-  TalksThen k r parts talk = Talks (past_at k (after_all (calls_of k (pieces parts)) r).channels) (gets parts talk)
+  abbrev TalkingThen : ℕ → AgentRun → List Outgoing → Talk → Type 0
+  TalkingThen k r parts talk = Talking (past_at k (after_all (calls_of k (pieces parts)) r).channels) (gets parts talk)
 
-  came_talks : (k : ℕ) (r : AgentRun) (parts : List Outgoing) (talk : Talk) → Talks (past_at k r.channels) talk → TalksThen k r parts talk
+  came_talks : (k : ℕ) (r : AgentRun) (parts : List Outgoing) (talk : Talk) → Talking (past_at k r.channels) talk → TalkingThen k r parts talk
   came_talks k r parts talk t = by_past (past_at k r.channels) refl t
     where
-      by_state : (past : Past) (flag : Bool) → is_closed (run_of past).end.state ≡ flag → past_at k r.channels ≡ Some past → Talks (Some past) talk → TalksThen k r parts talk
-      by_state past true is there t = subst (λ o. Talks o (gets parts talk)) (sym (pieces_closed k parts r past is there)) (talks_dropped parts (Some past) talk (ap not is) t)
-      by_state past false is there t = subst (λ o. Talks o (gets parts talk)) (sym (pieces_open laws.closes k parts r past is there)) (talks_taken parts past talk is t)
+      by_state : (past : Past) (flag : Bool) → is_closed (run_of past).end.state ≡ flag → past_at k r.channels ≡ Some past → Talking (Some past) talk → TalkingThen k r parts talk
+      by_state past true is there t = subst (λ o. Talking o (gets parts talk)) (sym (pieces_closed k parts r past is there)) (talks_dropped parts (Some past) talk (ap not is) t)
+      by_state past false is there t = subst (λ o. Talking o (gets parts talk)) (sym (pieces_open laws.closes k parts r past is there)) (talks_taken parts past talk is t)
 
-      by_past : (there : Option Past) → past_at k r.channels ≡ there → Talks there talk → TalksThen k r parts talk
-      by_past None is t = subst (λ o. Talks o (gets parts talk)) (sym (pieces_none k parts r is)) (talks_dropped parts None talk refl t)
+      by_past : (there : Option Past) → past_at k r.channels ≡ there → Talking there talk → TalkingThen k r parts talk
+      by_past None is t = subst (λ o. Talking o (gets parts talk)) (sym (pieces_none k parts r is)) (talks_dropped parts None talk refl t)
       by_past (Some past) is t = by_state past (is_closed (run_of past).end.state) refl is t
 
   came_move : (k count : ℕ) (r : AgentRun) (adds : ℕ) (c : ChainValue) → c.channel ≡ Some k → AllDiffer (channels_of c) → Fits p r.channels adds c
@@ -210,6 +216,7 @@ module _ (laws : Laws) (images : List Image) (p : Place) where
         channels_are = refl;
         fits = agent_fits p r.channels next.channels adds c k f (arrives_up count) (arrived_up count) (gets parts f.now.past.agent) is tt
             (ap (λ outs. record { route = arrived_up count f.now.route; past = with_agent (gets outs f.now.past.agent) f.now.past }) same)
+            (hop_unawaited (λ h. record h { up = staying count h.up }) (last_of f.now.route) f.now (with_agent (gets parts f.now.past.agent) f.now.past) refl f.settled)
             (came_talks k r parts f.now.past.agent)
             (λ j has. ap came_to ((leaves_others k (pieces parts) r).others j (λ equal. apart j has (subst (λ ch. Contains (option_to_list ch) j) (sym is) (subst (Contains (k ∷ [])) (sym equal) (here k []))))));
       }

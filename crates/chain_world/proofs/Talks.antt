@@ -1,21 +1,36 @@
 -- What goes on between a way and the agent's channels: while only idle calls are added to a channel, nothing changes.
-use Rattle.std.proofs.Common.{◌≡◌, ℕ, Bool, true, false, not, List, [], ◌∷◌, ◌++◌, Option, Some, None, refl, sym, ap, ◌∙◌, subst, append-nil, ◌⊎◌}
+use Rattle.std.proofs.Common.{◌≡◌, ℕ, Bool, true, false, not, ◌||◌, List, [], ◌∷◌, ◌++◌, Option, Some, None, refl, sym, ap, ◌∙◌, subst, append-nil, ◌⊎◌, inl, inr, cond}
 use Rattle.std.specs.Prelude.{option_map}
-use Rattle.std.specs.List.{AllByRecursion, Contains}
+use Rattle.std.specs.List.{AllByRecursion, Contains, list_any}
 use Rattle.channel_core.specs.Arrivals.{IsFront, Marked, arrived}
 use Rattle.channel_core.specs.Closing.{is_closed}
-use Rattle.channel_core.specs.Runs.{Call as EndCall, Run, after_call, after_calls, delivering, putting_out}
+use Rattle.channel_core.specs.Receiving.{is_over, with_last}
+use Rattle.channel_core.specs.Runs.{Call as EndCall, Run, after_call, after_calls, delivering, ending, putting_out}
 use Rattle.channel_core.specs.Wire.{end_of_stream}
 use Rattle.channel_core.specs.declared.held.Outgoing.{Outgoing}
+use Rattle.channel_core.specs.declared.states.Cause.TheVariants.{Ended}
+use Rattle.channel_faults.specs.Faults.{is_ending}
 use Rattle.agent_node.specs.Runs.{Past, run_of, with_calls}
 use Rattle.chain_route.specs.Runs.{Past as WayPast, Talk, gets, gives}
 use Rattle.target_hub.specs.Sent.{agent_services}
-use Rattle.chain_world.specs.Standing.{Talked, Talks, TalksOn, came_to, given_to, is_taking, past_at, unmarked}
+use Rattle.chain_world.specs.Standing.{Loses, Talked, came_to, given_to, is_taking, past_at, unmarked}
 use Rattle.chain_world.proofs.Agents.{Laws, delivering_all, delivering_arrived, run_more}
 use Rattle.chain_world.proofs.Bytes.{front_more, front_same, unmarked_more}
-use Rattle.chain_world.proofs.Calls.{AreIdle, all_put, arrived_more, idle_arrived, idle_given, putting, putting_arrived}
+use Rattle.chain_world.proofs.Calls.{AreIdle, all_put, arrived_more, endings_more, idle_arrived, idle_endless, idle_given, or_none, or_yes, putting, putting_arrived, putting_endless}
 use Rattle.chain_world.proofs.Numbers.{here, later}
 use Rattle.chain_world.proofs.Pasts.{Grows, Keeps}
+
+-- ---- What is said of a channel, also while the agent has something queued for it
+
+pub record Talking (past : Option Past) (talk : Talk) : Type 0 where
+  pub gave : talk.gave ≡ given_to past
+  pub lost : Loses past talk
+  pub came : is_taking past ≡ true → unmarked talk.got ≡ came_to past
+  pub front : IsFront (came_to past) (unmarked talk.got)
+
+abbrev pub TalkingOn : Option ℕ → WayPast → List Past → Type 0
+TalkingOn None p pasts = ((p.is_reached ≡ false) × (p.agent.gave ≡ [])) ⊎ (p.agent.gave ≡ end_of_stream ∷ [])
+TalkingOn (Some k) p pasts = (p.is_reached ≡ true) × Talking (past_at k pasts) p.agent
 
 -- ---- Idle calls are added
 
@@ -26,6 +41,12 @@ given_idle calls idle (Some past) = ap (λ r. r.past.given) (run_more calls past
 came_more : (calls : List (EndCall Unit)) → arrived calls ≡ [] → (before : Option Past) → came_to (option_map (with_calls calls) before) ≡ came_to before
 came_more calls none None = refl
 came_more calls none (Some past) = arrived_more past.calls calls ∙ ap (λ bs. arrived past.calls ++ bs) none ∙ append-nil (arrived past.calls)
+
+-- the bytes of a channel haven't ended by these calls
+lost_more : (calls : List (EndCall Unit)) (before : Option Past) (talk later : Talk) → list_any is_ending calls ≡ false → later.is_lost ≡ talk.is_lost → Loses before talk → Loses (option_map (with_calls calls) before) later
+lost_more calls None talk later none same lost = tt
+lost_more calls (Some past) talk later none same lost =
+    same ∙ lost ∙ sym (endings_more past.calls calls ∙ ap (λ b. list_any is_ending past.calls || b) none ∙ or_none (list_any is_ending past.calls))
 
 open_before : Laws → (calls : List (EndCall Unit)) (past : Past) → is_taking (Some (with_calls calls past)) ≡ true → is_taking (Some past) ≡ true
 open_before laws calls past takes = by_flag (is_closed (run_of past).end.state) refl
@@ -44,11 +65,12 @@ taking_before laws calls (Some past) takes = open_before laws calls past takes
 pub came_grown : (before after : Option Past) → Grows before after → came_to after ≡ came_to before
 came_grown before after grows = ap came_to grows.2 ∙ came_more grows.0 (idle_arrived grows.0 grows.1) before
 
-pub talks_grown : Laws → (before after : Option Past) (talk : Talk) → Grows before after → Talks before talk → Talks after talk
+pub talks_grown : Laws → (before after : Option Past) (talk : Talk) → Grows before after → Talking before talk → Talking after talk
 talks_grown laws before after talk grows t =
-    subst (λ past. Talks past talk) (sym grows.2)
+    subst (λ past. Talking past talk) (sym grows.2)
     (record {
       gave = t.gave ∙ sym (given_idle grows.0 grows.1 before);
+      lost = lost_more grows.0 before talk talk (idle_endless grows.0 grows.1) refl t.lost;
       came = λ takes. t.came (taking_before laws grows.0 before takes) ∙ sym (came_more grows.0 (idle_arrived grows.0 grows.1) before);
       front = subst (λ bs. IsFront bs (unmarked talk.got)) (sym (came_more grows.0 (idle_arrived grows.0 grows.1) before)) t.front;
     })
@@ -76,9 +98,10 @@ put_given : (queue : List Outgoing) (before : Option Past) → HasQueued before 
 put_given queue None is = sym (append-nil (given_to None)) ∙ ap (λ q. given_to None ++ q) (sym is)
 put_given queue (Some past) is = ap (λ r. r.past.given) (run_more (putting queue) past) ∙ all_put queue (run_of past) is
 
-pub talks_put : (queue : List Outgoing) (before : Option Past) (talk : Talk) → HasQueued before queue → Talks before talk → Talks (option_map (with_calls (putting queue)) before) (gives queue talk)
+pub talks_put : (queue : List Outgoing) (before : Option Past) (talk : Talk) → HasQueued before queue → Talking before talk → Talking (option_map (with_calls (putting queue)) before) (gives queue talk)
 talks_put queue before talk is t = record {
   gave = ap (λ outs. outs ++ queue) t.gave ∙ sym (put_given queue before is);
+  lost = lost_more (putting queue) before talk (gives queue talk) (putting_endless Unit queue) refl t.lost;
   came = λ takes. t.came (sym (put_taking queue before) ∙ takes) ∙ sym (came_put queue before);
   front = subst (λ bs. IsFront bs (unmarked talk.got)) (sym (came_put queue before)) t.front;
 }
@@ -89,15 +112,23 @@ front_got : (came : List Marked) (talk : Talk) (parts : List Outgoing) → IsFro
 front_got came talk parts front =
     front_same came (unmarked talk.got ++ unmarked parts) (unmarked (talk.got ++ parts)) (sym (unmarked_more talk.got parts)) (front_more came (unmarked talk.got) (unmarked parts) front)
 
+lost_same : (past : Option Past) (talk later : Talk) → later.is_lost ≡ talk.is_lost → Loses past talk → Loses past later
+lost_same None talk later same lost = tt
+lost_same (Some past) talk later same lost = same ∙ lost
+
 -- a closed end, or none, takes nothing
-pub talks_dropped : (parts : List Outgoing) (past : Option Past) (talk : Talk) → is_taking past ≡ false → Talks past talk → Talks past (gets parts talk)
-talks_dropped parts past talk shut t = record { gave = t.gave; came = λ takes. absurd cc; front = front_got (came_to past) talk parts t.front }
+pub talks_dropped : (parts : List Outgoing) (past : Option Past) (talk : Talk) → is_taking past ≡ false → Talking past talk → Talking past (gets parts talk)
+talks_dropped parts past talk shut t = record { gave = t.gave; lost = lost_same past talk (gets parts talk) refl t.lost; came = λ takes. absurd cc; front = front_got (came_to past) talk parts t.front }
 
 delivered_gave : (parts : List Outgoing) (r : Run Unit) → (after_calls (delivering_all parts) r).past.given ≡ r.past.given
 delivered_gave [] r = refl
 delivered_gave (part ∷ parts) r = delivered_gave parts (after_call (delivering part.bytes None) r)
 
-pub talks_taken : (parts : List Outgoing) (past : Past) (talk : Talk) → is_closed (run_of past).end.state ≡ false → Talks (Some past) talk → Talks (Some (with_calls (delivering_all parts) past)) (gets parts talk)
+delivered_endless : (parts : List Outgoing) → list_any is_ending (delivering_all parts) ≡ false
+delivered_endless [] = refl
+delivered_endless (part ∷ parts) = delivered_endless parts
+
+pub talks_taken : (parts : List Outgoing) (past : Past) (talk : Talk) → is_closed (run_of past).end.state ≡ false → Talking (Some past) talk → Talking (Some (with_calls (delivering_all parts) past)) (gets parts talk)
 talks_taken parts past talk takes t =
     let before : unmarked talk.got ≡ arrived past.calls = t.came (ap not takes) in
     let all : unmarked (talk.got ++ parts) ≡ arrived (past.calls ++ delivering_all parts) =
@@ -105,9 +136,31 @@ talks_taken parts past talk takes t =
     ∙ sym (arrived_more past.calls (delivering_all parts)) in
     record {
       gave = t.gave ∙ sym (ap (λ r. r.past.given) (run_more (delivering_all parts) past) ∙ delivered_gave parts (run_of past));
+      lost = lost_more (delivering_all parts) (Some past) talk (gets parts talk) (delivered_endless parts) refl t.lost;
       came = λ _. all;
       front = ([], all ∙ sym (append-nil (arrived (past.calls ++ delivering_all parts))));
     }
+
+-- ---- Its bytes end
+
+cut_state : (r : Run Unit) → is_closed (after_call ending r).end.state ≡ is_closed r.end.state
+cut_state r = by_flag (is_over r.end)
+  where
+    by_flag : (flag : Bool) → is_closed (cond flag r.end (with_last Ended r.end)).state ≡ is_closed r.end.state
+    by_flag true = refl
+    by_flag false = refl
+
+pub came_cut : (before : Option Past) → came_to (option_map (with_calls (ending ∷ [])) before) ≡ came_to before
+came_cut before = came_more (ending ∷ []) refl before
+
+pub talks_cut : (before : Option Past) (talk : Talk) → Talking before talk → Talking (option_map (with_calls (ending ∷ [])) before) (record talk { is_lost = true })
+talks_cut None talk t = record { gave = t.gave; lost = tt; came = t.came; front = t.front }
+talks_cut (Some past) talk t = record {
+  gave = t.gave ∙ sym (ap (λ r. r.past.given) (run_more (ending ∷ []) past));
+  lost = sym (endings_more past.calls (ending ∷ []) ∙ or_yes (list_any is_ending past.calls));
+  came = λ takes. t.came (sym (ap (λ r. not (is_closed r.end.state)) (run_more (ending ∷ []) past) ∙ ap not (cut_state (run_of past))) ∙ takes) ∙ sym (came_cut (Some past));
+  front = subst (λ bs. IsFront bs (unmarked talk.got)) (sym (came_cut (Some past))) t.front;
+}
 
 -- ---- The channels of a chain
 
@@ -120,14 +173,19 @@ pub record IsSameAbove (p q : WayPast) : Type 0 where
 pub same_above : (p : WayPast) → IsSameAbove p p
 same_above p = record { reached = refl; agent = refl; earlier = refl }
 
-pub talks_same : (channel : Option ℕ) (p q : WayPast) (pasts : List Past) → IsSameAbove p q → TalksOn channel p pasts → TalksOn channel q pasts
-talks_same None p q pasts same t = subst (λ talk. (talk.gave ≡ []) ⊎ (talk.gave ≡ end_of_stream ∷ [])) (sym same.agent) t
-talks_same (Some k) p q pasts same t = (same.reached ∙ t.0, subst (Talks (past_at k pasts)) (sym same.agent) t.1)
+-- to no channel nothing was given, or the end of the stream
+pub none_same : (p q : WayPast) → q.is_reached ≡ p.is_reached → q.agent.gave ≡ p.agent.gave → TalkingOn None p [] → TalkingOn None q []
+none_same p q reached gave (inl none) = inl (reached ∙ none.0, gave ∙ none.1)
+none_same p q reached gave (inr refused) = inr (gave ∙ refused)
 
-pub talks_kept : Laws → (channel : Option ℕ) (p q : WayPast) (pasts after : List Past) → IsSameAbove p q → ((j : ℕ) → channel ≡ Some j → Keeps j pasts after) → TalksOn channel p pasts → TalksOn channel q after
+pub talks_same : (channel : Option ℕ) (p q : WayPast) (pasts : List Past) → IsSameAbove p q → TalkingOn channel p pasts → TalkingOn channel q pasts
+talks_same None p q pasts same t = none_same p q same.reached (ap (λ talk. talk.gave) same.agent) t
+talks_same (Some k) p q pasts same t = (same.reached ∙ t.0, subst (Talking (past_at k pasts)) (sym same.agent) t.1)
+
+pub talks_kept : Laws → (channel : Option ℕ) (p q : WayPast) (pasts after : List Past) → IsSameAbove p q → ((j : ℕ) → channel ≡ Some j → Keeps j pasts after) → TalkingOn channel p pasts → TalkingOn channel q after
 talks_kept laws None p q pasts after same keeps t = talks_same None p q after same t
 talks_kept laws (Some k) p q pasts after same keeps t =
-    (same.reached ∙ t.0, subst (Talks (past_at k after)) (sym same.agent) (talks_grown laws (past_at k pasts) (past_at k after) p.agent (keeps k refl) t.1))
+    (same.reached ∙ t.0, subst (Talking (past_at k after)) (sym same.agent) (talks_grown laws (past_at k pasts) (past_at k after) p.agent (keeps k refl) t.1))
 
 abbrev pub IsCameSame : List Past → List Past → ℕ → Type 0
 IsCameSame pasts after j = came_to (past_at j after) ≡ came_to (past_at j pasts)

@@ -19,12 +19,12 @@ use Rattle.chain_world.specs.Standing.{AllDiffer, AllStand, AreNumbered, Stands}
 use Rattle.chain_world.specs.World.{All, all_carried, carried, on_chain, on_some, tick_of, ticked_in, with_agent, with_both, with_chain, with_input, with_some}
 use Rattle.chain_world.specs.WorldValue.{WorldValue}
 use Rattle.chain_world.proofs.Agents.{Laws, Reached, reached_more}
-use Rattle.chain_world.proofs.Fitting.{Fits, fits_of, stands_of}
+use Rattle.chain_world.proofs.Fitting.{AllFit, Fits, GaveOut, all_stand, place_of}
 use Rattle.chain_world.proofs.Keeping.{Goes, IsMove, Moved, fits_kept, goes_none, goes_of, goes_then, reached_goes}
 use Rattle.chain_world.proofs.Numbers.{all_channels, at_differ, differ_parts, set_channels}
 use Rattle.chain_world.proofs.Pasts.{Keeps, keeps_same, keeps_ticked, keeps_turned, ticked_numbers, turned_numbers}
 use Rattle.chain_world.proofs.Steps.{carry_move}
-use Rattle.chain_world.proofs.Places.{each_kept, place_of, set_stands, stands_at}
+use Rattle.chain_world.proofs.Places.{each_kept, set_stands, stands_at}
 
 -- ---- The numbers
 
@@ -52,17 +52,17 @@ pub record Standing (plans : List Plan) (images : List Image) (adds : List ℕ) 
   pub reached : Reached images run
   pub agent : run.agent ≡ w.agent
   pub history : run.history ≡ w.history
-  pub chains : AllStand plans run.channels 0 adds w.chains
+  pub chains : AllFit plans run.channels 0 adds w.chains
   pub numbered : AreNumbered w.next run.channels (all_channels w.chains)
 
-pub stands_so : (plans : List Plan) (images : List Image) (adds : List ℕ) (w : WorldValue) → Standing plans images adds w → Stands plans images adds w
-stands_so plans images adds w s =
+pub stands_so : (plans : List Plan) (images : List Image) (adds : List ℕ) (w : WorldValue) → (s : Standing plans images adds w) → AllByRecursion (GaveOut s.run.channels) w.chains → Stands plans images adds w
+stands_so plans images adds w s gave =
     let is : after_all s.reached.calls (no_calls images) ≡ s.run = s.reached.is in
     record {
       calls = s.reached.calls;
       agent = ap (λ x. x.agent) is ∙ s.agent;
       history = ap (λ x. x.history) is ∙ s.history;
-      chains = subst (λ x. AllStand plans x.channels 0 adds w.chains) (sym is) s.chains;
+      chains = subst (λ x. AllStand plans x.channels 0 adds w.chains) (sym is) (all_stand plans s.run.channels 0 adds w.chains gave s.chains);
       numbered = subst (λ x. AreNumbered w.next x.channels (all_channels w.chains)) (sym is) s.numbered;
     }
 
@@ -120,9 +120,9 @@ module _ (laws : Laws) (plans : List Plan) (images : List Image) (adds : List �
     goes : Goes r next (all_channels chains)
     agent : next.agent ≡ all.agent
     channels_are : all_channels all.chains ≡ all_channels chains
-    stands : AllStand plans next.channels from counts all.chains
+    stands : AllFit plans next.channels from counts all.chains
 
-  all_moved : (from : ℕ) (counts : List ℕ) (chains : List ChainValue) (r : AgentRun) → Reached images r → AllDiffer (all_channels chains) → AllStand plans r.channels from counts chains → AllMoved from r counts chains (all_carried chains r.agent)
+  all_moved : (from : ℕ) (counts : List ℕ) (chains : List ChainValue) (r : AgentRun) → Reached images r → AllDiffer (all_channels chains) → AllFit plans r.channels from counts chains → AllMoved from r counts chains (all_carried chains r.agent)
   all_moved from [] [] r reached differ all = record { next = r; goes = goes_none r []; agent = refl; channels_are = refl; stands = tt }
   all_moved from [] (c ∷ chains) r reached differ all = absurd all
   all_moved from (n ∷ counts) [] r reached differ all = absurd all
@@ -130,8 +130,8 @@ module _ (laws : Laws) (plans : List Plan) (images : List Image) (adds : List �
       let p = place_of plans from in
       let parts = differ_parts (channels_of c) (all_channels chains) differ in
       let b = carried_down c r.agent in
-      let m : Moved p r n (channels_of c) b = carry_move laws images p r n c reached parts.first (fits_of p r.channels n c all.0) in
-      let rest : AllStand plans m.next.channels (suc from) counts chains = each_kept laws plans r.channels m.next.channels (suc from) counts chains (λ j has. m.goes.others j (λ own. parts.apart j own has)) all.1 in
+      let m : Moved p r n (channels_of c) b = carry_move laws images p r n c reached parts.first all.0 in
+      let rest : AllFit plans m.next.channels (suc from) counts chains = each_kept laws plans r.channels m.next.channels (suc from) counts chains (λ j has. m.goes.others j (λ own. parts.apart j own has)) all.1 in
       let further : AllMoved (suc from) m.next counts chains (all_carried chains b.agent) =
       subst (λ a. AllMoved (suc from) m.next counts chains (all_carried chains a)) m.agent (all_moved (suc from) counts chains m.next (reached_goes images r m.next (channels_of c) reached m.goes) parts.second rest) in
       record {
@@ -142,8 +142,8 @@ module _ (laws : Laws) (plans : List Plan) (images : List Image) (adds : List �
         agent = further.agent;
         channels_are = ap (λ ks. ks ++ all_channels (all_carried chains b.agent).chains) m.channels_are ∙ ap (λ ks. channels_of c ++ ks) further.channels_are;
         stands = (
-          stands_of p further.next.channels n b.chain (fits_kept laws p m.next.channels further.next.channels n b.chain
-              (λ j has. further.goes.others j (λ other. parts.apart j (subst (λ ks. Contains ks j) m.channels_are has) other)) m.fits),
+          fits_kept laws p m.next.channels further.next.channels n b.chain
+              (λ j has. further.goes.others j (λ other. parts.apart j (subst (λ ks. Contains ks j) m.channels_are has) other)) m.fits,
           further.stands,
         );
       }
@@ -176,7 +176,7 @@ module _ (laws : Laws) (plans : List Plan) (images : List Image) (adds : List �
       next : AgentRun
       next = after_call call s.run
 
-      chains : AllStand plans next.channels 0 adds w.chains
+      chains : AllFit plans next.channels 0 adds w.chains
       chains = each_kept laws plans s.run.channels next.channels 0 adds w.chains (λ j has. i.keeps j) s.chains
 
       numbered : AreNumbered w.next next.channels (all_channels w.chains)

@@ -1,13 +1,14 @@
 -- How a world stands after every schedule: its agent, its clients and the ways between them are what their calls made of
 -- them, and what a client and the agent gave and got is what the way between them got and gave there.
-use Rattle.std.specs.Prelude.{ℕ, ◌≡◌, suc, ◌<◌, ◌==◌, ◌⊎◌, Bool, true, false, not, ◌&&◌, if◌then◌else◌, List, [], ◌∷◌, map, Option, Some, None, is_some}
+use Rattle.std.specs.Prelude.{ℕ, ◌≡◌, suc, ◌<◌, ◌==◌, ◌⊎◌, Bool, true, false, not, ◌&&◌, if◌then◌else◌, List, [], ◌∷◌, map, Option, Some, None, IfSome, is_some}
 use Rattle.std.specs.List.{AllByRecursion, Contains, flat_map, list_any}
 use Rattle.agent_node.specs.Runs.{Call as AgentCall, Past, after_all as agent_after, no_calls as agent_begun, run_of}
-use Rattle.chain_route.specs.Runs.{Call as WayCall, cuts, Past as WayPast, Talk, after_all as way_after, no_calls as way_begun}
+use Rattle.chain_route.specs.Runs.{Call as WayCall, cuts, Past as WayPast, Talk, after_all as way_after, is_waiting, no_calls as way_begun}
 use Rattle.channel_core.specs.Arrivals.{IsFront, Marked, arrived, bytes_of}
 use Rattle.channel_core.specs.Closing.{is_closed}
 use Rattle.channel_core.specs.Wire.{end_of_stream}
 use Rattle.channel_core.specs.declared.held.Outgoing.{Outgoing}
+use Rattle.channel_faults.specs.Faults.{is_ending}
 use Rattle.client_node.specs.Client.{new_client}
 use Rattle.client_node.specs.Ends.{HasNames, end_calls, given_out}
 use Rattle.client_node.specs.Runs.{Call as ClientCall, bytes_end, closes, run}
@@ -46,16 +47,23 @@ unmarked outs = bytes_of (map (λ (out : Outgoing). record out { mark = None }) 
 
 -- ---- a chain
 
--- What the agent gave to the channel went down the way. What came up the way is what came to the channel, for as long as that
--- takes.
+-- whether its bytes have ended without the end of the stream
+abbrev pub Loses : Option Past → Talk → Type 0
+Loses None talk = Unit {0}
+Loses (Some past) talk = talk.is_lost ≡ list_any is_ending past.calls
+
+-- What the agent gave to the channel went down the way, all that it queued. What came up the way is what came to the channel, for
+-- as long as that takes.
 pub record Talks (past : Option Past) (talk : Talk) : Type 0 where
   pub gave : talk.gave ≡ given_to past
+  pub given : IfSome past (λ p. (run_of p).end.queued ≡ [])
+  pub lost : Loses past talk
   pub came : is_taking past ≡ true → unmarked talk.got ≡ came_to past
   pub front : IsFront (came_to past) (unmarked talk.got)
 
 -- where no channel has a number, none was reached, or none was left and it was refused
 abbrev pub TalksOn : Option ℕ → WayPast → List Past → Type 0
-TalksOn None p pasts = (p.agent.gave ≡ []) ⊎ (p.agent.gave ≡ end_of_stream ∷ [])
+TalksOn None p pasts = ((p.is_reached ≡ false) × (p.agent.gave ≡ [])) ⊎ (p.agent.gave ≡ end_of_stream ∷ [])
 TalksOn (Some k) p pasts = (p.is_reached ≡ true) × Talks (past_at k pasts) p.agent
 
 -- what came to an earlier channel came up the way then
@@ -98,6 +106,9 @@ pub record ChainStands (plans : List Plan) (pasts : List Past) (at adds : ℕ) (
   pub names : AllByRecursion HasNames calls
   pub way : chain.route ≡ (way_after ways (way_begun adds)).route
   pub unwanted : (way_after ways (way_begun adds)).past.is_wanted ≡ false
+  pub settled : is_waiting (way_after ways (way_begun adds)) ≡ false
+  pub given : IfSome chain.client.channel (λ e. e.queued ≡ [])
+  pub lost : (way_after ways (way_begun adds)).past.client.is_lost ≡ list_any is_ending (end_calls calls new_client)
   pub opened : is_some chain.client.channel ≡ (way_after ways (way_begun adds)).past.is_joined
   pub gave : (way_after ways (way_begun adds)).past.client.gave ≡ given_out calls new_client
   pub got : bytes_of (way_after ways (way_begun adds)).past.client.got ≡ arrived (end_calls calls new_client)

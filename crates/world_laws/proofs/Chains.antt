@@ -3,14 +3,16 @@ use Rattle.std.proofs.Common.{◌≡◌, ℕ, ◌-◌, ◌⊎◌, inl, inr, true
 use Rattle.std.specs.List.{AllByRecursion}
 use Rattle.agent_node.specs.AgentLaws.{AgentFollowsHistory, FollowsHistory, asked}
 use Rattle.agent_node.specs.Runs.{AgentRun, Past, run_of}
+use Rattle.agent_rest.specs.Answering.{ServesAll}
 use Rattle.agent_told.specs.Sent.{read_as}
 use Rattle.agent_told.proofs.Lists.{all_map}
-use Rattle.chain_heard.specs.Heard.{Heard, HeardNoTarget, asked_as}
+use Rattle.chain_heard.specs.Heard.{Heard, HeardAll, HeardNoTarget, asked_as}
 use Rattle.chain_route.specs.Carrying.{Carries, End, end_of, value_of}
-use Rattle.chain_route.specs.Runs.{RouteRun, after_all as way_after, no_calls as way_begun}
+use Rattle.chain_route.specs.Runs.{RouteRun}
 use Rattle.chain_through.specs.Calling.{Calls, entering}
 use Rattle.chain_through.specs.Through.{AreBound, KnowsTruth, Through, top_end}
 use Rattle.chain_through.proofs.Fronts.{front_none, front_same}
+use Rattle.chain_world.proofs.Pasts.{at_all}
 use Rattle.chain_world.specs.ChainValue.{ChainValue}
 use Rattle.chain_world.specs.Standing.{ChainStands, Talks, TalksOn, past_at, unmarked}
 use Rattle.channel_core.specs.Arrivals.{IsFront, Spoken, arrived, bytes_of}
@@ -32,93 +34,97 @@ use Rattle.world_laws.proofs.Earlier.{all_silent}
 use Rattle.world_laws.proofs.LowerLaws.{Laws}
 use Rattle.world_laws.proofs.Quiet.{ComesQuietly, comes_quietly, takes_quietly}
 use Rattle.world_laws.proofs.Sending.{client_calls, sent_commands}
-use Rattle.world_laws.proofs.Serving.{AgentSpeaks, IsAskedFirst, asked_first, asked_top, begins, executed_front, last_hop, speaks, speaks_nothing, told_to, unended}
-use Rattle.world_laws.proofs.Silent.{at_all, at_number, unopened_silent}
-use Rattle.world_laws.proofs.Hearing.{asked_few, bound_heard, target_heard, unbound_heard}
+use Rattle.world_laws.proofs.Serving.{AgentSpeaks, IsAskedFirst, asked_first, asked_top, begins, executed_front, last_hop, speaks, speaks_nothing, told_formed, told_gave, told_to, unended}
+use Rattle.world_laws.proofs.Sides.{way, way_carries}
+use Rattle.world_laws.proofs.Silent.{at_number, unopened_silent}
+use Rattle.world_laws.proofs.Unstuck.{AllTook}
+use Rattle.world_laws.proofs.Hearing.{asked_few, bound_heard, target_all, target_heard, unbound_heard}
 
 -- ---- What is heard
 
-pub record HearsTarget (images : List Image) (history : List Input) (chain : ChainValue) (p : ClientPast) : Type 0 where
+-- all that the history owes, where each end on the way took all
+pub record HearsTarget (images : List Image) (history : List Input) (chain : ChainValue) (p : ClientPast) (AllTook : Type 0) : Type 0 where
   pub k : ℕ
   pub position : ℕ
   pub channel : chain.channel ≡ Some k
   pub heard : Heard images history k position p
+  pub all : AllTook → HeardAll images history k p heard.heard
 
 pub record HearsNone (history : List Input) (chain : ChainValue) (p : ClientPast) : Type 0 where
   pub heard : HeardNoTarget p
   pub silent : (k : ℕ) → chain.channel ≡ Some k → executed_on k history ≡ []
 
 -- what its client heard, and that what its bound value-adds know is true
-pub record HearsSo (images : List Image) (history : List Input) (chain : ChainValue) (p : ClientPast) : Type 0 where
-  pub heard : HearsTarget images history chain p ⊎ HearsNone history chain p
+pub record HearsSo (images : List Image) (history : List Input) (chain : ChainValue) (p : ClientPast) (AllTook : Type 0) : Type 0 where
+  pub heard : HearsTarget images history chain p AllTook ⊎ HearsNone history chain p
   pub adds : AllByRecursion (KnowsTruth images history) chain.route.adds
 
 -- ---- The chain at this moment
 
-module _ (laws : Laws) (images : List Image) (r : AgentRun) (follows : AgentFollowsHistory images r) (readable : AllByRecursion (λ past. SendsReadable past.calls) r.channels) (plans : List Plan) (at adds : ℕ)
+module _ (laws : Laws) (images : List Image) (r : AgentRun) (follows : AgentFollowsHistory images r) (serves : AllByRecursion ServesAll r.channels) (plans : List Plan) (at adds : ℕ)
     (chain : ChainValue) (s : ChainStands plans r.channels at adds chain) where
-  abbrev pub way : RouteRun
-  way = way_after s.ways (way_begun adds)
+  abbrev run : RouteRun
+  run = way laws r.channels plans at adds chain s
 
   abbrev hears_past : ClientPast
   hears_past = client_past_of s.calls no_past
 
-  pub way_carries : Carries s.ways way
-  way_carries = laws.carries adds s.ways
+  abbrev carries : Carries s.ways run
+  carries = way_carries laws r.channels plans at adds chain s
 
   abbrev pub lower : End
-  lower = end_of way.past.client
+  lower = end_of run.past.client
 
   abbrev pub agent : End
-  agent = end_of way.past.agent
+  agent = end_of run.past.agent
 
   abbrev pub commands : List Asked
   commands = map asked_as (sent_commands laws s.calls s.names)
 
   quiet_came : (said : List Spoken) (top : List Outgoing) → AgentSpeaks images r.history said agent.gave top → ComesQuietly (arrived (end_calls s.calls new_client))
-  quiet_came said top speaking = subst ComesQuietly s.got (comes_quietly laws lower agent way.route.hops way_carries.made said way_carries.hops speaking.says speaking.quiet)
+  quiet_came said top speaking = subst ComesQuietly s.got (comes_quietly laws lower agent run.route.hops carries.made said carries.hops speaking.says speaking.quiet)
 
   pub way_calls : (said : List Spoken) (top : List Outgoing) → AgentSpeaks images r.history said agent.gave top → Calls commands lower.gave
   way_calls said top speaking =
       subst (Calls commands) (sym s.gave) (client_calls laws s.calls s.names (takes_quietly laws s.calls (quiet_came said top speaking)))
 
-  pub way_through : (said : List Spoken) (speaking : AgentSpeaks images r.history said agent.gave (top_end lower way_carries.made).gave)
-      → Through images r.history commands lower (way_calls said (top_end lower way_carries.made).gave speaking) way_carries.made said
+  pub way_through : (said : List Spoken) (speaking : AgentSpeaks images r.history said agent.gave (top_end lower carries.made).gave)
+      → Through images r.history commands lower (way_calls said (top_end lower carries.made).gave speaking) carries.made said
   way_through said speaking =
-      laws.through images r.history follows.legal lower agent way.route.hops way_carries.made commands said way_carries.hops (way_calls said (top_end lower way_carries.made).gave speaking) (asked_few laws s.calls s.names) speaking.says
+      laws.through images r.history follows.legal lower agent run.route.hops carries.made commands said carries.hops (way_calls said (top_end lower carries.made).gave speaking) (asked_few laws s.calls s.names) speaking.says
       speaking.quiet speaking.marked speaking.rightly
 
   -- what its bound value-adds know is true
-  adds_know : (said : List Spoken) → AgentSpeaks images r.history said agent.gave (top_end lower way_carries.made).gave → AllByRecursion (KnowsTruth images r.history) chain.route.adds
+  adds_know : (said : List Spoken) → AgentSpeaks images r.history said agent.gave (top_end lower carries.made).gave → AllByRecursion (KnowsTruth images r.history) chain.route.adds
   adds_know said speaking =
-      subst (AllByRecursion (KnowsTruth images r.history)) (sym (ap (λ route. route.adds) s.way ∙ way_carries.adds))
-      (all_map (KnowsTruth images r.history) (λ m. KnowsTruth images r.history (value_of m)) value_of way_carries.made (λ m known. known) (way_through said speaking).adds)
+      subst (AllByRecursion (KnowsTruth images r.history)) (sym (ap (λ route. route.adds) s.way ∙ carries.adds))
+      (all_map (KnowsTruth images r.history) (λ m. KnowsTruth images r.history (value_of m)) value_of carries.made (λ m known. known) (way_through said speaking).adds)
 
   -- it heard nothing of the target where the agent said nothing
-  nothing_heard : AgentSpeaks images r.history [] agent.gave (top_end lower way_carries.made).gave → HeardNoTarget hears_past
-  nothing_heard speaking = by_bound (are_bound way_carries.made)
+  nothing_heard : AgentSpeaks images r.history [] agent.gave (top_end lower carries.made).gave → HeardNoTarget hears_past
+  nothing_heard speaking = by_bound (are_bound carries.made)
     where
-      by_bound : AreBound way_carries.made ⊎ (AreBound way_carries.made → ⊥) → HeardNoTarget hears_past
+      by_bound : AreBound carries.made ⊎ (AreBound carries.made → ⊥) → HeardNoTarget hears_past
       by_bound (inl bound) =
           let t = way_through [] speaking in
-          bound_heard laws s.calls s.names images r.history lower [] (way_calls [] (top_end lower way_carries.made).gave speaking) way_carries.made t s.got (t.bound bound) refl
+          bound_heard laws s.calls s.names images r.history lower [] (way_calls [] (top_end lower carries.made).gave speaking) carries.made t s.got (t.bound bound) refl
       by_bound (inr unbound) =
           let t = way_through [] speaking in
-          unbound_heard laws s.calls s.names images r.history lower [] (way_calls [] (top_end lower way_carries.made).gave speaking) way_carries.made t s.got (t.unbound unbound)
+          unbound_heard laws s.calls s.names images r.history lower [] (way_calls [] (top_end lower carries.made).gave speaking) carries.made t s.got (t.unbound unbound)
 
   abbrev Hears : Type 0
-  Hears = HearsSo images r.history chain hears_past
+  Hears = HearsSo images r.history chain hears_past (AllTook s.calls run carries.made)
 
   -- no channel is there
   unreached : chain.channel ≡ None → (agent.gave ≡ []) ⊎ (agent.gave ≡ end_of_stream ∷ []) → Hears
   unreached none gave =
-      let speaking = speaks_nothing images r.history agent.gave (top_end lower way_carries.made).gave gave in
+      let speaking = speaks_nothing images r.history agent.gave (top_end lower carries.made).gave gave in
       record { heard = inr (record { heard = nothing_heard speaking; silent = λ k is. let apart : None ≡ Some k = sym none ∙ is in absurd cc }); adds = adds_know [] speaking }
 
   -- the agent refused it
   refused : (k : ℕ) → chain.channel ≡ Some k → past_at k r.channels ≡ None → agent.gave ≡ end_of_stream ∷ [] → Hears
   refused k is none gave =
-      let speaking = speaks_nothing images r.history agent.gave (top_end lower way_carries.made).gave (inr gave) in
+      let speaking = speaks_nothing images r.history agent.gave (top_end lower carries.made).gave (inr gave) in
       record {
         heard = inr (record {
           heard = nothing_heard speaking;
@@ -128,58 +134,68 @@ module _ (laws : Laws) (images : List Image) (r : AgentRun) (follows : AgentFoll
       }
 
   -- the agent opened it
-  module _ (k : ℕ) (past : Past) (is : chain.channel ≡ Some k) (there : past_at k r.channels ≡ Some past) (reached : way.past.is_reached ≡ true) (gave : agent.gave ≡ (run_of past).past.given)
-      (front : IsFront (arrived past.calls) (unmarked way.past.agent.got)) where
+  module _ (k : ℕ) (past : Past) (is : chain.channel ≡ Some k) (there : past_at k r.channels ≡ Some past) (reached : run.past.is_reached ≡ true) (gave : agent.gave ≡ (run_of past).past.given)
+      (front : IsFront (arrived past.calls) (unmarked run.past.agent.got)) where
     past_follows : FollowsHistory images r.history past
     past_follows = at_all (FollowsHistory images r.history) k r.channels past follows.channels there
 
     past_readable : SendsReadable past.calls
-    past_readable = at_all (λ x. SendsReadable x.calls) k r.channels past readable there
+    past_readable = (at_all ServesAll k r.channels past serves there).readable
 
     number_is : past.number ≡ k
     number_is = at_number k r.channels past there
 
     abbrev pub top : List Outgoing
-    top = (top_end lower way_carries.made).gave
+    top = (top_end lower carries.made).gave
 
-    pub carried : IsFront (bytes_of way.past.agent.got) (bytes_of top)
-    carried = (last_hop lower way.route.hops way_carries.made agent way_carries.hops (way_carries.reached reached)).1.up_front
+    pub carried : IsFront (bytes_of run.past.agent.got) (bytes_of top)
+    carried = (last_hop lower run.route.hops carries.made agent carries.hops (carries.reached reached)).1.up_front
 
     pub speaking : AgentSpeaks images r.history (told_to images r.history past) agent.gave top
-    speaking = speaks laws images r.history past follows.legal past_follows past_readable top way.past.agent gave carried front
+    speaking = speaks laws images r.history past follows.legal past_follows past_readable top run.past.agent gave carried front
 
     pub begins_here : BeginsWithHello (told_to images r.history past)
     begins_here = begins laws images r.history past follows.legal past_follows past_readable
 
     pub unended_here : ClosesRightly (run_of past).end.state → speaking.says.is_ended ≡ true → ⊥
     unfolding speaking
-    unended_here right is = unended laws images r.history past follows.legal past_follows past_readable top way.past.agent gave carried front right is
+    unended_here right is = unended laws images r.history past follows.legal past_follows past_readable top run.past.agent gave carried front right is
 
     abbrev calls_are : Calls commands lower.gave
     calls_are = way_calls (told_to images r.history past) top speaking
 
-    pub through : Through images r.history commands lower calls_are way_carries.made (told_to images r.history past)
+    pub through : Through images r.history commands lower calls_are carries.made (told_to images r.history past)
     through = way_through (told_to images r.history past) speaking
 
     asks : IsAskedFirst 1 (asked (run_of past)) through.top
-    asks = asked_top (asked (run_of past)) through.top (length (entering through.goes_up.spoken) - 1) (asked_first laws past through.top top way.past.agent through.goes_up carried front)
+    asks = asked_top (asked (run_of past)) through.top (length (entering through.goes_up.spoken) - 1) (asked_first laws past through.top top run.past.agent through.goes_up carried front)
 
-    heard_so : HearsTarget images r.history chain hears_past ⊎ HearsNone r.history chain hears_past
-    heard_so = by_bound (are_bound way_carries.made)
+    past_given : (run_of past).end.queued ≡ []
+    past_given =
+        let talks : TalksOn (Some k) run.past r.channels = subst (λ o. TalksOn o run.past r.channels) is s.talks in
+        let talk : Talks (Some past) run.past.agent = subst (λ o. Talks o run.past.agent) there talks.1 in
+        talk.given
+
+    heard_so : HearsTarget images r.history chain hears_past (AllTook s.calls run carries.made) ⊎ HearsNone r.history chain hears_past
+    heard_so = by_bound (are_bound carries.made)
       where
-        by_bound : AreBound way_carries.made ⊎ (AreBound way_carries.made → ⊥) → HearsTarget images r.history chain hears_past ⊎ HearsNone r.history chain hears_past
+        by_bound : AreBound carries.made ⊎ (AreBound carries.made → ⊥) → HearsTarget images r.history chain hears_past (AllTook s.calls run carries.made) ⊎ HearsNone r.history chain hears_past
         by_bound (inl bound) = inl (record {
           k = past.number;
           position = past.position;
           channel = is ∙ ap Some (sym number_is);
-          heard = target_heard laws s.calls s.names images r.history lower (told_to images r.history past) calls_are way_carries.made through s.got (through.bound bound) past follows.legal past_follows past_readable asks refl;
+          heard = target_heard laws s.calls s.names images r.history lower (told_to images r.history past) calls_are carries.made through s.got (through.bound bound) past follows.legal past_follows past_readable asks refl;
+          all = λ took.
+              let said = told_to images r.history past in
+              let both = took reached bound said (told_formed laws images r.history past follows.legal past_follows past_readable) (told_gave laws images r.history past follows.legal past_follows past_readable agent.gave gave past_given) in
+              target_all laws s.calls s.names images r.history lower said calls_are carries.made through s.got (through.bound bound) past follows.legal past_follows past_readable asks refl both.0 both.1;
         })
         by_bound (inr unbound) =
             let u = through.unbound unbound in
             let top_read = executed_front laws images r.history past follows.legal past_follows past_readable through.top asks in
             let still : executed_on past.number r.history ≡ [] = front_none (executed_on past.number r.history) (front_same (executed_on past.number r.history) (map read_as through.top) [] (ap (map read_as) u.silent) top_read) in
             inr (record {
-              heard = unbound_heard laws s.calls s.names images r.history lower (told_to images r.history past) calls_are way_carries.made through s.got u;
+              heard = unbound_heard laws s.calls s.names images r.history lower (told_to images r.history past) calls_are carries.made through s.got u;
               silent = λ j other. let same : Some k ≡ Some j = sym is ∙ other in let one : k ≡ j = cc in ap (λ n. executed_on n r.history) (sym one ∙ sym number_is) ∙ still;
             })
 
@@ -189,13 +205,14 @@ module _ (laws : Laws) (images : List Image) (r : AgentRun) (follows : AgentFoll
   pub chain_hears : Hears
   chain_hears = by_channel chain.channel refl s.talks
     where
-      by_past : (k : ℕ) → chain.channel ≡ Some k → way.past.is_reached ≡ true → (there : Option Past) → past_at k r.channels ≡ there → Talks there way.past.agent → Hears
+      by_past : (k : ℕ) → chain.channel ≡ Some k → run.past.is_reached ≡ true → (there : Option Past) → past_at k r.channels ≡ there → Talks there run.past.agent → Hears
       by_past k is reached None there talks = refused k is there talks.gave
       by_past k is reached (Some past) there talks = opened k past is there reached talks.gave talks.front
 
-      by_channel : (channel : Option ℕ) → chain.channel ≡ channel → TalksOn channel way.past r.channels → Hears
-      by_channel None is talks = unreached is talks
+      by_channel : (channel : Option ℕ) → chain.channel ≡ channel → TalksOn channel run.past r.channels → Hears
+      by_channel None is (inl never) = unreached is (inl never.1)
+      by_channel None is (inr gave) = unreached is (inr gave)
       by_channel (Some k) is talks = by_past k is talks.0 (past_at k r.channels) refl talks.1
 
   pub earlier_silent : AllByRecursion (λ k. executed_on k r.history ≡ []) chain.earlier
-  earlier_silent = all_silent laws images r follows way.past way_carries.earlier chain.earlier s.talked
+  earlier_silent = all_silent laws images r follows run.past carries.earlier chain.earlier s.talked

@@ -3,9 +3,11 @@ use Rattle.std.proofs.Common.{◌≡◌, ℕ, ◌++◌, List, [], ◌∷◌, map
 use Rattle.std.specs.List.{AllByRecursion, filter}
 use Rattle.agent_node.specs.AgentLaws.{AgentFollowsHistory, FollowsHistory, asked, read as agent_read}
 use Rattle.agent_node.specs.Runs.{AgentRun, Past, run_of}
+use Rattle.chain_route.proofs.Unheard.{value_hello}
 use Rattle.chain_route.specs.Carrying.{IsGoneBy}
 use Rattle.chain_route.specs.Runs.{Past as WayPast}
 use Rattle.chain_through.specs.Calling.{AskNothing, entering}
+use Rattle.chain_world.proofs.Pasts.{at_all}
 use Rattle.chain_world.specs.Standing.{Talked, came_to, past_at, unmarked}
 use Rattle.channel_core.specs.Arrivals.{IsFront, arrived, bytes_of, queue_of}
 use Rattle.channel_core.specs.ReceivingLaws.{CanBeRead}
@@ -22,8 +24,7 @@ use Rattle.chain_through.proofs.Queues.{commanding, nothing_asked, queue_command
 use Rattle.chain_through.proofs.Spelling.{said_so}
 use Rattle.chain_through.proofs.Through.{none_mapped}
 use Rattle.world_laws.proofs.LowerLaws.{Laws}
-use Rattle.world_laws.proofs.Quiet.{add_hello}
-use Rattle.world_laws.proofs.Silent.{all_in, at_all, at_number, unopened_silent}
+use Rattle.world_laws.proofs.Silent.{all_in, at_number, unopened_silent}
 use Rattle.world_laws.proofs.Spoken.{front_bytes, front_unmarked}
 use Rattle.world_laws.proofs.Taking.{asked_front, asks_of, quiet_none}
 
@@ -32,7 +33,7 @@ module _ (laws : Laws) where
   none_asked past got gone came =
       let calls : List UpperCall = gone.calls in
       let r : Run ForwardedValue = upper_after calls in
-      let can : CanBeRead r = laws.upper_readable value_services None calls add_hello gone.readable in
+      let can : CanBeRead r = laws.upper_readable value_services None calls value_hello gone.readable in
       let order : r.past.given ++ r.end.queued ≡ r.past.queued = laws.upper_order value_services None calls in
       let queue : List Outgoing = queue_of can.spoken can.is_ended in
       let gave : IsFront r.past.given queue = (r.end.queued, sym can.queue ∙ sym order) in

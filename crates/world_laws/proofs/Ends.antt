@@ -8,19 +8,22 @@ use Rattle.std.proofs.lemmas.List.Elements.{Contains-append_left, Contains-appen
 use Rattle.agent_node.specs.AgentLaws.{AgentFollowsHistory}
 use Rattle.agent_node.specs.AgentValue.{AgentValue}
 use Rattle.agent_node.specs.Runs.{AgentRun, Past, after_all as agent_after, no_calls as agent_begun, run_of}
+use Rattle.agent_rest.specs.Answering.{ServesAll}
 use Rattle.chain_route.specs.Carrying.{AllCarry, AllLoseByCuts, Carries, End, Made}
 use Rattle.chain_route.specs.Runs.{RouteRun}
 use Rattle.chain_route.specs.declared.hop.Hop.{Hop}
 use Rattle.chain_through.specs.Calling.{Calls, all_asking, entering, greeting}
 use Rattle.chain_through.specs.Endings.{EndsSoundly, IsSound, MayComeDown}
 use Rattle.chain_through.specs.Through.{top_end}
+use Rattle.chain_world.proofs.Agents.{none_any}
+use Rattle.chain_world.proofs.Pasts.{at_all}
 use Rattle.chain_world.specs.Chain.{channels_of}
 use Rattle.chain_world.specs.ChainValue.{ChainValue}
 use Rattle.chain_world.specs.Standing.{AllStand, ChainStands, MayBeCalled, Stands, Talks, TalksOn, past_at}
 use Rattle.chain_world.specs.World.{new_world, run}
 use Rattle.chain_world.specs.WorldValue.{WorldValue}
 use Rattle.channel_core.specs.Arrivals.{IsFront, Spoken, arrived, bytes_of, queue_of}
-use Rattle.channel_core.specs.ReceivingLaws.{EndsFor, SendsReadable}
+use Rattle.channel_core.specs.ReceivingLaws.{EndsFor}
 use Rattle.channel_core.specs.RunLaws.{sent_of}
 use Rattle.channel_core.specs.Runs.{Call as EndCall, Run}
 use Rattle.channel_core.specs.declared.held.Outgoing.{Outgoing}
@@ -45,7 +48,7 @@ use Rattle.chain_through.proofs.Fronts.{front_length}
 use Rattle.chain_through.proofs.Taking.{all_append}
 use Rattle.chain_through.proofs.Ends.{answering_more}
 use Rattle.world_laws.specs.EndLaws.{AddIsSound, ClosesRightly, EndsAllRightly, EndsRightly, EndsRightlyAfterEverySchedule, IsRefusedUnder, MayEnd}
-use Rattle.world_laws.proofs.Chains.{agent, begins_here, commands, lower, speaking, unended_here, way, way_calls, way_carries}
+use Rattle.world_laws.proofs.Chains.{agent, begins_here, commands, lower, speaking, unended_here, way_calls}
 use Rattle.world_laws.proofs.EndsOfAdds.{adds_sound}
 use Rattle.world_laws.proofs.EndsOfAgents.{SoundAt, chain_sound, channels_right, closes_rightly, now_sound}
 use Rattle.world_laws.proofs.EndsOfClients.{MayClose, MayTake, RightLine, closing_called, ending_called, right_log}
@@ -55,7 +58,8 @@ use Rattle.world_laws.proofs.LowerLaws.{Laws}
 use Rattle.world_laws.proofs.Numbering.{each_found}
 use Rattle.world_laws.proofs.Sending.{sent_commands, sent_issued}
 use Rattle.world_laws.proofs.Serving.{AgentSpeaks, asking_many, speaks_nothing, told_to}
-use Rattle.world_laws.proofs.Silent.{all_in, at_all, at_number, none_any}
+use Rattle.world_laws.proofs.Sides.{way, way_carries}
+use Rattle.world_laws.proofs.Silent.{all_in, at_number}
 use Rattle.world_laws.proofs.Steps.{closes_played, cuts_played, lost_played}
 use Rattle.world_laws.proofs.Unclosing.{never_closing}
 
@@ -69,23 +73,23 @@ all_contained : {A : Type 0} → (P : A → Type 0) (xs : List A) → ((x : A) �
 all_contained P [] each = tt
 all_contained P (x ∷ xs) each = (each x (Contains-append_left (x ∷ []) xs x (Contains-push [] x)), all_contained P xs (λ y there. each y (Contains-append_right (x ∷ []) xs y there)))
 
-module _ (laws : Laws) (images : List Image) (r : AgentRun) (follows : AgentFollowsHistory images r) (readable : AllByRecursion (λ past. SendsReadable past.calls) r.channels)
+module _ (laws : Laws) (images : List Image) (r : AgentRun) (follows : AgentFollowsHistory images r) (serves : AllByRecursion ServesAll r.channels)
     (unclosing : AllByRecursion (λ past. list_any is_closing past.calls ≡ false) r.channels) where
   module _ (plans : List Plan) (at adds : ℕ) (chain : ChainValue) (s : ChainStands plans r.channels at adds chain) where
     abbrev way_is : RouteRun
-    way_is = way laws images r follows readable plans at adds chain s
+    way_is = way laws r.channels plans at adds chain s
 
     abbrev carries : Carries s.ways way_is
-    carries = way_carries laws images r follows readable plans at adds chain s
+    carries = way_carries laws r.channels plans at adds chain s
 
     abbrev low : End
-    low = lower laws images r follows readable plans at adds chain s
+    low = lower laws images r follows serves plans at adds chain s
 
     abbrev high : End
-    high = agent laws images r follows readable plans at adds chain s
+    high = agent laws images r follows serves plans at adds chain s
 
     abbrev asked_are : List Asked
-    asked_are = commands laws images r follows readable plans at adds chain s
+    asked_are = commands laws images r follows serves plans at adds chain s
 
     abbrev above : List Outgoing
     above = (top_end low carries.made).gave
@@ -103,7 +107,7 @@ module _ (laws : Laws) (images : List Image) (r : AgentRun) (follows : AgentFoll
 
     sound_way : (said : List Spoken) (speaks : AgentSpeaks images r.history said high.gave above) → BeginsWithHello said → (speaks.says.is_ended ≡ true → said ≡ []) → (speaks.says.is_ended ≡ true → IsRefusedUnder r.history chain.channel) → IsSoundWay
     sound_way said speaks hello ended refused =
-        let calls : Calls asked_are low.gave = way_calls laws images r follows readable plans at adds chain s said above speaks in
+        let calls : Calls asked_are low.gave = way_calls laws images r follows serves plans at adds chain s said above speaks in
         record {
           calls = calls;
           agent_ended = speaks.says.is_ended;
@@ -116,11 +120,11 @@ module _ (laws : Laws) (images : List Image) (r : AgentRun) (follows : AgentFoll
       where
         opened : (k : ℕ) (past : Past) → chain.channel ≡ Some k → past_at k r.channels ≡ Some past → way_is.past.is_reached ≡ true → Talks (Some past) way_is.past.agent → IsSoundWay
         opened k past is there reached talks =
-            let sound : IsSound (run_of past) = now_sound laws images r follows readable plans at adds chain s k past is there reached talks.gave talks.front in
+            let sound : IsSound (run_of past) = now_sound laws images r follows serves plans at adds chain s k past is there reached talks.gave talks.front in
             let right : ClosesRightly (run_of past).end.state = closes_rightly laws past (at_all (λ p. list_any is_closing p.calls ≡ false) k r.channels past unclosing there) sound in
-            let speaks = speaking laws images r follows readable plans at adds chain s k past is there reached talks.gave talks.front in
-            let never : speaks.says.is_ended ≡ true → ⊥ = unended_here laws images r follows readable plans at adds chain s k past is there reached talks.gave talks.front right in
-            sound_way (told_to images r.history past) speaks (begins_here laws images r follows readable plans at adds chain s k past is there reached talks.gave talks.front) (λ yes. absurd (never yes)) (λ yes. absurd (never yes))
+            let speaks = speaking laws images r follows serves plans at adds chain s k past is there reached talks.gave talks.front in
+            let never : speaks.says.is_ended ≡ true → ⊥ = unended_here laws images r follows serves plans at adds chain s k past is there reached talks.gave talks.front right in
+            sound_way (told_to images r.history past) speaks (begins_here laws images r follows serves plans at adds chain s k past is there reached talks.gave talks.front) (λ yes. absurd (never yes)) (λ yes. absurd (never yes))
 
         by_past : (k : ℕ) → chain.channel ≡ Some k → way_is.past.is_reached ≡ true → (there : Option Past) → past_at k r.channels ≡ there → Talks there way_is.past.agent → IsSoundWay
         by_past k is reached None none talks =
@@ -128,7 +132,8 @@ module _ (laws : Laws) (images : List Image) (r : AgentRun) (follows : AgentFoll
         by_past k is reached (Some past) there talks = opened k past is there reached talks
 
         by_channel : (channel : Option ℕ) → chain.channel ≡ channel → TalksOn channel way_is.past r.channels → IsSoundWay
-        by_channel None is talks = sound_way [] (speaks_nothing images r.history high.gave above talks) tt (λ yes. refl) (λ yes. subst (IsRefusedUnder r.history) (sym is) tt)
+        by_channel None is (inl never) = sound_way [] (speaks_nothing images r.history high.gave above (inl never.1)) tt (λ yes. refl) (λ yes. subst (IsRefusedUnder r.history) (sym is) tt)
+        by_channel None is (inr gave) = sound_way [] (speaks_nothing images r.history high.gave above (inr gave)) tt (λ yes. refl) (λ yes. subst (IsRefusedUnder r.history) (sym is) tt)
         by_channel (Some k) is talks = by_past k is talks.0 (past_at k r.channels) refl talks.1
 
     -- ---- Its value-adds
@@ -225,12 +230,12 @@ module _ (laws : Laws) (images : List Image) (r : AgentRun) (follows : AgentFoll
       let same : suc at + place ≡ at + suc place = omega arith in
       subst (λ m. EndsRightly plans r.history m chain) same (clients_end plans (suc at) place adds chains chain all.1 there)
 
-  pub all_sound : (plans : List Plan) (at : ℕ) (adds : List ℕ) (chains : List ChainValue) → AllStand plans r.channels at adds chains → AllByRecursion (SoundAt laws images r follows readable) (flat_map channels_of chains)
+  pub all_sound : (plans : List Plan) (at : ℕ) (adds : List ℕ) (chains : List ChainValue) → AllStand plans r.channels at adds chains → AllByRecursion (SoundAt laws images r follows serves) (flat_map channels_of chains)
   all_sound plans at [] [] all = tt
   all_sound plans at [] (chain ∷ chains) all = absurd all
   all_sound plans at (n ∷ adds) [] all = absurd all
   all_sound plans at (n ∷ adds) (chain ∷ chains) all =
-      all_append (SoundAt laws images r follows readable) (channels_of chain) (flat_map channels_of chains) (chain_sound laws images r follows readable plans at n chain all.0) (all_sound plans (suc at) adds chains all.1)
+      all_append (SoundAt laws images r follows serves) (channels_of chain) (flat_map channels_of chains) (chain_sound laws images r follows serves plans at n chain all.0) (all_sound plans (suc at) adds chains all.1)
 
 module _ (laws : Laws) (images : List Image) (adds : List ℕ) (plans : List Plan) (w : WorldValue) (s : Stands plans images adds w) where
   abbrev agent_run : AgentRun
@@ -239,8 +244,8 @@ module _ (laws : Laws) (images : List Image) (adds : List ℕ) (plans : List Pla
   follows : AgentFollowsHistory images agent_run
   follows = laws.truth images s.calls
 
-  readable : AllByRecursion (λ past. SendsReadable past.calls) agent_run.channels
-  readable = laws.pasts images s.calls
+  serves : AllByRecursion ServesAll agent_run.channels
+  serves = laws.serves images s.calls
 
   unclosing : AllByRecursion (λ past. list_any is_closing past.calls ≡ false) agent_run.channels
   unclosing = never_closing images s.calls
@@ -248,21 +253,21 @@ module _ (laws : Laws) (images : List Image) (adds : List ℕ) (plans : List Pla
   rights : (k : ℕ) (past : Past) → past_at k agent_run.channels ≡ Some past → ClosesRightly (run_of past).end.state
   rights k past there =
       let numbers = flat_map channels_of w.chains in
-      let sound = all_sound laws images agent_run follows readable unclosing plans 0 adds w.chains s.chains in
+      let sound = all_sound laws images agent_run follows serves unclosing plans 0 adds w.chains s.chains in
       let owned : Contains numbers past.number = at_all (λ p. Contains numbers p.number) k agent_run.channels past s.numbered.owned there in
       let here : past_at past.number agent_run.channels ≡ Some past = ap (λ n. past_at n agent_run.channels) (at_number k agent_run.channels past there) ∙ there in
       closes_rightly laws past (at_all (λ p. list_any is_closing p.calls ≡ false) k agent_run.channels past unclosing there)
-      (all_in (SoundAt laws images agent_run follows readable) numbers past.number sound owned past here)
+      (all_in (SoundAt laws images agent_run follows serves) numbers past.number sound owned past here)
 
   world_ends : EndsAllRightly plans w
   world_ends = record {
     clients = λ at chain there.
         let same : 0 + at ≡ at = omega arith in
         subst (λ h. EndsRightly plans h at chain) s.history
-        (subst (λ m. EndsRightly plans agent_run.history m chain) same (clients_end laws images agent_run follows readable unclosing plans 0 at adds w.chains chain s.chains there));
-    adds = all_of laws images agent_run follows readable (λ chain. AllByRecursion AddIsSound chain.route.adds) plans (adds_end laws images agent_run follows readable unclosing plans) 0 adds w.chains s.chains;
+        (subst (λ m. EndsRightly plans agent_run.history m chain) same (clients_end laws images agent_run follows serves unclosing plans 0 at adds w.chains chain s.chains there));
+    adds = all_of agent_run (λ chain. AllByRecursion AddIsSound chain.route.adds) plans (adds_end laws images agent_run follows serves unclosing plans) 0 adds w.chains s.chains;
     agent = subst (λ (a : AgentValue). AllByRecursion (λ c. ClosesRightly c.end.state) a.channels) s.agent
-        (channels_right laws images agent_run follows readable rights (laws.strangers images s.calls) agent_run.agent.channels (each_found laws.truth laws.strangers images s.calls));
+        (channels_right laws images agent_run follows serves rights (laws.strangers images s.calls) agent_run.agent.channels (each_found laws.truth laws.strangers images s.calls));
   }
 
 pub ends_rightly : Laws → EndsRightlyAfterEverySchedule

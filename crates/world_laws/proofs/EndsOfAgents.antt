@@ -7,16 +7,20 @@ use Rattle.agent_node.specs.AgentLaws.{AgentFollowsHistory, IsEndOf}
 use Rattle.agent_node.specs.Channels.{channel_end}
 use Rattle.agent_node.specs.Runs.{AgentRun, Past, run_of}
 use Rattle.agent_node.specs.declared.channel.Channel.{Channel}
+use Rattle.agent_rest.specs.Answering.{ServesAll}
+use Rattle.chain_route.proofs.Unheard.{value_hello}
 use Rattle.chain_route.specs.Carrying.{IsGoneBy}
 use Rattle.chain_route.specs.Runs.{Past as WayPast}
 use Rattle.chain_through.specs.Calling.{all_asking, asking, entering, greeting}
 use Rattle.chain_through.specs.Endings.{IsSound}
+use Rattle.chain_world.proofs.Agents.{none_any}
+use Rattle.chain_world.proofs.Pasts.{at_all}
 use Rattle.chain_world.specs.Chain.{channels_of}
 use Rattle.chain_world.specs.ChainValue.{ChainValue}
 use Rattle.chain_world.specs.Standing.{ChainStands, Talked, Talks, TalksOn, came_to, past_at, unmarked}
 use Rattle.channel_core.specs.Arrivals.{AreSpoken, IsFront, Spoken, arrived, bytes_of, queue_of}
 use Rattle.channel_core.specs.QueueLaws.{is_message, is_plain}
-use Rattle.channel_core.specs.ReceivingLaws.{CanBeRead, SendsReadable}
+use Rattle.channel_core.specs.ReceivingLaws.{CanBeRead}
 use Rattle.channel_core.specs.RunLaws.{is_command}
 use Rattle.channel_core.specs.Runs.{Run}
 use Rattle.channel_core.specs.declared.held.Outgoing.{Outgoing}
@@ -36,11 +40,11 @@ use Rattle.chain_through.proofs.Queues.{entering_formed, queue_messages}
 use Rattle.chain_through.proofs.Spelling.{said_so, same_said}
 use Rattle.chain_through.proofs.Taking.{all_append}
 use Rattle.world_laws.specs.EndLaws.{ClosesRightly}
-use Rattle.world_laws.proofs.Chains.{carried, through, top, way, way_carries}
+use Rattle.world_laws.proofs.Chains.{carried, through, top}
 use Rattle.world_laws.proofs.LowerLaws.{Laws}
-use Rattle.world_laws.proofs.Quiet.{add_hello}
 use Rattle.world_laws.proofs.Sending.{commands_alone, hello_first, none_behind}
-use Rattle.world_laws.proofs.Silent.{all_in, at_all, at_number, none_any}
+use Rattle.world_laws.proofs.Sides.{way, way_carries}
+use Rattle.world_laws.proofs.Silent.{all_in, at_number}
 use Rattle.world_laws.proofs.Spoken.{bare, bare_bytes, bare_spoken, entering_bare, front_bytes, front_unmarked}
 
 -- ---- Without marks a Hello and commands are a Hello and commands
@@ -91,7 +95,7 @@ module _ (laws : Laws) where
   gone_sound past got gone came =
       let calls : List UpperCall = gone.calls in
       let r : Run ForwardedValue = upper_after calls in
-      let can : CanBeRead r = laws.upper_readable value_services None calls add_hello gone.readable in
+      let can : CanBeRead r = laws.upper_readable value_services None calls value_hello gone.readable in
       let order : r.past.given ++ r.end.queued ≡ r.past.queued = laws.upper_order value_services None calls in
       let queue : List Outgoing = queue_of can.spoken can.is_ended in
       let gave : IsFront r.past.given queue = (r.end.queued, sym can.queue ∙ sym order) in
@@ -105,21 +109,21 @@ module _ (laws : Laws) where
       let rest : filter is_message first.0 ≡ [] = commands_alone first.0 plain_none ∙ ap (filter is_command) (sym first.1) ∙ none in
       let messages : filter is_message r.past.queued ≡ hello_is ∷ [] = ap (filter is_message) first.1 ∙ ap (λ os. hello_is ∷ os) rest in
       let says : entering can.spoken ≡ greeting value_services ∷ [] =
-      same_said (entering can.spoken) (greeting value_services ∷ []) (entering_formed can.spoken can.well_formed) (add_hello.0, tt)
+      same_said (entering can.spoken) (greeting value_services ∷ []) (entering_formed can.spoken can.well_formed) (value_hello.0, tt)
       (sym (queue_messages can.spoken can.is_ended) ∙ ap (filter is_message) (sym can.queue) ∙ messages) in
       called_sound past can.spoken can.is_ended value_services [] can.well_formed all ([], sym says ∙ sym (append-nil (entering can.spoken)))
 
-  module _ (images : List Image) (r : AgentRun) (follows : AgentFollowsHistory images r) (readable : AllByRecursion (λ past. SendsReadable past.calls) r.channels) where
+  module _ (images : List Image) (r : AgentRun) (follows : AgentFollowsHistory images r) (serves : AllByRecursion ServesAll r.channels) where
     -- the channel of this number, where it was opened
     abbrev pub SoundAt : ℕ → Type 0
     SoundAt k = (past : Past) → past_at k r.channels ≡ Some past → IsSound (run_of past)
 
     module _ (plans : List Plan) (at adds : ℕ) (chain : ChainValue) (s : ChainStands plans r.channels at adds chain) where
       abbrev way_past : WayPast
-      way_past = (way laws images r follows readable plans at adds chain s).past
+      way_past = (way laws r.channels plans at adds chain s).past
 
       gone : AllByRecursion IsGoneBy way_past.earlier
-      gone = (way_carries laws images r follows readable plans at adds chain s).earlier
+      gone = (way_carries laws r.channels plans at adds chain s).earlier
 
       earlier_one : (k : ℕ) → Talked way_past r.channels k → SoundAt k
       earlier_one k talked past is =
@@ -133,9 +137,9 @@ module _ (laws : Laws) where
       pub now_sound : (k : ℕ) (past : Past) (is : chain.channel ≡ Some k) (there : past_at k r.channels ≡ Some past) (reached : way_past.is_reached ≡ true) (gave : way_past.agent.gave ≡ (run_of past).past.given)
           (front : IsFront (arrived past.calls) (unmarked way_past.agent.got)) → IsSound (run_of past)
       now_sound k past is there reached gave front =
-          let up = (through laws images r follows readable plans at adds chain s k past is there reached gave front).goes_up in
-          let above : List Outgoing = top laws images r follows readable plans at adds chain s k past is there reached gave front in
-          let got : IsFront (bytes_of way_past.agent.got) (bytes_of above) = carried laws images r follows readable plans at adds chain s k past is there reached gave front in
+          let up = (through laws images r follows serves plans at adds chain s k past is there reached gave front).goes_up in
+          let above : List Outgoing = top laws images r follows serves plans at adds chain s k past is there reached gave front in
+          let got : IsFront (bytes_of way_past.agent.got) (bytes_of above) = carried laws images r follows serves plans at adds chain s k past is there reached gave front in
           let queue : List Outgoing = queue_of up.spoken up.is_ended in
           let bytes : IsFront (bytes_of way_past.agent.got) (bytes_of queue) = front_then (bytes_of way_past.agent.got) (bytes_of above) (bytes_of queue) got (front_bytes above queue up.front) in
           let came : IsFront (arrived past.calls) (unmarked queue) = front_then (arrived past.calls) (unmarked way_past.agent.got) (unmarked queue) front (front_unmarked way_past.agent.got queue bytes) in

@@ -1,17 +1,17 @@
 -- Each log of a world follows the one history, its answers are fresh, and what each client keeps and each bound value-add knows is true of the target.
-use Rattle.std.proofs.Common.{◌≡◌, ℕ, suc, ◌⊎◌, inl, inr, false, List, [], ◌∷◌, Option, Some, None, refl, sym, ◌∙◌, subst}
+use Rattle.std.proofs.Common.{◌≡◌, ℕ, suc, ◌⊎◌, inl, inr, true, false, List, [], ◌∷◌, Option, Some, None, refl, sym, ◌∙◌, subst}
 use Rattle.std.specs.Prelude.{option_to_list}
 use Rattle.std.specs.List.{AllByRecursion}
 use Rattle.agent_node.specs.AgentLaws.{AgentFollowsHistory}
 use Rattle.agent_node.specs.Runs.{AgentRun, after_all as agent_after, no_calls as agent_begun}
+use Rattle.agent_rest.specs.Answering.{ServesAll}
 use Rattle.agent_told.proofs.Lists.{all_weaker}
 use Rattle.chain_heard.specs.Coherent.{IsCoherent}
-use Rattle.chain_world.specs.Chain.{channels_of}
+use Rattle.chain_world.specs.Chain.{channels_of, is_quiet}
 use Rattle.chain_world.specs.ChainValue.{ChainValue}
 use Rattle.chain_world.specs.Standing.{AllStand, ChainStands, Stands}
 use Rattle.chain_world.specs.World.{new_world, run}
 use Rattle.chain_world.specs.WorldValue.{WorldValue}
-use Rattle.channel_core.specs.ReceivingLaws.{SendsReadable}
 use Rattle.client_log.specs.Shown.{ShowsKept}
 use Rattle.client_node.specs.Runs.{Past as ClientPast, TellsPast, no_past, past_of}
 use Rattle.target_contexts.specs.declared.process.Image.{Image}
@@ -23,12 +23,17 @@ use Rattle.tcf_schedules.specs.Plan.{Plan}
 use Rattle.tcf_text.specs.Each.{Each}
 use Rattle.tcf_text.specs.Once.{Once}
 use Rattle.chain_through.proofs.Taking.{all_append}
-use Rattle.world_laws.specs.WorldLaws.{AreCoherent, AreFresh, ChainIsCoherent, ChainIsFaithful, CoherentAfterEverySchedule, FaithfulAfterEverySchedule, FreshAfterEverySchedule, IsFaithful}
+use Rattle.world_laws.specs.HopLaws.{ChainHopsStand, HopsStandAfterEverySchedule}
+use Rattle.world_laws.specs.WorldLaws.{AreCoherent, AreFresh, ChainIsCoherent, ChainIsFaithful, ChainLacksNothing, CoherentAfterEverySchedule, FaithfulAfterEverySchedule, FreshAfterEverySchedule, IsFaithful, NothingIsStuck, NothingStuckAfterEverySchedule}
 use Rattle.world_laws.proofs.Chains.{HearsNone, HearsSo, HearsTarget, chain_hears, earlier_silent}
+use Rattle.world_laws.proofs.Hops.{chain_hops}
 use Rattle.world_laws.proofs.LowerLaws.{Laws}
+use Rattle.world_laws.proofs.Numbering.{each_found}
+use Rattle.world_laws.proofs.Sides.{way, way_carries}
 use Rattle.world_laws.proofs.Silent.{all_in}
+use Rattle.world_laws.proofs.Unstuck.{AllTook, all_answered, all_took, chain_lacks, channels_lack}
 
-module _ (laws : Laws) (images : List Image) (r : AgentRun) (follows : AgentFollowsHistory images r) (readable : AllByRecursion (λ past. SendsReadable past.calls) r.channels) where
+module _ (laws : Laws) (images : List Image) (r : AgentRun) (follows : AgentFollowsHistory images r) (serves : AllByRecursion ServesAll r.channels) where
   module _ (plans : List Plan) (at adds : ℕ) (chain : ChainValue) (s : ChainStands plans r.channels at adds chain) where
     abbrev past_is : ClientPast
     past_is = past_of s.calls no_past
@@ -42,37 +47,54 @@ module _ (laws : Laws) (images : List Image) (r : AgentRun) (follows : AgentFoll
     shown : Each ShowsKept chain.client.log
     shown = subst (λ c. Each ShowsKept c.log) (sym s.client) (laws.shown s.calls)
 
-    abbrev Hears : Type 0
-    Hears = HearsTarget images r.history chain past_is ⊎ HearsNone r.history chain past_is
+    abbrev Took : Type 0
+    Took = let run = way laws r.channels plans at adds chain s in AllTook s.calls run (way_carries laws r.channels plans at adds chain s).made
 
-    hears : HearsSo images r.history chain past_is
-    hears = chain_hears laws images r follows readable plans at adds chain s
+    abbrev Hears : Type 0
+    Hears = HearsTarget images r.history chain past_is Took ⊎ HearsNone r.history chain past_is
+
+    hears : HearsSo images r.history chain past_is Took
+    hears = chain_hears laws images r follows serves plans at adds chain s
 
     -- the channels that the chain had, but for this one, execute nothing
     others : (P : ℕ → Type 0) → ((k : ℕ) → executed_on k r.history ≡ [] → P k) → ((k : ℕ) → chain.channel ≡ Some k → P k) → AllByRecursion P (channels_of chain)
     others P silent current =
-        all_append P chain.earlier (option_to_list chain.channel) (all_weaker (λ k. executed_on k r.history ≡ []) P chain.earlier silent (earlier_silent laws images r follows readable plans at adds chain s))
+        all_append P chain.earlier (option_to_list chain.channel) (all_weaker (λ k. executed_on k r.history ≡ []) P chain.earlier silent (earlier_silent laws images r follows serves plans at adds chain s))
         (by_channel chain.channel current)
       where
         by_channel : (channel : Option ℕ) → ((k : ℕ) → channel ≡ Some k → P k) → AllByRecursion P (option_to_list channel)
         by_channel None each = tt
         by_channel (Some k) each = (each k refl, tt)
 
-    chain_ordered : Ordered false chain.client.log images r.history (channels_of chain)
+    chain_ordered : Ordered (is_quiet chain r.agent) chain.client.log images r.history (channels_of chain)
     chain_ordered = by_heard hears.heard
       where
-        by_heard : Hears → Ordered false chain.client.log images r.history (channels_of chain)
+        by_heard : Hears → Ordered (is_quiet chain r.agent) chain.client.log images r.history (channels_of chain)
         by_heard (inl h) =
             let P : ℕ → Type 0 = λ j. (j ≡ h.k → ⊥) → executed_on j r.history ≡ [] in
             let all : AllByRecursion P (channels_of chain) =
             others P (λ j none apart. none) (λ j is apart. let same : Some j ≡ Some h.k = sym is ∙ h.channel in let one : j ≡ h.k = cc in absurd (apart one)) in
-            laws.among images r.history h.k h.position chain.client past_is (channels_of chain) tells once h.heard (λ j there apart. all_in P (channels_of chain) j all there apart)
+            laws.among images r.history h.k h.position chain.client past_is (channels_of chain) (is_quiet chain r.agent) tells once h.heard (λ j there apart. all_in P (channels_of chain) j all there apart)
+            (λ quiet none. h.all (all_took laws images r follows serves plans at adds chain s quiet none))
         by_heard (inr h) =
             let P : ℕ → Type 0 = λ j. executed_on j r.history ≡ [] in
-            laws.no_target images r.history chain.client past_is (channels_of chain) tells once h.heard (λ j there. all_in P (channels_of chain) j (others P (λ k none. none) h.silent) there)
+            laws.no_target images r.history chain.client past_is (channels_of chain) (is_quiet chain r.agent) tells once h.heard (λ j there. all_in P (channels_of chain) j (others P (λ k none. none) h.silent) there)
 
-    chain_faithful : ChainIsFaithful images r.history chain
-    chain_faithful = record { once = once; ordered = chain_ordered }
+    once_each : Once (is_quiet chain r.agent) chain.client.log
+    once_each = record {
+      answers = once.answers;
+      all_at_end = once.all_at_end;
+      nothing_after = once.nothing_after;
+      closed_in_order = once.closed_in_order;
+      closed_then_end = once.closed_then_end;
+      all_when_quiet = λ quiet. all_answered laws images r follows serves plans at adds chain s quiet once;
+    }
+
+    chain_faithful : ChainIsFaithful images r.history r.agent chain
+    chain_faithful = record { once = once_each; ordered = chain_ordered }
+
+    chain_unstuck : is_quiet chain r.agent ≡ true → ChainLacksNothing chain
+    chain_unstuck quiet = chain_lacks laws images r follows serves plans at adds chain s quiet
 
     client_coherent : AreTyped images → IsCoherent chain.client.log images r.history
     client_coherent typed = by_heard hears.heard
@@ -91,8 +113,9 @@ module _ (laws : Laws) (images : List Image) (r : AgentRun) (follows : AgentFoll
         by_heard (inl h) = laws.heard_fresh images r.history h.k h.position chain.client past_is typed tells once h.heard
         by_heard (inr h) = laws.no_target_fresh images r.history chain.client past_is tells once h.heard
 
-  -- ---- All chains
+-- ---- All chains
 
+module _ (r : AgentRun) where
   pub all_of : (P : ChainValue → Type 0) (plans : List Plan) → ((at adds : ℕ) (chain : ChainValue) → ChainStands plans r.channels at adds chain → P chain) → (at : ℕ) (adds : List ℕ) (chains : List ChainValue)
       → AllStand plans r.channels at adds chains → AllByRecursion P chains
   all_of P plans so at [] [] all = tt
@@ -107,31 +130,54 @@ module _ (laws : Laws) (images : List Image) (adds : List ℕ) (plans : List Pla
   follows : AgentFollowsHistory images agent_run
   follows = laws.truth images s.calls
 
-  readable : AllByRecursion (λ past. SendsReadable past.calls) agent_run.channels
-  readable = laws.pasts images s.calls
+  serves : AllByRecursion ServesAll agent_run.channels
+  serves = laws.serves images s.calls
 
   world_faithful : IsFaithful images w
   world_faithful =
-      subst (λ h. IsFaithful images (record w { history = h })) s.history
-      (record { legal = follows.legal; chains = all_of laws images agent_run follows readable (ChainIsFaithful images agent_run.history) plans (chain_faithful laws images agent_run follows readable plans) 0 adds w.chains s.chains })
+      subst (λ a. IsFaithful images (record w { agent = a })) s.agent
+      (subst (λ h. IsFaithful images (record w { history = h; agent = agent_run.agent })) s.history
+      (record {
+        legal = follows.legal;
+        chains = all_of agent_run (ChainIsFaithful images agent_run.history agent_run.agent) plans (chain_faithful laws images agent_run follows serves plans) 0 adds w.chains s.chains;
+      }))
+
+  world_unstuck : NothingIsStuck w
+  world_unstuck =
+      subst (λ a. NothingIsStuck (record w { agent = a })) s.agent
+      (record {
+        chains = all_of agent_run (λ chain. is_quiet chain agent_run.agent ≡ true → ChainLacksNothing chain) plans (chain_unstuck laws images agent_run follows serves plans) 0 adds w.chains s.chains;
+        agent = channels_lack laws images agent_run follows serves (laws.strangers images s.calls) agent_run.agent.channels (each_found laws.truth laws.strangers images s.calls);
+      })
+
+  world_hops : AllByRecursion (ChainHopsStand w.agent) w.chains
+  world_hops =
+      subst (λ a. AllByRecursion (ChainHopsStand a) w.chains) s.agent
+      (all_of agent_run (ChainHopsStand agent_run.agent) plans (chain_hops laws images agent_run follows serves plans) 0 adds w.chains s.chains)
 
   world_coherent : AreTyped images → AreCoherent images w
   world_coherent typed =
       subst (λ h. AreCoherent images (record w { history = h })) s.history
-      (all_of laws images agent_run follows readable (ChainIsCoherent images agent_run.history) plans
-      (λ at n chain stands. chain_coherent laws images agent_run follows readable plans at n chain stands typed) 0 adds w.chains s.chains)
+      (all_of agent_run (ChainIsCoherent images agent_run.history) plans
+      (λ at n chain stands. chain_coherent laws images agent_run follows serves plans at n chain stands typed) 0 adds w.chains s.chains)
 
   world_fresh : AreTyped images → AreFresh images w
   world_fresh typed =
       subst (λ h. AreFresh images (record w { history = h })) s.history
-      (all_of laws images agent_run follows readable (λ chain. Fresh chain.client.log images agent_run.history) plans
-      (λ at n chain stands. chain_fresh laws images agent_run follows readable plans at n chain stands typed) 0 adds w.chains s.chains)
+      (all_of agent_run (λ chain. Fresh chain.client.log images agent_run.history) plans
+      (λ at n chain stands. chain_fresh laws images agent_run follows serves plans at n chain stands typed) 0 adds w.chains s.chains)
 
 pub faithful : Laws → FaithfulAfterEverySchedule
 faithful laws images adds plans playable = world_faithful laws images adds plans (run plans (new_world images adds)) (laws.stands images adds plans playable)
 
 pub coherent : Laws → CoherentAfterEverySchedule
 coherent laws images adds plans typed playable = world_coherent laws images adds plans (run plans (new_world images adds)) (laws.stands images adds plans playable) typed
+
+pub unstuck : Laws → NothingStuckAfterEverySchedule
+unstuck laws images adds plans playable = world_unstuck laws images adds plans (run plans (new_world images adds)) (laws.stands images adds plans playable)
+
+pub hops_stand : Laws → HopsStandAfterEverySchedule
+hops_stand laws images adds plans playable = world_hops laws images adds plans (run plans (new_world images adds)) (laws.stands images adds plans playable)
 
 pub fresh : Laws → FreshAfterEverySchedule
 fresh laws images adds plans typed playable = world_fresh laws images adds plans (run plans (new_world images adds)) (laws.stands images adds plans playable) typed

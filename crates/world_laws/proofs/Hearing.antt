@@ -7,11 +7,11 @@ use Rattle.std.proofs.lemmas.List.Concat.{flat_map-append}
 use Rattle.agent_node.specs.AgentLaws.{FollowsHistory, asked}
 use Rattle.agent_node.specs.Runs.{Past, run_of}
 use Rattle.agent_told.specs.Sent.{owed_by, read_as}
-use Rattle.chain_heard.specs.Heard.{AreReadable, Heard, HeardNoTarget, asked_as, heard_in, incoming, messages_of, through_of}
+use Rattle.chain_heard.specs.Heard.{AreReadable, Heard, HeardAll, HeardNoTarget, asked_as, heard_in, incoming, messages_of, through_of}
 use Rattle.chain_route.specs.Carrying.{End, Made}
 use Rattle.chain_through.specs.Calling.{Calls, entering, given_of}
-use Rattle.chain_through.specs.Through.{Content, IsBoundThrough, IsMarked, IsUnboundThrough, Through, content, is_storable_content}
-use Rattle.chain_through.proofs.Fronts.{IsMapped, front_each, front_flat, front_length, front_map, front_mapped, front_more, front_none, front_same, front_then}
+use Rattle.chain_through.specs.Through.{AllTakeAll, Content, IsBoundThrough, IsMarked, IsUnboundThrough, TakesAll, TakesAllOf, Through, content, is_storable_content}
+use Rattle.chain_through.proofs.Fronts.{IsMapped, front_each, front_flat, front_length, front_map, front_mapped, front_more, front_none, front_same, front_then, front_whole}
 use Rattle.chain_through.proofs.OwnTold.{none_from, own_unmarked}
 use Rattle.chain_through.proofs.Queues.{entering_formed}
 use Rattle.chain_through.proofs.ToldLists.{AreFound, all_found, told_front, told_more}
@@ -22,7 +22,7 @@ use Rattle.channel_core.specs.Arrivals.{AreSpoken, IsFront, Spoken, arrived, byt
 use Rattle.channel_core.specs.ReceivingLaws.{SendsReadable}
 use Rattle.channel_core.specs.Wire.{said_by}
 use Rattle.client_node.specs.Client.{new_client}
-use Rattle.client_node.specs.Ends.{HasNames, end_calls}
+use Rattle.client_node.specs.Ends.{HasNames, client_end, end_calls}
 use Rattle.client_node.specs.Runs.{Call as ClientCall, Past as ClientPast, no_past, past_of as client_past_of}
 use Rattle.command_tables.specs.declared.reading.Reading.{Reading}
 use Rattle.command_tables.specs.declared.reading.Reading.TheVariants as readings
@@ -41,13 +41,14 @@ use Rattle.value_node.specs.OwnLaws.{IsBoundBy}
 use Rattle.value_node.specs.OwnMessages.{IsOwn}
 use Rattle.agent_told.proofs.Lists.{first_nothing}
 use Rattle.chain_through.proofs.Through.{none_behind}
+use Rattle.chain_through.proofs.Ways.{takes_all}
 use Rattle.world_laws.proofs.Accepted.{AreCounted, counted_front, numbered_counted}
 use Rattle.world_laws.proofs.Greeted.{BindsBy, none_later}
 use Rattle.world_laws.proofs.LowerLaws.{Laws}
 use Rattle.world_laws.proofs.Lists.{Split, front_filter, front_left, left_front, prefix_of, split_mapped, without_few, without_filter, without_left}
 use Rattle.world_laws.proofs.Own.{own_more}
 use Rattle.world_laws.proofs.Replying.{incoming_same}
-use Rattle.world_laws.proofs.Sending.{all_counted, hears, sent_commands, sent_count, sent_counted}
+use Rattle.world_laws.proofs.Sending.{all_counted, heard_is, hears, sent_commands, sent_count, sent_counted}
 use Rattle.world_laws.proofs.Serving.{IsAskedFirst, content_read, contents_read, executed_front, owed_more, owed_right, told_to}
 
 -- ---- What is heard can be read
@@ -385,3 +386,13 @@ module _ (laws : Laws) (calls : List ClientCall) (names : AllByRecursion HasName
           greeted_first = greeted_first;
           few = laws.few calls;
         }
+
+        -- where each end on the way took all that was said above it, it heard all that the history owes
+        pub target_all : TakesAllOf (client_end calls) made said → AllTakeAll made said → HeardAll images history past.number client_past target_heard.heard
+        unfolding target_heard
+        target_all takes all =
+            let took : TakesAll (client_end calls) (entering t.down) = takes_all (client_end calls) made said (entering t.down) (entering_formed t.down t.formed) t.says_all takes in
+            let whole : heard_are ≡ entering t.down =
+            front_whole comes_as heard_are (entering t.down) heard_down.front (sym heard_down.are ∙ heard_is laws calls names ∙ took) in
+            ap (owed_in asked_are) whole ∙ down_owed ∙ b.all_owed all ∙ ap (owed_in (numbered 1 t.top)) said_is
+            ∙ owed_right laws images history past legal follows readable t.top a top_few

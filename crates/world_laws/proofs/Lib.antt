@@ -5,7 +5,6 @@ pub mod Accepted
 pub mod Taking
 pub mod Sending
 pub mod Quiet
-pub mod Pasts
 pub mod Telling
 pub mod Unclosing
 pub mod Numbering
@@ -16,6 +15,13 @@ pub mod Silent
 pub mod Serving
 pub mod Earlier
 pub mod Hearing
+pub mod Still
+pub mod Sides
+pub mod Served
+pub mod Ended
+pub mod Joined
+pub mod Unstuck
+pub mod Hops
 pub mod Chains
 pub mod Faithful
 pub mod Steps

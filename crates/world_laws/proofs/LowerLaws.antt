@@ -2,11 +2,13 @@
 use Rattle.std.proofs.Common.{ℕ, List}
 use Rattle.std.specs.List.{AllByRecursion}
 use Rattle.agent_node.specs.AgentLaws.{AgentTellsTheTruth, messages_told}
-use Rattle.agent_node.specs.Runs.{Call as AgentCall, after_all, no_calls}
 use Rattle.agent_node.specs.Strangers.{NoStrangersAfterAnyCalls}
+use Rattle.agent_rest.specs.Answering.{ServesAllAfterAnyCalls}
 use Rattle.chain_heard.specs.Coherent.{HeardIsCoherent, NoTargetHeardIsCoherent}
 use Rattle.agent_told.specs.Sent.{IsOwed, IsToldRightly}
 use Rattle.chain_heard.specs.Heard.{CommandsAreFew, HeardAmongIsOrdered, HeardIsFresh, NoTargetHeardIsFresh, NoTargetHeardIsOrdered}
+use Rattle.chain_hops.specs.Hops.{EachHopStands}
+use Rattle.chain_rest.specs.Stuck.{NothingIsStuck}
 use Rattle.chain_route.specs.Carrying.{CarriesAfterAllCalls}
 use Rattle.chain_through.specs.Endings.{AnsweredIsSound, AskedIsSound, ComesToSoundEnds}
 use Rattle.chain_through.specs.Through.{ComesThrough}
@@ -14,12 +16,14 @@ use Rattle.chain_through.proofs.Spelling.{IsSpelled}
 use Rattle.chain_world.specs.Standing.{StandsAfterEverySchedule}
 use Rattle.channel_core.specs.Greeting.{WaitsForHello}
 use Rattle.channel_core.specs.QueueLaws.{QueuesNoCommand, QueuesWhatIsSent}
-use Rattle.channel_core.specs.ReceivingLaws.{EndsFairly, QueuesReadable, ReceivesInOrder, SendsReadable, WhereAQueueComes}
+use Rattle.channel_core.specs.ReceivingLaws.{EndsFairly, QueuesReadable, ReceivesInOrder, WhereAQueueComes}
 use Rattle.channel_core.specs.RunLaws.{AfterAllCalls, EndsOnce, QueuesInOrder, SendsInOrder}
 use Rattle.channel_faults.specs.Faults.{EndsByItsCalls}
 use Rattle.channel_redirects.specs.Redirects.{HoldsBehindRedirects}
+use Rattle.channel_rest.specs.Asking.{AsksNothingWaitsForNothing}
 use Rattle.client_node.specs.Ends.{EndIsRunAfterAnyCalls}
 use Rattle.client_node.specs.Runs.{LogTellsPast, OnceAfterAnyCalls, ShownAfterAnyCalls}
+use Rattle.client_rest.specs.Lacking.{EndsWhereClosed, IsAnsweredWhereNonePends}
 use Rattle.target_contexts.specs.declared.process.Image.{Image}
 use Rattle.target_hub.specs.History.{IsLegal}
 use Rattle.target_hub.specs.Sent.{sent}
@@ -30,11 +34,7 @@ use Rattle.value_node.specs.ForwardedValue.{ForwardedValue}
 use Rattle.value_node.specs.OwnLaws.{AsksNothingBelow}
 use Rattle.value_node.specs.RelayLaws.{AfterAllCalls as AddAfterAllCalls, EndsAreRuns}
 
--- what an agent sends can be read
-abbrev pub PastsAreReadable : Type 0
-PastsAreReadable = (images : List Image) (calls : List AgentCall) → AllByRecursion (λ past. SendsReadable past.calls) (after_all calls (no_calls images)).channels
-
--- and what its history tells can be spelled, under any tokens
+-- what the history of an agent tells can be spelled, under any tokens
 abbrev pub ToldIsSpelled : Type 0
 ToldIsSpelled = (images : List Image) (history : List Input) (k : ℕ) (names : List (List ℕ)) → IsLegal images history → AllByRecursion IsToken names
     → AllByRecursion (λ m. IsSpelled m.0) (messages_told names (sent images k history))
@@ -66,14 +66,18 @@ pub record Laws : Type 0 where
   pub plain_once : AfterAllCalls {T = Unit} EndsOnce
   pub answered_sound : AnsweredIsSound ℕ
   pub asked_sound : AskedIsSound Unit
+  -- what they wait for
+  pub waits_for_nothing : AsksNothingWaitsForNothing Unit
   -- the nodes
   pub ends : EndIsRunAfterAnyCalls
   pub tells : LogTellsPast
   pub once : OnceAfterAnyCalls
   pub shown : ShownAfterAnyCalls
+  pub answered : IsAnsweredWhereNonePends
+  pub ended : EndsWhereClosed
   pub truth : AgentTellsTheTruth
   pub strangers : NoStrangersAfterAnyCalls
-  pub pasts : PastsAreReadable
+  pub serves : ServesAllAfterAnyCalls
   pub told : ToldIsSpelled
   pub right : IsToldRightly
   pub owed : IsOwed
@@ -83,6 +87,8 @@ pub record Laws : Type 0 where
   pub carries : CarriesAfterAllCalls
   pub through : ComesThrough
   pub sound : ComesToSoundEnds
+  pub unstuck : NothingIsStuck ℕ
+  pub hops : EachHopStands ℕ
   -- what a client heard
   pub few : CommandsAreFew
   pub among : HeardAmongIsOrdered

@@ -26,7 +26,7 @@ use Rattle.tcf_message.specs.declared.message.MessageFault.{MessageFault}
 use Rattle.tcf_values.specs.declared.event.EventData.{EventData}
 use Rattle.tcf_values.specs.declared.ids.ContextId.{ContextId}
 use Rattle.agent_told.proofs.Lists.{map_map}
-use Rattle.world_laws.proofs.Telling.{Reached, reached_more}
+use Rattle.chain_world.proofs.Agents.{Reached, reached_more}
 
 abbrev number_of : Channel → ℕ
 number_of c = c.number

@@ -15,8 +15,8 @@ use Rattle.tcf_schedules.specs.Words.{bytes_of, bytes_or_none, dash_word}
 use Rattle.tcf_schedules.specs.declared.schedule.ChainHead.{ChainHead}
 use Rattle.tcf_schedules.specs.declared.schedule.NamedImage.{NamedImage}
 use Rattle.world_laws.specs.EndLaws.{EndsRightlyAfterEverySchedule}
-use Rattle.world_laws.specs.Playing.{CoherentOfEveryFile, EndsOfEveryFile, FreshOfEveryFile, HoldsOfEveryFile, ReadIsPlayable}
-use Rattle.world_laws.specs.WorldLaws.{CoherentAfterEverySchedule, FaithfulAfterEverySchedule, FreshAfterEverySchedule}
+use Rattle.world_laws.specs.Playing.{CoherentOfEveryFile, EndsOfEveryFile, FreshOfEveryFile, HoldsOfEveryFile, ReadIsPlayable, UnstuckOfEveryFile}
+use Rattle.world_laws.specs.WorldLaws.{CoherentAfterEverySchedule, FaithfulAfterEverySchedule, FreshAfterEverySchedule, NothingStuckAfterEverySchedule}
 
 -- ---- The steps
 
@@ -91,3 +91,6 @@ file_coherent law said playable file s read = law (images_of s.images) (adds_of 
 
 pub file_fresh : FreshAfterEverySchedule → ReadsWhatIsSaid → ReadIsPlayable → FreshOfEveryFile
 file_fresh law said playable file s read = law (images_of s.images) (adds_of s.chains) s.plans (file_typed said file s read) (playable file s read)
+
+pub file_unstuck : NothingStuckAfterEverySchedule → ReadIsPlayable → UnstuckOfEveryFile
+file_unstuck law playable file s read = law (images_of s.images) (adds_of s.chains) s.plans (playable file s read)

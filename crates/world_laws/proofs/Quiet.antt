@@ -1,15 +1,15 @@
 -- What comes down to a client asks it nothing, whatever it says itself.
-use Rattle.std.proofs.Common.{◌≡◌, Bool, false, List, [], ◌∷◌, ◌++◌, map, None, Ok, refl, sym, ap, ◌∙◌, subst, arith, append-nil}
+use Rattle.std.proofs.Common.{◌≡◌, Bool, false, List, [], ◌∷◌, ◌++◌, map, None, Ok, sym, ap, ◌∙◌, subst, append-nil}
 use Rattle.std.specs.List.{AllByRecursion, filter, flat_map}
 use Rattle.tcf_message.specs.Message.{IsWellFormed, MessageValue, command, event, final, flow, not_known, progress, reading, spelling}
 use Rattle.channel_core.specs.Arrivals.{AreSpoken, IsFront, Marked, Spoken, arrived, bytes_of, messages_in, queue_of}
 use Rattle.channel_core.specs.ReceivingLaws.{CanBeRead, incoming_of}
 use Rattle.channel_core.specs.RunLaws.{is_command}
 use Rattle.channel_core.specs.Runs.{Run}
-use Rattle.channel_core.specs.Wire.{hello, locator}
 use Rattle.client_node.specs.Client.{client_services, new_client}
 use Rattle.client_node.specs.Ends.{client_end, end_calls, unknown_to}
 use Rattle.client_node.specs.Runs.{Call as ClientCall}
+use Rattle.chain_route.proofs.Unheard.{value_hello}
 use Rattle.chain_route.specs.Carrying.{AllCarry, End, Made, end_below, past_of}
 use Rattle.chain_route.specs.declared.hop.Hop.{Hop}
 use Rattle.chain_through.specs.Calling.{AskNothing, Says, asks, entering}
@@ -25,10 +25,6 @@ use Rattle.chain_through.proofs.Through.{none_mapped}
 use Rattle.world_laws.proofs.LowerLaws.{Laws}
 use Rattle.world_laws.proofs.Sending.{AsksNothing}
 use Rattle.world_laws.proofs.Spoken.{front_bytes}
-
-pub add_hello : IsWellFormed (event locator hello value_services)
-unfolding locator hello value_services
-add_hello = ((refl, refl), omega arith)
 
 -- what comes is of messages that ask nothing
 pub record ComesQuietly (came : List Marked) : Type 0 where
@@ -46,7 +42,7 @@ module _ (laws : Laws) where
   below_can : (m : Made) → CanBeRead (lower_after ((past_of m).until_bound ++ (past_of m).since_bound))
   below_can m =
       let r : EndsAreRuns (after_all m.calls (no_calls m.peer)) = laws.adds m.peer m.calls in
-      laws.plain_readable value_services None ((past_of m).until_bound ++ (past_of m).since_bound) add_hello r.below_readable
+      laws.plain_readable value_services None ((past_of m).until_bound ++ (past_of m).since_bound) value_hello r.below_readable
 
   below_quiet : (m : Made) → AskNothing (entering (below_can m).spoken)
   below_quiet m =

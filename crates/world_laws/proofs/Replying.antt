@@ -3,6 +3,7 @@ use Rattle.std.proofs.Common.{◌≡◌, ℕ, Option, List, [], ◌∷◌, map, 
 use Rattle.std.specs.List.{AllByRecursion}
 use Rattle.tcf_message.specs.Message.{MessageValue}
 use Rattle.agent_node.specs.AgentLaws.{later_tokens, messages_told}
+use Rattle.agent_rest.proofs.Spoken.{spoken_of}
 use Rattle.channel_core.specs.Arrivals.{Spoken}
 use Rattle.chain_heard.specs.Heard.{incoming, messages_of}
 use Rattle.chain_through.specs.Calling.{AskNothing}
@@ -10,9 +11,6 @@ use Rattle.chain_through.specs.Through.{IsMarked}
 use Rattle.chain_through.proofs.Spelling.{AreSpelled, IsSpelled}
 use Rattle.chain_told.specs.TellsOn.{comes_as}
 use Rattle.target_hub.specs.Sent.{Told, event_at, final_at, hello_at, progress_at, unknown_at}
-
-abbrev pub spoken_of : List (MessageValue × Option ℕ) → List Spoken
-spoken_of messages = map (λ m. record { message = m.0; mark = m.1 }) messages
 
 pub incoming_same : (spoken : List Spoken) → map comes_as spoken ≡ map incoming (messages_of spoken)
 incoming_same [] = refl

@@ -46,7 +46,7 @@ unknown_readable putting_out is = tt
 unknown_readable closing is = tt
 unknown_readable draining is = tt
 
-all_readable : (calls : List (Call ℕ)) → AllByRecursion SendsUnknown calls → SendsReadable calls
+pub all_readable : (calls : List (Call ℕ)) → AllByRecursion SendsUnknown calls → SendsReadable calls
 all_readable [] each = tt
 all_readable (call ∷ calls) each = (unknown_readable call each.0, all_readable calls each.1)
 

@@ -3,10 +3,11 @@ use Rattle.std.proofs.Common.{◌≡◌, ℕ, suc, ◌+◌, ◌-◌, ◌^◌, �
 use Rattle.std.specs.Prelude.{decimal}
 use Rattle.std.specs.List.{AllByRecursion, filter}
 use Rattle.std.proofs.lemmas.List.Elements.{filter-append}
-use Rattle.agent_node.specs.AgentLaws.{Asked as AgentAsked, FollowsHistory, all_said, asked, messages_told, read as agent_read, tokens}
+use Rattle.agent_node.specs.AgentLaws.{Asked as AgentAsked, FollowsHistory, asked, messages_told, read as agent_read, tokens}
 use Rattle.agent_node.specs.Runs.{Past, run_of}
+use Rattle.agent_rest.proofs.Spoken.{said_spoken, spoken_of}
+use Rattle.agent_rest.proofs.Telling.{agent_hello}
 use Rattle.agent_told.specs.Sent.{owed_by, read_as, said_to}
-use Rattle.agent_told.proofs.Lists.{map_map}
 use Rattle.chain_route.specs.Carrying.{AllCarry, End, HopCarries, Made, end_above, past_of}
 use Rattle.chain_route.specs.Runs.{Talk}
 use Rattle.chain_route.specs.declared.hop.Hop.{Hop}
@@ -44,11 +45,10 @@ use Rattle.chain_through.proofs.Through.{take_few}
 use Rattle.world_laws.specs.EndLaws.{ClosesRightly}
 use Rattle.world_laws.proofs.LowerLaws.{Laws}
 use Rattle.world_laws.proofs.Lists.{no_more}
-use Rattle.world_laws.proofs.Replying.{spoken_of, spoken_spelled, told_marked, told_quiet}
+use Rattle.world_laws.proofs.Replying.{spoken_spelled, told_marked, told_quiet}
 use Rattle.world_laws.proofs.Sending.{hello_first}
 use Rattle.world_laws.proofs.Spoken.{front_bytes, front_unmarked}
 use Rattle.world_laws.proofs.Taking.{asked_front, asking_named, asks_of, named, tokens_named}
-use Rattle.world_laws.proofs.Telling.{agent_hello}
 
 -- ---- The last hop
 
@@ -198,9 +198,6 @@ not_ended (Closed (causes.Stream fault)) queued spoken queue right ends = absurd
 abbrev pub told_to : List Image → List Input → Past → List Spoken
 told_to images history past = spoken_of (messages_told (tokens (asked (run_of past))) (sent images past.number history))
 
-said_spoken : (messages : List (MessageValue × Option ℕ)) → map said_so (spoken_of messages) ≡ all_said messages
-said_spoken messages = map_map said_so (λ m. record { message = m.0; mark = m.1 }) messages
-
 begins_said : (spoken : List Spoken) (first : Spoken) (services : List ℕ) (rest : List Outgoing) → AreSpoken spoken → IsSpelled first.message → first.message ≡ event locator hello services
     → map said_so spoken ≡ said_so first ∷ rest → BeginsWithHello spoken
 begins_said [] first services rest formed spelled is same = tt
@@ -224,7 +221,17 @@ module _ (laws : Laws) (images : List Image) (history : List Input) (past : Past
   says_so : entering end_can.spoken ≡ told_is
   says_so =
       same_said (entering end_can.spoken) told_is (entering_formed end_can.spoken end_can.well_formed) told_spelled
-      (sym (queue_messages end_can.spoken end_can.is_ended) ∙ ap (filter is_message) (sym end_can.queue) ∙ follows.told ∙ sym (said_spoken (messages_told (tokens (asked end_run)) (sent images past.number history))))
+      (sym (queue_messages end_can.spoken end_can.is_ended) ∙ ap (filter is_message) (sym end_can.queue) ∙ follows.told ∙ said_spoken (messages_told (tokens (asked end_run)) (sent images past.number history)))
+
+  -- it can be sent, and where nothing stays queued it was given
+  pub told_formed : AreSpoken told_is
+  told_formed = subst AreSpoken says_so (entering_formed end_can.spoken end_can.well_formed)
+
+  pub told_gave : (gave : List Outgoing) → gave ≡ end_run.past.given → end_run.end.queued ≡ [] → filter is_message gave ≡ map said_so told_is
+  told_gave gave is none =
+      let order : end_run.past.given ++ end_run.end.queued ≡ end_run.past.queued = laws.plain_order agent_services (Some past.position) past.calls in
+      let all : end_run.past.given ≡ end_run.past.queued = sym (append-nil end_run.past.given) ∙ ap (λ os. end_run.past.given ++ os) (sym none) ∙ order in
+      ap (filter is_message) (is ∙ all) ∙ follows.told ∙ said_spoken (messages_told (tokens (asked end_run)) (sent images past.number history))
 
   end_says : (gave : List Outgoing) → gave ≡ end_run.past.given → Says told_is gave
   end_says gave is =

@@ -1,20 +1,18 @@
 -- A channel that was never opened executes nothing.
-use Rattle.std.proofs.Common.{◌≡◌, ℕ, zero, suc, ◌==◌, ◌&&◌, not, Bool, true, false, cond, List, [], ◌∷◌, ◌++◌, Some, None, refl, sym, ap, ◌∙◌, subst, arith, append_assoc, eqb-true}
-use Rattle.std.specs.List.{AllByRecursion, Contains, list_any}
-use Rattle.std.proofs.lemmas.Bool.{or_parts}
+use Rattle.std.proofs.Common.{◌≡◌, ℕ, zero, suc, ◌==◌, not, Bool, true, false, cond, List, [], ◌∷◌, ◌++◌, Some, None, refl, sym, ap, ◌∙◌, subst, arith, append_assoc, eqb-true}
+use Rattle.std.specs.List.{AllByRecursion, Contains}
+use Rattle.std.proofs.lemmas.Bool.{and_parts, or_parts}
 use Rattle.std.proofs.lemmas.List.Folds.{list_any-append}
 use Rattle.agent_node.specs.AgentLaws.{AgentFollowsHistory}
 use Rattle.agent_node.specs.Runs.{AgentRun, Past}
+use Rattle.chain_world.proofs.Agents.{none_any}
+use Rattle.chain_world.proofs.Pasts.{at_number as has_number}
 use Rattle.chain_world.specs.Standing.{past_at}
 use Rattle.target_contexts.specs.declared.process.Image.{Image}
 use Rattle.target_hub.specs.History.{IsLegal, opens, was_closed, was_opened}
 use Rattle.target_hub.specs.Sent.{ReadCommand, executed_by, executed_on}
 use Rattle.target_hub.specs.declared.input.Input.{Input}
 use Rattle.target_hub.specs.declared.input.Input.TheVariants.{Closed, Executed, Opened, Ticked}
-
-and_first : (a b : Bool) → (a && b) ≡ true → a ≡ true
-and_first true b is = refl
-and_first false b is = absurd cc
 
 not_before : (k : ℕ) (before rest history : List Input) → history ≡ before ++ rest → was_opened k history ≡ false → was_opened k before ≡ false
 not_before k before rest history is none = (or_parts (was_opened k before) (was_opened k rest) (sym (list_any-append (opens k) before rest) ∙ ap (was_opened k) (sym is) ∙ none)).0
@@ -26,7 +24,7 @@ executes_none images k history before (Executed channel reading service name) re
     by_flag : (flag : Bool) → (channel == k) ≡ flag → cond {A = List ReadCommand} flag (record { reading = reading; service = service; name = name } ∷ []) [] ≡ []
     by_flag true same =
         let allowed = legal before (Executed channel reading service name) rest is in
-        let opened : was_opened channel before ≡ true = and_first (was_opened channel before) (not (was_closed channel before)) allowed.0 in
+        let opened : was_opened channel before ≡ true = (and_parts (was_opened channel before) (not (was_closed channel before)) allowed.0).0 in
         let yes : was_opened k before ≡ true = ap (λ n. was_opened n before) (sym (eqb-true channel k same)) ∙ opened in
         let no_one : was_opened k before ≡ false = not_before k before (Executed channel reading service name ∷ rest) history is none in
         absurd cc
@@ -42,32 +40,11 @@ silent_from images k history before (input ∷ rest) legal none is =
 
 -- ---- The channels of an agent, by their numbers
 
-pub none_any : (k : ℕ) (pasts : List Past) → past_at k pasts ≡ None → list_any (λ past. past.number == k) pasts ≡ false
-none_any k [] none = refl
-none_any k (past ∷ pasts) none = by_flag (past.number == k) refl none (none_any k pasts)
-  where
-    by_flag : (flag : Bool) → (past.number == k) ≡ flag → cond flag (Some past) (past_at k pasts) ≡ None → (past_at k pasts ≡ None → list_any (λ p. p.number == k) pasts ≡ false) → list_any (λ p. p.number == k) (past ∷ pasts) ≡ false
-    by_flag true is not rest = absurd cc
-    by_flag false is not rest = rw is (rest not)
-
 pub unopened_silent : (images : List Image) (r : AgentRun) (k : ℕ) → AgentFollowsHistory images r → past_at k r.channels ≡ None → executed_on k r.history ≡ []
 unopened_silent images r k follows none = silent_from images k r.history [] r.history follows.legal (follows.opened k ∙ none_any k r.channels none) refl
 
 pub at_number : (k : ℕ) (pasts : List Past) (past : Past) → past_at k pasts ≡ Some past → past.number ≡ k
-at_number k [] past is = absurd cc
-at_number k (first ∷ pasts) past is = by_flag (first.number == k) refl is (at_number k pasts past)
-  where
-    by_flag : (flag : Bool) → (first.number == k) ≡ flag → cond flag (Some first) (past_at k pasts) ≡ Some past → (past_at k pasts ≡ Some past → past.number ≡ k) → past.number ≡ k
-    by_flag true same there rest = let one : first ≡ past = cc in ap (λ p. p.number) (sym one) ∙ eqb-true first.number k same
-    by_flag false same there rest = rest there
-
-pub at_all : (P : Past → Type 0) (k : ℕ) (pasts : List Past) (past : Past) → AllByRecursion P pasts → past_at k pasts ≡ Some past → P past
-at_all P k [] past each is = absurd cc
-at_all P k (first ∷ pasts) past each is = by_flag (first.number == k) is (at_all P k pasts past each.1)
-  where
-    by_flag : (flag : Bool) → cond flag (Some first) (past_at k pasts) ≡ Some past → (past_at k pasts ≡ Some past → P past) → P past
-    by_flag true there rest = let one : first ≡ past = cc in subst P one each.0
-    by_flag false there rest = rest there
+at_number k pasts past is = eqb-true past.number k (has_number k pasts past is)
 
 -- what holds of each of a list
 pub all_in : {A : Type 0} → (P : A → Type 0) (xs : List A) (x : A) → AllByRecursion P xs → Contains xs x → P x

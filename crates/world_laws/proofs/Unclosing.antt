@@ -14,7 +14,7 @@ use Rattle.target_hub.specs.declared.done.Done.{Done}
 use Rattle.tcf_message.specs.Message.{MessageValue, command, event, final, flow, not_known, progress, reading}
 use Rattle.tcf_message.specs.declared.message.MessageFault.{MessageFault}
 use Rattle.tcf_values.specs.declared.event.EventData.{EventData}
-use Rattle.world_laws.proofs.Pasts.{AreAll, AreCalled, each_called, number_called, open_called, opened_called, unless_called, with_called}
+use Rattle.agent_rest.proofs.Pasts.{AreAll, AreCalled, each_called, number_called, open_called, opened_called, unless_called, with_called}
 
 abbrev IsNotClosing : EndCall Unit → Type 0
 IsNotClosing call = is_closing call ≡ false

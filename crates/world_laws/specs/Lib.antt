@@ -1,3 +1,4 @@
 pub mod WorldLaws
 pub mod EndLaws
 pub mod Playing
+pub mod HopLaws

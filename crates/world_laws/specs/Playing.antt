@@ -4,7 +4,7 @@ use Rattle.std.specs.List.{AllByRecursion}
 use Rattle.tcf_schedules.specs.Schedule.{ScheduleValue, schedule_of}
 use Rattle.world_laws.specs.EndLaws.{EndsAllRightly}
 use Rattle.chain_world.specs.World.{IsPlayable, adds_of, images_of, new_world, run}
-use Rattle.world_laws.specs.WorldLaws.{AreCoherent, AreFresh, IsFaithful}
+use Rattle.world_laws.specs.WorldLaws.{AreCoherent, AreFresh, IsFaithful, NothingIsStuck}
 
 -- each step of the schedule that a file says can be played
 abbrev pub ReadIsPlayable : Type 0
@@ -25,3 +25,7 @@ CoherentOfEveryFile = (file : List ℕ) (s : ScheduleValue) → schedule_of file
 -- and the answers that they were given are fresh
 abbrev pub FreshOfEveryFile : Type 0
 FreshOfEveryFile = (file : List ℕ) (s : ScheduleValue) → schedule_of file ≡ Ok s → AreFresh (images_of s.images) (run s.plans (new_world (images_of s.images) (adds_of s.chains)))
+
+-- and nothing is stuck in it
+abbrev pub UnstuckOfEveryFile : Type 0
+UnstuckOfEveryFile = (file : List ℕ) (s : ScheduleValue) → schedule_of file ≡ Ok s → NothingIsStuck (run s.plans (new_world (images_of s.images) (adds_of s.chains)))

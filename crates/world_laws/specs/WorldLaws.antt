@@ -1,8 +1,11 @@
 -- What the logs of a world's clients owe to the history of its target, after every schedule.
-use Rattle.std.specs.Prelude.{ℕ, false, List}
+use Rattle.std.specs.Prelude.{ℕ, ◌≡◌, true, false, List, [], IfSome}
 use Rattle.std.specs.List.{AllByRecursion}
+use Rattle.agent_node.specs.AgentValue.{AgentValue}
 use Rattle.chain_heard.specs.Coherent.{IsCoherent}
 use Rattle.chain_through.specs.Through.{KnowsTruth}
+use Rattle.channel_core.specs.Closing.{is_closed}
+use Rattle.channel_core.specs.EndValue.{EndValue}
 use Rattle.target_contexts.specs.declared.process.Image.{Image}
 use Rattle.target_hub.specs.Fresh.{Fresh}
 use Rattle.target_hub.specs.History.{IsLegal}
@@ -13,17 +16,19 @@ use Rattle.tcf_schedules.specs.Plan.{Plan}
 use Rattle.tcf_text.specs.Once.{Once}
 use Rattle.chain_world.specs.World.{IsPlayable, new_world, run}
 use Rattle.chain_world.specs.WorldValue.{WorldValue}
-use Rattle.chain_world.specs.Chain.{channels_of}
+use Rattle.chain_world.specs.Chain.{channels_of, is_quiet}
 use Rattle.chain_world.specs.ChainValue.{ChainValue}
+use Rattle.value_node.specs.ValueValue.{ValueValue}
 
--- each command is answered once, and the log is what the history says, on one of the channels that the chain had
-pub record ChainIsFaithful (images : List Image) (history : List Input) (chain : ChainValue) : Type 0 where
-  pub once : Once false chain.client.log
-  pub ordered : Ordered false chain.client.log images history (channels_of chain)
+-- each command is answered once, and the log is what the history says, on one of the channels that the chain had; where nothing
+-- is under way on the chain each one was answered, and all that the history says has come
+pub record ChainIsFaithful (images : List Image) (history : List Input) (agent : AgentValue) (chain : ChainValue) : Type 0 where
+  pub once : Once (is_quiet chain agent) chain.client.log
+  pub ordered : Ordered (is_quiet chain agent) chain.client.log images history (channels_of chain)
 
 pub record IsFaithful (images : List Image) (w : WorldValue) : Type 0 where
   pub legal : IsLegal images w.history
-  pub chains : AllByRecursion (ChainIsFaithful images w.history) w.chains
+  pub chains : AllByRecursion (ChainIsFaithful images w.history w.agent) w.chains
 
 -- each answer with a position to a storable command, of the target or from a store on the way, is what the target answers there
 abbrev pub AreFresh : List Image → WorldValue → Type 0
@@ -37,6 +42,24 @@ pub record ChainIsCoherent (images : List Image) (history : List Input) (chain :
 
 abbrev pub AreCoherent : List Image → WorldValue → Type 0
 AreCoherent images w = AllByRecursion (ChainIsCoherent images w.history) w.chains
+
+-- no command is pending or held at an end that isn't closed
+pub record LacksNothing {T : Type 0} (e : EndValue T) : Type 0 where
+  pub pending : is_closed e.state ≡ false → e.pending ≡ []
+  pub held : is_closed e.state ≡ false → e.held ≡ []
+
+pub record AddLacksNothing (v : ValueValue) : Type 0 where
+  pub lower : LacksNothing v.relay.lower
+  pub upper : IfSome v.relay.upper LacksNothing
+
+-- so it is at each end of a chain on which nothing is under way; an agent's ends never have one
+pub record ChainLacksNothing (chain : ChainValue) : Type 0 where
+  pub client : IfSome chain.client.channel LacksNothing
+  pub adds : AllByRecursion AddLacksNothing chain.route.adds
+
+pub record NothingIsStuck (w : WorldValue) : Type 0 where
+  pub chains : AllByRecursion (λ chain. is_quiet chain w.agent ≡ true → ChainLacksNothing chain) w.chains
+  pub agent : AllByRecursion (λ channel. LacksNothing channel.end) w.agent.channels
 
 -- Whatever the steps of these chains are, with so many value-adds each.
 abbrev pub FaithfulAfterEverySchedule : Type 0
@@ -52,3 +75,8 @@ CoherentAfterEverySchedule = (images : List Image) (adds : List ℕ) (plans : Li
 abbrev pub FreshAfterEverySchedule : Type 0
 FreshAfterEverySchedule = (images : List Image) (adds : List ℕ) (plans : List Plan) → AreTyped images → AllByRecursion IsPlayable plans →
     AreFresh images (run plans (new_world images adds))
+
+-- And nothing is stuck.
+abbrev pub NothingStuckAfterEverySchedule : Type 0
+NothingStuckAfterEverySchedule = (images : List Image) (adds : List ℕ) (plans : List Plan) → AllByRecursion IsPlayable plans →
+    NothingIsStuck (run plans (new_world images adds))

@@ -1,4 +1,4 @@
-use Rattle.world_laws.proofs.Playable.{file_coherent, file_ends, file_faithful, file_fresh}
+use Rattle.world_laws.proofs.Playable.{file_coherent, file_ends, file_faithful, file_fresh, file_unstuck}
 use Rattle.world_laws.proofs.laws.every_file.Goals as goal
 
 pub returns-clause-faithful : goal.returns-clause-faithful
@@ -12,3 +12,6 @@ returns-clause-coherent c = file_coherent c.every_schedule.ensures.coherent c.re
 
 pub returns-clause-fresh : goal.returns-clause-fresh
 returns-clause-fresh c = file_fresh c.every_schedule.ensures.fresh c.reads_what_is_said.ensures c.read_is_playable.ensures
+
+pub returns-clause-unstuck : goal.returns-clause-unstuck
+returns-clause-unstuck c = file_unstuck c.every_schedule.ensures.unstuck c.read_is_playable.ensures

@@ -1,15 +1,14 @@
+use Rattle.agent_rest.proofs.Telling.{TargetLaws}
 use Rattle.world_laws.proofs.Ends.{ends_rightly}
-use Rattle.world_laws.proofs.Faithful.{coherent, faithful, fresh}
+use Rattle.world_laws.proofs.Faithful.{coherent, faithful, fresh, hops_stand, unstuck}
 use Rattle.world_laws.proofs.LowerLaws.{Laws}
-use Rattle.world_laws.proofs.Telling.{TellingLaws, pasts_readable, told_spelled}
+use Rattle.world_laws.proofs.Telling.{told_spelled}
 use Rattle.world_laws.proofs.laws.every_schedule.Goals as goal
 
 pub returns : goal.returns
 returns c =
-    let telling : TellingLaws = record {
-      truth = c.an_agent_tells_the_truth.ensures;
-      back = c.read_back.ensures;
-      reads = c.readings_are_legal.ensures;
+    let target : TargetLaws = record {
+      exact = c.names_are_exact.ensures;
       commands = c.what_is_told_can_be_sent.ensures.commands;
       answers = c.what_is_told_can_be_sent.ensures.answers;
       ticks = c.what_is_told_can_be_sent.ensures.ticks;
@@ -40,14 +39,17 @@ returns c =
       plain_once = c.a_closed_end_stays_closed.ensures.once;
       answered_sound = c.what_is_answered_once_is_sound.ensures.answered;
       asked_sound = c.what_is_answered_once_is_sound-2.ensures.asked;
+      waits_for_nothing = c.who_asks_nothing_waits_for_nothing.ensures;
       ends = c.a_clients_end_is_a_run.ensures;
       tells = c.the_log_tells_what_was_taken.ensures;
       once = c.each_command_is_answered_once.ensures;
       shown = c.the_cache_keeps_what_the_log_says.ensures;
+      answered = c.a_log_lacks_what_is_pending.ensures.answered;
+      ended = c.a_log_lacks_what_is_pending.ensures.ended;
       truth = c.an_agent_tells_the_truth.ensures;
       strangers = c.an_agent_has_no_strangers.ensures;
-      pasts = pasts_readable telling;
-      told = told_spelled telling;
+      serves = c.an_agent_answers_all.ensures;
+      told = told_spelled target;
       right = c.what_the_target_tells_is_right.ensures.right;
       owed = c.what_the_target_tells_is_right.ensures.owed;
       adds = c.a_value_add_relays.ensures.runs;
@@ -55,6 +57,8 @@ returns c =
       carries = c.each_hop_carries.ensures;
       through = c.what_comes_through.ensures;
       sound = c.no_fault_comes_through.ensures;
+      unstuck = c.nothing_is_stuck.ensures;
+      hops = c.each_hop_stands.ensures;
       few = c.commands_are_few.ensures;
       among = c.what_was_heard_is_ordered.ensures.among;
       no_target = c.no_target_heard_is_ordered.ensures;
@@ -64,4 +68,4 @@ returns c =
       no_target_true = c.what_was_heard_is_true.ensures.no_target;
       stands = c.a_world_stands.ensures;
     } in
-    record { faithful = faithful laws; ends = ends_rightly laws; coherent = coherent laws; fresh = fresh laws }
+    record { faithful = faithful laws; ends = ends_rightly laws; coherent = coherent laws; fresh = fresh laws; unstuck = unstuck laws; hops = hops_stand laws }

@@ -1,0 +1,54 @@
+-- The hop to the agent.
+use Rattle.std.proofs.Common.{◌≡◌, true, false, [], ◌++◌, Option, None, Some, sym, ap, ◌∙◌, append_assoc}
+use Rattle.std.specs.Prelude.{IfSome}
+use Rattle.channel_core.specs.Arrivals.{arrived, bytes_of}
+use Rattle.channel_hop.specs.Hop.{Carries}
+use Rattle.channel_rest.specs.Meeting.{IsLasting, Side, run_of}
+use Rattle.channel_rest.specs.Numbering.{TakesNumbered}
+use Rattle.chain_hops.specs.Hops.{HopOfAgent, IsAgentSide}
+use Rattle.chain_rest.specs.Stuck.{IsChannel, IsReadable, end_of_side, unmarked}
+use Rattle.chain_route.specs.Carrying.{HopCarries, end_of}
+use Rattle.chain_route.specs.Runs.{Talk}
+use Rattle.chain_route.specs.declared.hop.Hop.{Hop}
+use Rattle.chain_hops.proofs.Facts.{EndLaws}
+use Rattle.chain_hops.proofs.Marks.{unmarked_parts}
+
+module _ {T : Type 0} (laws : EndLaws T) (s : Side T) (hop : Hop) (talk : Talk) (sends : IsReadable s) (carries : HopCarries hop (end_of_side s) (end_of talk))
+    (given : (run_of s).end.queued ≡ []) (live : hop.is_live ≡ true) where
+  lasting : IsLasting s
+  lasting = record { formed = sends.formed; readable = sends.readable; lasting = (carries.lasting live).0 }
+
+  module _ (a : Side Unit) (channel : IsChannel a talk) where
+    agent_lasts : IsLasting a
+    agent_lasts = record { formed = channel.sends.formed; readable = channel.sends.readable; lasting = sym channel.lost ∙ (carries.lasting live).1 }
+
+    falls : Carries true s a (bytes_of hop.down)
+    falls = record {
+      given = channel.given;
+      front = (carries.down_front.0, sym (ap bytes_of channel.gave) ∙ carries.down_front.1);
+      gave = λ opens. sym (ap bytes_of channel.gave) ∙ carries.down live;
+    }
+
+    -- bytes come to the agent without marks
+    bare : unmarked (run_of s).past.given ≡ unmarked talk.got ++ unmarked hop.up
+    bare = unmarked_parts (run_of s).past.given talk.got hop.up (carries.up live)
+
+    rises : Carries false a s (unmarked hop.up)
+    rises = record {
+      given = given;
+      front = (
+        channel.front.0 ++ unmarked hop.up,
+        bare ∙ ap (λ bytes. bytes ++ unmarked hop.up) channel.front.1 ∙ append_assoc (arrived a.calls) channel.front.0 (unmarked hop.up),
+      );
+      gave = λ opens. bare ∙ ap (λ bytes. bytes ++ unmarked hop.up) (channel.came opens);
+    }
+
+    numbered : TakesNumbered (run_of a)
+    numbered = laws.numbered false a s sends.formed sends.readable rises.front
+
+    agent_hop : HopOfAgent hop s a
+    agent_hop = record { stands = laws.stand true false s a (bytes_of hop.down) (unmarked hop.up) lasting agent_lasts falls rises; answers = channel.answers numbered }
+
+  pub last_hop : (agent : Option (Side Unit)) → IsAgentSide agent talk → IfSome agent (HopOfAgent hop s)
+  last_hop None is = tt
+  last_hop (Some a) is = agent_hop a is

@@ -1,0 +1,6 @@
+pub mod Facts
+pub mod Marks
+pub mod Connections
+pub mod LastHop
+pub mod AddHop
+pub mod Ways

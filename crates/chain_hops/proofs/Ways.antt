@@ -1,0 +1,41 @@
+-- The hops of a way of any length.
+use Rattle.std.proofs.Common.{◌||◌, Bool, false, List, [], ◌∷◌, Option, ap}
+use Rattle.std.specs.List.{list_any}
+use Rattle.channel_rest.specs.Meeting.{Side}
+use Rattle.chain_hops.specs.Hops.{EachHopStands, IsWay}
+use Rattle.chain_rest.proofs.AddHop.{above_readable}
+use Rattle.chain_rest.specs.Stuck.{last_is_live, side_above}
+use Rattle.chain_route.specs.Carrying.{Made, end_above, end_of, past_of}
+use Rattle.chain_route.specs.Runs.{Talk}
+use Rattle.chain_route.specs.declared.hop.Hop.{Hop}
+use Rattle.value_node.specs.ForwardedValue.{ForwardedValue}
+use Rattle.chain_hops.proofs.AddHop.{above_given, add_hop}
+use Rattle.chain_hops.proofs.Connections.{connected_above, connected_later}
+use Rattle.chain_hops.proofs.Facts.{EndLaws, NodeLaws}
+use Rattle.chain_hops.proofs.LastHop.{last_hop}
+
+abbrev lives : List Hop → Bool
+lives hops = list_any (λ hop. hop.is_live) hops
+
+-- above a value-add there is a way again
+way_above : NodeLaws → {T : Type 0} → (s : Side T) (hop next : Hop) (hops : List Hop) (m : Made) (made : List Made) (agent : Option (Side Unit)) (talk : Talk) → IsWay s (hop ∷ next ∷ hops) (m ∷ made) agent talk
+    → IsWay (side_above m) (next ∷ hops) made agent talk
+way_above nodes s hop next hops m made agent talk way = record {
+  sends = above_readable nodes.runs m;
+  given = λ live. above_given nodes m way.adds.0 (connected_above m made (next ∷ hops) (end_above (past_of m)) (end_of talk) way.carries.1 way.connected live);
+  adds = way.adds.1;
+  carries = way.carries.1;
+  connected = connected_later m made (last_is_live (next ∷ hops)) way.connected;
+  served = way.served;
+}
+
+module _ (upper : EndLaws ForwardedValue) (nodes : NodeLaws) where
+  pub hops_stand : {T : Type 0} → EndLaws T → EachHopStands T
+  hops_stand laws s [] made agent talk way = tt
+  hops_stand laws s (hop ∷ []) [] agent talk way = λ live. last_hop laws s hop talk way.sends way.carries (way.given (ap (λ flag. flag || false) live)) live agent (way.served live)
+  hops_stand laws s (hop ∷ next ∷ hops) [] agent talk way = tt
+  hops_stand laws s (hop ∷ []) (m ∷ made) agent talk way = absurd way.carries.1
+  hops_stand laws s (hop ∷ next ∷ hops) (m ∷ made) agent talk way = (
+    λ live. add_hop laws nodes s hop m way.sends way.adds.0 way.carries.0 (way.given (ap (λ flag. flag || lives (next ∷ hops)) live)) live,
+    hops_stand upper (side_above m) (next ∷ hops) made agent talk (way_above nodes s hop next hops m made agent talk way),
+  )

@@ -1,0 +1,6 @@
+//! A way on which nothing is under way.
+#![tactic(auto)]
+
+pub mod laws;
+
+pub use laws::nothing_is_stuck;

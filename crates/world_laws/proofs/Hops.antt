@@ -1,0 +1,92 @@
+-- The hops of a chain, at any moment: each stands between two ends.
+use Rattle.std.proofs.Common.{◌≡◌, ℕ, true, List, [], ◌∷◌, map, Option, Some, None, option_map, IfSome, is_some, refl, sym, ap, ◌∙◌, subst}
+use Rattle.std.specs.List.{AllByRecursion}
+use Rattle.agent_node.specs.AgentLaws.{AgentFollowsHistory, IsEndOf}
+use Rattle.agent_node.specs.Channels.{channel_end}
+use Rattle.agent_node.specs.Runs.{AgentRun, Past}
+use Rattle.agent_rest.specs.Answering.{ServesAll}
+use Rattle.chain_hops.proofs.Connections.{connected_to_last}
+use Rattle.chain_hops.specs.Hops.{HopsStand, IsWay}
+use Rattle.chain_route.specs.Carrying.{GivesAll, Made, value_of}
+use Rattle.chain_route.specs.Runs.{Talk}
+use Rattle.chain_route.specs.declared.hop.Hop.{Hop}
+use Rattle.chain_world.proofs.Pasts.{at_all}
+use Rattle.chain_world.specs.ChainValue.{ChainValue}
+use Rattle.chain_world.specs.Standing.{ChainStands, past_at}
+use Rattle.channel_core.specs.EndValue.{EndValue}
+use Rattle.channel_rest.specs.Meeting.{Side, run_of}
+use Rattle.client_node.specs.Client.{new_client}
+use Rattle.client_node.specs.Ends.{IsEndAfter, end_calls}
+use Rattle.target_contexts.specs.declared.process.Image.{Image}
+use Rattle.tcf_schedules.specs.Plan.{Plan}
+use Rattle.world_laws.specs.HopLaws.{ChainHopsStand, side_of_channel}
+use Rattle.world_laws.proofs.LowerLaws.{Laws}
+use Rattle.world_laws.proofs.Sides.{adds_are, agent_is, client_end_is, client_readable, client_side, hops_carry, past_on, way, way_carries}
+use Rattle.world_laws.proofs.Silent.{at_number}
+
+all_give : (made : List Made) → AllByRecursion GivesAll (map value_of made) → AllByRecursion (λ m. GivesAll (value_of m)) made
+all_give [] each = tt
+all_give (m ∷ made) each = (each.0, all_give made each.1)
+
+module _ (laws : Laws) (images : List Image) (r : AgentRun) (follows : AgentFollowsHistory images r) (serves : AllByRecursion ServesAll r.channels) (plans : List Plan) (at adds : ℕ) (chain : ChainValue)
+    (s : ChainStands plans r.channels at adds chain) where
+  -- the ends of the way
+  abbrev client : Side ℕ
+  client = client_side laws r.channels plans at adds chain s
+
+  abbrev past : Option Past
+  past = past_on chain.channel r.channels
+
+  abbrev agent : Option (Side Unit)
+  agent = option_map side_of_channel past
+
+  abbrev made : List Made
+  made = (way_carries laws r.channels plans at adds chain s).made
+
+  abbrev hops : List Hop
+  hops = (way laws r.channels plans at adds chain s).route.hops
+
+  abbrev talk : Talk
+  talk = (way laws r.channels plans at adds chain s).past.agent
+
+  -- what an opened client queued was given
+  given_by : (channel : Option (EndValue ℕ)) → is_some channel ≡ true → IfSome channel (λ e. e.queued ≡ []) → IsEndAfter channel (end_calls s.calls new_client) → (run_of client).end.queued ≡ []
+  given_by None some given is = absurd cc
+  given_by (Some e) some given is = ap (λ x. x.queued) (sym is) ∙ given
+
+  is_way : is_some chain.client.channel ≡ true → IsWay client hops made agent talk
+  is_way some =
+      let run = way laws r.channels plans at adds chain s in
+      let carries = way_carries laws r.channels plans at adds chain s in
+      record {
+        sends = client_readable laws r.channels plans at adds chain s;
+        given = λ live. given_by chain.client.channel some s.given (client_end_is laws r.channels plans at adds chain s);
+        adds = all_give made (subst (AllByRecursion GivesAll) carries.adds carries.given);
+        carries = hops_carry laws r.channels plans at adds chain s;
+        connected = connected_to_last made run.route run.past.is_reached carries.connected carries.unreached;
+        served = agent_is laws r.channels plans at adds chain s serves;
+      }
+
+  -- the channel on the agent, where it was opened
+  channel_is : IfSome past (λ p. (chain.channel ≡ Some p.number) × IsEndOf (channel_end p.number r.agent.channels) p)
+  channel_is = by_channel chain.channel
+    where
+      by_past : (k : ℕ) (there : Option Past) → past_at k r.channels ≡ there → IfSome there (λ p. (Some k ≡ Some p.number) × IsEndOf (channel_end p.number r.agent.channels) p)
+      by_past k None none = tt
+      by_past k (Some p) some =
+          (ap Some (sym (at_number k r.channels p some)), at_all (λ p. IsEndOf (channel_end p.number r.agent.channels) p) k r.channels p follows.ends some)
+
+      by_channel : (channel : Option ℕ) → IfSome (past_on channel r.channels) (λ p. (channel ≡ Some p.number) × IsEndOf (channel_end p.number r.agent.channels) p)
+      by_channel None = tt
+      by_channel (Some k) = by_past k (past_at k r.channels) refl
+
+  pub chain_hops : ChainHopsStand r.agent chain
+  chain_hops = record {
+    calls = s.calls;
+    client = s.client;
+    made = made;
+    adds = adds_are laws r.channels plans at adds chain s;
+    past = past;
+    channel = channel_is;
+    hops = λ some. subst (λ route. HopsStand client route.hops made agent) (sym s.way) (laws.hops client hops made agent talk (is_way some));
+  }

@@ -1,22 +1,18 @@
 -- The state after some events, with nothing ever put and as it is, goes on over the next.
-use Rattle.std.proofs.Common.{◌≡◌, ◌≢◌, ℕ, ◌+◌, ◌<◌, ◌≤◌, ◌==◌, Bool, true, false, ◌||◌, List, [], ◌∷◌, ◌++◌, Option, Some, None, refl, sym, ap, ◌∙◌, subst, arith, leb-true}
-use Rattle.std.specs.Prelude.{IsTrue, Ok, fold, map}
-use Rattle.std.specs.List.{list_any}
+use Rattle.std.proofs.Common.{◌≡◌, ℕ, ◌+◌, ◌≤◌, ◌==◌, Bool, true, false, ◌||◌, List, [], ◌∷◌, ◌++◌, Option, Some, None, refl, sym, ap, ◌∙◌, subst, arith, leb-true}
+use Rattle.std.specs.Prelude.{Ok}
 use Rattle.std.proofs.lemmas.Bool.{or_parts}
 use Rattle.std.proofs.lemmas.List.{map-append}
 use Rattle.std.proofs.lemmas.List.Folds.{list_any-append}
 use Rattle.std.proofs.lemmas.List.Sums.{fold-append}
-use Rattle.std.proofs.lemmas.Grind.{flat_map-append}
 use Rattle.agent_node.specs.Agent.{opened}
 use Rattle.agent_node.specs.AgentValue.{AgentValue}
 use Rattle.target_contexts.specs.declared.process.Image.{Image}
 use Rattle.tcf_wires.specs.Event.{can_come, unused_after_next}
 use Rattle.tcf_wires.specs.declared.call.WireCall.{WireCall}
-use Rattle.tcf_wires.specs.declared.call.WireCall.TheVariants.{Gave}
 use Rattle.tcf_wires.specs.declared.event.WireEvent.{WireEvent}
 use Rattle.tcf_wires.specs.declared.event.WireEvent.TheVariants as events
-use Rattle.tcf_wires.specs.declared.event.WireRefusal.{WireRefusal}
-use Rattle.serving_wires.specs.Calls.{event_of, events_in}
+use Rattle.serving_wires.specs.Calls.{events_in}
 use Rattle.serving_wires.specs.Following.{Spares, is_on}
 use Rattle.serving_wires.specs.Row.{Row}
 use Rattle.serving_wires.specs.declared.intake.Came.{Came}
@@ -24,12 +20,14 @@ use Rattle.serving_wires.specs.declared.intake.Came.TheVariants.{Piece, End}
 use Rattle.agent_serving.specs.Lines.{line_gathered, new_line}
 use Rattle.agent_serving.specs.Serving.{acted, after_event, after_events, all_gathered, gathered_rows, heard_on, new_serving, opened_on}
 use Rattle.agent_serving.specs.ServingValue.{ServingValue}
-use Rattle.agent_serving.specs.Ticking.{idled}
-use Rattle.agent_serving.specs.WireLaws.{WireLaws}
+use Rattle.serving_wires.specs.WireLaws.{WireLaws}
 use Rattle.agent_serving.specs.declared.line.Line.{Line}
 use Rattle.agent_serving.proofs.Hearing.{Agree, gathered_keeps, heard_keeps, new_alike}
-use Rattle.agent_serving.proofs.Rows.{Below, above_all, below_more, below_push, found, heard_first, heard_is, is_among, lacks_if, missing_if, numbers, put_first, put_numbers}
-use Rattle.agent_serving.proofs.Standing.{Stand, none, stand_more, stand_push}
+use Rattle.serving_wires.proofs.Rows.{Below, above_all, below_more, below_push, found, is_among, lacks_if, missing_if, numbers}
+use Rattle.serving_wires.proofs.Turns.{gave, events_then}
+use Rattle.agent_serving.proofs.Rows.{heard_first, heard_is, put_numbers}
+use Rattle.serving_wires.proofs.Standing.{Stand, none, stand_more, stand_push}
+use Rattle.agent_serving.proofs.Standing.{by_lines, lines_keep}
 
 abbrev with_lines : AgentValue → List (Row Line) → ServingValue
 with_lines a rows = record { agent = a; lines = rows }
@@ -47,13 +45,13 @@ record ActsAlike (calls : List WireCall) (ideal real : ServingValue) (channels :
   agree : Agree calls 0 ideal real
   numbered : numbers ideal.lines ≡ channels
 
-opens : WireLaws → (calls : List WireCall) (channel : ℕ) (a : AgentValue) (is rs : List (Row Line)) → Stand calls 0 is rs → Below channel (numbers is) → Spares channel calls
+opens : WireLaws → (calls : List WireCall) (channel : ℕ) (a : AgentValue) (is rs : List (Row Line)) → Stand by_lines calls 0 is rs → Below channel (numbers is) → Spares channel calls
     → ActsAlike calls (opened_on channel (with_lines a is)) (opened_on channel (with_lines a rs)) (numbers is ++ channel ∷ [])
 opens laws calls channel a is rs stand below spares =
     let line = new_line (opened channel a).0 channel in
     let row : Row Line = record { channel = channel; item = line } in
     record {
-      agree = record { agent = refl; lines = stand_push calls 0 channel line is rs (omega arith) below (new_alike laws calls channel (opened channel a).0 spares) stand };
+      agree = record { agent = refl; lines = stand_push by_lines calls 0 channel line line is rs (omega arith) below (new_alike laws calls channel (opened channel a).0 spares) stand };
       numbered = map-append (λ (r : Row Line). r.channel) is (row ∷ []);
     }
 
@@ -61,14 +59,14 @@ first_numbers : (channel : ℕ) (came : Came) (there : Option Line) (a : AgentVa
 first_numbers channel came None a rows = refl
 first_numbers channel came (Some line) a rows = put_numbers channel _ rows
 
-hears : WireLaws → (calls : List WireCall) (channel : ℕ) (came : Came) (a : AgentValue) (is rs : List (Row Line)) → Stand calls 0 is rs
+hears : WireLaws → (calls : List WireCall) (channel : ℕ) (came : Came) (a : AgentValue) (is rs : List (Row Line)) → Stand by_lines calls 0 is rs
     → ActsAlike calls (heard_on channel came (with_lines a is)) (heard_on channel came (with_lines a rs)) (numbers is)
 hears laws calls channel came a is rs stand =
     subst (λ (x : ServingValue). ActsAlike calls x (heard_on channel came (with_lines a rs)) (numbers is)) (sym (heard_is channel came (with_lines a is)))
     (subst (λ (y : ServingValue). ActsAlike calls (heard_first channel came (found channel is) a is) y (numbers is)) (sym (heard_is channel came (with_lines a rs)))
     (record { agree = heard_keeps laws calls 0 channel came a is rs stand; numbered = first_numbers channel came (found channel is) a is }))
 
-acts : WireLaws → (calls : List WireCall) (unused : ℕ) (event : WireEvent) (a : AgentValue) (is rs : List (Row Line)) → Stand calls 0 is rs → Below unused (numbers is)
+acts : WireLaws → (calls : List WireCall) (unused : ℕ) (event : WireEvent) (a : AgentValue) (is rs : List (Row Line)) → Stand by_lines calls 0 is rs → Below unused (numbers is)
     → ((channel : ℕ) → unused ≤ channel → Spares channel calls) → can_come unused event ≡ true
     → ActsAlike calls (acted event (with_lines a is)) (acted event (with_lines a rs)) (with_event event (numbers is))
 unfolding acted
@@ -124,12 +122,6 @@ begins images unused calls nothing spares =
       spares = λ channel missing. spares channel;
     }
 
-abbrev pub gave : WireEvent → WireCall
-gave event = Gave (Ok event)
-
-pub events_then : (calls : List WireCall) (event : WireEvent) → events_in (calls ++ gave event ∷ []) ≡ events_in calls ++ event ∷ []
-events_then calls event = flat_map-append event_of calls (gave event ∷ [])
-
 state_then : (images : List Image) (calls : List WireCall) (event : WireEvent)
     → after_events images (events_in (calls ++ gave event ∷ [])) ≡ after_event event (after_events images (events_in calls))
 state_then images calls event =
@@ -164,7 +156,7 @@ event_keeps laws images real unused calls event can stands =
     let ideal : ServingValue = after_events images (events_in calls) in
     let now : List WireCall = calls ++ gave event ∷ [] in
     let before : Agree now 0 ideal real =
-    record { agent = stands.agree.agent; lines = stand_more laws calls (gave event ∷ []) 0 ideal.lines real.lines (λ channel above. refl) stands.agree.lines } in
+    record { agent = stands.agree.agent; lines = stand_more by_lines (lines_keep laws) calls (gave event ∷ []) 0 ideal.lines real.lines (λ channel above. refl) stands.agree.lines } in
     let spared : (channel : ℕ) → found channel ideal.lines ≡ None → Spares channel now = λ channel missing. spares_gave channel calls event (stands.spares channel missing) in
     let unspoken : (channel : ℕ) → unused ≤ channel → Spares channel now =
     λ channel above. spared channel (missing_if channel ideal.lines (above_all channel (numbers ideal.lines) (below_more unused channel (numbers ideal.lines) above stands.below))) in

@@ -1,31 +1,24 @@
 -- The calls of a run, turn by turn, and how it ends.
-use Rattle.std.proofs.Common.{◌≡◌, ℕ, ◌+◌, ◌<◌, Bool, true, false, List, [], ◌∷◌, ◌++◌, Option, refl, sym, ap, ◌∙◌, subst}
-use Rattle.std.specs.Prelude.{Result, Ok, Err}
+use Rattle.std.proofs.Common.{◌≡◌, ℕ, ◌+◌, ◌<◌, true, false, List, ◌++◌, Option, sym, subst}
+use Rattle.std.specs.Prelude.{Ok, Err}
 use Rattle.target_contexts.specs.declared.process.Image.{Image}
-use Rattle.tcf_outside.specs.Faults.{Rose}
 use Rattle.tcf_wires.specs.Event.{faults_after}
 use Rattle.tcf_wires.specs.Told.{noted}
 use Rattle.tcf_wires.specs.declared.call.WireCall.{WireCall}
-use Rattle.tcf_wires.specs.declared.call.WireCall.TheVariants.{Listened, Gave}
+use Rattle.tcf_wires.specs.declared.call.WireCall.TheVariants.{Listened}
 use Rattle.tcf_wires.specs.declared.event.WireRefusal.{WireRefusal}
 use Rattle.tcf_wires.specs.declared.event.WireRefusal.TheVariants as refusals
-use Rattle.serving_wires.specs.Calls.{Makes, faults_through}
+use Rattle.serving_wires.specs.Calls.{Makes}
 use Rattle.serving_wires.proofs.Making.{makes_both, makes_none, makes_nothing, makes_one, makes_so}
-use Rattle.agent_serving.specs.Serve.{ServesAgent, end_of}
+use Rattle.agent_serving.specs.Serve.{ServesAgent}
 use Rattle.agent_serving.specs.Serving.{new_serving}
 use Rattle.agent_serving.specs.ServingValue.{ServingValue}
 use Rattle.agent_serving.specs.Turn.{TakesTurn}
-use Rattle.agent_serving.specs.WireLaws.{WireLaws}
-use Rattle.agent_serving.specs.declared.serve.ServeEnd.{ServeEnd}
-use Rattle.agent_serving.specs.declared.serve.ServeEnd.TheVariants.{NoMemory, Stopped, Turns, WireFault}
-use Rattle.agent_serving.proofs.Running.{Running, all_taken, broken, cut_short, failed, no_listener, nothing_yet, runs_on, starts, stopped}
-use Rattle.agent_serving.proofs.Taking.{rose_at_once, rose_behind}
-
-abbrev heard : Unit {0} → Result (Unit {0}) WireRefusal
-heard answer = Ok answer
-
-abbrev unheard : WireRefusal → Result (Unit {0}) WireRefusal
-unheard refusal = Err refusal
+use Rattle.serving_wires.specs.WireLaws.{WireLaws}
+use Rattle.serving_wires.proofs.Turns.{heard, unheard}
+use Rattle.serving_wires.specs.Ends.{end_of}
+use Rattle.serving_wires.specs.declared.end.ServeEnd.TheVariants.{NoMemory, Stopped, Turns, WireFault}
+use Rattle.agent_serving.proofs.Running.{Running, all_taken, broken, cut_short, no_listener, nothing_yet, runs_on, starts, stopped}
 
 -- ---- the address
 
@@ -39,10 +32,6 @@ not_listened refusals.Failed images address turns told told_then faults faults_t
     makes_one (ServesAgent images address turns WireFault) (Listened address (Err refusals.Failed)) told told_then faults faults_then (no_listener images address turns) tells counts
 not_listened refusals.NoMemory images address turns told told_then faults faults_then tells counts =
     makes_nothing (ServesAgent images address turns NoMemory) told told_then faults faults_then (nothing_yet images address turns) tells counts
-
-pub listen_rose : (refusal : WireRefusal) (faults faults_then : ℕ) → faults_then ≡ faults_after (unheard refusal) faults → end_of (Err refusal) ≡ WireFault → Rose faults faults_then
-listen_rose refusals.Failed faults faults_then counts ends = subst (λ (n : ℕ). Rose faults n) (sym counts) (rose_at_once faults)
-listen_rose refusals.NoMemory faults faults_then counts ends = absurd cc
 
 pub listened_so : (answer : Unit {0}) (images : List Image) (address : List ℕ) (real : ServingValue) (unused : ℕ) (told told_then : Option (List WireCall)) (faults faults_then : ℕ)
     → real ≡ new_serving images → told_then ≡ noted (heard answer) (Listened address (heard answer)) told → faults_then ≡ faults_after (heard answer) faults
@@ -85,16 +74,3 @@ no_turn refusals.Failed laws images address turns count real new unused unused_t
 no_turn refusals.NoMemory laws images address turns count real new unused unused_then told told_mid told_then faults faults_mid faults_then within =
     makes_both (Running images address count real unused) (TakesTurn real new unused unused_then (Err refusals.NoMemory)) (ServesAgent images address turns NoMemory)
     told told_mid told_then faults faults_mid faults_then (λ calls more r t. cut_short laws images address turns count real unused calls more r t)
-
-abbrev EndsFailed : List WireCall → Type 0
-EndsFailed calls = (earlier : List WireCall) × (calls ≡ earlier ++ failed)
-
-pub turn_rose : (refusal : WireRefusal) (images : List Image) (address : List ℕ) (count : ℕ) (real new : ServingValue) (unused unused_then : ℕ)
-    (told told_mid told_then : Option (List WireCall)) (faults faults_mid faults_then : ℕ)
-    → Makes (Running images address count real unused) told told_mid faults faults_mid → Makes (TakesTurn real new unused unused_then (Err refusal)) told_mid told_then faults_mid faults_then
-    → end_of (Err refusal) ≡ WireFault → Rose faults faults_then
-turn_rose refusals.Failed images address count real new unused unused_then told told_mid told_then faults faults_mid faults_then first turn ends =
-    let m = makes_both (Running images address count real unused) (TakesTurn real new unused unused_then (Err refusals.Failed)) EndsFailed
-    told told_mid told_then faults faults_mid faults_then (λ calls more r t. (calls, ap (λ (cs : List WireCall). calls ++ cs) t)) first turn in
-    rose_behind m.fits.0 faults faults_then (m.faults ∙ ap (λ (cs : List WireCall). faults_through cs faults) m.fits.1)
-turn_rose refusals.NoMemory images address count real new unused unused_then told told_mid told_then faults faults_mid faults_then first turn ends = absurd cc

@@ -1,14 +1,15 @@
 -- What the agent tells is queued line by line.
-use Rattle.std.proofs.Common.{◌≡◌, ℕ, zero, suc, ◌+◌, ◌<◌, ◌≤◌, List, [], ◌∷◌, ◌++◌, length, take, drop, Option, None, Some, refl, sym, ap, ◌∙◌, arith, add-one, append-nil}
+use Rattle.std.proofs.Common.{◌≡◌, ℕ, zero, suc, ◌+◌, ◌≤◌, List, [], ◌∷◌, length, None, Some, refl, sym, ap, ◌∙◌, arith, add-one}
 use Rattle.std.proofs.lemmas.Option.{none-some, same_Some}
 use Rattle.agent_node.specs.AgentValue.{AgentValue}
+use Rattle.serving_wires.proofs.Flushes.{as_many}
+use Rattle.serving_wires.proofs.Rows.{with_behind}
 use Rattle.serving_wires.specs.Row.{Row}
 use Rattle.serving_wires.specs.Rows.{item_at, with_item_at}
 use Rattle.agent_serving.specs.Lines.{line_gathered}
 use Rattle.agent_serving.specs.Serving.{all_gathered, gathered_rows}
 use Rattle.agent_serving.specs.ServingValue.{ServingValue}
 use Rattle.agent_serving.specs.declared.line.Line.{Line}
-use Rattle.agent_serving.proofs.Rows.{with_behind}
 
 abbrev onto : Row Line → ServingValue → ServingValue
 onto row s = record s { lines = row ∷ s.lines }
@@ -50,12 +51,6 @@ all_from (suc place) a (row ∷ rows) is = ap (λ (s : ServingValue). onto row s
 
 pub all_past : (place : ℕ) (a : AgentValue) (rows : List (Row Line)) → length rows ≤ place → gathered_from place a rows ≡ record { agent = a; lines = rows }
 all_past place a rows past = all_from place a rows (none_past place rows past)
-
--- a line put in its place leaves as many
-pub as_many : (place : ℕ) (line : Line) (rows : List (Row Line)) → length (with_item_at place line rows) ≡ length rows
-as_many place line [] = refl
-as_many zero line (row ∷ rows) = refl
-as_many (suc place) line (row ∷ rows) = ap (λ (rs : List (Row Line)). length rs) (with_behind place line row rows) ∙ ap suc (as_many place line rows)
 
 -- ---- as the code goes on
 

@@ -1,11 +1,11 @@
 -- An event makes the same of the lines as they are and of those with nothing ever put.
-use Rattle.std.proofs.Common.{◌≡◌, ◌≢◌, ℕ, ◌+◌, ◌<◌, ◌≤◌, ◌==◌, Bool, true, false, List, [], ◌∷◌, ◌++◌, Option, Some, None, refl, sym, ap, ◌∙◌, subst, arith}
+use Rattle.std.proofs.Common.{◌≡◌, ℕ, ◌+◌, Bool, true, false, List, [], ◌∷◌, ◌++◌, refl, sym, ap, ◌∙◌, subst}
 use Rattle.std.specs.Prelude.{if◌then◌else◌}
 use Rattle.std.proofs.lemmas.Bool.{and_parts, false≢true}
 use Rattle.agent_node.specs.AgentValue.{AgentValue}
 use Rattle.tcf_wires.specs.declared.call.WireCall.{WireCall}
 use Rattle.serving_wires.specs.Following.{Follows, Spares}
-use Rattle.serving_wires.specs.Outbox.{closed, nothing_left, queued, unused_outbox}
+use Rattle.serving_wires.specs.Outbox.{nothing_left, queued, unused_outbox}
 use Rattle.serving_wires.specs.OutboxValue.{OutboxValue}
 use Rattle.serving_wires.specs.Row.{Row}
 use Rattle.serving_wires.specs.declared.intake.Came.{Came}
@@ -13,11 +13,13 @@ use Rattle.agent_serving.specs.Lines.{after_passing, agent_emptied, bytes_of, ga
 use Rattle.agent_serving.specs.Passing.{Passed, passed_on}
 use Rattle.agent_serving.specs.Serving.{gathered_rows}
 use Rattle.agent_serving.specs.ServingValue.{ServingValue}
-use Rattle.agent_serving.specs.WireLaws.{WireLaws}
+use Rattle.serving_wires.specs.WireLaws.{WireLaws}
 use Rattle.agent_serving.specs.declared.line.Line.{Line}
 use Rattle.agent_serving.proofs.Queued.{channel_stays}
-use Rattle.agent_serving.proofs.Rows.{found, heard_first, put_first}
-use Rattle.agent_serving.proofs.Standing.{AreAlike, IsGone, IsLeft, Meets, Stand, both, gone, left, meets, neither, none, shut}
+use Rattle.serving_wires.proofs.Rows.{changed_same, found}
+use Rattle.agent_serving.proofs.Rows.{heard_first, put_first}
+use Rattle.serving_wires.proofs.Standing.{IsGone, IsKept, Meets, Stand, both, gone, kept, meets, neither, none, shut}
+use Rattle.agent_serving.proofs.Standing.{AreAlike, by_lines}
 
 -- what came of a line, with nothing ever put and as it is
 pub record ComesAlike (calls : List WireCall) (channel : ℕ) (ideal real : AgentValue × Line) : Type 0 where
@@ -111,53 +113,54 @@ shut_closed ideal last calls is f = sym f.closed ∙ (and_parts last.is_closed (
 -- an agent and its lines, with nothing ever put and as they are
 pub record Agree (calls : List WireCall) (low : ℕ) (ideal real : ServingValue) : Type 0 where
   pub agent : real.agent ≡ ideal.agent
-  pub lines : Stand calls low ideal.lines real.lines
+  pub lines : Stand by_lines calls low ideal.lines real.lines
 
-heard_where : WireLaws → (calls : List WireCall) (low channel : ℕ) (came : Came) (a : AgentValue) (is rs : List (Row Line)) → Stand calls low is rs → Meets calls low channel is rs
+heard_where : WireLaws → (calls : List WireCall) (low channel : ℕ) (came : Came) (a : AgentValue) (is rs : List (Row Line)) → Stand by_lines calls low is rs → Meets by_lines calls low channel is rs
     → Agree calls low (heard_first channel came (found channel is) a is) (heard_first channel came (found channel rs) a rs)
 heard_where laws calls low channel came a is rs stand (neither m) = rw (m.ideal, m.real) (record { agent = refl; lines = stand })
 heard_where laws calls low channel came a is rs stand (both i r first second alike goes) =
     let c = heard_alike laws calls channel came a i r alike in
-    rw (first, second) (record { agent = c.agent; lines = goes (heard came a i).1 (heard came a r).1 c.line })
-heard_where laws calls low channel came a is rs stand (shut i last first second at done follows same) =
-    let silent : heard came a i ≡ (a, i) = ap (λ (b : Bool). if b then (a, i) else after_passing i (passed_with came a i)) (shut_closed i last calls done follows) in
+    rw (first, second) (record { agent = c.agent; lines = goes (λ old. (heard came a i).1) (λ old. (heard came a r).1) c.line })
+heard_where laws calls low channel came a is rs stand (shut i last first second done alike goes) =
+    let silent : heard came a i ≡ (a, i) = ap (λ (b : Bool). if b then (a, i) else after_passing i (passed_with came a i)) (shut_closed i last.outbox calls done alike.follows) in
+    let same : put_first channel i is ≡ is = changed_same channel i is first in
     rw (first, second, silent, same) (record { agent = refl; lines = stand })
 
-pub heard_keeps : WireLaws → (calls : List WireCall) (low channel : ℕ) (came : Came) (a : AgentValue) (is rs : List (Row Line)) → Stand calls low is rs
+pub heard_keeps : WireLaws → (calls : List WireCall) (low channel : ℕ) (came : Came) (a : AgentValue) (is rs : List (Row Line)) → Stand by_lines calls low is rs
     → Agree calls low (heard_first channel came (found channel is) a is) (heard_first channel came (found channel rs) a rs)
-heard_keeps laws calls low channel came a is rs stand = heard_where laws calls low channel came a is rs stand (meets calls low is rs stand channel)
+heard_keeps laws calls low channel came a is rs stand = heard_where laws calls low channel came a is rs stand (meets by_lines calls low is rs stand channel)
 
 abbrev lined : AgentValue × List (Row Line) → ServingValue
 lined result = record { agent = result.0; lines = result.1 }
 
-gathered_left : WireLaws → (calls : List WireCall) (low : ℕ) (a : AgentValue) (ideal real : Row Line) (is rs : List (Row Line)) → IsLeft calls low ideal real
+gathered_kept : WireLaws → (calls : List WireCall) (low : ℕ) (a : AgentValue) (ideal real : Row Line) (is rs : List (Row Line)) → IsKept by_lines calls low ideal real
     → ((next : AgentValue) → Agree calls (ideal.channel + 1) (lined (gathered_rows is next)) (lined (gathered_rows rs next)))
     → Agree calls low (lined (gathered_rows (ideal ∷ is) a)) (lined (gathered_rows (real ∷ rs) a))
-gathered_left laws calls low a ideal real is rs kept later =
-    let c = gather_alike laws calls ideal.channel a ideal.item real.item (record { at = kept.at; intake = kept.intake; follows = kept.follows }) in
+gathered_kept laws calls low a ideal real is rs k later =
+    let c = gather_alike laws calls ideal.channel a ideal.item real.item k.keeps in
     let next = (line_gathered a ideal.item).0 in
     let rest = later next in
     let row : Row Line = record real { item = (line_gathered a real.item).1 } in
     subst (λ (b : AgentValue). Agree calls low (lined (gathered_rows (ideal ∷ is) a)) (lined ((gathered_rows rs b).0, row ∷ (gathered_rows rs b).1))) (sym c.agent)
     (record {
       agent = rest.agent;
-      lines = left low (record ideal { item = (line_gathered a ideal.item).1 }) row (gathered_rows is next).1 (gathered_rows rs next).1
-          (record { above = kept.above; same = kept.same; at = c.line.at; intake = c.line.intake; follows = c.line.follows }) rest.lines;
+      lines = kept low (record ideal { item = (line_gathered a ideal.item).1 }) row (gathered_rows is next).1 (gathered_rows rs next).1
+          (record { above = k.above; same = k.same; keeps = c.line }) rest.lines;
     })
 
-gathered_gone : (calls : List WireCall) (low : ℕ) (a : AgentValue) (ideal : Row Line) (is rs : List (Row Line)) → IsGone calls low ideal
+gathered_gone : (calls : List WireCall) (low : ℕ) (a : AgentValue) (ideal : Row Line) (is rs : List (Row Line)) → IsGone by_lines calls low ideal
     → Agree calls (ideal.channel + 1) (lined (gathered_rows is a)) (lined (gathered_rows rs a)) → Agree calls low (lined (gathered_rows (ideal ∷ is) a)) (lined (gathered_rows rs a))
 gathered_gone calls low a ideal is rs lost rest =
-    let over = shut_closed ideal.item lost.last calls lost.shut lost.follows in
+    let over = shut_closed ideal.item lost.last.outbox calls lost.shut lost.keeps.follows in
     let silent : line_gathered a ideal.item ≡ (a, ideal.item) = ap (λ (b : Bool). if b then (a, ideal.item) else with_outbox ideal.item (gathered a ideal.item.outbox)) over in
     subst (λ (x : AgentValue × Line). Agree calls low (lined ((gathered_rows is x.0).0, record ideal { item = x.1 } ∷ (gathered_rows is x.0).1)) (lined (gathered_rows rs a))) (sym silent)
     (record { agent = rest.agent; lines = gone low ideal (gathered_rows is a).1 (gathered_rows rs a).1 lost rest.lines })
 
-pub gathered_keeps : WireLaws → (calls : List WireCall) (low : ℕ) (is rs : List (Row Line)) → Stand calls low is rs → (a : AgentValue)
+pub gathered_keeps : WireLaws → (calls : List WireCall) (low : ℕ) (is rs : List (Row Line)) → Stand by_lines calls low is rs → (a : AgentValue)
     → Agree calls low (lined (gathered_rows is a)) (lined (gathered_rows rs a))
 gathered_keeps laws calls low is rs (none n) a = record { agent = refl; lines = none low }
-gathered_keeps laws calls low is rs (left n ideal real is2 rs2 kept rest) a =
-    gathered_left laws calls low a ideal real is2 rs2 kept (λ next. gathered_keeps laws calls (ideal.channel + 1) is2 rs2 rest next)
+gathered_keeps laws calls low is rs (kept n ideal real is2 rs2 k rest) a =
+    gathered_kept laws calls low a ideal real is2 rs2 k (λ next. gathered_keeps laws calls (ideal.channel + 1) is2 rs2 rest next)
 gathered_keeps laws calls low is rs (gone n ideal is2 rs2 lost rest) a =
     gathered_gone calls low a ideal is2 rs2 lost (gathered_keeps laws calls (ideal.channel + 1) is2 rs2 rest a)
 

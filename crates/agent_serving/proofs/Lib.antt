@@ -4,14 +4,11 @@ mod Passes
 mod Rows
 mod Standing
 mod Hearing
-mod Flushed
 mod Settled
 mod Fronts
 mod Acted
 mod Running
 mod Gathering
-mod Putting
-mod Forgetting
 mod Given
 mod Taking
 mod Ending

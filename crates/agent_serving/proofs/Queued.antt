@@ -1,5 +1,5 @@
 -- What an agent has queued for a channel goes out, one message after the other.
-use Rattle.std.proofs.Common.{◌≡◌, ℕ, suc, ◌+◌, ◌<◌, ◌≤◌, ◌==◌, Bool, true, false, not, cond, nat_lt, List, [], ◌∷◌, ◌++◌, length, Option, Some, None, refl, sym, ap, ◌∙◌, arith, subst, one-add, ltb-true, ltb-false, lt-ltb, le-ltb, append-nil, append_assoc}
+use Rattle.std.proofs.Common.{◌≡◌, ℕ, suc, ◌+◌, ◌<◌, ◌==◌, Bool, true, false, not, cond, nat_lt, List, [], ◌∷◌, ◌++◌, length, Option, Some, None, refl, sym, ap, ◌∙◌, arith, subst, one-add, lt-ltb, append-nil, append_assoc}
 use Rattle.std.specs.Prelude.{drop, slice_get}
 use Rattle.std.specs.List.{position_or_len}
 use Rattle.std.proofs.lemmas.Option.{none-some, same_Some}
@@ -11,6 +11,7 @@ use Rattle.agent_node.specs.Channels.{End, changed, changed_at, channel_at, end_
 use Rattle.agent_node.specs.declared.channel.Channel.{Channel}
 use Rattle.serving_wires.specs.Outbox.{queued}
 use Rattle.serving_wires.specs.OutboxValue.{OutboxValue}
+use Rattle.serving_wires.proofs.Rows.{lt_more, within}
 use Rattle.agent_serving.specs.Lines.{agent_emptied, bytes_of, emptied, gathered, queue_of, queue_on}
 
 -- ---- What is queued in an outbox, one part after the other
@@ -47,18 +48,8 @@ abbrev pub in_first : ℕ → (End → End) → List Channel → List Channel
 in_first k change [] = []
 in_first k change (c ∷ cs) = cond (c.number == k) (with_end (change c.end) c ∷ cs) (c ∷ in_first k change cs)
 
-pub lt_more : (p n : ℕ) → nat_lt (suc p) (suc n) ≡ nat_lt p n
-lt_more p n = by_flag (nat_lt p n) refl
-  where
-    by_flag : (flag : Bool) → nat_lt p n ≡ flag → nat_lt (suc p) (suc n) ≡ nat_lt p n
-    by_flag true is = let less : p < n = ltb-true p n is in lt-ltb (suc p) (suc n) (omega arith) ∙ sym is
-    by_flag false is = let more : n ≤ p = ltb-false p n is in le-ltb (suc p) (suc n) (omega arith) ∙ sym is
-
 abbrev first_place : ℕ → List Channel → ℕ
 first_place k cs = position_or_len (λ c. c.number == k) cs
-
-abbrev pub within : Bool → ℕ → Option ℕ
-within flag place = cond flag (Some place) None
 
 behind : (flag : Bool) (place : ℕ) (c : Channel) (cs : List Channel) → channel_at (within flag (suc place)) (c ∷ cs) ≡ channel_at (within flag place) cs
 behind true place c cs = refl

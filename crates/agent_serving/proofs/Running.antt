@@ -1,46 +1,49 @@
 -- A run goes on from turn to turn, and comes to its end.
-use Rattle.std.proofs.Common.{◌≡◌, ◌≢◌, ℕ, ◌+◌, ◌<◌, ◌≤◌, ◌⊎◌, inl, inr, Bool, true, false, ◌||◌, List, [], ◌∷◌, ◌++◌, length, Option, Some, None, refl, sym, ap, ◌∙◌, subst, arith, append-nil, append_assoc, length-append}
-use Rattle.std.specs.Prelude.{IsTrue, Result, Ok, Err, filter, fold}
+use Rattle.std.proofs.Common.{◌≡◌, ◌≢◌, ℕ, ◌+◌, ◌<◌, inl, inr, Bool, true, false, ◌||◌, List, [], ◌∷◌, ◌++◌, length, None, refl, sym, ap, ◌∙◌, subst, arith, append_assoc}
+use Rattle.std.specs.Prelude.{Result, Ok, Err, fold}
 use Rattle.std.specs.List.{list_any}
 use Rattle.std.specs.List.Sorted.{IsStrictlyIncreasing}
-use Rattle.std.proofs.lemmas.Bool.{false≢true}
 use Rattle.std.proofs.lemmas.List.Folds.{list_any-append}
 use Rattle.std.proofs.lemmas.List.Sums.{fold-append}
 use Rattle.target_contexts.specs.declared.process.Image.{Image}
 use Rattle.tcf_wires.specs.declared.call.WireCall.{WireCall}
 use Rattle.tcf_wires.specs.declared.call.WireCall.TheVariants.{Listened, Gave}
 use Rattle.tcf_wires.specs.declared.event.WireEvent.{WireEvent}
-use Rattle.tcf_wires.specs.declared.event.WireEvent.TheVariants as events
 use Rattle.tcf_wires.specs.declared.event.WireRefusal.{WireRefusal}
 use Rattle.tcf_wires.specs.declared.event.WireRefusal.TheVariants as refusals
 use Rattle.serving_wires.specs.Calls.{channels_put, events_in, put_on}
-use Rattle.serving_wires.specs.Following.{IsFlushed, Spares, is_on}
+use Rattle.serving_wires.specs.Following.{is_on}
 use Rattle.serving_wires.specs.Row.{Row}
-use Rattle.serving_wires.specs.Serving.{AreFronts, EachBehind, IsInPlace, IsSettled, ListensOnce, Serves, fails, reaches_out}
-use Rattle.serving_wires.proofs.Placing.{each_both, each_more, each_none, each_one}
-use Rattle.agent_serving.specs.Flushing.{FlushesKept, is_kept}
-use Rattle.agent_serving.specs.Serve.{EndsSo, IsLastCall, ServesAgent, end_of, is_stop, no_event, no_listening, stops}
+use Rattle.serving_wires.specs.Serving.{AreFronts, EachBehind, IsInPlace, IsSettled, ListensOnce, Serves, fails, reaches_out, is_stop, stops}
+use Rattle.serving_wires.proofs.Placing.{each_more, each_none, each_one}
+use Rattle.agent_serving.specs.Lines.{of_line}
+use Rattle.agent_serving.specs.Serve.{ServesAgent}
 use Rattle.agent_serving.specs.Serving.{after_event, after_events, new_serving, served_by}
 use Rattle.agent_serving.specs.ServingValue.{ServingValue}
 use Rattle.agent_serving.specs.Turn.{IsCutShort, IsTurn, at_event, at_puts, before_event}
-use Rattle.agent_serving.specs.WireLaws.{WireLaws}
+use Rattle.serving_wires.specs.WireLaws.{WireLaws}
 use Rattle.agent_serving.specs.declared.line.Line.{Line}
-use Rattle.agent_serving.specs.declared.serve.ServeEnd.{ServeEnd}
-use Rattle.agent_serving.specs.declared.serve.ServeEnd.TheVariants.{NoMemory, Stopped, Turns, WireFault}
-use Rattle.agent_serving.proofs.Acted.{Stands, begins, event_keeps, events_then, gave}
-use Rattle.agent_serving.proofs.Flushed.{AllFlushed, filter_flushed, filter_keeps, flush_keeps, none_of_both, same_events}
-use Rattle.agent_serving.proofs.Fronts.{fronts, fronts_behind}
+use Rattle.serving_wires.specs.declared.end.ServeEnd.TheVariants.{NoMemory, Stopped, Turns, WireFault}
+use Rattle.agent_serving.proofs.Acted.{Stands, begins, event_keeps}
+use Rattle.serving_wires.proofs.Spared.{none_of_both, same_events}
+use Rattle.serving_wires.proofs.Flushed.{AllFlushed, filter_flushed, flush_keeps, flushed_more, gives_up}
+use Rattle.agent_serving.proofs.Fronts.{fronts}
 use Rattle.agent_serving.proofs.Hearing.{Agree}
-use Rattle.agent_serving.proofs.Rows.{Below, found, numbers}
-use Rattle.agent_serving.proofs.Settled.{gives_up, rising, served_so, settled}
-use Rattle.agent_serving.proofs.Standing.{Stand, stand_more}
+use Rattle.serving_wires.proofs.Rows.{Below, found, numbers}
+use Rattle.serving_wires.proofs.Turns.{listened, gave, events_then, one_longer, is_the_stop, failed}
+use Rattle.serving_wires.proofs.Fronts.{fronts_behind}
+use Rattle.serving_wires.proofs.RisingPuts.{rising}
+use Rattle.serving_wires.specs.Ends.{no_listening, no_event}
+use Rattle.agent_serving.proofs.Settled.{served_so, settled}
+use Rattle.serving_wires.proofs.Standing.{Stand, filter_keeps, stand_more}
+use Rattle.agent_serving.proofs.Standing.{by_lines, lines_keep}
 
 -- Before an event is asked for: all that came is heeded, and all is put that can be.
 pub record Running (images : List Image) (address : List ℕ) (count : ℕ) (real : ServingValue) (unused : ℕ) (calls : List WireCall) : Type 0 where
   pub listens : ListensOnce address calls
   pub serves : Serves (served_by images) calls
   pub stands : Stands images real unused calls
-  pub flushed : events_in calls ≢ [] → AllFlushed calls real.lines
+  pub flushed : events_in calls ≢ [] → AllFlushed of_line calls real.lines
   pub rises : IsStrictlyIncreasing (channels_put calls)
   pub counted : length (events_in calls) ≡ count
   pub goes_on : stops calls ≡ false
@@ -59,9 +62,6 @@ runs_fronts laws images address count real unused calls r = fronts laws images c
 pub nothing_yet : (images : List Image) (address : List ℕ) (turns : ℕ) → ServesAgent images address turns NoMemory []
 nothing_yet images address turns =
     record { listens = inr (refl, refl); serves = each_none (IsInPlace (served_by images)) []; fronts = λ channel. ((served_by images).served [] channel, refl); settled = λ other some. absurd (other refl); ends = refl }
-
-abbrev listened : List ℕ → Result Unit WireRefusal → List WireCall
-listened address answer = Listened address answer ∷ []
 
 pub no_listener : (images : List Image) (address : List ℕ) (turns : ℕ) → ServesAgent images address turns WireFault (listened address (Err refusals.Failed))
 no_listener images address turns =
@@ -105,7 +105,7 @@ record Turned (images : List Image) (address : List ℕ) (new : ServingValue) (u
   listens : ListensOnce address now
   serves : Serves (served_by images) now
   stands : Stands images new unused now
-  flushed : AllFlushed now new.lines
+  flushed : AllFlushed of_line now new.lines
   rises : IsStrictlyIncreasing (channels_put now)
   came : events_in now ≡ events_in calls ++ event ∷ []
   sound : list_any fails now ≡ false
@@ -119,7 +119,7 @@ turned_at laws images address count real new unused unused_then is_last calls mo
     let now : List WireCall = at ++ t.puts in
     let heeded = event_keeps laws images real unused calls t.event t.can r.stands in
     let ideal : ServingValue = after_events images (events_in at) in
-    let f = flush_keeps laws nodes at t.puts 0 ideal.lines (after_event t.event real).lines t.flushes.flushed (served_so images (events_in at)) heeded.agree.lines t.flushes.flushes in
+    let f = flush_keeps by_lines (lines_keep laws) nodes at t.puts 0 ideal.lines (after_event t.event real).lines t.flushes.flushed (served_so images (events_in at)) heeded.agree.lines t.flushes.flushes in
     let quiet : events_in now ≡ events_in at = same_events at t.puts f.among.no_event in
     let put = f.rising [] in
     let channels : channels_put now ≡ put.channels =
@@ -130,14 +130,14 @@ turned_at laws images address count real new unused unused_then is_last calls mo
       serves = each_more (IsInPlace nodes) at t.puts (each_more (IsInPlace nodes) calls (gave t.event ∷ []) r.serves (event_in_place laws images address count real unused calls (Ok t.event) r)) f.in_place;
       stands = record {
         agree = subst (λ (es : List WireEvent). Agree now 0 (after_events images es) new) (sym quiet)
-            (record { agent = t.agent ∙ heeded.agree.agent; lines = subst (λ (rows : List (Row Line)). Stand now 0 ideal.lines rows) (sym t.flushes.kept) (filter_keeps now 0 ideal.lines t.flushes.flushed f.lines) });
+            (record { agent = t.agent ∙ heeded.agree.agent; lines = subst (λ (rows : List (Row Line)). Stand by_lines now 0 ideal.lines rows) (sym t.flushes.kept) (filter_keeps by_lines now 0 ideal.lines t.flushes.flushed f.lines) });
         below = subst (λ (es : List WireEvent). Below unused_then (numbers (after_events images es).lines)) (sym quiet)
             (subst (λ (n : ℕ). Below n (numbers ideal.lines)) (sym t.unused) heeded.below);
         spares = λ channel missing.
             let gone : found channel ideal.lines ≡ None = ap (λ (es : List WireEvent). found channel (after_events images es).lines) (sym quiet) ∙ missing in
             none_of_both (is_on channel) at t.puts (heeded.spares channel gone) (f.among.spares channel gone);
       };
-      flushed = subst (λ (rows : List (Row Line)). AllFlushed now rows) (sym t.flushes.kept) (filter_flushed now t.flushes.flushed f.flushed);
+      flushed = subst (λ (rows : List (Row Line)). AllFlushed of_line now rows) (sym t.flushes.kept) (filter_flushed of_line now t.flushes.flushed f.flushed);
       rises = subst (λ (ks : List ℕ). IsStrictlyIncreasing ks) (sym channels) (rising 0 put.channels put.rises);
       came = quiet ∙ events_then calls t.event;
       sound = none_of_both fails at t.puts (none_of_both fails calls (gave t.event ∷ []) r.sound refl) f.among.sound;
@@ -149,9 +149,6 @@ turned laws images address count real new unused unused_then is_last calls more 
     subst (λ (cs : List WireCall). Turned images address new unused_then t.event calls cs)
     (append_assoc calls (gave t.event ∷ []) t.puts ∙ ap (λ (cs : List WireCall). calls ++ cs) (sym t.called))
     (turned_at laws images address count real new unused unused_then is_last calls more r t)
-
-one_longer : (earlier now : List WireEvent) (event : WireEvent) (count : ℕ) → now ≡ earlier ++ event ∷ [] → length earlier ≡ count → length now ≡ count + 1
-one_longer earlier now event count came counted = ap (λ (es : List WireEvent). length es) came ∙ length-append earlier (event ∷ []) ∙ ap (λ (n : ℕ). n + 1) counted
 
 pub runs_on : WireLaws → (images : List Image) (address : List ℕ) (count : ℕ) (real new : ServingValue) (unused unused_then : ℕ) (calls more : List WireCall)
     → Running images address count real unused calls → IsTurn real new unused unused_then false more → Running images address (count + 1) new unused_then (calls ++ more)
@@ -170,14 +167,6 @@ runs_on laws images address count real new unused unused_then calls more r t =
     }
 
 -- ---- the ends
-
-is_the_stop : (event : WireEvent) → is_stop event ≡ true → event ≡ events.Stop
-is_the_stop (events.Opened channel) is = absurd (false≢true is)
-is_the_stop (events.Piece channel bytes) is = absurd (false≢true is)
-is_the_stop (events.Ended channel) is = absurd (false≢true is)
-is_the_stop (events.Lost channel) is = absurd (false≢true is)
-is_the_stop events.Idle is = absurd (false≢true is)
-is_the_stop events.Stop is = refl
 
 pub stopped : WireLaws → (images : List Image) (address : List ℕ) (turns count : ℕ) (real new : ServingValue) (unused unused_then : ℕ) (calls more : List WireCall) → count < turns
     → Running images address count real unused calls → IsTurn real new unused unused_then true more → ServesAgent images address turns (Stopped (count + 1)) (calls ++ more)
@@ -209,21 +198,13 @@ all_taken laws images address turns count real unused calls all r =
       ends = record { counted = r.counted ∙ all; goes_on = r.goes_on; sound = r.sound };
     }
 
-flushed_more : WireLaws → (calls more : List WireCall) (rows : List (Row Line)) → ((channel : ℕ) → Spares channel more) → events_in more ≡ [] → AllFlushed calls rows → AllFlushed (calls ++ more) rows
-flushed_more laws calls more [] spares quiet all = tt
-flushed_more laws calls more (row ∷ rows) spares quiet (first, rest) =
-    (laws.stays row.item.outbox calls more (spares row.item.outbox.channel) quiet first, flushed_more laws calls more rows spares quiet rest)
-
-abbrev pub failed : List WireCall
-failed = Gave (Err refusals.Failed) ∷ []
-
 pub broken : WireLaws → (images : List Image) (address : List ℕ) (turns count : ℕ) (real : ServingValue) (unused : ℕ) (calls : List WireCall) → count < turns
     → Running images address count real unused calls → ServesAgent images address turns WireFault (calls ++ failed)
 broken laws images address turns count real unused calls within r =
     let now : List WireCall = calls ++ failed in
     let quiet : events_in now ≡ events_in calls = same_events calls failed refl in
-    let lines : Stand now 0 (after_events images (events_in calls)).lines real.lines =
-    stand_more laws calls failed 0 (after_events images (events_in calls)).lines real.lines (λ channel above. refl) r.stands.agree.lines in
+    let lines : Stand by_lines now 0 (after_events images (events_in calls)).lines real.lines =
+    stand_more by_lines (lines_keep laws) calls failed 0 (after_events images (events_in calls)).lines real.lines (λ channel above. refl) r.stands.agree.lines in
     record {
       listens = inl (listens_on address calls failed refl r.listens);
       serves = each_more (IsInPlace (served_by images)) calls failed r.serves (event_in_place laws images address count real unused calls (Err refusals.Failed) r);
@@ -231,8 +212,8 @@ broken laws images address turns count real unused calls within r =
           (runs_fronts laws images address count real unused calls r);
       settled = λ other some.
           let came : events_in calls ≢ [] = λ none. some (quiet ∙ none) in
-          settled laws images now real.lines (subst (λ (es : List WireEvent). Stand now 0 (after_events images es).lines real.lines) (sym quiet) lines)
-          (flushed_more laws calls failed real.lines (λ channel. refl) refl (r.flushed came))
+          settled laws images now real.lines (subst (λ (es : List WireEvent). Stand by_lines now 0 (after_events images es).lines real.lines) (sym quiet) lines)
+          (flushed_more of_line laws calls failed real.lines (λ channel. refl) refl (r.flushed came))
           (λ channel missing. none_of_both (is_on channel) calls failed
           (r.stands.spares channel (ap (λ (es : List WireEvent). found channel (after_events images es).lines) (sym quiet) ∙ missing)) refl)
           (subst (λ (ks : List ℕ). IsStrictlyIncreasing ks) (sym (fold-append put_on [] calls failed)) r.rises);
@@ -274,7 +255,7 @@ cut_short laws images address turns count real unused calls more r (at_puts even
     let nodes = served_by images in
     let at : List WireCall = calls ++ gave event ∷ [] in
     let heeded = event_keeps laws images real unused calls event can r.stands in
-    let u = gives_up laws nodes at puts 0 (after_events images (events_in at)).lines (after_event event real).lines (served_so images (events_in at)) heeded.agree.lines up in
+    let u = gives_up by_lines (lines_keep laws) nodes at puts 0 (after_events images (events_in at)).lines (after_event event real).lines (served_so images (events_in at)) heeded.agree.lines up in
     subst (λ (cs : List WireCall). ServesAgent images address turns NoMemory cs)
     (append_assoc calls (gave event ∷ []) puts ∙ ap (λ (cs : List WireCall). calls ++ cs) (sym called))
     (wanting images address turns at puts (listens_on address calls (gave event ∷ []) refl r.listens)

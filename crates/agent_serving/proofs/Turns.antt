@@ -1,5 +1,5 @@
 -- One turn of many.
-use Rattle.std.proofs.Common.{◌≡◌, ℕ, suc, ◌+◌, ◌-◌, ◌<◌, Bool, ◌||◌, ap, arith}
+use Rattle.std.proofs.Common.{◌≡◌, ℕ, suc, ◌+◌, ◌-◌, ◌<◌, ◌||◌, ap, arith}
 use Rattle.agent_node.specs.Agent.{turned}
 use Rattle.agent_node.specs.AgentValue.{AgentValue}
 use Rattle.agent_serving.specs.Passing.{after_turns, closes, end_is_taken}

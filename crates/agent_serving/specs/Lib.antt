@@ -3,7 +3,5 @@ pub mod Ticking
 pub mod Lines
 pub mod ServingValue
 pub mod Serving
-pub mod Flushing
 pub mod Serve
 pub mod Turn
-pub mod WireLaws

@@ -6,11 +6,15 @@ use Rattle.channel_core.specs.declared.held.Outgoing.{Outgoing}
 use Rattle.agent_node.specs.Agent.{channel_of}
 use Rattle.agent_node.specs.AgentValue.{AgentValue}
 use Rattle.agent_node.specs.Channels.{End, changed, end_in}
+use Rattle.serving_wires.specs.Flushing.{HasOutbox}
 use Rattle.serving_wires.specs.Outbox.{closed, queued, unused_outbox}
 use Rattle.serving_wires.specs.OutboxValue.{OutboxValue}
 use Rattle.serving_wires.specs.declared.intake.Came.{Came}
 use Rattle.agent_serving.specs.Passing.{Passed, passed_on}
 use Rattle.agent_serving.specs.declared.line.Line.{Line}
+
+abbrev pub of_line : HasOutbox Line
+of_line = record { outbox = λ line. line.outbox; with_outbox = λ outbox line. record line { outbox = outbox } }
 
 -- nothing waits, and nothing is queued
 abbrev pub unused_line : ℕ → Line

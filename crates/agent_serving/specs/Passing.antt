@@ -1,5 +1,5 @@
 -- What came for a channel passes through the agent.
-use Rattle.std.specs.Prelude.{ℕ, zero, suc, ◌-◌, Bool, true, false, ◌||◌, List, [], ◌∷◌, nat_lt, Option, None, Some, if◌then◌else◌}
+use Rattle.std.specs.Prelude.{ℕ, zero, suc, ◌-◌, Bool, true, false, ◌||◌, List, [], ◌∷◌, nat_lt, None, Some, if◌then◌else◌}
 use Rattle.agent_node.specs.Agent.{channel_of, delivered, ended, turned, waiting_at}
 use Rattle.agent_node.specs.AgentValue.{AgentValue}
 use Rattle.agent_node.specs.declared.agent.Turned.{Turned}

@@ -8,7 +8,8 @@ mod serving;
 mod ticking;
 
 pub use agent_node::Image;
-pub use serve::{ServeEnd, serve_agent};
+pub use serve::serve_agent;
+pub use serving_wires::ServeEnd;
 
 #[cfg(test)]
 mod tests;

@@ -1,11 +1,12 @@
 //! The line of one connection: what came on it and waits, and what is to be put on it.
 ghost use Rattle.std.specs.Prelude.{◌≡◌, IfOk, OnOk};
-ghost use Rattle.agent_serving.specs.Lines.{gathered, heard, line_gathered, new_line};
+ghost use Rattle.agent_serving.specs.Lines.{gathered, heard, line_gathered, new_line, of_line};
 
 use crate::passing::pass_on;
 use agent_node::AgentNode;
-use serving_wires::{Came, Intake, Outbox};
+use serving_wires::{Came, Intake, OnWire, Outbox};
 use std::alloc::{AllocError, Global};
+use tcf_wires::Wires;
 
 /// The end of a stream.
 const END: &[u8] = b"\x03\x02";
@@ -57,6 +58,18 @@ impl Line {
             return Ok(());
         }
         gather(agent, &mut self.outbox)
+    }
+}
+
+impl OnWire for Line {
+    ghost has = { of_line };
+
+    fn flush_wire<W: Wires>(&mut self, wires: &mut W) -> Result<(), AllocError> {
+        self.outbox.flush(wires)
+    }
+
+    fn is_wire_shut(&self) -> bool {
+        self.outbox.is_shut()
     }
 }
 

@@ -2,30 +2,15 @@
 ghost use Rattle.std.specs.Prelude.{◌≡◌};
 ghost use Rattle.tcf_outside.specs.Faults.{Rose};
 ghost use Rattle.serving_wires.specs.Calls.{Makes};
-ghost use Rattle.agent_serving.specs.Serve.{ServesAgent, end_of, is_stop};
+ghost use Rattle.serving_wires.specs.Ends.{end_of};
+ghost use Rattle.agent_serving.specs.Serve.{ServesAgent};
 ghost use Rattle.agent_serving.specs.Turn.{TakesTurn};
-ghost use Rattle.agent_serving.specs.WireLaws.{WireLaws};
 
 use crate::serving::Serving;
 use agent_node::Image;
-use serving_wires::{
-    a_flush_is_in_place, a_flush_is_on_one_wire, an_outbox_is_what_is_left,
-    what_is_flushed_is_carried,
-};
+use serving_wires::{ServeEnd, each_wire_is_carried, end_of, is_stop};
 use std::alloc::Global;
-use tcf_wires::{WireEvent, WireRefusal, Wires};
-
-/// How the serving of an agent ended.
-#[derive(Clone, Copy, Debug, PartialEq, Eq)]
-pub enum ServeEnd {
-    /// `Stop` came, as the last of so many events.
-    Stopped { events: u32 },
-    /// All turns were taken, and `Stop` didn't come.
-    Turns,
-    /// The address couldn't be listened on, or the wires gave nothing any more.
-    WireFault,
-    NoMemory,
-}
+use tcf_wires::{WireRefusal, Wires};
 
 /// Listens on the address, and serves an agent whose processes are started from these images. In each of the turns, of
 /// which there are 1 to 1,000,000,000, one event is taken and goes to the agent; all messages that can be taken are
@@ -44,11 +29,7 @@ pub fn serve_agent<W: Wires>(
     ensures serves { Makes (ServesAgent images.items address.now turns result) (W.told wires.old) (W.told wires.new) (W.faults wires.old) (W.faults wires.new) }
     ensures fault { result ≡ ServeEnd.WireFault → Rose (W.faults wires.old) (W.faults wires.new) }
 {
-    match try_serve(alloc, wires, address, turns, images) {
-        Ok(end) => end,
-        Err(WireRefusal::Failed) => ServeEnd::WireFault,
-        Err(WireRefusal::NoMemory) => ServeEnd::NoMemory,
-    }
+    end_of(try_serve(alloc, wires, address, turns, images))
 }
 
 fn try_serve<W: Wires>(
@@ -82,23 +63,4 @@ fn take_turn<W: Wires>(serving: &mut Serving, wires: &mut W) -> Result<bool, Wir
     serving.heed(event)?;
     serving.flush(wires)?;
     Ok(is_last)
-}
-
-/// The laws of each wire, which do nothing.
-fn each_wire_is_carried()
-    ensures { WireLaws }
-{
-    an_outbox_is_what_is_left();
-    what_is_flushed_is_carried();
-    a_flush_is_in_place();
-    a_flush_is_on_one_wire();
-}
-
-fn is_stop(event: &WireEvent) -> bool
-    ensures { result ≡ is_stop event.now }
-{
-    match event {
-        WireEvent::Stop => true,
-        _ => false,
-    }
 }

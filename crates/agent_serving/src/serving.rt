@@ -1,13 +1,14 @@
 //! An agent with the lines of its connections, and what each event makes of them.
-ghost use Rattle.std.specs.Prelude.{◌≡◌, filter, length, IfOk, OnErr, OnOk};
+ghost use Rattle.std.specs.Prelude.{◌≡◌, IfOk, OnErr, OnOk};
 ghost use Rattle.serving_wires.specs.Calls.{Makes};
-ghost use Rattle.agent_serving.specs.Flushing.{FlushesAll, FlushesKept, GivesUpAll, is_kept, is_shut_at};
+ghost use Rattle.serving_wires.specs.Flushing.{FlushesKept, GivesUpAll};
+ghost use Rattle.agent_serving.specs.Lines.{of_line};
 ghost use Rattle.agent_serving.specs.Serving.{acted, after_event, all_gathered, heard_on, new_serving, opened_on};
 
 use crate::line::{Line, new_line};
 use crate::ticking::idle;
 use agent_node::{AgentNode, Image};
-use serving_wires::{Came, Roster};
+use serving_wires::{Came, Roster, flush_rows};
 use std::alloc::{AllocError, Global};
 use std::marker::Model;
 use tcf_wires::{WireEvent, Wires};
@@ -93,13 +94,11 @@ impl Serving {
     /// Puts what is queued, wire by wire in the order of the lines, and shuts and forgets the lines that are done with.
     pub fn flush<W: Wires>(&mut self, wires: &mut W) -> Result<(), AllocError>
         ensures agent { self.new.agent ≡ self.old.agent }
-        ensures ok { OnOk result (Makes (FlushesKept self.old.lines self.new.lines) (W.told wires.old) (W.told wires.new) (W.faults wires.old) (W.faults wires.new)) }
-        ensures err { OnErr result (Makes (GivesUpAll self.old.lines) (W.told wires.old) (W.told wires.new) (W.faults wires.old) (W.faults wires.new)) }
+        ensures ok { OnOk result (Makes (FlushesKept of_line self.old.lines self.new.lines) (W.told wires.old) (W.told wires.new) (W.faults wires.old) (W.faults wires.new)) }
+        ensures err { OnErr result (Makes (GivesUpAll of_line self.old.lines) (W.told wires.old) (W.told wires.new) (W.faults wires.old) (W.faults wires.new)) }
         ensures numbers { W.unused wires.new ≡ W.unused wires.old }
     {
-        flush_all(&mut self.lines, wires)?;
-        forget(&mut self.lines);
-        Ok(())
+        flush_rows(&mut self.lines, wires)
     }
 }
 
@@ -113,42 +112,4 @@ fn gather_all(agent: &mut AgentNode, lines: &mut Roster<Line>) -> Result<(), All
         }
     }
     Ok(())
-}
-
-/// Puts what is queued, and shuts where it is due.
-fn flush_all<W: Wires>(lines: &mut Roster<Line>, wires: &mut W) -> Result<(), AllocError>
-    ensures ok { OnOk result (Makes (FlushesAll lines.old lines.new) (W.told wires.old) (W.told wires.new) (W.faults wires.old) (W.faults wires.new)) }
-    ensures err { OnErr result (Makes (GivesUpAll lines.old) (W.told wires.old) (W.told wires.new) (W.faults wires.old) (W.faults wires.new)) }
-    ensures numbers { W.unused wires.new ≡ W.unused wires.old }
-{
-    let count = lines.len();
-    for place in 0..count {
-        if let Some(row) = lines.get_mut(place) {
-            row.outbox.flush(wires)?;
-        }
-    }
-    Ok(())
-}
-
-/// Forgets the lines whose wires were shut, from the last one on.
-fn forget(lines: &mut Roster<Line>)
-    ensures { lines.new ≡ filter is_kept lines.old }
-{
-    let count = lines.len();
-    for done in 0..count {
-        let place = count - 1 - done;
-        if is_shut(lines, place) {
-            lines.remove(place);
-        }
-    }
-}
-
-/// Whether the wire of the line at this place was shut.
-fn is_shut(lines: &Roster<Line>, place: usize) -> bool
-    ensures { result ≡ is_shut_at place lines.now }
-{
-    match lines.get(place) {
-        Some(line) => line.outbox.is_shut(),
-        None => false,
-    }
 }

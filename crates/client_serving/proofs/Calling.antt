@@ -16,7 +16,7 @@ use Rattle.client_serving.specs.Run.{RunsClient, no_calls, not_connected}
 use Rattle.client_serving.specs.Serving.{after_event, begun}
 use Rattle.client_serving.specs.ServingValue.{ServingValue}
 use Rattle.client_serving.specs.Turn.{BreaksOff, IsTurn, failed, given_up, no_event}
-use Rattle.client_serving.specs.Wire.{WireLaws}
+use Rattle.serving_wires.specs.WireLaws.{WireLaws}
 use Rattle.client_serving.specs.declared.end.ClientEnd.{ClientEnd}
 use Rattle.client_serving.specs.declared.end.ClientEnd.TheVariants.{Turns}
 use Rattle.client_serving.specs.declared.end.ClientRun.{ClientRun}

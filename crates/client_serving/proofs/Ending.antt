@@ -23,7 +23,7 @@ use Rattle.tcf_wires.specs.declared.event.WireEvent.TheVariants as events
 use Rattle.serving_wires.specs.declared.intake.Came.{Came}
 use Rattle.serving_wires.specs.declared.intake.Came.TheVariants.{Piece, End}
 use Rattle.client_serving.specs.Lines.{did_lines}
-use Rattle.client_serving.specs.Run.{is_stop}
+use Rattle.serving_wires.specs.Serving.{is_stop}
 use Rattle.client_serving.specs.Serving.{acted, after_event, after_message, after_turn, all_gathered, all_taken, came_to, cause_in, cause_of, done_if_so, emptied, heard_on, is_done, nothing_left, one_taken, stopped, taken_so_many, went_on, with_lines}
 use Rattle.client_serving.specs.ServingValue.{ServingValue}
 use Rattle.client_serving.specs.declared.end.ClientEnd.{ClientEnd}

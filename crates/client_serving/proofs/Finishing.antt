@@ -15,7 +15,7 @@ use Rattle.client_serving.specs.Run.{EndsBy, GoesOnTo, IsQuiet, RunsClient, Says
 use Rattle.client_serving.specs.Serving.{after_event, after_events, begun, served_by}
 use Rattle.client_serving.specs.ServingValue.{ServingValue}
 use Rattle.client_serving.specs.Turn.{BreaksOff, failed, given_up, no_event}
-use Rattle.client_serving.specs.Wire.{WireLaws}
+use Rattle.serving_wires.specs.WireLaws.{WireLaws}
 use Rattle.client_serving.specs.declared.end.ClientEnd.{ClientEnd}
 use Rattle.client_serving.specs.declared.end.ClientEnd.TheVariants.{Done, Ended, Turns}
 use Rattle.client_serving.specs.declared.end.ClientRun.{ClientRun}

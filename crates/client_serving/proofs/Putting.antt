@@ -19,7 +19,7 @@ use Rattle.serving_wires.specs.Serving.{AreFronts, IsCarried, IsInPlace, IsSettl
 use Rattle.serving_wires.specs.Following.{is_on}
 use Rattle.client_serving.specs.Run.{GoesOnTo, IsQuiet}
 use Rattle.client_serving.specs.Serving.{after_events, begun, served_by}
-use Rattle.client_serving.specs.Wire.{WireLaws}
+use Rattle.serving_wires.specs.WireLaws.{WireLaws}
 use Rattle.client_serving.proofs.Placing.{EachBehind, each_both, no_front, none_of_both}
 use Rattle.client_serving.proofs.Running.{Made, Runs, events_both, no_more_event, own_channel}
 
@@ -165,14 +165,14 @@ module _ (laws : WireLaws) (channel : ℕ) (address : List ℕ) (script : List S
       → Made channel address script (calls ++ more)
   given_up_made now calls more old gives_up can =
       let all = (after_events channel script (events_in calls)).outbox in
-      let aside = subst (λ n. AreAside n more) (now_channel now calls old) (laws.alone now.channel more (laws.on_one_given_up now more gives_up)) in
-      made_behind calls more old.made aside (laws.in_place_given_up (served_by channel script) all now calls more (own_served calls) old.follows gives_up) can
+      let aside = subst (λ n. AreAside n more) (now_channel now calls old) (laws.alone now.channel more (laws.given_up_on now more gives_up)) in
+      made_behind calls more old.made aside (laws.gives_up (served_by channel script) all now calls more (own_served calls) old.follows gives_up) can
 
   pub given_up_fronts : (now : OutboxValue) (calls more : List WireCall) → Runs channel address script now calls → IsGivenUp now more → CanPut channel script calls
       → AreFronts (served_by channel script) (calls ++ more)
   given_up_fronts now calls more old gives_up can =
       let all = (after_events channel script (events_in calls)).outbox in
-      let aside = subst (λ n. AreAside n more) (now_channel now calls old) (laws.alone now.channel more (laws.on_one_given_up now more gives_up)) in
+      let aside = subst (λ n. AreAside n more) (now_channel now calls old) (laws.alone now.channel more (laws.given_up_on now more gives_up)) in
       fronts_by (calls ++ more) (given_up_made now calls more old gives_up can)
       (subst (λ events. (rest : List ℕ) × ((after_events channel script events).outbox.queued ≡ taken_on (after_events channel script events).outbox.channel (calls ++ more) ++ rest))
       (sym (no_more_event calls more aside.no_event)) (given_up_front laws all now calls more old.follows gives_up))

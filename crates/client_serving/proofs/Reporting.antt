@@ -1,19 +1,17 @@
 -- What the calls of a run say of its result: a fault has raised the count, and the log answers each command once.
-use Rattle.std.proofs.Common.{◌≡◌, ℕ, ◌-◌, ◌^◌, ◌<◌, ◌≤◌, ◌⊎◌, Bool, true, false, List, [], ◌∷◌, Option, refl, sym, ap, ◌∙◌, subst, inl, inr, arith, ltb-true, ltb-false, nat_lt}
+use Rattle.std.proofs.Common.{◌≡◌, ℕ, false, List, Option, refl, sym, ap, ◌∙◌, subst, inl, arith}
 use Rattle.std.specs.Prelude.{Result, Ok, Err, IfOk, IsErrOf}
-use Rattle.tcf_outside.specs.Faults.{Rose, raised}
+use Rattle.tcf_outside.specs.Faults.{Rose}
 use Rattle.tcf_text.specs.Once.{Once}
 use Rattle.tcf_schedules.specs.declared.script.ScriptLine.{ScriptLine}
-use Rattle.tcf_wires.specs.Event.{faults_after, faults_after_put}
+use Rattle.tcf_wires.specs.Event.{faults_after}
 use Rattle.tcf_wires.specs.declared.call.WireCall.{WireCall}
-use Rattle.tcf_wires.specs.declared.call.WireCall.TheVariants.{Listened, Connected, Gave, Offered, Shut}
-use Rattle.tcf_wires.specs.declared.event.Put.{Put}
-use Rattle.tcf_wires.specs.declared.event.Put.TheVariants.{Took, Lost, NoMemory as NoRoom}
+use Rattle.tcf_wires.specs.declared.call.WireCall.TheVariants.{Gave}
 use Rattle.tcf_wires.specs.declared.event.WireRefusal.{WireRefusal}
-use Rattle.tcf_wires.specs.declared.event.WireRefusal.TheVariants.{Failed, NoMemory}
+use Rattle.tcf_wires.specs.declared.event.WireRefusal.TheVariants.{Failed}
 use Rattle.client_node.specs.ClientValue.{ClientValue}
 use Rattle.client_node.specs.Runs.{OnceAfterAnyCalls}
-use Rattle.serving_wires.specs.Calls.{Makes, events_in, faults_by, faults_through}
+use Rattle.serving_wires.specs.Calls.{Makes, events_in, faults_through}
 use Rattle.serving_wires.proofs.Rising.{last_rises, rose_raised}
 use Rattle.client_serving.specs.Run.{HasRun, IsBroken, RunsClient, connected, no_calls, not_connected}
 use Rattle.client_serving.specs.declared.end.ClientRun.{ClientRun}

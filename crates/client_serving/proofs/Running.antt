@@ -16,7 +16,7 @@ use Rattle.serving_wires.specs.Serving.{IsInPlace, IsSettled, Serves, fails, rea
 use Rattle.client_serving.specs.Run.{GoesOnTo, IsQuiet}
 use Rattle.client_serving.specs.Serving.{acted, after_event, after_events, all_gathered, begun, bytes_of, cause_of, client_emptied, closed_for, opened_with, queue_of, served_by, went_on}
 use Rattle.client_serving.specs.ServingValue.{ServingValue}
-use Rattle.client_serving.specs.Wire.{WireLaws}
+use Rattle.serving_wires.specs.WireLaws.{WireLaws}
 use Rattle.client_serving.proofs.Apart.{gathered_from, outbox_after, went_on_apart}
 use Rattle.client_serving.proofs.Placing.{Each, each_more, each_none, each_one, none_of_both}
 

@@ -6,7 +6,8 @@ use Rattle.channel_core.specs.Beginning.{new_end}
 use Rattle.tcf_schedules.specs.declared.script.ScriptLine.{ScriptLine}
 use Rattle.tcf_wires.specs.declared.event.WireEvent.{WireEvent}
 use Rattle.channel_core.specs.declared.states.Cause.TheVariants.{Own}
-use Rattle.client_serving.specs.Run.{EndsSaySo, HasCause, SaysSo, is_stop}
+use Rattle.serving_wires.specs.Serving.{is_stop}
+use Rattle.client_serving.specs.Run.{EndsSaySo, HasCause, SaysSo}
 use Rattle.client_serving.specs.Serving.{after_all, after_event, after_events, begun, opened_with, went_on}
 use Rattle.client_serving.specs.ServingValue.{ServingValue}
 use Rattle.client_serving.specs.declared.end.ClientEnd.{ClientEnd}

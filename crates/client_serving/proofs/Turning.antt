@@ -13,7 +13,7 @@ use Rattle.client_serving.specs.Run.{SaysSo}
 use Rattle.client_serving.specs.Serving.{acted, after_event, after_events, begun, cause_of, served_by}
 use Rattle.client_serving.specs.ServingValue.{ServingValue}
 use Rattle.client_serving.specs.Turn.{IsTurn}
-use Rattle.client_serving.specs.Wire.{WireLaws}
+use Rattle.serving_wires.specs.WireLaws.{WireLaws}
 use Rattle.client_serving.specs.declared.end.ClientEnd.{ClientEnd}
 use Rattle.client_serving.proofs.Apart.{event_apart, gathered_from, with_outbox}
 use Rattle.client_serving.proofs.Putting.{CanPut, flush_events, flush_runs, flush_settles, none_put}

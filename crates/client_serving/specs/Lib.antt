@@ -2,6 +2,5 @@ pub mod ServingValue
 pub mod Lines
 pub mod Serving
 pub mod Client
-pub mod Wire
 pub mod Turn
 pub mod Run

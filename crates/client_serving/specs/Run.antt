@@ -5,15 +5,13 @@ use Rattle.channel_core.specs.declared.states.Cause.{Cause}
 use Rattle.channel_core.specs.declared.states.Cause.TheVariants as causes
 use Rattle.client_node.specs.Client.{pending_on}
 use Rattle.tcf_schedules.specs.declared.script.ScriptLine.{ScriptLine}
-use Rattle.tcf_wires.specs.Told.{taken_on}
 use Rattle.tcf_wires.specs.declared.call.WireCall.{WireCall}
 use Rattle.tcf_wires.specs.declared.call.WireCall.TheVariants.{Listened, Connected, Gave, Offered, Shut}
 use Rattle.tcf_wires.specs.declared.event.WireEvent.{WireEvent}
-use Rattle.tcf_wires.specs.declared.event.WireEvent.TheVariants as events
 use Rattle.tcf_wires.specs.declared.event.WireRefusal.{WireRefusal}
 use Rattle.tcf_wires.specs.declared.event.WireRefusal.TheVariants.{Failed, NoMemory}
 use Rattle.serving_wires.specs.Calls.{events_in}
-use Rattle.serving_wires.specs.Serving.{AreFronts, Each, IsSettled, Nodes, Serves, fails, reaches_out}
+use Rattle.serving_wires.specs.Serving.{AreFronts, Each, IsSettled, Serves, fails, is_stop, reaches_out}
 use Rattle.client_serving.specs.Serving.{after_events, begun, cause_of, is_done, served_by}
 use Rattle.client_serving.specs.ServingValue.{ServingValue}
 use Rattle.client_serving.specs.declared.end.ClientEnd.{ClientEnd}
@@ -21,14 +19,6 @@ use Rattle.client_serving.specs.declared.end.ClientEnd.TheVariants.{Done, Ended,
 use Rattle.client_serving.specs.declared.end.ClientRun.{ClientRun}
 
 -- ---- what an end says
-
-abbrev pub is_stop : WireEvent → Bool
-is_stop (events.Opened channel) = false
-is_stop (events.Piece channel bytes) = false
-is_stop (events.Ended channel) = false
-is_stop (events.Lost channel) = false
-is_stop events.Idle = false
-is_stop events.Stop = true
 
 -- the channel closed for this cause, which isn't the client's own closing; or it isn't closed, and `Stop` came
 abbrev pub HasCause : Cause → Option Cause → List WireEvent → Type 0

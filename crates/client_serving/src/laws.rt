@@ -1,12 +1,6 @@
 //! The laws of a client's run.
 ghost use Rattle.client_serving.specs.Client.{ServesAClient};
 ghost use Rattle.client_serving.specs.Run.{EndsSaySo};
-ghost use Rattle.client_serving.specs.Wire.{WireLaws};
-
-use serving_wires::{
-    a_flush_is_in_place, a_flush_is_on_one_wire, an_outbox_is_what_is_left,
-    what_is_flushed_is_carried,
-};
 
 /// The law that a run is done exactly where no line is left, nothing is pending and the client closed its channel itself;
 /// that it ended for a cause exactly where the channel closed for that other one, or `Stop` came while it wasn't closed;
@@ -20,13 +14,3 @@ pub fn an_end_is_what_it_says()
 pub fn what_is_served_is_a_client()
     ensures { ServesAClient }
 {}
-
-/// What is known of the outbox of a wire.
-pub(crate) fn an_outbox_is_put_on_its_wire()
-    ensures { WireLaws }
-{
-    an_outbox_is_what_is_left();
-    what_is_flushed_is_carried();
-    a_flush_is_in_place();
-    a_flush_is_on_one_wire();
-}

@@ -8,9 +8,9 @@ ghost use Rattle.serving_wires.specs.Calls.{Makes};
 ghost use Rattle.client_serving.specs.Run.{RunsClient};
 
 use crate::end::{ClientEnd, ClientRun};
-use crate::laws::an_outbox_is_put_on_its_wire;
 use crate::serving::Serving;
 use client_node::each_command_is_answered_once;
+use serving_wires::each_wire_is_carried;
 use std::alloc::Global;
 use tcf_schedules::ScriptLine;
 use tcf_wires::{WireRefusal, Wires};
@@ -50,7 +50,7 @@ fn try_run<W: Wires>(
     requires { AllByRecursion IsFit script.now }
     ensures { Makes (RunsClient script.now address.now turns result) (W.told wires.old) (W.told wires.new) (W.faults wires.old) (W.faults wires.new) }
 {
-    an_outbox_is_put_on_its_wire();
+    each_wire_is_carried();
     let channel = wires.connect(address)?;
     let mut serving = Serving::begin(alloc, channel, script)?;
     if let Some(end) = serving.end() {

@@ -36,6 +36,9 @@ events_both first rest = flat_map-append event_of first rest
 pub same_events : (first rest : List WireCall) → events_in rest ≡ [] → events_in (first ++ rest) ≡ events_in first
 same_events first rest none = events_both first rest ∙ ap (λ es. events_in first ++ es) none ∙ append-nil (events_in first)
 
+pub none_of_both : (p : WireCall → Bool) (first rest : List WireCall) → list_any p first ≡ false → list_any p rest ≡ false → list_any p (first ++ rest) ≡ false
+none_of_both p first rest here there = list_any-append p first rest ∙ ap (λ (b : Bool). b || list_any p rest) here ∙ there
+
 -- ---- calls that aren't on a channel
 
 pub record IsSpared (k : ℕ) (calls : List WireCall) : Type 0 where

@@ -7,5 +7,9 @@ pub mod Rows
 pub mod Slots
 pub mod Lending
 pub mod Serving
+pub mod Ends
 pub mod Following
 pub mod Laws
+pub mod WireLaws
+pub mod Changes
+pub mod Flushing

@@ -15,6 +15,10 @@ queued bytes o = if o.is_lost then o else record o { queued = o.queued ++ bytes 
 abbrev pub closed : OutboxValue → OutboxValue
 closed o = record o { is_closed = true }
 
+-- nothing is queued, nor ever will be; a wire that was shut stays so
+abbrev pub left_behind : OutboxValue → OutboxValue
+left_behind o = if o.is_shut then o else closed (unused_outbox o.channel)
+
 abbrev pub nothing_left : OutboxValue → Bool
 nothing_left o = length o.queued == 0
 

@@ -6,6 +6,7 @@ use Rattle.tcf_wires.specs.Told.{taken_on}
 use Rattle.tcf_wires.specs.declared.call.WireCall.{WireCall}
 use Rattle.tcf_wires.specs.declared.call.WireCall.TheVariants.{Listened, Connected, Gave, Offered, Shut}
 use Rattle.tcf_wires.specs.declared.event.WireEvent.{WireEvent}
+use Rattle.tcf_wires.specs.declared.event.WireEvent.TheVariants as events
 use Rattle.tcf_wires.specs.declared.event.WireRefusal.{WireRefusal}
 use Rattle.serving_wires.specs.Calls.{channels_put, events_in, is_short, shut_count, was_lost}
 
@@ -79,6 +80,20 @@ pub record ListensOnce (address : List ℕ) (calls : List WireCall) : Type 0 whe
   pub first : calls ≡ Listened address answer ∷ later
   pub once : list_any reaches_out later ≡ false
 
+abbrev pub listens : WireCall → Bool
+listens (Listened address answer) = true
+listens (Connected peer answer) = false
+listens (Gave answer) = false
+listens (Offered channel piece answer) = false
+listens (Shut channel) = false
+
+-- the first call listens on this address, and no later one listens; it may connect
+pub record ListensFirst (address : List ℕ) (calls : List WireCall) : Type 0 where
+  pub answer : Result Unit WireRefusal
+  pub later : List WireCall
+  pub first : calls ≡ Listened address answer ∷ later
+  pub once : list_any listens later ≡ false
+
 -- a call that failed; a lost put ends nothing, and isn't meant
 abbrev pub fails : WireCall → Bool
 fails (Listened address answer) = is_err answer
@@ -86,3 +101,22 @@ fails (Connected peer answer) = is_err answer
 fails (Gave answer) = is_err answer
 fails (Offered channel piece answer) = false
 fails (Shut channel) = false
+
+-- of nodes that connect a connect that failed isn't meant either
+abbrev pub breaks : WireCall → Bool
+breaks (Listened address answer) = is_err answer
+breaks (Connected peer answer) = false
+breaks (Gave answer) = is_err answer
+breaks (Offered channel piece answer) = false
+breaks (Shut channel) = false
+
+abbrev pub is_stop : WireEvent → Bool
+is_stop (events.Opened channel) = false
+is_stop (events.Piece channel bytes) = false
+is_stop (events.Ended channel) = false
+is_stop (events.Lost channel) = false
+is_stop events.Idle = false
+is_stop events.Stop = true
+
+abbrev pub stops : List WireCall → Bool
+stops calls = list_any is_stop (events_in calls)

@@ -1,5 +1,6 @@
 //! The laws of one wire, for commands that serve some.
 ghost use Rattle.serving_wires.specs.Laws.{BeginsToFollow, FlushedIsCarried, FlushesAll, FlushesInPlace, FlushesOneWire, FollowsClosing, FollowsFlushing, FollowsOthers, FollowsQueueing, GivesUpInPlace, GivesUpOneWire, OneWireAlone, PutsOnce, ShutIsFlushed, StaysFlushed, UnusedIsCarried};
+ghost use Rattle.serving_wires.specs.WireLaws.{WireLaws};
 
 /// The law that an outbox, whatever is queued, put and shut, is what the calls so far left of all that was queued for its
 /// wire: a front of it was taken, and the rest is left, unless a put was lost.
@@ -36,3 +37,13 @@ pub fn a_flush_is_on_one_wire()
     ensures alone { OneWireAlone }
     ensures once { PutsOnce }
 {}
+
+/// All of these laws.
+pub fn each_wire_is_carried()
+    ensures { WireLaws }
+{
+    an_outbox_is_what_is_left();
+    what_is_flushed_is_carried();
+    a_flush_is_in_place();
+    a_flush_is_on_one_wire();
+}

@@ -1,7 +1,7 @@
 //! What is to be put on one wire.
 ghost use Rattle.std.specs.Prelude.{◌≡◌, ◌≤◌, [], OnErr, OnOk, drop, length, true};
 ghost use Rattle.serving_wires.specs.Calls.{Makes};
-ghost use Rattle.serving_wires.specs.Outbox.{Flushes, IsGivenUp, Puts, Shuts, closed, is_due, queued, unused_outbox};
+ghost use Rattle.serving_wires.specs.Outbox.{Flushes, IsGivenUp, Puts, Shuts, closed, is_due, left_behind, queued, unused_outbox};
 
 use std::alloc::{AllocError, Global};
 use std::marker::Model;
@@ -84,6 +84,18 @@ impl Outbox {
         ensures { self.new ≡ closed self.old }
     {
         self.is_closed = true;
+    }
+
+    /// Drops what is queued, and nothing more will be queued: another wire takes the place of this one.
+    pub fn drop_queued(&mut self)
+        ensures { self.new ≡ left_behind self.old }
+    {
+        if !self.is_shut {
+            self.bytes.clear();
+            self.taken = 0;
+            self.is_lost = false;
+            self.is_closed = true;
+        }
     }
 
     /// Puts all that is queued, if anything is, in one put; and shuts the wire once, where nothing more will be queued

@@ -1,5 +1,5 @@
 -- What the exit of a run tells, from the run as a whole.
-use Rattle.std.proofs.Common.{◌≡◌, ℕ, true, false, List, [], ◌∷◌, sym, ap, ◌∙◌, subst, inl, inr, ◌⊎◌, arith}
+use Rattle.std.proofs.Common.{◌≡◌, ℕ, Bool, true, false, List, [], ◌∷◌, sym, ap, ◌∙◌, subst, inl, inr, ◌⊎◌, arith}
 use Rattle.std.specs.Prelude.{Option, None, Some, Result, Ok, Err, IfSome}
 use Rattle.std.specs.List.{list_any}
 use Rattle.tcf_outside.specs.Faults.{Rose}
@@ -7,19 +7,15 @@ use Rattle.tcf_outside.specs.declared.files.HeldFile.{HeldFile}
 use Rattle.tcf_schedules.specs.Refusal.{BadLine}
 use Rattle.tcf_schedules.specs.Script.{script_of}
 use Rattle.tcf_schedules.specs.declared.script.ScriptLine.{ScriptLine}
-use Rattle.target_contexts.specs.declared.process.Image.{Image}
 use Rattle.tcf_wires.specs.declared.call.WireCall.{WireCall}
 use Rattle.tcf_wires.specs.declared.event.WireRefusal.{WireRefusal}
 use Rattle.tcf_wires.specs.declared.event.WireRefusal.TheVariants as refusals
 use Rattle.serving_wires.specs.Calls.{Makes, faults_through, with_calls}
-use Rattle.serving_wires.specs.Serving.{fails}
+use Rattle.serving_wires.specs.Serving.{fails, breaks}
 use Rattle.serving_wires.proofs.Making.{makes_so, told_none}
-use Rattle.agent_serving.specs.Serve.{ServesAgent, IsStopped, AreTaken as AgentTakes}
-use Rattle.agent_serving.specs.declared.serve.ServeEnd.{ServeEnd}
-use Rattle.agent_serving.specs.declared.serve.ServeEnd.TheVariants as serve_ends
-use Rattle.value_serving.specs.Serve.{ServesValueAdds, breaks, IsStopped as AddsStop, AreTaken as AddsTake}
-use Rattle.value_serving.specs.declared.serve.ServeEnd.{ServeEnd as AddsEnd}
-use Rattle.value_serving.specs.declared.serve.ServeEnd.TheVariants as adds_ends
+use Rattle.serving_wires.specs.Ends.{AreTaken, EndsSo, IsStopped}
+use Rattle.serving_wires.specs.declared.end.ServeEnd.{ServeEnd}
+use Rattle.serving_wires.specs.declared.end.ServeEnd.TheVariants as serve_ends
 use Rattle.client_serving.specs.Run.{RunsClient, no_calls, not_connected, connected, HasRun as RunHas}
 use Rattle.client_serving.specs.declared.end.ClientEnd.{ClientEnd}
 use Rattle.client_serving.specs.declared.end.ClientEnd.TheVariants as client_ends
@@ -29,7 +25,7 @@ use Rattle.tcf_app.specs.declared.exit.Exit.TheVariants.{Usage, SinkFault, NoMem
 use Rattle.tcf_app.specs.Exit.{IsGivenUp}
 use Rattle.tcf_app.specs.Words.{OrderValue, chain, show, load, agent, value, client, names_of}
 use Rattle.tcf_app.specs.Heard.{Heard, whole, longer, failed, Hears, heard_in}
-use Rattle.tcf_app.specs.Ending.{Ending, Ends, IsEnding, IsServedEnding, IsAddsEnding, IsRanEnding, fault_ending, served_ending, adds_ending, exit_of, ran_ending, wire_ending}
+use Rattle.tcf_app.specs.Ending.{Ending, Ends, IsEnding, IsRanEnding, fault_ending, served_ending, exit_of, ran_ending, wire_ending}
 use Rattle.tcf_app.specs.Run.{RunsBy, serves_peers, is_early, SparesWires, ends_run, AreHeeded, PutsFront, ExitsOver}
 use Rattle.tcf_app.proofs.Hearing.{heard_of_held}
 use Rattle.tcf_app.proofs.Tells.{Laws, Seen, Tells, given_up_tells, ending_tells}
@@ -40,23 +36,14 @@ use Rattle.tcf_app.proofs.Tells.{Laws, Seen, Tells, given_up_tells, ending_tells
 abbrev Early : Option OrderValue → Ending → Type 0
 Early order ending = (serves_peers order ≡ false) ⊎ (is_early ending.exit ≡ true)
 
-served_calls : (images : List Image) (address : List ℕ) (turns : ℕ) (calls : List WireCall) (ending : Ending) → IsServedEnding images address turns calls ending → is_early ending.exit ≡ true → calls ≡ []
-served_calls images address turns calls ending its early = by_end its.0 (sym (ap (λ (e : Ending). is_early e.exit) its.2) ∙ early)
+served_calls : (turns : ℕ) (calls : List WireCall) (end : ServeEnd) (ending : Ending) → ending ≡ served_ending turns end → is_early ending.exit ≡ true → calls ≡ []
+served_calls turns calls end ending is early = by_end end (sym (ap (λ (e : Ending). is_early e.exit) is) ∙ early)
   where
-    by_end : (end : ServeEnd) → is_early (served_ending turns end).exit ≡ true → calls ≡ []
+    by_end : (e : ServeEnd) → is_early (served_ending turns e).exit ≡ true → calls ≡ []
     by_end (serve_ends.Stopped events) e = cc
     by_end serve_ends.Turns e = cc
     by_end serve_ends.WireFault e = cc
     by_end serve_ends.NoMemory e = cc
-
-adds_calls : (peer address : List ℕ) (turns : ℕ) (calls : List WireCall) (ending : Ending) → IsAddsEnding peer address turns calls ending → is_early ending.exit ≡ true → calls ≡ []
-adds_calls peer address turns calls ending its early = by_end its.0 (sym (ap (λ (e : Ending). is_early e.exit) its.2) ∙ early)
-  where
-    by_end : (end : AddsEnd) → is_early (adds_ending turns end).exit ≡ true → calls ≡ []
-    by_end (adds_ends.Stopped events) e = cc
-    by_end adds_ends.Turns e = cc
-    by_end adds_ends.WireFault e = cc
-    by_end adds_ends.NoMemory e = cc
 
 ran_calls : (said : Result (List ScriptLine) BadLine) (address : List ℕ) (turns : ℕ) (calls : List WireCall) (ending : Ending) → IsRanEnding said address turns calls ending → is_early ending.exit ≡ true → calls ≡ []
 ran_calls (Err bad) address turns calls ending its early = its.0
@@ -85,9 +72,9 @@ early_calls (Some (show name)) (whole (file ∷ other ∷ more)) calls ending it
 early_calls (Some (load number)) (whole []) calls ending its early = its.0
 early_calls (Some (load number)) (whole (file ∷ more)) calls ending its early = absurd its
 early_calls (Some (agent address turns images)) (whole contents) calls ending its (inl none) = cc
-early_calls (Some (agent address turns images)) (whole contents) calls ending its (inr early) = served_calls _ address turns calls ending its early
+early_calls (Some (agent address turns images)) (whole contents) calls ending its (inr early) = served_calls turns calls its.0 ending its.2 early
 early_calls (Some (value address peer turns)) (whole []) calls ending its (inl none) = cc
-early_calls (Some (value address peer turns)) (whole []) calls ending its (inr early) = adds_calls peer address turns calls ending its early
+early_calls (Some (value address peer turns)) (whole []) calls ending its (inr early) = served_calls turns calls its.0 ending its.2 early
 early_calls (Some (value address peer turns)) (whole (file ∷ more)) calls ending its early = absurd its
 early_calls (Some (client address name turns)) (whole []) calls ending its early = absurd its
 early_calls (Some (client address name turns)) (whole (file ∷ [])) calls ending its (inl none) = cc
@@ -110,23 +97,12 @@ spared_calls order files n m exit before after calls r (inr early) = by_which r.
 
 -- ---- where a call failed
 
-served_heeded : (images : List Image) (address : List ℕ) (turns : ℕ) (calls : List WireCall) (ending : Ending) → IsServedEnding images address turns calls ending → (list_any fails calls ≡ false) ⊎ (ending ≡ wire_ending)
-served_heeded images address turns calls ending its = by_end its.0 its.1 its.2
-  where
-    by_end : (end : ServeEnd) → ServesAgent images address turns end calls → ending ≡ served_ending turns end → (list_any fails calls ≡ false) ⊎ (ending ≡ wire_ending)
-    by_end (serve_ends.Stopped events) s e = let stopped : IsStopped turns events calls = s.ends in inl stopped.sound
-    by_end serve_ends.Turns s e = let taken : AgentTakes turns calls = s.ends in inl taken.sound
-    by_end serve_ends.WireFault s e = inr e
-    by_end serve_ends.NoMemory s e = inl s.ends
-
-adds_heeded : (peer address : List ℕ) (turns : ℕ) (calls : List WireCall) (ending : Ending) → IsAddsEnding peer address turns calls ending → (list_any breaks calls ≡ false) ⊎ (ending ≡ wire_ending)
-adds_heeded peer address turns calls ending its = by_end its.0 its.1 its.2
-  where
-    by_end : (end : AddsEnd) → ServesValueAdds peer address turns end calls → ending ≡ adds_ending turns end → (list_any breaks calls ≡ false) ⊎ (ending ≡ wire_ending)
-    by_end (adds_ends.Stopped events) s e = let stopped : AddsStop turns events calls = s.ends in inl stopped.sound
-    by_end adds_ends.Turns s e = let taken : AddsTake turns calls = s.ends in inl taken.sound
-    by_end adds_ends.WireFault s e = inr e
-    by_end adds_ends.NoMemory s e = inl s.ends
+served_heeded : (ends_run : WireCall → Bool) (turns : ℕ) (calls : List WireCall) (end : ServeEnd) (ending : Ending) → EndsSo ends_run turns end calls → ending ≡ served_ending turns end
+    → (list_any ends_run calls ≡ false) ⊎ (ending ≡ wire_ending)
+served_heeded ends_run turns calls (serve_ends.Stopped events) ending ends is = let stopped : IsStopped ends_run turns events calls = ends in inl stopped.sound
+served_heeded ends_run turns calls serve_ends.Turns ending ends is = let taken : AreTaken ends_run turns calls = ends in inl taken.sound
+served_heeded ends_run turns calls serve_ends.WireFault ending ends is = inr is
+served_heeded ends_run turns calls serve_ends.NoMemory ending ends is = inl ends
 
 ran_heeded : (said : Result (List ScriptLine) BadLine) (address : List ℕ) (turns : ℕ) (calls : List WireCall) (ending : Ending) → IsRanEnding said address turns calls ending
     → (list_any fails calls ≡ false) ⊎ (ending ≡ wire_ending)
@@ -154,8 +130,8 @@ heeded (Some (show name)) (whole (file ∷ [])) calls ending its = inl (ap (list
 heeded (Some (show name)) (whole (file ∷ other ∷ more)) calls ending its = absurd its
 heeded (Some (load number)) (whole []) calls ending its = inl (ap (list_any fails) its.0)
 heeded (Some (load number)) (whole (file ∷ more)) calls ending its = absurd its
-heeded (Some (agent address turns images)) (whole contents) calls ending its = served_heeded _ address turns calls ending its
-heeded (Some (value address peer turns)) (whole []) calls ending its = adds_heeded peer address turns calls ending its
+heeded (Some (agent address turns images)) (whole contents) calls ending its = served_heeded fails turns calls its.0 ending its.1.ends its.2
+heeded (Some (value address peer turns)) (whole []) calls ending its = served_heeded breaks turns calls its.0 ending its.1.ends its.2
 heeded (Some (value address peer turns)) (whole (file ∷ more)) calls ending its = absurd its
 heeded (Some (client address name turns)) (whole []) calls ending its = absurd its
 heeded (Some (client address name turns)) (whole (file ∷ [])) calls ending its = ran_heeded (script_of file) address turns calls ending its

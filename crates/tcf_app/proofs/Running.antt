@@ -14,10 +14,9 @@ use Rattle.serving_wires.specs.Calls.{Makes}
 use Rattle.serving_wires.proofs.Making.{makes_none, makes_so}
 use Rattle.agent_serving.specs.Serve.{ServesAgent}
 use Rattle.agent_serving.specs.Serving.{served_by}
-use Rattle.agent_serving.specs.declared.serve.ServeEnd.{ServeEnd}
-use Rattle.agent_serving.specs.declared.serve.ServeEnd.TheVariants as serve_ends
+use Rattle.serving_wires.specs.declared.end.ServeEnd.{ServeEnd}
+use Rattle.serving_wires.specs.declared.end.ServeEnd.TheVariants as serve_ends
 use Rattle.value_serving.specs.Serve.{ServesValueAdds}
-use Rattle.value_serving.specs.declared.serve.ServeEnd.{ServeEnd as AddsEnd}
 use Rattle.client_serving.specs.Run.{RunsClient, no_calls}
 use Rattle.client_serving.specs.declared.end.ClientEnd.{ClientEnd}
 use Rattle.client_serving.specs.declared.end.ClientEnd.TheVariants as client_ends
@@ -30,7 +29,7 @@ use Rattle.tcf_app.specs.declared.reading.Unread.TheVariants as unread
 use Rattle.tcf_app.specs.Words.{NamedFile, OrderValue, chain, show, load, agent, value, client, files_in, files_named, first_place}
 use Rattle.tcf_app.specs.Heard.{Heard, whole, longer, failed, Hears, HearsPart}
 use Rattle.tcf_app.specs.Show.{EachIsShown}
-use Rattle.tcf_app.specs.Ending.{Ending, Ends, EndsIn, EndsUnread, IsWholeEnding, IsShownEnding, IsServedEnding, IsAddsEnding, IsRanEnding, images_with, contents_of, fault_ending, long_ending, usage_ending, bad_ending, wanting_ending, played_ending, lines_ending, summed_ending, served_ending, adds_ending, exit_of, ran_ending}
+use Rattle.tcf_app.specs.Ending.{Ending, Ends, EndsIn, EndsUnread, IsWholeEnding, IsShownEnding, IsServedEnding, IsAddsEnding, IsRanEnding, images_with, contents_of, fault_ending, long_ending, usage_ending, bad_ending, wanting_ending, played_ending, lines_ending, summed_ending, served_ending, exit_of, ran_ending}
 use Rattle.tcf_app.specs.Run.{RunsBy}
 use Rattle.tcf_app.proofs.Endings.{ends_early, ends_wanting}
 use Rattle.tcf_app.proofs.Hearing.{NotFailed, can_hear, some_each}
@@ -199,12 +198,12 @@ served_ends images address turns end exit before after told told' k l made ends 
     (λ calls fits. (served_ending turns end, (end, fits, refl), ends))
     made
 
-pub adds_ends : (peer address : List ℕ) (turns : ℕ) (end : AddsEnd) (exit : Exit) (before after : Option (List ℕ)) (told told' : Option (List WireCall)) (k l : ℕ)
-    → Makes (ServesValueAdds peer address turns end) told told' k l → Ends (adds_ending turns end) exit before after
+pub adds_ends : (peer address : List ℕ) (turns : ℕ) (end : ServeEnd) (exit : Exit) (before after : Option (List ℕ)) (told told' : Option (List WireCall)) (k l : ℕ)
+    → Makes (ServesValueAdds peer address turns end) told told' k l → Ends (served_ending turns end) exit before after
     → Makes (λ calls. EndsIn (IsAddsEnding peer address turns calls) exit before after) told told' k l
 adds_ends peer address turns end exit before after told told' k l made ends =
     makes_so (ServesValueAdds peer address turns end) (λ calls. EndsIn (IsAddsEnding peer address turns calls) exit before after) told told' k l
-    (λ calls fits. (adds_ending turns end, (end, fits, refl), ends))
+    (λ calls fits. (served_ending turns end, (end, fits, refl), ends))
     made
 
 pub ran_ends : (said : Result (List ScriptLine) BadLine) (script : List ScriptLine) (address : List ℕ) (turns : ℕ) (result : Result ClientRun WireRefusal) (exit : Exit) (before after : Option (List ℕ)) (told told' : Option (List WireCall)) (k l : ℕ)

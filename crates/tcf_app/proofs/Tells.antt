@@ -1,5 +1,5 @@
 -- What each exit tells, by the ending that the run was to have.
-use Rattle.std.proofs.Common.{◌≡◌, ℕ, ◌+◌, false, List, [], ◌∷◌, ◌++◌, refl, sym, ◌∙◌, subst, inl, inr}
+use Rattle.std.proofs.Common.{◌≡◌, ℕ, ◌+◌, Bool, false, List, [], ◌∷◌, ◌++◌, refl, sym, ◌∙◌, subst, inl, inr}
 use Rattle.std.specs.Prelude.{Option, None, Some, Result, Ok, Err}
 use Rattle.tcf_outside.specs.Faults.{Rose}
 use Rattle.tcf_outside.specs.Sink.{added}
@@ -8,8 +8,7 @@ use Rattle.tcf_schedules.specs.Refusal.{BadLine}
 use Rattle.tcf_schedules.specs.Schedule.{ScheduleValue, schedule_of}
 use Rattle.tcf_schedules.specs.Script.{script_of}
 use Rattle.tcf_schedules.specs.declared.script.ScriptLine.{ScriptLine}
-use Rattle.target_contexts.specs.declared.process.Image.{Image}
-use Rattle.world_laws.specs.Playing.{CoherentOfEveryFile, EndsOfEveryFile, FreshOfEveryFile, HoldsOfEveryFile}
+use Rattle.world_laws.specs.Playing.{CoherentOfEveryFile, EndsOfEveryFile, FreshOfEveryFile, HoldsOfEveryFile, UnstuckOfEveryFile}
 use Rattle.tcf_text.specs.Once.{Once}
 use Rattle.tcf_wires.specs.declared.call.WireCall.{WireCall}
 use Rattle.tcf_wires.specs.declared.call.WireCall.TheVariants.{Connected, Gave, Listened}
@@ -18,12 +17,12 @@ use Rattle.tcf_wires.specs.declared.event.WireRefusal.TheVariants as refusals
 use Rattle.client_node.specs.ClientValue.{ClientValue}
 use Rattle.client_node.specs.Runs.{OnceAfterAnyCalls}
 use Rattle.serving_wires.specs.Calls.{events_in, faults_through, with_calls}
-use Rattle.agent_serving.specs.Serve.{ServesAgent, IsBroken, IsLastCall, no_listening, no_event}
-use Rattle.agent_serving.specs.declared.serve.ServeEnd.{ServeEnd}
-use Rattle.agent_serving.specs.declared.serve.ServeEnd.TheVariants as serve_ends
-use Rattle.value_serving.specs.Serve.{ServesValueAdds, IsBroken as AddsBreak, IsLastCall as IsAddsLast, no_listening as adds_no_listening, no_event as adds_no_event}
-use Rattle.value_serving.specs.declared.serve.ServeEnd.{ServeEnd as AddsEnd}
-use Rattle.value_serving.specs.declared.serve.ServeEnd.TheVariants as adds_ends
+use Rattle.serving_wires.specs.Serving.{breaks, fails}
+use Rattle.serving_wires.specs.Ends.{IsBroken, IsLastCall, no_listening, no_event}
+use Rattle.agent_serving.specs.Serve.{ServesAgent}
+use Rattle.serving_wires.specs.declared.end.ServeEnd.{ServeEnd}
+use Rattle.serving_wires.specs.declared.end.ServeEnd.TheVariants as serve_ends
+use Rattle.value_serving.specs.Serve.{ServesValueAdds}
 use Rattle.client_serving.specs.Client.{ServesAClient}
 use Rattle.client_serving.specs.Run.{RunsClient, no_calls, not_connected, connected, HasRun as RunHas, IsBroken as RunBreaks}
 use Rattle.client_serving.specs.declared.end.ClientEnd.{ClientEnd}
@@ -39,7 +38,7 @@ use Rattle.tcf_app.specs.Texts.{usage_text, file_fault_text, turns_text}
 use Rattle.tcf_app.specs.Played.{client_text, numbered}
 use Rattle.tcf_app.specs.Heard.{Heard, whole, longer, failed, Agrees, Hears, IsFirstLong}
 use Rattle.tcf_app.specs.Show.{IsShown}
-use Rattle.tcf_app.specs.Ending.{Ending, IsEnding, IsRanEnding, images_with, usage_ending, fault_ending, long_ending, bad_ending, played_ending, lines_ending, summed_ending, served_ending, adds_ending, exit_of, ran_ending, wire_ending}
+use Rattle.tcf_app.specs.Ending.{Ending, IsEnding, IsRanEnding, images_with, usage_ending, fault_ending, long_ending, bad_ending, played_ending, lines_ending, summed_ending, served_ending, exit_of, ran_ending, wire_ending}
 use Rattle.tcf_app.specs.Run.{IsServed, AreServed, IsDone, AreTaken, HasEnded, HaveFailed, IsBadText, IsBadStream, IsTooLong}
 use Rattle.tcf_app.proofs.Items.{shown_as}
 use Rattle.tcf_app.proofs.Hearing.{are_held, content_is, first_long, some_so}
@@ -53,12 +52,13 @@ pub record Laws : Type 0 where
   pub ends : EndsOfEveryFile
   pub coherent : CoherentOfEveryFile
   pub fresh : FreshOfEveryFile
+  pub unstuck : UnstuckOfEveryFile
   pub said : GeneratesWhatIsSaid
   pub once : OnceAfterAnyCalls
   pub serves : ServesAClient
 
-pub laws_of : HoldsOfEveryFile → EndsOfEveryFile → CoherentOfEveryFile → FreshOfEveryFile → GeneratesWhatIsSaid → OnceAfterAnyCalls → ServesAClient → Laws
-laws_of faithful ends coherent fresh said once serves = record { faithful = faithful; ends = ends; coherent = coherent; fresh = fresh; said = said; once = once; serves = serves }
+pub laws_of : HoldsOfEveryFile → EndsOfEveryFile → CoherentOfEveryFile → FreshOfEveryFile → UnstuckOfEveryFile → GeneratesWhatIsSaid → OnceAfterAnyCalls → ServesAClient → Laws
+laws_of faithful ends coherent fresh unstuck said once serves = record { faithful = faithful; ends = ends; coherent = coherent; fresh = fresh; unstuck = unstuck; said = said; once = once; serves = serves }
 
 -- in the log of a client that was run each command is answered once
 run_once : Laws → (script : List ScriptLine) (address : List ℕ) (turns : ℕ) (run : ClientRun) (calls : List WireCall) → RunsClient script address turns (Ok run) calls → Once false run.client.log
@@ -71,23 +71,12 @@ run_once laws script address turns run calls (connected channel later first alon
 
 -- ---- the count of faults rose where the wires failed
 
-serving_rises : (images : List Image) (address : List ℕ) (turns count : ℕ) (calls : List WireCall) → ServesAgent images address turns serve_ends.WireFault calls → Rose count (faults_through calls count)
-serving_rises images address turns count calls s =
-    let broken : IsBroken turns calls = s.ends in
-    subst (λ cs. Rose count (faults_through cs count)) (sym broken.split) (by_last broken.earlier broken.fails_last)
+serving_rises : (ends_run : WireCall → Bool) (turns count : ℕ) (calls : List WireCall) → IsBroken ends_run turns calls → Rose count (faults_through calls count)
+serving_rises ends_run turns count calls broken = subst (λ cs. Rose count (faults_through cs count)) (sym broken.split) (by_last broken.earlier broken.fails_last)
   where
     by_last : {last : WireCall} → (earlier : List WireCall) → IsLastCall turns earlier last → Rose count (faults_through (earlier ++ last ∷ []) count)
     by_last earlier (no_listening where_to none) = last_rises count earlier (Listened where_to (Err refusals.Failed)) (λ n. refl)
     by_last earlier (no_event within) = last_rises count earlier (Gave (Err refusals.Failed)) (λ n. refl)
-
-adds_rise : (peer address : List ℕ) (turns count : ℕ) (calls : List WireCall) → ServesValueAdds peer address turns adds_ends.WireFault calls → Rose count (faults_through calls count)
-adds_rise peer address turns count calls s =
-    let broken : AddsBreak turns calls = s.ends in
-    subst (λ cs. Rose count (faults_through cs count)) (sym broken.split) (by_last broken.earlier broken.fails_last)
-  where
-    by_last : {last : WireCall} → (earlier : List WireCall) → IsAddsLast turns earlier last → Rose count (faults_through (earlier ++ last ∷ []) count)
-    by_last earlier (adds_no_listening where_to none) = last_rises count earlier (Listened where_to (Err refusals.Failed)) (λ n. refl)
-    by_last earlier (adds_no_event within) = last_rises count earlier (Gave (Err refusals.Failed)) (λ n. refl)
 
 running_rises : (script : List ScriptLine) (address : List ℕ) (turns count : ℕ) (calls : List WireCall) → RunsClient script address turns (Err refusals.Failed) calls → Rose count (faults_through calls count)
 running_rises script address turns count calls (no_calls is none) = cc
@@ -150,6 +139,7 @@ chain_tells laws s name file ending hears its = by_schedule (schedule_of file) r
       ends = laws.ends file schedule is;
       coherent = laws.coherent file schedule is;
       fresh = laws.fresh file schedule is;
+      unstuck = laws.unstuck file schedule is;
     })
     by_schedule (Err bad) is e = told_at s (Some (chain name)) ending (played_ending (Err bad)) e (λ put. record {
       name = name;
@@ -193,6 +183,7 @@ load_tells laws s number ending e =
       ends = laws.ends said.0 (numbered number) said.1;
       coherent = laws.coherent said.0 (numbered number) said.1;
       fresh = laws.fresh said.0 (numbered number) said.1;
+      unstuck = laws.unstuck said.0 (numbered number) said.1;
     })
 
 agent_tells : (s : Seen) (address : List ℕ) (turns : ℕ) (images : List NamedFile) (contents : List (List ℕ)) (calls : List WireCall) (end : ServeEnd) (ending : Ending)
@@ -218,31 +209,31 @@ agent_tells s address turns images contents calls end ending hears told counted 
         told_at s (Some (agent address turns images)) ending (served_ending turns serve_ends.Turns) e (λ put. served serve_ends.Turns (turns_text turns) so put)
     by_end serve_ends.WireFault so e =
         told_at s (Some (agent address turns images)) ending wire_ending e (λ put. (
-          subst (Rose s.wires) (sym counted) (serving_rises (images_with images contents) address turns s.wires calls so),
+          subst (Rose s.wires) (sym counted) (serving_rises fails turns s.wires calls so.ends),
           served serve_ends.WireFault wire_ending.text so put,
         ))
     by_end serve_ends.NoMemory so e = told_at s (Some (agent address turns images)) ending (served_ending turns serve_ends.NoMemory) e (λ put. tt)
 
-value_tells : (s : Seen) (address peer : List ℕ) (turns : ℕ) (calls : List WireCall) (end : AddsEnd) (ending : Ending)
-    → s.told_after ≡ with_calls calls s.told → s.wires_after ≡ faults_through calls s.wires → ServesValueAdds peer address turns end calls → ending ≡ adds_ending turns end
+value_tells : (s : Seen) (address peer : List ℕ) (turns : ℕ) (calls : List WireCall) (end : ServeEnd) (ending : Ending)
+    → s.told_after ≡ with_calls calls s.told → s.wires_after ≡ faults_through calls s.wires → ServesValueAdds peer address turns end calls → ending ≡ served_ending turns end
     → s.after ≡ added ending.text s.before → Tells s (Some (value address peer turns)) ending.exit
 value_tells s address peer turns calls end ending told counted fits = by_end end fits
   where
-    served : (e : AddsEnd) (text : List ℕ) → ServesValueAdds peer address turns e calls → s.after ≡ added text s.before
+    served : (e : ServeEnd) (text : List ℕ) → ServesValueAdds peer address turns e calls → s.after ≡ added text s.before
         → AreServed address peer turns e text s.told s.told_after s.wires s.wires_after s.before s.after
     served e text so put = record { serves = record { calls = calls; fits = so; told = told; faults = counted }; put = put }
 
-    by_end : (e : AddsEnd) → ServesValueAdds peer address turns e calls → ending ≡ adds_ending turns e → s.after ≡ added ending.text s.before → Tells s (Some (value address peer turns)) ending.exit
-    by_end (adds_ends.Stopped events) so e =
-        told_at s (Some (value address peer turns)) ending (adds_ending turns (adds_ends.Stopped events)) e (λ put. (events, served (adds_ends.Stopped events) (turns_text events) so put))
-    by_end adds_ends.Turns so e =
-        told_at s (Some (value address peer turns)) ending (adds_ending turns adds_ends.Turns) e (λ put. served adds_ends.Turns (turns_text turns) so put)
-    by_end adds_ends.WireFault so e =
+    by_end : (e : ServeEnd) → ServesValueAdds peer address turns e calls → ending ≡ served_ending turns e → s.after ≡ added ending.text s.before → Tells s (Some (value address peer turns)) ending.exit
+    by_end (serve_ends.Stopped events) so e =
+        told_at s (Some (value address peer turns)) ending (served_ending turns (serve_ends.Stopped events)) e (λ put. (events, served (serve_ends.Stopped events) (turns_text events) so put))
+    by_end serve_ends.Turns so e =
+        told_at s (Some (value address peer turns)) ending (served_ending turns serve_ends.Turns) e (λ put. served serve_ends.Turns (turns_text turns) so put)
+    by_end serve_ends.WireFault so e =
         told_at s (Some (value address peer turns)) ending wire_ending e (λ put. (
-          subst (Rose s.wires) (sym counted) (adds_rise peer address turns s.wires calls so),
-          served adds_ends.WireFault wire_ending.text so put,
+          subst (Rose s.wires) (sym counted) (serving_rises breaks turns s.wires calls so.ends),
+          served serve_ends.WireFault wire_ending.text so put,
         ))
-    by_end adds_ends.NoMemory so e = told_at s (Some (value address peer turns)) ending (adds_ending turns adds_ends.NoMemory) e (λ put. tt)
+    by_end serve_ends.NoMemory so e = told_at s (Some (value address peer turns)) ending (served_ending turns serve_ends.NoMemory) e (λ put. tt)
 
 client_tells : Laws → (s : Seen) (address name file : List ℕ) (turns : ℕ) (calls : List WireCall) (ending : Ending) → Hears (name ∷ []) s.files s.reads s.reads_after (whole (file ∷ []))
     → s.told_after ≡ with_calls calls s.told → s.wires_after ≡ faults_through calls s.wires → IsRanEnding (script_of file) address turns calls ending

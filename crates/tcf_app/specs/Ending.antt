@@ -10,11 +10,9 @@ use Rattle.tcf_wires.specs.declared.call.WireCall.{WireCall}
 use Rattle.tcf_wires.specs.declared.event.WireRefusal.{WireRefusal}
 use Rattle.tcf_wires.specs.declared.event.WireRefusal.TheVariants as refusals
 use Rattle.agent_serving.specs.Serve.{ServesAgent}
-use Rattle.agent_serving.specs.declared.serve.ServeEnd.{ServeEnd}
-use Rattle.agent_serving.specs.declared.serve.ServeEnd.TheVariants as serve_ends
+use Rattle.serving_wires.specs.declared.end.ServeEnd.{ServeEnd}
+use Rattle.serving_wires.specs.declared.end.ServeEnd.TheVariants as serve_ends
 use Rattle.value_serving.specs.Serve.{ServesValueAdds}
-use Rattle.value_serving.specs.declared.serve.ServeEnd.{ServeEnd as AddsEnd}
-use Rattle.value_serving.specs.declared.serve.ServeEnd.TheVariants as adds_ends
 use Rattle.client_serving.specs.Run.{RunsClient}
 use Rattle.client_serving.specs.declared.end.ClientEnd.{ClientEnd}
 use Rattle.client_serving.specs.declared.end.ClientEnd.TheVariants as client_ends
@@ -95,7 +93,7 @@ images_with named contents = []
 abbrev pub contents_of : List Image → List (List ℕ)
 contents_of images = map (λ (image : Image). image.bytes) images
 
--- for how the serving ended, of so many turns
+-- for how the serving ended, of so many turns; of value-adds too
 abbrev pub served_ending : ℕ → ServeEnd → Ending
 served_ending turns (serve_ends.Stopped events) = record { exit = Done; text = turns_text events }
 served_ending turns serve_ends.Turns = record { exit = Turns; text = turns_text turns }
@@ -108,16 +106,9 @@ IsServedEnding images address turns calls ending = (end : ServeEnd) × ServesAge
 
 -- ---- value
 
--- for how the serving ended, of so many turns
-abbrev pub adds_ending : ℕ → AddsEnd → Ending
-adds_ending turns (adds_ends.Stopped events) = record { exit = Done; text = turns_text events }
-adds_ending turns adds_ends.Turns = record { exit = Turns; text = turns_text turns }
-adds_ending turns adds_ends.WireFault = wire_ending
-adds_ending turns adds_ends.NoMemory = wanting_ending
-
 -- for value-adds of this peer that are served by these calls
 abbrev pub IsAddsEnding : List ℕ → List ℕ → ℕ → List WireCall → Ending → Type 0
-IsAddsEnding peer address turns calls ending = (end : AddsEnd) × ServesValueAdds peer address turns end calls × (ending ≡ adds_ending turns end)
+IsAddsEnding peer address turns calls ending = (end : ServeEnd) × ServesValueAdds peer address turns end calls × (ending ≡ served_ending turns end)
 
 -- ---- client
 

@@ -14,20 +14,18 @@ use Rattle.tcf_text.specs.Once.{Once}
 use Rattle.tcf_wires.specs.declared.call.WireCall.{WireCall}
 use Rattle.tcf_wires.specs.declared.event.WireRefusal.TheVariants as refusals
 use Rattle.serving_wires.specs.Calls.{Makes}
-use Rattle.serving_wires.specs.Serving.{fails}
+use Rattle.serving_wires.specs.Serving.{fails, breaks}
 use Rattle.agent_serving.specs.Serve.{ServesAgent}
-use Rattle.agent_serving.specs.declared.serve.ServeEnd.{ServeEnd}
-use Rattle.agent_serving.specs.declared.serve.ServeEnd.TheVariants as serve_ends
-use Rattle.value_serving.specs.Serve.{ServesValueAdds, breaks}
-use Rattle.value_serving.specs.declared.serve.ServeEnd.{ServeEnd as AddsEnd}
-use Rattle.value_serving.specs.declared.serve.ServeEnd.TheVariants as adds_ends
+use Rattle.serving_wires.specs.declared.end.ServeEnd.{ServeEnd}
+use Rattle.serving_wires.specs.declared.end.ServeEnd.TheVariants as serve_ends
+use Rattle.value_serving.specs.Serve.{ServesValueAdds}
 use Rattle.client_serving.specs.Run.{RunsClient}
 use Rattle.client_serving.specs.declared.end.ClientEnd.{ClientEnd}
 use Rattle.client_serving.specs.declared.end.ClientEnd.TheVariants as client_ends
 use Rattle.client_serving.specs.declared.end.ClientRun.{ClientRun}
 use Rattle.world_laws.specs.EndLaws.{EndsAllRightly}
 use Rattle.chain_world.specs.World.{images_of}
-use Rattle.world_laws.specs.WorldLaws.{AreCoherent, AreFresh, IsFaithful}
+use Rattle.world_laws.specs.WorldLaws.{AreCoherent, AreFresh, IsFaithful, NothingIsStuck}
 use Rattle.tcf_app.specs.declared.exit.BadPlace.{BadPlace}
 use Rattle.tcf_app.specs.declared.exit.Exit.{Exit}
 use Rattle.tcf_app.specs.declared.exit.Exit.TheVariants.{Done, Usage, BadText, FileFault, SinkFault, WireFault, Turns, NoMemory, BadStream, Ended, TooLong}
@@ -51,7 +49,8 @@ pub record RunsBy (order : Option OrderValue) (files : Option (List HeldFile)) (
 -- The file says a schedule. Exactly its text was put: each chain with the log that playing the schedule gives, and
 -- the length of the history. Each log is true to that history, and ends only as the steps say; what each client keeps,
 -- and shows where its cache is asked, and what each bound value-add knows, is true of the target at the position of the last
--- message; and each answer to a command that a value-add may answer is what the target answers at its position.
+-- message; each answer to a command that a value-add may answer is what the target answers at its position; and nothing is
+-- stuck.
 pub record IsPlayed (name : List ℕ) (files : Option (List HeldFile)) (before after : Option (List ℕ)) : Type 0 where
   pub file : List ℕ
   pub held : IfSome files (λ fs. file ≡ content_of name fs)
@@ -62,6 +61,7 @@ pub record IsPlayed (name : List ℕ) (files : Option (List HeldFile)) (before a
   pub ends : EndsAllRightly schedule.plans (world_of schedule)
   pub coherent : AreCoherent (images_of schedule.images) (world_of schedule)
   pub fresh : AreFresh (images_of schedule.images) (world_of schedule)
+  pub unstuck : NothingIsStuck (world_of schedule)
 
 -- Exactly the sum of the schedule that the number gives was put: a line for each chain, which sums up the log that playing
 -- the schedule gives, and the length of the history. Of that world the same holds as of one that a file says.
@@ -71,6 +71,7 @@ pub record IsSummed (number : ℕ) (before after : Option (List ℕ)) : Type 0 w
   pub ends : EndsAllRightly (numbered number).plans (world_of (numbered number))
   pub coherent : AreCoherent (images_of (numbered number).images) (world_of (numbered number))
   pub fresh : AreFresh (images_of (numbered number).images) (world_of (numbered number))
+  pub unstuck : NothingIsStuck (world_of (numbered number))
 
 -- The file is shown without a bad place, and exactly the lines of its messages were put.
 pub record IsPrinted (name : List ℕ) (files : Option (List HeldFile)) (before after : Option (List ℕ)) : Type 0 where
@@ -91,7 +92,7 @@ pub record IsServed (address : List ℕ) (turns : ℕ) (images : List NamedFile)
   pub put : after ≡ added text before
 
 -- Value-adds of this peer were served; their serving ended so, and this text was put.
-pub record AreServed (address peer : List ℕ) (turns : ℕ) (end : AddsEnd) (text : List ℕ) (told_before told_after : Option (List WireCall)) (wires_before wires_after : ℕ) (before after : Option (List ℕ)) : Type 0 where
+pub record AreServed (address peer : List ℕ) (turns : ℕ) (end : ServeEnd) (text : List ℕ) (told_before told_after : Option (List WireCall)) (wires_before wires_after : ℕ) (before after : Option (List ℕ)) : Type 0 where
   pub serves : Makes (ServesValueAdds peer address turns end) told_before told_after wires_before wires_after
   pub put : after ≡ added text before
 
@@ -128,7 +129,7 @@ IsDone (Some (load number)) files told told' wires wires' before after = IsSumme
 IsDone (Some (agent address turns images)) files told told' wires wires' before after =
     (events : ℕ) × IsServed address turns images (serve_ends.Stopped events) (turns_text events) files told told' wires wires' before after
 IsDone (Some (value address peer turns)) files told told' wires wires' before after =
-    (events : ℕ) × AreServed address peer turns (adds_ends.Stopped events) (turns_text events) told told' wires wires' before after
+    (events : ℕ) × AreServed address peer turns (serve_ends.Stopped events) (turns_text events) told told' wires wires' before after
 IsDone (Some (client address name turns)) files told told' wires wires' before after = HasRun address name turns client_ends.Done files told told' wires wires' before after
 
 -- all turns were taken
@@ -136,7 +137,7 @@ abbrev pub AreTaken : Option OrderValue → Option (List HeldFile) → Option (L
 AreTaken (Some (agent address turns images)) files told told' wires wires' before after =
     IsServed address turns images serve_ends.Turns (turns_text turns) files told told' wires wires' before after
 AreTaken (Some (value address peer turns)) files told told' wires wires' before after =
-    AreServed address peer turns adds_ends.Turns (turns_text turns) told told' wires wires' before after
+    AreServed address peer turns serve_ends.Turns (turns_text turns) told told' wires wires' before after
 AreTaken (Some (client address name turns)) files told told' wires wires' before after = HasRun address name turns client_ends.Turns files told told' wires wires' before after
 AreTaken order files told told' wires wires' before after = ⊥
 
@@ -150,7 +151,7 @@ abbrev pub HaveFailed : Option OrderValue → Option (List HeldFile) → Option 
 HaveFailed (Some (agent address turns images)) files told told' wires wires' before after =
     IsServed address turns images serve_ends.WireFault wire_fault_text files told told' wires wires' before after
 HaveFailed (Some (value address peer turns)) files told told' wires wires' before after =
-    AreServed address peer turns adds_ends.WireFault wire_fault_text told told' wires wires' before after
+    AreServed address peer turns serve_ends.WireFault wire_fault_text told told' wires wires' before after
 HaveFailed (Some (client address name turns)) files told told' wires wires' before after = HasFailed address name turns files told told' wires wires' before after
 HaveFailed order files told told' wires wires' before after = ⊥
 

@@ -2,30 +2,14 @@
 ghost use Rattle.std.specs.Prelude.{◌≡◌};
 ghost use Rattle.tcf_outside.specs.Faults.{Rose};
 ghost use Rattle.serving_wires.specs.Calls.{Makes};
-ghost use Rattle.tcf_app.specs.Ending.{Ends, EndsIn, IsServedEnding, served_ending};
+ghost use Rattle.tcf_app.specs.Ending.{EndsIn, IsServedEnding};
 
 use crate::exit::Exit;
-use crate::finish::finish_made;
-use crate::lines::turns as turns_line;
-use crate::refusing::report_wire_fault;
-use agent_serving::{Image, ServeEnd, serve_agent};
+use crate::serving::report_serving;
+use agent_serving::{Image, serve_agent};
 use std::alloc::Global;
 use tcf_outside::Sink;
 use tcf_wires::Wires;
-
-/// Puts the text of a serving that ended so, of so many turns.
-fn report_serving<S: Sink>(alloc: Global, end: ServeEnd, turns: u32, out: &mut S) -> Exit
-    ensures ends { Ends (served_ending turns end) result (S.told out.old) (S.told out.new) }
-    ensures fault { result ≡ Exit.SinkFault → Rose (S.faults out.old) (S.faults out.new) }
-    ensures unharmed { (result ≡ Exit.SinkFault → ⊥) → S.faults out.new ≡ S.faults out.old }
-{
-    match end {
-        ServeEnd::Stopped { events } => finish_made(out, turns_line(alloc, events), Exit::Done),
-        ServeEnd::Turns => finish_made(out, turns_line(alloc, turns), Exit::Turns),
-        ServeEnd::WireFault => report_wire_fault(out),
-        ServeEnd::NoMemory => Exit::NoMemory,
-    }
-}
 
 /// Serves an agent with these images, and puts how many events it took.
 pub(crate) fn serve_images<S: Sink, W: Wires>(

@@ -12,6 +12,7 @@ mod load;
 mod order;
 mod reading;
 pub mod refusing;
+mod serving;
 mod show;
 pub mod top;
 mod value;

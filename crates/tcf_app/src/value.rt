@@ -2,30 +2,14 @@
 ghost use Rattle.std.specs.Prelude.{◌≡◌};
 ghost use Rattle.tcf_outside.specs.Faults.{Rose};
 ghost use Rattle.serving_wires.specs.Calls.{Makes};
-ghost use Rattle.tcf_app.specs.Ending.{Ends, EndsIn, IsAddsEnding, adds_ending};
+ghost use Rattle.tcf_app.specs.Ending.{EndsIn, IsAddsEnding};
 
 use crate::exit::Exit;
-use crate::finish::finish_made;
-use crate::lines::turns as turns_line;
-use crate::refusing::report_wire_fault;
+use crate::serving::report_serving;
 use std::alloc::Global;
 use tcf_outside::Sink;
 use tcf_wires::Wires;
-use value_serving::{ServeEnd, serve_value};
-
-/// Puts the text of a serving that ended so, of so many turns.
-fn report_serving<S: Sink>(alloc: Global, end: ServeEnd, turns: u32, out: &mut S) -> Exit
-    ensures ends { Ends (adds_ending turns end) result (S.told out.old) (S.told out.new) }
-    ensures fault { result ≡ Exit.SinkFault → Rose (S.faults out.old) (S.faults out.new) }
-    ensures unharmed { (result ≡ Exit.SinkFault → ⊥) → S.faults out.new ≡ S.faults out.old }
-{
-    match end {
-        ServeEnd::Stopped { events } => finish_made(out, turns_line(alloc, events), Exit::Done),
-        ServeEnd::Turns => finish_made(out, turns_line(alloc, turns), Exit::Turns),
-        ServeEnd::WireFault => report_wire_fault(out),
-        ServeEnd::NoMemory => Exit::NoMemory,
-    }
-}
+use value_serving::serve_value;
 
 /// Serves value-adds of this peer, and puts how many events they took.
 pub(crate) fn serve_adds<S: Sink, W: Wires>(

@@ -1,30 +1,24 @@
 -- The calls of a run, turn by turn, and how it ends.
-use Rattle.std.proofs.Common.{◌≡◌, ℕ, ◌+◌, ◌<◌, true, false, List, ◌++◌, Option, sym, ap, ◌∙◌, subst}
-use Rattle.std.specs.Prelude.{Result, Ok, Err}
-use Rattle.tcf_outside.specs.Faults.{Rose}
+use Rattle.std.proofs.Common.{◌≡◌, ℕ, ◌+◌, ◌<◌, true, false, List, ◌++◌, Option, sym, subst}
+use Rattle.std.specs.Prelude.{Ok, Err}
 use Rattle.tcf_wires.specs.Event.{faults_after}
 use Rattle.tcf_wires.specs.Told.{noted}
 use Rattle.tcf_wires.specs.declared.call.WireCall.{WireCall}
 use Rattle.tcf_wires.specs.declared.call.WireCall.TheVariants.{Listened}
 use Rattle.tcf_wires.specs.declared.event.WireRefusal.{WireRefusal}
 use Rattle.tcf_wires.specs.declared.event.WireRefusal.TheVariants as refusals
-use Rattle.serving_wires.specs.Calls.{Makes, faults_through}
+use Rattle.serving_wires.specs.Calls.{Makes}
 use Rattle.serving_wires.proofs.Making.{makes_both, makes_none, makes_nothing, makes_one, makes_so}
-use Rattle.value_serving.specs.Serve.{ServesValueAdds, end_of}
+use Rattle.value_serving.specs.Serve.{ServesValueAdds}
 use Rattle.value_serving.specs.Serving.{new_serving}
 use Rattle.value_serving.specs.ServingValue.{ServingValue}
 use Rattle.value_serving.specs.Turn.{TakesTurn}
-use Rattle.value_serving.specs.WireLaws.{WireLaws}
-use Rattle.value_serving.specs.declared.serve.ServeEnd.TheVariants.{NoMemory, Stopped, Turns, WireFault}
-use Rattle.value_serving.proofs.Finishing.{all_taken, broken, cut_short, failed, stopped}
+use Rattle.serving_wires.specs.WireLaws.{WireLaws}
+use Rattle.serving_wires.proofs.Turns.{heard, unheard}
+use Rattle.serving_wires.specs.Ends.{end_of}
+use Rattle.serving_wires.specs.declared.end.ServeEnd.TheVariants.{NoMemory, Stopped, Turns, WireFault}
+use Rattle.value_serving.proofs.Finishing.{all_taken, broken, cut_short, stopped}
 use Rattle.value_serving.proofs.Running.{Running, no_listener, nothing_yet, runs_on, starts}
-use Rattle.value_serving.proofs.Taking.{rose_at_once, rose_behind}
-
-abbrev heard : Unit {0} → Result (Unit {0}) WireRefusal
-heard answer = Ok answer
-
-abbrev unheard : WireRefusal → Result (Unit {0}) WireRefusal
-unheard refusal = Err refusal
 
 -- ---- the address
 
@@ -38,10 +32,6 @@ not_listened refusals.Failed peer address turns told told_then faults faults_the
     makes_one (ServesValueAdds peer address turns WireFault) (Listened address (Err refusals.Failed)) told told_then faults faults_then (no_listener peer address turns) tells counts
 not_listened refusals.NoMemory peer address turns told told_then faults faults_then tells counts =
     makes_nothing (ServesValueAdds peer address turns NoMemory) told told_then faults faults_then (nothing_yet peer address turns) tells counts
-
-pub listen_rose : (refusal : WireRefusal) (faults faults_then : ℕ) → faults_then ≡ faults_after (unheard refusal) faults → end_of (Err refusal) ≡ WireFault → Rose faults faults_then
-listen_rose refusals.Failed faults faults_then counts ends = subst (λ (n : ℕ). Rose faults n) (sym counts) (rose_at_once faults)
-listen_rose refusals.NoMemory faults faults_then counts ends = absurd cc
 
 pub listened_so : (answer : Unit {0}) (peer address : List ℕ) (real : ServingValue) (unused : ℕ) (told told_then : Option (List WireCall)) (faults faults_then : ℕ)
     → real ≡ new_serving peer → told_then ≡ noted (heard answer) (Listened address (heard answer)) told → faults_then ≡ faults_after (heard answer) faults
@@ -84,16 +74,3 @@ no_turn refusals.Failed laws peer address turns count real new unused unused_the
 no_turn refusals.NoMemory laws peer address turns count real new unused unused_then told told_mid told_then faults faults_mid faults_then within =
     makes_both (Running peer address count real unused) (TakesTurn real new unused unused_then (Err refusals.NoMemory)) (ServesValueAdds peer address turns NoMemory)
     told told_mid told_then faults faults_mid faults_then (λ calls more r t. cut_short laws peer address turns count real unused calls more r t)
-
-abbrev EndsFailed : List WireCall → Type 0
-EndsFailed calls = (earlier : List WireCall) × (calls ≡ earlier ++ failed)
-
-pub turn_rose : (refusal : WireRefusal) (peer address : List ℕ) (count : ℕ) (real new : ServingValue) (unused unused_then : ℕ)
-    (told told_mid told_then : Option (List WireCall)) (faults faults_mid faults_then : ℕ)
-    → Makes (Running peer address count real unused) told told_mid faults faults_mid → Makes (TakesTurn real new unused unused_then (Err refusal)) told_mid told_then faults_mid faults_then
-    → end_of (Err refusal) ≡ WireFault → Rose faults faults_then
-turn_rose refusals.Failed peer address count real new unused unused_then told told_mid told_then faults faults_mid faults_then first turn ends =
-    let m = makes_both (Running peer address count real unused) (TakesTurn real new unused unused_then (Err refusals.Failed)) EndsFailed
-    told told_mid told_then faults faults_mid faults_then (λ calls more r t. (calls, ap (λ (cs : List WireCall). calls ++ cs) t)) first turn in
-    rose_behind m.fits.0 faults faults_then (m.faults ∙ ap (λ (cs : List WireCall). faults_through cs faults) m.fits.1)
-turn_rose refusals.NoMemory peer address count real new unused unused_then told told_mid told_then faults faults_mid faults_then first turn ends = absurd cc

@@ -3,46 +3,38 @@ use Rattle.std.proofs.Common.{◌≡◌, ℕ, ◌+◌, ◌<◌, inl, true, false
 use Rattle.std.specs.Prelude.{Ok, Err, IsTrue}
 use Rattle.std.specs.List.{list_any}
 use Rattle.std.specs.List.Sorted.{IsStrictlyIncreasing}
-use Rattle.std.proofs.lemmas.Bool.{false≢true}
 use Rattle.std.proofs.lemmas.List.Sums.{fold-append}
 use Rattle.tcf_wires.specs.Event.{can_come, unused_after_next}
 use Rattle.tcf_wires.specs.declared.call.WireCall.{WireCall}
 use Rattle.tcf_wires.specs.declared.call.WireCall.TheVariants.{Gave}
 use Rattle.tcf_wires.specs.declared.event.WireEvent.{WireEvent}
-use Rattle.tcf_wires.specs.declared.event.WireEvent.TheVariants as events
 use Rattle.tcf_wires.specs.declared.event.WireRefusal.TheVariants as refusals
 use Rattle.serving_wires.specs.Calls.{events_in, put_on}
-use Rattle.serving_wires.specs.Following.{Spares}
 use Rattle.serving_wires.specs.OutboxValue.{OutboxValue}
 use Rattle.serving_wires.specs.Row.{Row}
-use Rattle.serving_wires.specs.Serving.{AreFronts}
+use Rattle.serving_wires.specs.Serving.{AreFronts, ListensFirst, breaks}
 use Rattle.serving_wires.proofs.Placing.{each_more}
-use Rattle.value_serving.specs.Flushing.{GivesUpAll}
+use Rattle.serving_wires.specs.Flushing.{GivesUpAll, its_own}
 use Rattle.value_serving.specs.Following.{BreaksOff, Goes}
 use Rattle.value_serving.specs.Process.{done}
 use Rattle.value_serving.specs.Sending.{opened_by}
-use Rattle.value_serving.specs.Serve.{IsInPlace, Serves, ServesValueAdds, ListensFirst, breaks, is_stop, no_event}
+use Rattle.value_serving.specs.Serve.{IsInPlace, Serves, ServesValueAdds}
 use Rattle.value_serving.specs.Serving.{handled}
 use Rattle.value_serving.specs.ServingValue.{ServingValue}
 use Rattle.value_serving.specs.Standing.{State, nodes_in, state_after}
 use Rattle.value_serving.specs.Turn.{IsCutShort, IsTurn, at_event, at_puts, before_event}
-use Rattle.value_serving.specs.WireLaws.{WireLaws}
+use Rattle.serving_wires.specs.WireLaws.{WireLaws}
 use Rattle.value_serving.specs.declared.add.Add.{Add}
-use Rattle.value_serving.specs.declared.serve.ServeEnd.TheVariants.{NoMemory, Stopped, Turns, WireFault}
-use Rattle.value_serving.proofs.Flushed.{AllFlushed, none_of_both, same_events}
-use Rattle.value_serving.proofs.Fronts.{fronts_behind}
-use Rattle.value_serving.proofs.Landed.{event_keeps, gave, goes_keeps, holds_more, landed_fronts}
+use Rattle.serving_wires.specs.declared.end.ServeEnd.TheVariants.{NoMemory, Stopped, Turns, WireFault}
+use Rattle.serving_wires.proofs.Spared.{none_of_both, same_events}
+use Rattle.serving_wires.proofs.Turns.{gave, one_longer, is_the_stop, failed}
+use Rattle.serving_wires.proofs.Fronts.{fronts_behind}
+use Rattle.serving_wires.specs.Ends.{no_event}
+use Rattle.serving_wires.proofs.Flushed.{flushed_more, gives_up}
+use Rattle.value_serving.proofs.Landed.{event_keeps, goes_keeps, holds_more, landed_fronts}
 use Rattle.value_serving.proofs.Placed.{ArePuts, puts_heard, puts_placed, state_stays}
-use Rattle.value_serving.proofs.Running.{Heeding, Resting, Running, event_in_place, heeded, heeding, heeds_more, listens_on, no_breaking_in, no_listening_in, one_longer, rests_fronts, rests_so, runs_fronts, served_so, settled, settles, turn_split, turned, with_event}
-use Rattle.value_serving.proofs.Settled.{gives_up}
-
-is_the_stop : (event : WireEvent) → is_stop event ≡ true → event ≡ events.Stop
-is_the_stop (events.Opened channel) is = absurd (false≢true is)
-is_the_stop (events.Piece channel bytes) is = absurd (false≢true is)
-is_the_stop (events.Ended channel) is = absurd (false≢true is)
-is_the_stop (events.Lost channel) is = absurd (false≢true is)
-is_the_stop events.Idle is = absurd (false≢true is)
-is_the_stop events.Stop is = refl
+use Rattle.value_serving.proofs.Running.{Heeding, Resting, Running, event_in_place, heeded, heeding, heeds_more, listens_on, no_breaking_in, no_listening_in, rests_fronts, rests_so, runs_fronts, served_so, settled, settles, turn_split, turned, with_event}
+use Rattle.value_serving.proofs.Standing.{by_wires, wires_keep}
 
 pub stopped : WireLaws → (peer address : List ℕ) (turns count : ℕ) (real new : ServingValue) (unused unused_then : ℕ) (calls more : List WireCall) → count < turns
     → Running peer address count real unused calls → IsTurn real new unused unused_then true more → ServesValueAdds peer address turns (Stopped (count + 1)) (calls ++ more)
@@ -76,14 +68,6 @@ all_taken laws peer address turns count real unused calls all r =
       ends = record { counted = r.counted ∙ all; goes_on = r.goes_on; sound = r.sound };
     }
 
-flushed_more : WireLaws → (calls more : List WireCall) (rows : List (Row OutboxValue)) → ((channel : ℕ) → Spares channel more) → events_in more ≡ [] → AllFlushed calls rows → AllFlushed (calls ++ more) rows
-flushed_more laws calls more [] spares quiet all = tt
-flushed_more laws calls more (row ∷ rows) spares quiet (first, rest) =
-    (laws.stays row.item calls more (spares row.item.channel) quiet first, flushed_more laws calls more rows spares quiet rest)
-
-abbrev pub failed : List WireCall
-failed = Gave (Err refusals.Failed) ∷ []
-
 pub broken : WireLaws → (peer address : List ℕ) (turns count : ℕ) (real : ServingValue) (unused : ℕ) (calls : List WireCall) → count < turns
     → Running peer address count real unused calls → ServesValueAdds peer address turns WireFault (calls ++ failed)
 broken laws peer address turns count real unused calls within r =
@@ -102,7 +86,7 @@ broken laws peer address turns count real unused calls within r =
       rests = λ other. rests_so peer real.adds real.sending unused now stands;
       settled = λ other some.
           settled laws peer real.adds real.sending unused now stands
-          (flushed_more laws calls failed real.sending (λ channel. refl) refl (r.flushed (λ none. some (quiet ∙ none))))
+          (flushed_more its_own laws calls failed real.sending (λ channel. refl) refl (r.flushed (λ none. some (quiet ∙ none))))
           (subst (λ (ks : List ℕ). IsStrictlyIncreasing ks) (sym (fold-append put_on [] calls failed)) r.rises);
       ends = record {
         earlier = calls;
@@ -159,10 +143,10 @@ record PutsInPart (peer address : List ℕ) (now : List WireCall) : Type 0 where
   sound : list_any breaks now ≡ false
 
 puts_in_part : WireLaws → (peer address : List ℕ) (event : WireEvent) (adds : List (Row Add)) (sending : List (Row OutboxValue)) (unused : ℕ) (calls at puts : List WireCall)
-    → Heeding peer address event calls at → Resting peer adds sending unused at → GivesUpAll sending puts → PutsInPart peer address (at ++ puts)
+    → Heeding peer address event calls at → Resting peer adds sending unused at → GivesUpAll its_own sending puts → PutsInPart peer address (at ++ puts)
 puts_in_part laws peer address event adds sending unused calls at puts h st up =
     let nodes = nodes_in (state_after peer at) in
-    let u = gives_up laws nodes at puts 0 st.sent sending (served_so peer adds sending unused at st) st.holds.lines up in
+    let u = gives_up by_wires (wires_keep laws) nodes at puts 0 st.sent sending (served_so peer adds sending unused at st) st.holds.lines up in
     let are : ArePuts puts = record { no_event = u.no_event; sound = u.sound; inside = u.inside } in
     record {
       listens = listens_on address at puts (no_listening_in puts u.inside) h.listens;

@@ -1,22 +1,22 @@
 -- One wire, by all that was ever queued for it and by the calls so far.
-use Rattle.std.proofs.Common.{◌≡◌, ℕ, ◌+◌, ◌<◌, ◌==◌, Bool, true, false, ◌&&◌, not, cond, List, [], ◌∷◌, ◌++◌, length, refl, sym, ap, ◌∙◌, subst, arith, append-nil, append_assoc, eq-eqb, eqb-true}
+use Rattle.std.proofs.Common.{◌≡◌, ℕ, ◌+◌, ◌<◌, ◌==◌, Bool, true, false, ◌&&◌, not, cond, List, [], ◌∷◌, ◌++◌, length, refl, sym, ap, ◌∙◌, subst, arith, append-nil, eq-eqb, eqb-true}
 use Rattle.std.specs.Prelude.{if◌then◌else◌}
 use Rattle.std.proofs.lemmas.Bool.{and_parts, false≢true}
-use Rattle.std.proofs.lemmas.List.Sums.{sum_by-append}
-use Rattle.tcf_wires.specs.Told.{taken_by, taken_on}
+use Rattle.tcf_wires.specs.Told.{taken_on}
 use Rattle.tcf_wires.specs.declared.call.WireCall.{WireCall}
 use Rattle.tcf_wires.specs.declared.call.WireCall.TheVariants.{Shut}
 use Rattle.serving_wires.proofs.Placing.{each_none, each_one}
-use Rattle.serving_wires.specs.Calls.{events_in, shut_count, shuts}
+use Rattle.serving_wires.proofs.Spared.{shut_both, taken_both}
+use Rattle.serving_wires.specs.Calls.{events_in, shut_count}
 use Rattle.serving_wires.specs.Following.{Follows, IsFlushed, IsSplit, Spares}
-use Rattle.serving_wires.specs.Outbox.{Flushes, IsGivenUp, Puts, Shuts, before_put, before_shut, closed, is_due, lost as put_lost, none as put_none, nothing_left, queued, taken as put_taken, unused_outbox}
+use Rattle.serving_wires.specs.Outbox.{Flushes, IsGivenUp, Puts, Shuts, before_put, before_shut, closed, is_due, lost as put_lost, none as put_none, nothing_left, queued, taken as put_taken, unused_outbox, left_behind}
 use Rattle.serving_wires.specs.OutboxValue.{OutboxValue}
 use Rattle.serving_wires.specs.Serving.{EachBehind, IsInPlace, Nodes}
 use Rattle.value_serving.specs.Order.{Order, closes, leaves, queues}
-use Rattle.value_serving.specs.Sending.{left_behind, outbox_after, queued_unless_closed}
+use Rattle.value_serving.specs.Sending.{outbox_after, queued_unless_closed}
 use Rattle.value_serving.specs.Serve.{CarriesWire}
 use Rattle.value_serving.specs.Standing.{Sent, sent_after, unused_wire}
-use Rattle.value_serving.specs.WireLaws.{WireLaws}
+use Rattle.serving_wires.specs.WireLaws.{WireLaws}
 
 -- its outbox, if nothing were ever put
 abbrev pub all_of : ℕ → Sent → OutboxValue
@@ -35,15 +35,7 @@ pub data Keeps (channel : ℕ) (s : Sent) (now : OutboxValue) (calls : List Wire
   follows : s.is_left ≡ false → Follows (all_of channel s) now calls → Keeps channel s now calls
   left : s.is_left ≡ true → IsLeftSo channel s now calls → Keeps channel s now calls
 
--- ---- what calls say in parts
-
-pub taken_both : (channel : ℕ) (first rest : List WireCall) → taken_on channel (first ++ rest) ≡ taken_on channel first ++ taken_on channel rest
-taken_both channel [] rest = refl
-taken_both channel (call ∷ first) rest =
-    ap (λ (bytes : List ℕ). taken_by call channel ++ bytes) (taken_both channel first rest) ∙ sym (append_assoc (taken_by call channel) (taken_on channel first) (taken_on channel rest))
-
-pub shut_both : (channel : ℕ) (first rest : List WireCall) → shut_count channel (first ++ rest) ≡ shut_count channel first + shut_count channel rest
-shut_both channel first rest = sum_by-append (λ call. cond (shuts channel call) 1 0) first rest
+-- ---- calls that aren't on a wire
 
 pub record AreNone (channel : ℕ) (calls : List WireCall) : Type 0 where
   pub taken : taken_on channel calls ≡ []

@@ -8,30 +8,35 @@ use Rattle.std.proofs.lemmas.List.Folds.{list_any-append}
 use Rattle.tcf_wires.specs.Event.{can_come, unused_after_connect, unused_after_next}
 use Rattle.tcf_wires.specs.Told.{taken_on}
 use Rattle.tcf_wires.specs.declared.call.WireCall.{WireCall}
-use Rattle.tcf_wires.specs.declared.call.WireCall.TheVariants.{Connected, Gave}
+use Rattle.tcf_wires.specs.declared.call.WireCall.TheVariants.{Connected}
 use Rattle.tcf_wires.specs.declared.event.WireEvent.{WireEvent}
 use Rattle.tcf_wires.specs.declared.event.WireEvent.TheVariants as events
 use Rattle.serving_wires.proofs.Placing.{each_both, each_none, each_one}
 use Rattle.serving_wires.specs.Calls.{events_in, put_on}
 use Rattle.serving_wires.specs.Following.{Spares, is_on}
+use Rattle.serving_wires.specs.Outbox.{unused_outbox}
 use Rattle.serving_wires.specs.OutboxValue.{OutboxValue}
 use Rattle.serving_wires.specs.Row.{Row}
-use Rattle.serving_wires.specs.Serving.{AreFronts, EachBehind}
-use Rattle.value_serving.specs.Changes.{item_on}
+use Rattle.serving_wires.specs.Serving.{AreFronts, EachBehind, breaks, listens}
+use Rattle.serving_wires.specs.Changes.{item_on}
 use Rattle.value_serving.specs.Following.{Goes, answered, here, told}
 use Rattle.value_serving.specs.Order.{Order, channel_of}
 use Rattle.value_serving.specs.Process.{Answer, Process, asks, done, tells}
 use Rattle.value_serving.specs.Sending.{begun, begun_by, opened_by, ordered, outbox_after}
-use Rattle.value_serving.specs.Serve.{IsInPlace, breaks, listens}
+use Rattle.value_serving.specs.Serve.{IsInPlace}
 use Rattle.value_serving.specs.Serving.{handled}
-use Rattle.value_serving.specs.Standing.{Sent, State, after_one, answered as heard_answer, came, is_resting, landed, nodes_in, rests, sent_after, sent_in, sent_with, state_after, wire_in, wires_after, wires_with, with_wire}
-use Rattle.value_serving.specs.WireLaws.{WireLaws}
+use Rattle.value_serving.specs.Standing.{Sent, State, after_one, answered as heard_answer, came, is_resting, landed, nodes_in, rests, sent_after, sent_in, sent_with, state_after, unused_wire, wire_in, wires_after, wires_with, with_wire}
+use Rattle.serving_wires.specs.WireLaws.{WireLaws}
 use Rattle.value_serving.specs.declared.add.Add.{Add}
-use Rattle.value_serving.proofs.Flushed.{none_of_both}
+use Rattle.serving_wires.proofs.Spared.{none_of_both}
 use Rattle.value_serving.proofs.Placed.{state_with}
-use Rattle.value_serving.proofs.Rows.{Below, above_all, below_more, below_push, change_first, changed_numbers, first_changed, found, is_among, item_found, lacks_if, missing_if, numbers}
-use Rattle.value_serving.proofs.Settled.{IsFront, front}
-use Rattle.value_serving.proofs.Standing.{Stand, stand_more, stand_ordered, stand_push}
+use Rattle.serving_wires.proofs.Rows.{Below, above_all, below_more, below_push, change_first, changed_numbers, first_changed, found, is_among, item_found, lacks_if, missing_if, numbers}
+use Rattle.serving_wires.proofs.Turns.{gave}
+use Rattle.serving_wires.proofs.Fronts.{IsFront}
+use Rattle.value_serving.proofs.Settled.{front}
+use Rattle.serving_wires.proofs.Standing.{Stand, stand_more, stand_push}
+use Rattle.value_serving.proofs.Keeping.{keeps_new}
+use Rattle.value_serving.proofs.Standing.{by_wires, stand_ordered, wires_keep}
 
 abbrev pub Sents : Type 0
 Sents = List (Row Sent)
@@ -41,7 +46,7 @@ Rows = List (Row OutboxValue)
 
 -- The outboxes by what was ever queued; no call is on a channel that hasn't a wire.
 pub record Holds (unused : ℕ) (calls : List WireCall) (sent : Sents) (rows : Rows) : Type 0 where
-  pub lines : Stand calls 0 sent rows
+  pub lines : Stand by_wires calls 0 sent rows
   pub below : Below unused (numbers sent)
   pub spares : (channel : ℕ) → found channel sent ≡ None → Spares channel calls
 
@@ -49,7 +54,7 @@ pub holds_more : WireLaws → (unused : ℕ) (calls more : List WireCall) (sent 
     → Holds unused (calls ++ more) sent rows
 holds_more laws unused calls more sent rows spares h =
     record {
-      lines = stand_more laws calls more 0 sent rows (λ channel above. spares channel) h.lines;
+      lines = stand_more by_wires (wires_keep laws) calls more 0 sent rows (λ channel above. spares channel) h.lines;
       below = h.below;
       spares = λ channel missing. none_of_both (is_on channel) calls more (h.spares channel missing) (spares channel);
     }
@@ -67,7 +72,7 @@ holds_push laws unused channel calls sent rows above h =
     let unspoken : Spares channel calls = h.spares channel (missing_if channel sent (above_all channel (numbers sent) below)) in
     let all : numbers (with_wire channel sent) ≡ numbers sent ++ channel ∷ [] = map-append (λ (r : Row Sent). r.channel) sent _ in
     record {
-      lines = stand_push laws calls 0 channel sent rows (omega arith) below unspoken h.lines;
+      lines = stand_push by_wires calls 0 channel unused_wire (unused_outbox channel) sent rows (omega arith) below (keeps_new laws channel calls unspoken) h.lines;
       below = subst (λ (ks : List ℕ). Below (channel + 1) ks) (sym all) (below_push (channel + 1) channel (numbers sent) (omega arith) (below_more channel (channel + 1) (numbers sent) (omega arith) below));
       spares = λ other missing. h.spares other (lacked_before other channel sent missing);
     }
@@ -80,8 +85,8 @@ holds_order laws unused calls order sent rows h =
     let real : ordered order rows ≡ first_changed k (outbox_after order) rows = change_first OutboxValue k (outbox_after order) rows in
     let same : numbers (sent_with order sent) ≡ numbers sent = ap (λ (s : Sents). numbers s) ideal ∙ changed_numbers k (sent_after order) sent in
     record {
-      lines = subst (λ (s : Sents). Stand calls 0 s (ordered order rows)) (sym ideal)
-          (subst (λ (rs : Rows). Stand calls 0 (first_changed k (sent_after order) sent) rs) (sym real) (stand_ordered laws calls order k 0 sent rows h.lines));
+      lines = subst (λ (s : Sents). Stand by_wires calls 0 s (ordered order rows)) (sym ideal)
+          (subst (λ (rs : Rows). Stand by_wires calls 0 (first_changed k (sent_after order) sent) rs) (sym real) (stand_ordered laws calls order k 0 sent rows h.lines));
       below = subst (λ (ks : List ℕ). Below unused ks) (sym same) h.below;
       spares = λ channel missing.
           h.spares channel (missing_if channel sent (ap (λ (ks : List ℕ). is_among channel ks) (sym same) ∙ lacks_if channel (sent_with order sent) missing));
@@ -162,9 +167,6 @@ goes_keeps laws peer adds unused later p q olds news calls more (answered n m an
     (answer_keeps laws peer adds olds unused calls answer next fits l))
 
 -- ---- an event comes
-
-abbrev pub gave : WireEvent → WireCall
-gave event = Gave (Ok event)
 
 event_holds : WireLaws → (event : WireEvent) (unused : ℕ) (calls : List WireCall) (sent : Sents) (rows : Rows) → can_come unused event ≡ true → Holds unused calls sent rows
     → Holds (unused_after_next (Ok event) unused) calls (wires_with event sent) (opened_by event rows)

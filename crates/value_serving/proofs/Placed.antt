@@ -9,9 +9,9 @@ use Rattle.tcf_wires.specs.declared.call.WireCall.{WireCall}
 use Rattle.tcf_wires.specs.declared.call.WireCall.TheVariants.{Listened, Connected, Gave, Offered, Shut}
 use Rattle.serving_wires.specs.Calls.{event_of, events_in}
 use Rattle.serving_wires.specs.Serving.{EachBehind, IsInPlace as IsPutInPlace, IsOffer, fails, reaches_out}
+use Rattle.serving_wires.proofs.Fronts.{both_none}
 use Rattle.value_serving.specs.Serve.{IsInPlace, Rests}
 use Rattle.value_serving.specs.Standing.{Heard, State, after, after_one, heard_by, heard_in, is_resting, nodes_in, rests, state_after}
-use Rattle.value_serving.proofs.Fronts.{both_none}
 
 -- ---- what is heard by calls, one behind the other
 

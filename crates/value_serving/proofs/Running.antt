@@ -1,43 +1,47 @@
 -- A run goes on from turn to turn, and comes to its end.
-use Rattle.std.proofs.Common.{◌≡◌, ◌≢◌, ℕ, ◌+◌, inl, inr, Bool, false, ◌||◌, List, [], ◌∷◌, ◌++◌, length, Option, refl, sym, ap, ◌∙◌, subst, append_assoc, length-append}
+use Rattle.std.proofs.Common.{◌≡◌, ◌≢◌, ℕ, ◌+◌, inl, inr, Bool, false, ◌||◌, List, [], ◌∷◌, ◌++◌, length, Option, refl, sym, ap, ◌∙◌, subst, append_assoc}
 use Rattle.std.specs.Prelude.{IsTrue, Result, Ok, Err, fold}
 use Rattle.std.specs.List.{list_any}
 use Rattle.std.specs.List.Sorted.{IsStrictlyIncreasing}
 use Rattle.std.proofs.lemmas.Bool.{false≢true}
 use Rattle.std.proofs.lemmas.List.Folds.{list_any-append}
 use Rattle.std.proofs.lemmas.List.Sums.{fold-append}
-use Rattle.std.proofs.lemmas.Grind.{flat_map-append}
 use Rattle.tcf_wires.specs.Event.{can_come, unused_after_next}
 use Rattle.tcf_wires.specs.declared.call.WireCall.{WireCall}
 use Rattle.tcf_wires.specs.declared.call.WireCall.TheVariants.{Listened, Connected, Gave, Offered, Shut}
 use Rattle.tcf_wires.specs.declared.event.WireEvent.{WireEvent}
 use Rattle.tcf_wires.specs.declared.event.WireRefusal.{WireRefusal}
 use Rattle.tcf_wires.specs.declared.event.WireRefusal.TheVariants as refusals
-use Rattle.serving_wires.specs.Calls.{channels_put, event_of, events_in, put_on}
+use Rattle.serving_wires.specs.Calls.{channels_put, events_in, put_on}
 use Rattle.serving_wires.specs.Following.{is_on}
 use Rattle.serving_wires.specs.OutboxValue.{OutboxValue}
 use Rattle.serving_wires.specs.Row.{Row}
-use Rattle.serving_wires.specs.Serving.{AreFronts, EachBehind, fails, reaches_out}
+use Rattle.serving_wires.specs.Serving.{AreFronts, EachBehind, fails, reaches_out, ListensFirst, breaks, is_stop, listens, stops}
 use Rattle.serving_wires.proofs.Placing.{each_more, each_none, each_one}
-use Rattle.value_serving.specs.Changes.{item_on}
-use Rattle.value_serving.specs.Flushing.{FlushesKept}
+use Rattle.serving_wires.specs.Changes.{item_on}
+use Rattle.serving_wires.specs.Flushing.{FlushesKept, its_own}
 use Rattle.value_serving.specs.Following.{Goes}
 use Rattle.value_serving.specs.Process.{done}
 use Rattle.value_serving.specs.Sending.{opened_by}
-use Rattle.value_serving.specs.Serve.{CarriesWire, IsInPlace, IsSettled, ListensFirst, Rests, Serves, ServesValueAdds, breaks, is_stop, listens, no_listening, stops}
+use Rattle.value_serving.specs.Serve.{CarriesWire, IsInPlace, IsSettled, Rests, Serves, ServesValueAdds}
 use Rattle.value_serving.specs.Serving.{handled, new_serving}
 use Rattle.value_serving.specs.ServingValue.{ServingValue}
 use Rattle.value_serving.specs.Standing.{Sent, State, is_resting, nodes_in, rests, sent_in, state_after, wire_in}
 use Rattle.value_serving.specs.Turn.{IsTurn}
-use Rattle.value_serving.specs.WireLaws.{WireLaws}
+use Rattle.serving_wires.specs.WireLaws.{WireLaws}
 use Rattle.value_serving.specs.declared.add.Add.{Add}
-use Rattle.value_serving.specs.declared.serve.ServeEnd.TheVariants.{NoMemory, WireFault}
-use Rattle.value_serving.proofs.Flushed.{AllFlushed, AreServed, filter_flushed, filter_keeps, flush_keeps, none_of_both, same_events}
-use Rattle.value_serving.proofs.Landed.{Holds, event_keeps, gave, goes_keeps, holds_fronts}
+use Rattle.serving_wires.specs.declared.end.ServeEnd.TheVariants.{NoMemory, WireFault}
+use Rattle.serving_wires.proofs.Spared.{none_of_both, same_events}
+use Rattle.serving_wires.proofs.Flushed.{AllFlushed, AreServed, filter_flushed, flush_keeps}
+use Rattle.value_serving.proofs.Landed.{Holds, event_keeps, goes_keeps, holds_fronts}
 use Rattle.value_serving.proofs.Placed.{ArePuts, puts_heard, puts_placed, state_stays}
-use Rattle.value_serving.proofs.Rows.{item_found}
-use Rattle.value_serving.proofs.Settled.{carried, rising}
-use Rattle.value_serving.proofs.Standing.{Stand, none}
+use Rattle.serving_wires.proofs.Rows.{item_found}
+use Rattle.serving_wires.proofs.Turns.{listened, gave, events_then, one_longer}
+use Rattle.serving_wires.proofs.RisingPuts.{rising}
+use Rattle.serving_wires.specs.Ends.{no_listening}
+use Rattle.value_serving.proofs.Settled.{carried}
+use Rattle.serving_wires.proofs.Standing.{Stand, filter_keeps, none}
+use Rattle.value_serving.proofs.Standing.{by_wires, wires_keep}
 
 abbrev pub Sents : Type 0
 Sents = List (Row Sent)
@@ -55,7 +59,7 @@ pub record Resting (peer : List ℕ) (adds : List (Row Add)) (sending : Rows) (u
 pub rests_so : (peer : List ℕ) (adds : List (Row Add)) (sending : Rows) (unused : ℕ) (calls : List WireCall) → Resting peer adds sending unused calls → Rests peer calls
 rests_so peer adds sending unused calls r = ap (λ (s : State). is_resting s) r.state
 
-pub settled : WireLaws → (peer : List ℕ) (adds : List (Row Add)) (sending : Rows) (unused : ℕ) (calls : List WireCall) → Resting peer adds sending unused calls → AllFlushed calls sending
+pub settled : WireLaws → (peer : List ℕ) (adds : List (Row Add)) (sending : Rows) (unused : ℕ) (calls : List WireCall) → Resting peer adds sending unused calls → AllFlushed its_own calls sending
     → IsStrictlyIncreasing (channels_put calls) → IsSettled peer calls
 settled laws peer adds sending unused calls r all rise =
     record {
@@ -76,7 +80,7 @@ pub record Running (peer address : List ℕ) (count : ℕ) (real : ServingValue)
   pub serves : Serves peer calls
   pub peer_is : real.peer ≡ peer
   pub stands : Resting peer real.adds real.sending unused calls
-  pub flushed : events_in calls ≢ [] → AllFlushed calls real.sending
+  pub flushed : events_in calls ≢ [] → AllFlushed its_own calls real.sending
   pub rises : IsStrictlyIncreasing (channels_put calls)
   pub counted : length (events_in calls) ≡ count
   pub goes_on : stops calls ≡ false
@@ -102,9 +106,6 @@ nothing_yet peer address turns =
       settled = λ other some. absurd (other refl);
       ends = refl;
     }
-
-abbrev listened : List ℕ → Result Unit WireRefusal → List WireCall
-listened address answer = Listened address answer ∷ []
 
 pub no_listener : (peer address : List ℕ) (turns : ℕ) → ServesValueAdds peer address turns WireFault (listened address (Err refusals.Failed))
 no_listener peer address turns =
@@ -166,9 +167,6 @@ event_in_place laws peer address count real unused calls answer r =
     each_one (IsInPlace peer) calls (Gave answer)
     (record { rests = rests_so peer real.adds real.sending unused calls r.stands; settled = settles laws peer address count real unused calls r })
 
-events_then : (calls : List WireCall) (event : WireEvent) → events_in (calls ++ gave event ∷ []) ≡ events_in calls ++ event ∷ []
-events_then calls event = flat_map-append event_of calls (gave event ∷ [])
-
 -- a run in the middle of a turn
 pub record Heeding (peer address : List ℕ) (event : WireEvent) (calls now : List WireCall) : Type 0 where
   pub listens : ListensFirst address now
@@ -223,7 +221,7 @@ heeded laws peer address count real unused later calls event adds sending connec
 -- ---- and the puts behind it
 
 pub served_so : (peer : List ℕ) (adds : List (Row Add)) (sending : Rows) (unused : ℕ) (calls : List WireCall) → (r : Resting peer adds sending unused calls)
-    → AreServed (nodes_in (state_after peer calls)) (events_in calls) r.sent
+    → AreServed by_wires (nodes_in (state_after peer calls)) (events_in calls) r.sent
 served_so peer adds sending unused calls r channel s there =
     ap (λ (st : State). (wire_in (item_on channel (sent_in st))).queued) r.state ∙ ap (λ (o : Option Sent). (wire_in o).queued) (item_found Sent channel r.sent ∙ there)
 
@@ -232,17 +230,17 @@ pub record Turned (peer address : List ℕ) (new : ServingValue) (unused : ℕ) 
   pub listens : ListensFirst address now
   pub serves : Serves peer now
   pub stands : Resting peer new.adds new.sending unused now
-  pub flushed : AllFlushed now new.sending
+  pub flushed : AllFlushed its_own now new.sending
   pub rises : IsStrictlyIncreasing (channels_put now)
   pub came : events_in now ≡ events_in calls ++ event ∷ []
   pub sound : list_any breaks now ≡ false
 
 put_behind : WireLaws → (peer address : List ℕ) (new : ServingValue) (sending : Rows) (unused : ℕ) (event : WireEvent) (calls at puts : List WireCall)
-    → Heeded peer address new.adds sending unused event calls at → FlushesKept sending new.sending puts → Turned peer address new unused event calls (at ++ puts)
+    → Heeded peer address new.adds sending unused event calls at → FlushesKept its_own sending new.sending puts → Turned peer address new unused event calls (at ++ puts)
 put_behind laws peer address new sending unused event calls at puts h flushes =
     let nodes = nodes_in (state_after peer at) in
     let st = h.stands in
-    let f = flush_keeps laws nodes at puts 0 st.sent sending flushes.flushed (served_so peer new.adds sending unused at st) st.holds.lines flushes.flushes in
+    let f = flush_keeps by_wires (wires_keep laws) nodes at puts 0 st.sent sending flushes.flushed (served_so peer new.adds sending unused at st) st.holds.lines flushes.flushes in
     let are : ArePuts puts = record { no_event = f.among.no_event; sound = f.among.sound; inside = f.among.inside } in
     let resting = rests_so peer new.adds sending unused at st in
     let placed = puts_placed peer at puts are resting f.in_place in
@@ -257,12 +255,12 @@ put_behind laws peer address new sending unused event calls at puts h flushes =
         sent = st.sent;
         state = state_stays peer at puts (puts_heard puts are) ∙ st.state;
         holds = record {
-          lines = subst (λ (rows : Rows). Stand now 0 st.sent rows) (sym flushes.kept) (filter_keeps now 0 st.sent flushes.flushed f.lines);
+          lines = subst (λ (rows : Rows). Stand by_wires now 0 st.sent rows) (sym flushes.kept) (filter_keeps by_wires now 0 st.sent flushes.flushed f.lines);
           below = st.holds.below;
           spares = λ channel missing. none_of_both (is_on channel) at puts (st.holds.spares channel missing) (f.among.spares channel missing);
         };
       };
-      flushed = subst (λ (rows : Rows). AllFlushed now rows) (sym flushes.kept) (filter_flushed now flushes.flushed f.flushed);
+      flushed = subst (λ (rows : Rows). AllFlushed its_own now rows) (sym flushes.kept) (filter_flushed its_own now flushes.flushed f.flushed);
       rises = subst (λ (ks : List ℕ). IsStrictlyIncreasing ks) (sym channels) (rising 0 put.channels put.rises);
       came = same_events at puts f.among.no_event ∙ h.heeding.came;
       sound = none_of_both breaks at puts h.heeding.sound (no_breaking_in puts f.among.sound);
@@ -281,9 +279,6 @@ turned laws peer address count real new unused unused_then is_last calls more r 
     (heeded laws peer address count real unused unused_then calls t.event new.adds t.sending t.connects t.can r
     (subst (λ (p : List ℕ). Goes p (unused_after_next (Ok t.event) unused) unused_then (handled p t.event real.adds) (done new.adds) (opened_by t.event real.sending) t.sending t.connects) r.peer_is t.goes))
     t.flushes)
-
-pub one_longer : (earlier now : List WireEvent) (event : WireEvent) (count : ℕ) → now ≡ earlier ++ event ∷ [] → length earlier ≡ count → length now ≡ count + 1
-one_longer earlier now event count came counted = ap (λ (es : List WireEvent). length es) came ∙ length-append earlier (event ∷ []) ∙ ap (λ (n : ℕ). n + 1) counted
 
 pub runs_on : WireLaws → (peer address : List ℕ) (count : ℕ) (real new : ServingValue) (unused unused_then : ℕ) (calls more : List WireCall)
     → Running peer address count real unused calls → IsTurn real new unused unused_then false more → Running peer address (count + 1) new unused_then (calls ++ more)

@@ -4,7 +4,7 @@ use Rattle.std.specs.Prelude.{option_map}
 use Rattle.serving_wires.specs.Row.{Row}
 use Rattle.value_serving.specs.Serving.{above_of, is_above_at, is_number}
 use Rattle.value_serving.specs.declared.add.Add.{Add}
-use Rattle.value_serving.proofs.Rows.{position_step}
+use Rattle.serving_wires.proofs.Rows.{position_step}
 
 -- the first from a place on
 abbrev pub above_from : ℕ → ℕ → List (Row Add) → Option ℕ

@@ -1,14 +1,11 @@
 pub mod Order
 pub mod Process
-pub mod Changes
 pub mod Sending
 pub mod Adds
 pub mod Passing
 pub mod ServingValue
 pub mod Serving
 pub mod Following
-pub mod Flushing
 pub mod Standing
 pub mod Serve
 pub mod Turn
-pub mod WireLaws

@@ -1,21 +1,17 @@
 -- What is to be put on the wires.
 use Rattle.std.specs.Prelude.{ℕ, Bool, true, false, List, [], ◌∷◌, ◌++◌, Option, None, Some, if◌then◌else◌}
-use Rattle.serving_wires.specs.Outbox.{closed, queued, unused_outbox}
+use Rattle.serving_wires.specs.Outbox.{closed, left_behind, queued, unused_outbox}
 use Rattle.serving_wires.specs.OutboxValue.{OutboxValue}
 use Rattle.serving_wires.specs.Row.{Row}
 use Rattle.tcf_wires.specs.declared.event.WireEvent.{WireEvent}
 use Rattle.tcf_wires.specs.declared.event.WireEvent.TheVariants as events
 use Rattle.std.specs.Prelude.{Ok, Err}
-use Rattle.value_serving.specs.Changes.{changed_on}
+use Rattle.serving_wires.specs.Changes.{changed_on}
 use Rattle.value_serving.specs.Order.{Order, channel_of, closes, leaves, queues}
 use Rattle.value_serving.specs.Process.{Answer}
 
 abbrev pub queued_unless_closed : List ℕ → OutboxValue → OutboxValue
 queued_unless_closed bytes o = if o.is_closed then o else queued bytes o
-
--- nothing is queued, nor ever will be; a wire that was shut stays so
-abbrev pub left_behind : OutboxValue → OutboxValue
-left_behind o = if o.is_shut then o else closed (unused_outbox o.channel)
 
 abbrev pub outbox_after : Order → OutboxValue → OutboxValue
 outbox_after (queues channel bytes) o = queued_unless_closed bytes o

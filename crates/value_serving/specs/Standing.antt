@@ -8,7 +8,7 @@ use Rattle.tcf_wires.specs.declared.call.WireCall.{WireCall}
 use Rattle.tcf_wires.specs.declared.call.WireCall.TheVariants.{Connected, Gave}
 use Rattle.tcf_wires.specs.declared.event.WireEvent.{WireEvent}
 use Rattle.tcf_wires.specs.declared.event.WireEvent.TheVariants as events
-use Rattle.value_serving.specs.Changes.{changed_on, item_on}
+use Rattle.serving_wires.specs.Changes.{changed_on, item_on}
 use Rattle.value_serving.specs.Order.{Order, channel_of, closes, leaves, queues}
 use Rattle.value_serving.specs.Process.{Answer, Process, asks, done, tells}
 use Rattle.value_serving.specs.Serving.{handled}

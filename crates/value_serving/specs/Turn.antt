@@ -8,11 +8,11 @@ use Rattle.tcf_wires.specs.declared.call.WireCall.TheVariants.{Gave}
 use Rattle.tcf_wires.specs.declared.event.WireEvent.{WireEvent}
 use Rattle.tcf_wires.specs.declared.event.WireRefusal.{WireRefusal}
 use Rattle.tcf_wires.specs.declared.event.WireRefusal.TheVariants.{Failed, NoMemory}
-use Rattle.value_serving.specs.Flushing.{FlushesKept, GivesUpAll}
+use Rattle.serving_wires.specs.Flushing.{FlushesKept, GivesUpAll, its_own}
 use Rattle.value_serving.specs.Following.{BreaksOff, Goes}
 use Rattle.value_serving.specs.Process.{done}
 use Rattle.value_serving.specs.Sending.{opened_by}
-use Rattle.value_serving.specs.Serve.{is_stop}
+use Rattle.serving_wires.specs.Serving.{is_stop}
 use Rattle.value_serving.specs.Serving.{handled}
 use Rattle.value_serving.specs.ServingValue.{ServingValue}
 use Rattle.value_serving.specs.declared.add.Add.{Add}
@@ -28,7 +28,7 @@ pub record IsTurn (old new : ServingValue) (unused_before unused_after : ℕ) (i
   pub sending : List (Row OutboxValue)
   pub goes : Goes old.peer (unused_after_next (Ok event) unused_before) unused_after (handled old.peer event old.adds) (done new.adds) (opened_by event old.sending) sending connects
   pub puts : List WireCall
-  pub flushes : FlushesKept sending new.sending puts
+  pub flushes : FlushesKept its_own sending new.sending puts
   pub called : calls ≡ Gave (Ok event) ∷ (connects ++ puts)
 
 -- memory was wanting: for the event, for what the value-adds do with it, or while what is queued was put
@@ -39,7 +39,7 @@ pub data IsCutShort (old : ServingValue) (unused : ℕ) (calls : List WireCall) 
       → calls ≡ Gave (Ok event) ∷ connects → IsCutShort old unused calls
   at_puts : (event : WireEvent) (later : ℕ) (adds : List (Row Add)) (sending : List (Row OutboxValue)) (connects puts : List WireCall) → IsTrue (can_come unused event)
       → Goes old.peer (unused_after_next (Ok event) unused) later (handled old.peer event old.adds) (done adds) (opened_by event old.sending) sending connects
-      → GivesUpAll sending puts → calls ≡ Gave (Ok event) ∷ (connects ++ puts) → IsCutShort old unused calls
+      → GivesUpAll its_own sending puts → calls ≡ Gave (Ok event) ∷ (connects ++ puts) → IsCutShort old unused calls
 
 abbrev pub TakesTurn : ServingValue → ServingValue → ℕ → ℕ → Result Bool WireRefusal → List WireCall → Type 0
 TakesTurn old new unused_before unused_after (Ok is_last) calls = IsTurn old new unused_before unused_after is_last calls

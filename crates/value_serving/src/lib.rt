@@ -7,7 +7,8 @@ mod sending;
 pub mod serve;
 mod serving;
 
-pub use serve::{ServeEnd, serve_value};
+pub use serve::serve_value;
+pub use serving_wires::ServeEnd;
 
 #[cfg(test)]
 mod tests;

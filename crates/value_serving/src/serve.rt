@@ -2,29 +2,14 @@
 ghost use Rattle.std.specs.Prelude.{◌≡◌};
 ghost use Rattle.tcf_outside.specs.Faults.{Rose};
 ghost use Rattle.serving_wires.specs.Calls.{Makes};
-ghost use Rattle.value_serving.specs.Serve.{ServesValueAdds, end_of, is_stop};
+ghost use Rattle.serving_wires.specs.Ends.{end_of};
+ghost use Rattle.value_serving.specs.Serve.{ServesValueAdds};
 ghost use Rattle.value_serving.specs.Turn.{TakesTurn};
-ghost use Rattle.value_serving.specs.WireLaws.{WireLaws};
 
 use crate::serving::Serving;
-use serving_wires::{
-    a_flush_is_in_place, a_flush_is_on_one_wire, an_outbox_is_what_is_left,
-    what_is_flushed_is_carried,
-};
+use serving_wires::{ServeEnd, each_wire_is_carried, end_of, is_stop};
 use std::alloc::Global;
-use tcf_wires::{WireEvent, WireRefusal, Wires};
-
-/// How the serving of value-adds ended.
-#[derive(Clone, Copy, Debug, PartialEq, Eq)]
-pub enum ServeEnd {
-    /// `Stop` came, as the last of so many events.
-    Stopped { events: u32 },
-    /// All turns were taken, and `Stop` didn't come.
-    Turns,
-    /// The address couldn't be listened on, or the wires gave nothing any more.
-    WireFault,
-    NoMemory,
-}
+use tcf_wires::{WireRefusal, Wires};
 
 /// Listens on the address, and serves one value-add for each connection that comes, whose peer has this ID and this
 /// address. In each of the turns, of which there are 1 to 1,000,000,000, one event is taken and goes to its value-add; all
@@ -48,11 +33,7 @@ pub fn serve_value<W: Wires>(
     ensures serves { Makes (ServesValueAdds peer.now address.now turns result) (W.told wires.old) (W.told wires.new) (W.faults wires.old) (W.faults wires.new) }
     ensures fault { result ≡ ServeEnd.WireFault → Rose (W.faults wires.old) (W.faults wires.new) }
 {
-    match try_serve(alloc, wires, address, peer, turns) {
-        Ok(end) => end,
-        Err(WireRefusal::Failed) => ServeEnd::WireFault,
-        Err(WireRefusal::NoMemory) => ServeEnd::NoMemory,
-    }
+    end_of(try_serve(alloc, wires, address, peer, turns))
 }
 
 fn try_serve<W: Wires>(
@@ -86,23 +67,4 @@ fn take_turn<W: Wires>(serving: &mut Serving, wires: &mut W) -> Result<bool, Wir
     serving.heed(event, wires)?;
     serving.flush(wires)?;
     Ok(is_last)
-}
-
-/// The laws of each wire, which do nothing.
-fn each_wire_is_carried()
-    ensures { WireLaws }
-{
-    an_outbox_is_what_is_left();
-    what_is_flushed_is_carried();
-    a_flush_is_in_place();
-    a_flush_is_on_one_wire();
-}
-
-fn is_stop(event: &WireEvent) -> bool
-    ensures { result ≡ is_stop event.now }
-{
-    match event {
-        WireEvent::Stop => true,
-        _ => false,
-    }
 }

@@ -1,7 +1,7 @@
 //! The value-adds that are served, with their wires, and what each event makes of them.
 ghost use Rattle.std.specs.Prelude.{◌≡◌, [], IfOk, OnErr, OnOk};
 ghost use Rattle.serving_wires.specs.Calls.{Makes};
-ghost use Rattle.value_serving.specs.Flushing.{FlushesKept, GivesUpAll};
+ghost use Rattle.serving_wires.specs.Flushing.{FlushesKept, GivesUpAll, its_own};
 ghost use Rattle.value_serving.specs.Following.{BreaksOff, Goes};
 ghost use Rattle.value_serving.specs.Process.{done};
 ghost use Rattle.value_serving.specs.Sending.{opened_by, begun};
@@ -116,8 +116,8 @@ impl Serving {
     pub fn flush<W: Wires>(&mut self, wires: &mut W) -> Result<(), AllocError>
         ensures peer { OnOk result (self.new.peer ≡ self.old.peer) }
         ensures adds { OnOk result (self.new.adds ≡ self.old.adds) }
-        ensures ok { OnOk result (Makes (FlushesKept self.old.sending self.new.sending) (W.told wires.old) (W.told wires.new) (W.faults wires.old) (W.faults wires.new)) }
-        ensures err { OnErr result (Makes (GivesUpAll self.old.sending) (W.told wires.old) (W.told wires.new) (W.faults wires.old) (W.faults wires.new)) }
+        ensures ok { OnOk result (Makes (FlushesKept its_own self.old.sending self.new.sending) (W.told wires.old) (W.told wires.new) (W.faults wires.old) (W.faults wires.new)) }
+        ensures err { OnErr result (Makes (GivesUpAll its_own self.old.sending) (W.told wires.old) (W.told wires.new) (W.faults wires.old) (W.faults wires.new)) }
         ensures numbers { W.unused wires.new ≡ W.unused wires.old }
     {
         self.sending.flush(wires)

@@ -1,4 +1,4 @@
-use Rattle.std.proofs.Common.{refl, sym, ap, ◌∙◌}
+use Rattle.std.proofs.Common.{refl, sym}
 use Rattle.agent_serving.proofs.Given.{given_on}
 use Rattle.agent_serving.proofs.passing.pass_on.Goals as goal
 

@@ -1,7 +1,10 @@
 use Rattle.std.proofs.Common.{arith}
 use Rattle.std.proofs.lemmas.Result.{err_from_is_err_and}
-use Rattle.agent_serving.proofs.Ending.{last_turn, listen_rose, listened_so, no_more_turns, no_turn, not_begun, not_listened, one_more_turn, turn_rose}
+use Rattle.agent_serving.proofs.Ending.{last_turn, listened_so, no_more_turns, no_turn, not_begun, not_listened, one_more_turn}
 use Rattle.agent_serving.proofs.serve.try_serve.Goals as goal
+use Rattle.serving_wires.proofs.Turns.{listen_rose, turn_rose}
+use Rattle.agent_serving.specs.Turn.{TakesTurn}
+use Rattle.agent_serving.proofs.Running.{Running}
 
 pub returns-in_err-serving-clause-serves : goal.returns-in_err-serving-clause-serves
 returns-in_err-serving-clause-serves g c =
@@ -42,8 +45,9 @@ returns-in_err-is_last-clause-serves g c =
 pub returns-in_err-is_last-clause-fault : goal.returns-in_err-is_last-clause-fault
 returns-in_err-is_last-clause-fault g c =
     let p = err_from_is_err_and c.from_residual-in_err-is_last.result c.from_residual-in_err-is_last.ensures.1 in
-    rw (p.1, p.2) (λ ends. turn_rose c.in_err-is_last.field-0.0 c.args.images.items c.args.address.now c.loop-before.before c.loop-before.serving
-    c.take_turn.new.serving _ (g.W.Wires.unused c.take_turn.new.wires) _ _ _ _ _ _ c.loop-before.invariant c.in_err-is_last.ensures.turn ends)
+    rw (p.1, p.2) (λ ends. turn_rose c.in_err-is_last.field-0.0 (Running c.args.images.items c.args.address.now c.loop-before.before c.loop-before.serving (g.W.Wires.unused c.loop-before.wires))
+    (TakesTurn c.loop-before.serving c.take_turn.new.serving (g.W.Wires.unused c.loop-before.wires) (g.W.Wires.unused c.take_turn.new.wires)) _ _ _ _ _ _ (λ calls t. t)
+    c.loop-before.invariant c.in_err-is_last.ensures.turn ends)
 
 pub returns-then-is_last-clause-serves : goal.returns-then-is_last-clause-serves
 returns-then-is_last-clause-serves g c =

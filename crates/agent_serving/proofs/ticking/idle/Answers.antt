@@ -1,4 +1,4 @@
-use Rattle.std.proofs.Common.{List, arith, ap, sym, ◌∙◌}
+use Rattle.std.proofs.Common.{List, arith, ap, ◌∙◌}
 use Rattle.agent_serving.specs.Ticking.{after_pass, idled, left_by_pass}
 use Rattle.agent_serving.proofs.Passes.{none_run, passes_end, passes_end_idle, passes_end_tired, passes_go_on}
 use Rattle.agent_serving.proofs.ticking.idle.Goals as goal

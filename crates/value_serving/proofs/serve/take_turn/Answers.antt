@@ -1,12 +1,15 @@
+use Rattle.std.proofs.Common.{refl}
 use Rattle.std.proofs.lemmas.Result.{err_from_is_err_and}
-use Rattle.value_serving.proofs.Taking.{not_given, not_heeded, not_put, turn_taken}
+use Rattle.value_serving.proofs.Taking.{not_heeded, not_put, turn_taken}
 use Rattle.value_serving.proofs.serve.take_turn.Goals as goal
+use Rattle.serving_wires.proofs.Turns.{not_given}
+use Rattle.value_serving.specs.Turn.{TakesTurn, before_event}
 
 pub returns-in_err-event : goal.returns-in_err-event
 returns-in_err-event g c =
     let p = err_from_is_err_and c.from_residual.result c.from_residual.ensures.1 in
     rw (p.1, p.2)
-    (record { turn = not_given c.in_err-event.field-0.0 c.args.serving.now c.args.serving.now _ (g.W.Wires.unused c.next.new.self) _ _ _ _ c.in_err-event.ensures.told c.in_err-event.ensures.cause })
+    (record { turn = not_given c.in_err-event.field-0.0 (TakesTurn c.args.serving.now c.args.serving.now _ (g.W.Wires.unused c.next.new.self)) _ _ _ _ refl (before_event refl) c.in_err-event.ensures.told c.in_err-event.ensures.cause })
 
 pub returns-in_err-heed : goal.returns-in_err-heed
 returns-in_err-heed g c =

@@ -1,0 +1,90 @@
+-- What is called in a turn, and what comes of a call that failed.
+use Rattle.std.proofs.Common.{◌≡◌, ℕ, ◌+◌, inl, Bool, true, List, [], ◌∷◌, ◌++◌, length, Option, refl, sym, ap, ◌∙◌, subst, arith, length-append}
+use Rattle.std.specs.Prelude.{Result, Ok, Err}
+use Rattle.std.proofs.lemmas.Bool.{false≢true}
+use Rattle.std.proofs.lemmas.Grind.{flat_map-append}
+use Rattle.tcf_outside.specs.Faults.{Rose}
+use Rattle.tcf_wires.specs.Event.{faults_after}
+use Rattle.tcf_wires.specs.Told.{noted}
+use Rattle.tcf_wires.specs.declared.call.WireCall.{WireCall}
+use Rattle.tcf_wires.specs.declared.call.WireCall.TheVariants.{Listened, Gave}
+use Rattle.tcf_wires.specs.declared.event.WireEvent.{WireEvent}
+use Rattle.tcf_wires.specs.declared.event.WireEvent.TheVariants as events
+use Rattle.tcf_wires.specs.declared.event.WireRefusal.{WireRefusal}
+use Rattle.tcf_wires.specs.declared.event.WireRefusal.TheVariants as refusals
+use Rattle.serving_wires.specs.Calls.{Makes, event_of, events_in, faults_through}
+use Rattle.serving_wires.specs.Ends.{end_of}
+use Rattle.serving_wires.specs.Serving.{is_stop}
+use Rattle.serving_wires.specs.declared.end.ServeEnd.TheVariants.{WireFault}
+use Rattle.serving_wires.proofs.Making.{makes_both, makes_nothing, makes_one}
+use Rattle.serving_wires.proofs.Rising.{last_rises, rose_raised}
+
+-- ---- the address
+
+abbrev pub heard : Unit {0} → Result (Unit {0}) WireRefusal
+heard answer = Ok answer
+
+abbrev pub unheard : WireRefusal → Result (Unit {0}) WireRefusal
+unheard refusal = Err refusal
+
+abbrev pub listened : List ℕ → Result Unit WireRefusal → List WireCall
+listened address answer = Listened address answer ∷ []
+
+pub listen_rose : (refusal : WireRefusal) (faults faults_then : ℕ) → faults_then ≡ faults_after (unheard refusal) faults → end_of (Err refusal) ≡ WireFault → Rose faults faults_then
+listen_rose refusals.Failed faults faults_then counts ends = subst (λ (n : ℕ). Rose faults n) (sym counts) (rose_raised faults faults (inl (omega arith)))
+listen_rose refusals.NoMemory faults faults_then counts ends = absurd cc
+
+-- ---- an event
+
+abbrev pub came_next : WireEvent → Result WireEvent WireRefusal
+came_next event = Ok event
+
+abbrev pub gave : WireEvent → WireCall
+gave event = Gave (Ok event)
+
+pub events_then : (calls : List WireCall) (event : WireEvent) → events_in (calls ++ gave event ∷ []) ≡ events_in calls ++ event ∷ []
+events_then calls event = flat_map-append event_of calls (gave event ∷ [])
+
+pub one_longer : (earlier now : List WireEvent) (event : WireEvent) (count : ℕ) → now ≡ earlier ++ event ∷ [] → length earlier ≡ count → length now ≡ count + 1
+one_longer earlier now event count came counted = ap (λ (es : List WireEvent). length es) came ∙ length-append earlier (event ∷ []) ∙ ap (λ (n : ℕ). n + 1) counted
+
+pub is_the_stop : (event : WireEvent) → is_stop event ≡ true → event ≡ events.Stop
+is_the_stop (events.Opened channel) is = absurd (false≢true is)
+is_the_stop (events.Piece channel bytes) is = absurd (false≢true is)
+is_the_stop (events.Ended channel) is = absurd (false≢true is)
+is_the_stop (events.Lost channel) is = absurd (false≢true is)
+is_the_stop events.Idle is = absurd (false≢true is)
+is_the_stop events.Stop is = refl
+
+abbrev pub IsGiven : WireEvent → List WireCall → Type 0
+IsGiven event calls = calls ≡ gave event ∷ []
+
+pub given_first : (event : WireEvent) (told told_mid : Option (List WireCall)) (faults faults_mid : ℕ) → told_mid ≡ noted (came_next event) (Gave (came_next event)) told
+    → faults_mid ≡ faults_after (came_next event) faults → Makes (IsGiven event) told told_mid faults faults_mid
+given_first event told told_mid faults faults_mid tells counts = makes_one (IsGiven event) (gave event) told told_mid faults faults_mid refl tells counts
+
+-- ---- no event
+
+abbrev pub failed_next : WireRefusal → Result WireEvent WireRefusal
+failed_next refusal = Err refusal
+
+abbrev pub failed : List WireCall
+failed = Gave (Err refusals.Failed) ∷ []
+
+pub not_given : (refusal : WireRefusal) (Turn : Result Bool WireRefusal → List WireCall → Type 0) (told told_then : Option (List WireCall)) (faults faults_then : ℕ)
+    → Turn (Err refusals.Failed) failed → Turn (Err refusals.NoMemory) [] → told_then ≡ noted (failed_next refusal) (Gave (failed_next refusal)) told
+    → faults_then ≡ faults_after (failed_next refusal) faults → Makes (Turn (Err refusal)) told told_then faults faults_then
+not_given refusals.Failed Turn told told_then faults faults_then fails wants tells counts =
+    makes_one (Turn (Err refusals.Failed)) (Gave (Err refusals.Failed)) told told_then faults faults_then fails tells counts
+not_given refusals.NoMemory Turn told told_then faults faults_then fails wants tells counts =
+    makes_nothing (Turn (Err refusals.NoMemory)) told told_then faults faults_then wants tells counts
+
+pub turn_rose : (refusal : WireRefusal) (First : List WireCall → Type 0) (Turn : Result Bool WireRefusal → List WireCall → Type 0)
+    (told told_mid told_then : Option (List WireCall)) (faults faults_mid faults_then : ℕ) → ((calls : List WireCall) → Turn (Err refusals.Failed) calls → calls ≡ failed)
+    → Makes First told told_mid faults faults_mid → Makes (Turn (Err refusal)) told_mid told_then faults_mid faults_then → end_of (Err refusal) ≡ WireFault → Rose faults faults_then
+turn_rose refusals.Failed First Turn told told_mid told_then faults faults_mid faults_then fails first turn ends =
+    let m = makes_both First (Turn (Err refusals.Failed)) (λ calls. (earlier : List WireCall) × (calls ≡ earlier ++ failed))
+    told told_mid told_then faults faults_mid faults_then (λ calls more r t. (calls, ap (λ (cs : List WireCall). calls ++ cs) (fails more t))) first turn in
+    subst (λ (n : ℕ). Rose faults n) (sym (m.faults ∙ ap (λ (cs : List WireCall). faults_through cs faults) m.fits.1))
+    (last_rises faults m.fits.0 (Gave (Err refusals.Failed)) (λ n. refl))
+turn_rose refusals.NoMemory First Turn told told_mid told_then faults faults_mid faults_then fails first turn ends = absurd cc

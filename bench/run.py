@@ -188,6 +188,63 @@ def asks_in_turn(adds, ranges, count):
     return lines.encode(), 2 + (ranges if adds and ranges <= 64 else count)
 
 
+LOADED = (("A", 0), ("B", 1), ("C", 2))
+
+
+def loaded(number):
+    """The schedule that `tcf load` draws from the number, as a file says it."""
+    state = number
+
+    def draw(below):
+        nonlocal state
+        state = (state * 6364136223846793005 + 1442695040888963407) % 2**64
+        return (state >> 33) % below
+
+    def step(name, adds):
+        kind = draw(8)
+        if kind == 3:
+            return f'send {name} Memory get "P1" {4 * draw(64)} 1 16 0'
+        if kind == 4:
+            return f'send {name} Memory set "P1" {1024 + 4 * draw(64)} 1 4 0 "BQAAAA=="'
+        if kind == 6:
+            hop, way = draw(adds + 1), ("up", "down")[draw(2)]
+            return f"deliver {name} {hop} {way} {1 + draw(200)}"
+        thread = 'RunControl %s "P1.1"'
+        return ("send %s " % name + thread % "resume" + " 0 1", "send %s " % name + thread % "suspend",
+                "send %s " % name + thread % "getState", "", "", "tick P1.1", "", "rounds 1")[kind]
+
+    lines = ["image loop 93801000130111006ff09fff"]
+    lines += [f"chain {name} {adds}" for name, adds in LOADED] + [f"open {name}" for name, _ in LOADED]
+    lines += ["rounds 1", 'send B Locator redirect "Agent"', 'send C Locator redirect "V2"', "rounds 1"]
+    lines += ['send C Locator redirect "Agent"', "rounds 1", 'send A Processes start "" "loop" [] [] true', "rounds 2"]
+    for _ in range(20_000):
+        lines.append(step(*LOADED[draw(3)]))
+    return ("\n".join(lines + ["rounds 40"]) + "\n").encode()
+
+
+def carried(log):
+    """Messages as many and as long as those that the hops carried, by the logs of such a run, as one stream. An answer that a
+    store may have given, and its command, count on the lowest hop alone."""
+    stream, hops, kept = bytearray(), 1, set()
+    for line in log.decode().splitlines():
+        kind, _, rest = line.partition(" ")
+        if kind == "chain":
+            hops, kept = 1 + dict(LOADED)[rest], set()
+            continue
+        words = rest.split(" ")
+        parts = {"hello": (b"E", [b"Locator", b"Hello", *words[1:]]), "sent": (b"C", words), "event": (b"E", words[1:]),
+                 "result": (b"R", words[:1] + words[2:])}.get(kind)
+        if not parts:
+            continue
+        if kind == "sent" and words[1:3] in (["RunControl", "getState"], ["Memory", "get"]):
+            kept.add(words[0])
+        letter, fields = parts
+        fields = [b"" if field == "-" else field if isinstance(field, bytes) else field.encode() for field in fields]
+        message = escaped(b"\0".join([letter, *fields]) + b"\0")
+        stream += message * (1 if kind in ("sent", "result") and words[0] in kept else hops)
+    return bytes(stream)
+
+
 def busy():
     """The processor seconds of all runs so far."""
     used = resource.getrusage(resource.RUSAGE_CHILDREN)
@@ -277,6 +334,27 @@ def play_all(program, folder):
     growth(program, [(f"{count} ticks", ticks(count)) for count in (250_000, 500_000, 1_000_000)], folder)
 
 
+def load(program, folder):
+    """Compares `tcf load` with `tcf show` of all that its hops carried."""
+    path = os.path.join(folder, "schedule")
+    with open(path, "wb") as file:
+        file.write(loaded(7))
+    _, _, log = run([program, "chain", path], folder)
+    stream = os.path.join(folder, "stream")
+    with open(stream, "wb") as file:
+        file.write(carried(log))
+    times, shows, lines = [], [], 0
+    for _ in range(RUNS):
+        seconds, _, text = run([program, "load", "7"], folder)
+        times.append(seconds)
+        assert text.splitlines()[-1] == log.splitlines()[-1], "another history"
+        seconds, _, text = run([program, "show", stream], folder)
+        shows.append(seconds)
+        lines = text.count(NEWLINE)
+    ours, base = statistics.median(times), statistics.median(shows)
+    print(f"load 7: {ours:.3f} s; show of the {os.path.getsize(stream)} bytes of {lines} messages: {base:.3f} s, ratio {ours / base:.2f}")
+
+
 def built():
     """Builds the program as its crate's stored run does, and gives its path."""
     crate = os.path.join(TOP, "crates", "tcf")
@@ -291,6 +369,7 @@ def main():
         subprocess.run(["cc", "-O2", "-o", baseline, os.path.join(HERE, "show_baseline.c")], check=True)
         compare("sync_commands", sync_commands(), program, baseline, folder)
         compare("threes", threes(), program, baseline, folder)
+        load(program, folder)
         play_all(program, folder)
 
 

@@ -52,8 +52,8 @@ def processor(process):
 class Agent:
     """`tcf agent` with one image, `loop`."""
 
-    def __init__(self, program):
-        self.port = free_port()
+    def __init__(self, program, port=None):
+        self.port = port or free_port()
         self.folder = tempfile.TemporaryDirectory()
         image = Path(self.folder.name) / 'loop.bin'
         image.write_bytes(IMAGE)
@@ -71,6 +71,9 @@ class Agent:
 
     def lives(self):
         return self.process.poll() is None
+
+    def channel(self):
+        return Channel(self.port)
 
     def __enter__(self):
         return self
@@ -350,8 +353,8 @@ def reset(channel_socket):
     channel_socket.close()
 
 
-def served(port):
-    channel = Channel(port)
+def served(peer):
+    channel = peer.channel()
     answer = channel.ask('Locator', 'sync')
     channel.close()
     return answer.startswith(b'R')
@@ -367,16 +370,16 @@ def rest_of(s):
     return got
 
 
-def treat_badly(program):
+def treat_badly(start):
+    """What a peer does whose clients behave badly: `start` begins an agent, perhaps behind a value-add."""
     fine = True
-    with Agent(program) as agent:
-        port = agent.port
-        s = connected(port)
-        s.sendall(HELLO + b'C\0001\0Loc')
-        reset(s)
-        fine &= check('a connection is reset in the middle of a message, and another is served', served(port) and agent.lives())
+    with start() as peer:
+        broken = peer.channel()
+        broken.socket.sendall(b'C\0001\0Loc')
+        reset(broken.socket)
+        fine &= check('a connection is reset in the middle of a message, and another is served', served(peer) and peer.lives())
 
-        silent = Channel(port)
+        silent = peer.channel()
         silent.socket.setblocking(False)
         command = b''.join(silent.command('Locator', 'sync') for _ in range(1000))
         try:
@@ -384,51 +387,58 @@ def treat_badly(program):
                 silent.socket.send(command)
         except BlockingIOError:
             pass
-        fine &= check('one never reads, and another is served', served(port))
+        fine &= check('one never reads, and another is served', served(peer))
         silent.close()
 
-        s = connected(port)
-        for byte in HELLO + b'C\0001\0Locator\0sync\0' + EOM:
-            s.send(bytes([byte]))
-        s.shutdown(socket.SHUT_WR)
-        fine &= check('bytes come one at a time, and the answer goes out', b'R\0001\0' + EOM in rest_of(s))
+        slow = peer.channel()
+        for byte in slow.command('Locator', 'sync'):
+            slow.socket.send(bytes([byte]))
+        fine &= check('bytes come one at a time, and the answer goes out', slow.answer(slow.token).startswith(b'R'))
+        slow.close()
 
-        s = connected(port)
-        s.sendall(b'A' + EOM)
-        fine &= check('a message of no kind closes its own connection with the end of the stream', rest_of(s).endswith(EOS) and served(port))
+        strange = peer.channel()
+        strange.socket.sendall(b'A' + EOM)
+        fine &= check('a message of no kind closes its own connection with the end of the stream', rest_of(strange.socket).endswith(EOS) and served(peer))
 
-    with Agent(program) as agent:
-        channels = [Channel(agent.port) for _ in range(64)]
-        late = connected(agent.port)
+    with start() as peer:
+        channels = [peer.channel() for _ in range(64)]
+        late = connected(peer.port)
         fine &= check('a 65th connection gets the end of the stream, and is shut', rest_of(late) == EOS)
         fine &= check('and the first 64 are served', all(c.ask('Locator', 'sync').startswith(b'R') for c in channels))
         for channel in channels:
             channel.close()
 
-    with Agent(program) as agent:
+    with start() as peer:
         for _ in range(100):
-            served(agent.port)
-        before = agent.memory()
-        good = all(served(agent.port) for _ in range(1000))
-        after = agent.memory()
+            served(peer)
+        before = peer.memory()
+        good = all(served(peer) for _ in range(1000))
+        after = peer.memory()
         fine &= check(f'1,000 connections one after the other: {before} KiB before, {after} KiB after', good and after <= before + 64)
+    return fine
 
+
+def comes_too_early(program):
     with tempfile.NamedTemporaryFile(suffix='.script') as script:
         script.write(b'send Locator sync\nwait\n')
         script.flush()
         run = subprocess.run([program, 'client', f'{LOOPBACK}:{free_port()}', script.name, '1000'], capture_output=True)
-        fine &= check('a client that is there before the agent says `wire fault`', run.stdout == b'wire fault\n' and run.returncode == 5)
-    return fine
+        return check('a client that is there before the agent says `wire fault`', run.stdout == b'wire fault\n' and run.returncode == 5)
 
 
-def main():
-    if len(sys.argv) > 1:
-        program = sys.argv[1]
+def program_of(words):
+    if len(words) > 1:
+        program = words[1]
     else:
         subprocess.run(['rt', 'run'], cwd=HERE.parent / 'crates' / 'tcf', stdout=subprocess.DEVNULL, check=True)
         program = HERE.parent / 'crates' / 'tcf' / 'out' / 'tcf'
-    program = str(Path(program).resolve())
-    fine = treat_badly(program)
+    return str(Path(program).resolve())
+
+
+def main():
+    program = program_of(sys.argv)
+    fine = treat_badly(lambda: Agent(program))
+    fine &= comes_too_early(program)
     many_idle(program)
     flooded(program)
     compare(program)

@@ -4,12 +4,9 @@ ghost use Rattle.agent_serving.specs.Lines.{gathered, heard, line_gathered, new_
 
 use crate::passing::pass_on;
 use agent_node::AgentNode;
-use serving_wires::{Came, Intake, OnWire, Outbox};
+use serving_wires::{Came, END_OF_STREAM, Intake, OnWire, Outbox};
 use std::alloc::{AllocError, Global};
 use tcf_wires::Wires;
-
-/// The end of a stream.
-const END: &[u8] = b"\x03\x02";
 
 /// What is kept of a connection.
 #[derive(Drop)]
@@ -27,7 +24,7 @@ pub(crate) fn new_line(alloc: Global, channel: u64, is_opened: bool) -> Result<L
         outbox: Outbox::new(alloc, channel),
     };
     if !is_opened {
-        line.outbox.queue(END)?;
+        line.outbox.queue(END_OF_STREAM)?;
         line.outbox.close();
     }
     Ok(line)

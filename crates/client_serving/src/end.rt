@@ -19,7 +19,9 @@ pub enum ClientEnd {
 /// A run that ended, and the client as it stood then, with its log.
 #[derive(Drop)]
 pub struct ClientRun {
+    /// How it ended.
     pub end: ClientEnd,
+    /// The client then.
     pub client: ClientNode,
 }
 

@@ -13,6 +13,7 @@ pub enum ServeEnd {
     Turns,
     /// The address couldn't be listened on, or the wires gave nothing any more.
     WireFault,
+    /// Memory was wanting.
     NoMemory,
 }
 

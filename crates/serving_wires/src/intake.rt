@@ -1,5 +1,5 @@
 //! What came for one end of a channel and waits, in order.
-ghost use Rattle.std.specs.Prelude.{◌≡◌, ◌++◌, ◌∷◌, [], OnErr, OnOk};
+ghost use Rattle.std.specs.Prelude.{◌≡◌, ◌++◌, ◌∷◌, [], is_some, OnErr, OnOk};
 ghost use Rattle.serving_wires.specs.Intake.{left_for, next_for};
 
 use std::alloc::{AllocError, Global};
@@ -51,6 +51,17 @@ impl Intake {
     {
         self.waiting.push_back(came)?;
         Ok(())
+    }
+
+    /// Whether something that waits can be given to an end whose inbox holds so many messages.
+    pub fn has_next(&self, inbox: usize) -> bool
+        ensures { result ≡ is_some (next_for inbox self.now) }
+    {
+        match self.waiting.front() {
+            None => false,
+            Some(Came::Piece(_)) => inbox < FULL,
+            Some(Came::End) => true,
+        }
     }
 
     /// Takes what is to be given next to an end whose inbox holds so many messages; `None` where nothing waits, or a

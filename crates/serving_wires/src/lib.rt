@@ -17,7 +17,7 @@ pub use laws::{
     a_flush_is_in_place, a_flush_is_on_one_wire, an_outbox_is_what_is_left, each_wire_is_carried,
     what_is_flushed_is_carried,
 };
-pub use outbox::Outbox;
+pub use outbox::{END_OF_STREAM, Outbox};
 pub use roster::Roster;
 
 #[cfg(test)]

@@ -7,6 +7,9 @@ use std::alloc::{AllocError, Global};
 use std::marker::Model;
 use tcf_wires::{Put, Wires};
 
+/// The end of a stream, escaped, as it is put where a connection is let in and its channel refused.
+pub const END_OF_STREAM: &[u8] = b"\x03\x02";
+
 /// The bytes that are queued for one wire, and whether it was lost, is to be shut and was shut. What the wire didn't
 /// take goes first the next time.
 #[derive(Drop)]

@@ -15,7 +15,7 @@ use Rattle.value_node.specs.Value.{connect_failed}
 use Rattle.value_node.specs.ValueValue.{ValueValue}
 use Rattle.value_node.specs.declared.states.ValueTurn.{ValueTurn}
 use Rattle.value_node.specs.declared.states.ValueTurn.TheVariants.{Nothing, Took, Connect}
-use Rattle.value_serving.specs.Adds.{one_taken, with_node}
+use Rattle.value_serving.specs.Adds.{can_give, one_taken, with_node}
 use Rattle.value_serving.specs.Following.{BreaksOff, BreaksOffBehind, Goes, GoesBehind, answered as goes_answered, here, told as goes_told}
 use Rattle.value_serving.specs.Order.{leaves}
 use Rattle.value_serving.specs.Passing.{after_turn, answered, connected_on, leaving, taken}
@@ -142,33 +142,51 @@ take_begins peer n count a rows t f =
     makes_none (Goes peer n n (taken count a) (taken (count - 0) a) rows rows) t f
     (let same : count ≡ count - 0 = omega arith in subst (λ (m : ℕ). Goes peer n n (taken count a) (taken m a) rows rows []) same (here n (taken count a) rows))
 
-turn_behind : (peer : List ℕ) (n m k count counter : ℕ) (first old new : Add) (is_taken : Bool) (olds mids news : Rows) (calls more : List WireCall) → counter < count
+-- the next turn, and none where something that waits can be given
+turn_next : (count counter : ℕ) (gives flag : Bool) (a : Add) → counter < count → gives ≡ can_give a → gives ≡ flag
+    → taken (count - counter) a ≡ (if flag then done a else after_turn (one_taken a.node) a (λ next. taken (count - (counter + 1)) next))
+turn_next count counter gives flag a less is so =
+    let left : count - counter ≡ suc (count - (counter + 1)) = omega (arith, less) in
+    ap (λ (x : ℕ). taken x a) left ∙ ap (λ (b : Bool). if b then done a else after_turn (one_taken a.node) a (λ next. taken (count - (counter + 1)) next)) (sym is ∙ so)
+
+turn_behind : (peer : List ℕ) (n m k count counter : ℕ) (first old new : Add) (gives is_taken : Bool) (olds mids news : Rows) (calls more : List WireCall)
+    → counter < count → gives ≡ can_give old → gives ≡ false
     → Goes peer n m (taken count first) (taken (count - counter) old) olds mids calls → GoesBehind peer m k old new is_taken mids news more
     → Goes peer n k (taken count first) (if is_taken then taken (count - (counter + 1)) new else done new) olds news (calls ++ more)
-turn_behind peer n m k count counter first old new is_taken olds mids news calls more less goes turn =
-    let left : count - counter ≡ suc (count - (counter + 1)) = omega (arith, less) in
+turn_behind peer n m k count counter first old new gives is_taken olds mids news calls more less is full goes turn =
     goes_then peer n m k (taken count first) (taken (count - counter) old) (if is_taken then taken (count - (counter + 1)) new else done new) olds mids news calls more goes
-    (subst (λ (x : ℕ). Goes peer m k (taken x old) (if is_taken then taken (count - (counter + 1)) new else done new) mids news more) (sym left) (turn (λ next. taken (count - (counter + 1)) next)))
+    (subst (λ (p : Process Add). Goes peer m k p (if is_taken then taken (count - (counter + 1)) new else done new) mids news more) (sym (turn_next count counter gives false old less is full))
+    (turn (λ next. taken (count - (counter + 1)) next)))
 
-pub take_next : (peer : List ℕ) (n m k count counter : ℕ) (first old new : Add) (is_taken : Bool) (olds mids news : Rows) (t t1 t2 : Option (List WireCall)) (f f1 f2 : ℕ) → counter < count
-    → is_taken ≡ true → Makes (Goes peer n m (taken count first) (taken (count - counter) old) olds mids) t t1 f f1 → Makes (GoesBehind peer m k old new is_taken mids news) t1 t2 f1 f2
+pub take_next : (peer : List ℕ) (n m k count counter : ℕ) (first old new : Add) (gives is_taken : Bool) (olds mids news : Rows) (t t1 t2 : Option (List WireCall)) (f f1 f2 : ℕ)
+    → counter < count → gives ≡ can_give old → gives ≡ false → is_taken ≡ true
+    → Makes (Goes peer n m (taken count first) (taken (count - counter) old) olds mids) t t1 f f1 → Makes (GoesBehind peer m k old new is_taken mids news) t1 t2 f1 f2
     → Makes (Goes peer n k (taken count first) (taken (count - (counter + 1)) new) olds news) t t2 f f2
-take_next peer n m k count counter first old new is_taken olds mids news t t1 t2 f f1 f2 less holds =
+take_next peer n m k count counter first old new gives is_taken olds mids news t t1 t2 f f1 f2 less is full holds =
     makes_both (Goes peer n m (taken count first) (taken (count - counter) old) olds mids) (GoesBehind peer m k old new is_taken mids news)
     (Goes peer n k (taken count first) (taken (count - (counter + 1)) new) olds news) t t1 t2 f f1 f2
     (λ calls more goes turn.
     subst (λ (b : Bool). Goes peer n k (taken count first) (if b then taken (count - (counter + 1)) new else done new) olds news (calls ++ more)) holds
-    (turn_behind peer n m k count counter first old new is_taken olds mids news calls more less goes turn))
+    (turn_behind peer n m k count counter first old new gives is_taken olds mids news calls more less is full goes turn))
 
-pub take_stops : (peer : List ℕ) (n m k count counter : ℕ) (first old new : Add) (is_taken : Bool) (olds mids news : Rows) (t t1 t2 : Option (List WireCall)) (f f1 f2 : ℕ) → counter < count
-    → is_taken ≡ false → Makes (Goes peer n m (taken count first) (taken (count - counter) old) olds mids) t t1 f f1 → Makes (GoesBehind peer m k old new is_taken mids news) t1 t2 f1 f2
+pub take_stops : (peer : List ℕ) (n m k count counter : ℕ) (first old new : Add) (gives is_taken : Bool) (olds mids news : Rows) (t t1 t2 : Option (List WireCall)) (f f1 f2 : ℕ)
+    → counter < count → gives ≡ can_give old → gives ≡ false → is_taken ≡ false
+    → Makes (Goes peer n m (taken count first) (taken (count - counter) old) olds mids) t t1 f f1 → Makes (GoesBehind peer m k old new is_taken mids news) t1 t2 f1 f2
     → Makes (Goes peer n k (taken count first) (done new) olds news) t t2 f f2
-take_stops peer n m k count counter first old new is_taken olds mids news t t1 t2 f f1 f2 less stays =
+take_stops peer n m k count counter first old new gives is_taken olds mids news t t1 t2 f f1 f2 less is full stays =
     makes_both (Goes peer n m (taken count first) (taken (count - counter) old) olds mids) (GoesBehind peer m k old new is_taken mids news)
     (Goes peer n k (taken count first) (done new) olds news) t t1 t2 f f1 f2
     (λ calls more goes turn.
     subst (λ (b : Bool). Goes peer n k (taken count first) (if b then taken (count - (counter + 1)) new else done new) olds news (calls ++ more)) stays
-    (turn_behind peer n m k count counter first old new is_taken olds mids news calls more less goes turn))
+    (turn_behind peer n m k count counter first old new gives is_taken olds mids news calls more less is full goes turn))
+
+-- something that waits can be given
+pub take_waits : (peer : List ℕ) (n m count counter : ℕ) (first now : Add) (gives : Bool) (olds news : Rows) (t t1 : Option (List WireCall)) (f f1 : ℕ)
+    → counter < count → gives ≡ can_give now → gives ≡ true
+    → Makes (Goes peer n m (taken count first) (taken (count - counter) now) olds news) t t1 f f1 → Makes (Goes peer n m (taken count first) (done now) olds news) t t1 f f1
+take_waits peer n m count counter first now gives olds news t t1 f f1 less is so =
+    makes_so (Goes peer n m (taken count first) (taken (count - counter) now) olds news) (Goes peer n m (taken count first) (done now) olds news) t t1 f f1
+    (λ calls goes. subst (λ (p : Process Add). Goes peer n m (taken count first) p olds news calls) (turn_next count counter gives true now less is so) goes)
 
 pub take_ends : (peer : List ℕ) (n m count counter : ℕ) (first now : Add) (olds news : Rows) (t t1 : Option (List WireCall)) (f f1 : ℕ) → count ≤ counter
     → Makes (Goes peer n m (taken count first) (taken (count - counter) now) olds news) t t1 f f1 → Makes (Goes peer n m (taken count first) (done now) olds news) t t1 f f1
@@ -176,12 +194,12 @@ take_ends peer n m count counter first now olds news t t1 f f1 past =
     makes_so (Goes peer n m (taken count first) (taken (count - counter) now) olds news) (Goes peer n m (taken count first) (done now) olds news) t t1 f f1
     (λ calls goes. let none : count - counter ≡ 0 = omega (arith, past) in subst (λ (x : ℕ). Goes peer n m (taken count first) (taken x now) olds news calls) none goes)
 
-pub take_breaks : (peer : List ℕ) (n m count counter : ℕ) (first old : Add) (olds mids : Rows) (t t1 t2 : Option (List WireCall)) (f f1 f2 : ℕ) → counter < count
+pub take_breaks : (peer : List ℕ) (n m count counter : ℕ) (first old : Add) (gives : Bool) (olds mids : Rows) (t t1 t2 : Option (List WireCall)) (f f1 f2 : ℕ)
+    → counter < count → gives ≡ can_give old → gives ≡ false
     → Makes (Goes peer n m (taken count first) (taken (count - counter) old) olds mids) t t1 f f1 → Makes (BreaksOffBehind peer m old mids) t1 t2 f1 f2
     → Makes (BreaksOff peer n (taken count first) olds) t t2 f f2
-take_breaks peer n m count counter first old olds mids t t1 t2 f f1 f2 less =
+take_breaks peer n m count counter first old gives olds mids t t1 t2 f f1 f2 less is full =
     makes_both (Goes peer n m (taken count first) (taken (count - counter) old) olds mids) (BreaksOffBehind peer m old mids) (BreaksOff peer n (taken count first) olds) t t1 t2 f f1 f2
     (λ calls more goes breaks.
-    let left : count - counter ≡ suc (count - (counter + 1)) = omega (arith, less) in
     breaks_then peer n m (taken count first) (taken (count - counter) old) olds mids calls more goes
-    (subst (λ (x : ℕ). BreaksOff peer m (taken x old) mids more) (sym left) (breaks (λ next. taken (count - (counter + 1)) next))))
+    (subst (λ (p : Process Add). BreaksOff peer m p mids more) (sym (turn_next count counter gives false old less is full)) (breaks (λ next. taken (count - (counter + 1)) next))))

@@ -15,7 +15,7 @@ use Rattle.value_node.specs.declared.states.Side.TheVariants.{Below, Above}
 use Rattle.value_serving.specs.Adds.{bytes_for, emptied, is_over, new_add, waiting_on, waits, with_node}
 use Rattle.value_serving.specs.Following.{BreaksOff, Goes, here, told}
 use Rattle.value_serving.specs.Order.{closes, queues}
-use Rattle.value_serving.specs.Passing.{all_taken, closing, gathered, heard, passed_on, sent_above, sent_on, taken}
+use Rattle.value_serving.specs.Passing.{closing, gathered, heard, passed_on, room_made, sent_above, sent_on, taken}
 use Rattle.value_serving.specs.Process.{done, tells}
 use Rattle.value_serving.specs.Sending.{begun, closed_if, opened_by, ordered}
 use Rattle.value_serving.specs.Serving.{handled, heard_at, heard_on, is_over_at, kept_unless, opened, unless_over, wire_of}
@@ -28,29 +28,29 @@ Rows = List (Row OutboxValue)
 abbrev Adds : Type 0
 Adds = List (Row Add)
 
--- ---- all messages are taken
+-- ---- messages are taken, from above and then from below
 
-pub all_made : (peer : List ℕ) (n m k above below : ℕ) (a b next : Add) (olds mids news : Rows) (t t1 t2 : Option (List WireCall)) (f f1 f2 : ℕ)
+pub makes_room : (peer : List ℕ) (n m k above below : ℕ) (a b next : Add) (olds mids news : Rows) (t t1 t2 : Option (List WireCall)) (f f1 f2 : ℕ)
     → above ≡ waiting_on Above a → below ≡ waiting_on Below a → Makes (Goes peer n m (taken above a) (done b) olds mids) t t1 f f1
-    → Makes (Goes peer m k (taken below b) (done next) mids news) t1 t2 f1 f2 → Makes (Goes peer n k (all_taken a) (done next) olds news) t t2 f f2
-unfolding all_taken
-all_made peer n m k above below a b next olds mids news t t1 t2 f f1 f2 first then one two =
+    → Makes (Goes peer m k (taken below b) (done next) mids news) t1 t2 f1 f2 → Makes (Goes peer n k (room_made a) (done next) olds news) t t2 f f2
+unfolding room_made
+makes_room peer n m k above below a b next olds mids news t t1 t2 f f1 f2 first then one two =
     made_both peer n m k (taken (waiting_on Above a) a) b (λ last. taken (waiting_on Below a) last) (done next) olds mids news t t1 t2 f f1 f2
     (subst (λ (x : ℕ). Makes (Goes peer n m (taken x a) (done b) olds mids) t t1 f f1) first one)
     (subst (λ (x : ℕ). Makes (Goes peer m k (taken x b) (done next) mids news) t1 t2 f1 f2) then two)
 
-pub all_broken_first : (peer : List ℕ) (n above : ℕ) (a : Add) (olds : Rows) (t t1 : Option (List WireCall)) (f f1 : ℕ)
-    → above ≡ waiting_on Above a → Makes (BreaksOff peer n (taken above a) olds) t t1 f f1 → Makes (BreaksOff peer n (all_taken a) olds) t t1 f f1
-unfolding all_taken
-all_broken_first peer n above a olds t t1 f f1 first one =
+pub room_broken_first : (peer : List ℕ) (n above : ℕ) (a : Add) (olds : Rows) (t t1 : Option (List WireCall)) (f f1 : ℕ)
+    → above ≡ waiting_on Above a → Makes (BreaksOff peer n (taken above a) olds) t t1 f f1 → Makes (BreaksOff peer n (room_made a) olds) t t1 f f1
+unfolding room_made
+room_broken_first peer n above a olds t t1 f f1 first one =
     broken_bound peer n (taken (waiting_on Above a) a) (λ last. taken (waiting_on Below a) last) olds t t1 f f1
     (subst (λ (x : ℕ). Makes (BreaksOff peer n (taken x a) olds) t t1 f f1) first one)
 
-pub all_broken : (peer : List ℕ) (n m above below : ℕ) (a b : Add) (olds mids : Rows) (t t1 t2 : Option (List WireCall)) (f f1 f2 : ℕ)
+pub room_broken : (peer : List ℕ) (n m above below : ℕ) (a b : Add) (olds mids : Rows) (t t1 t2 : Option (List WireCall)) (f f1 f2 : ℕ)
     → above ≡ waiting_on Above a → below ≡ waiting_on Below a → Makes (Goes peer n m (taken above a) (done b) olds mids) t t1 f f1
-    → Makes (BreaksOff peer m (taken below b) mids) t1 t2 f1 f2 → Makes (BreaksOff peer n (all_taken a) olds) t t2 f f2
-unfolding all_taken
-all_broken peer n m above below a b olds mids t t1 t2 f f1 f2 first then one two =
+    → Makes (BreaksOff peer m (taken below b) mids) t1 t2 f1 f2 → Makes (BreaksOff peer n (room_made a) olds) t t2 f f2
+unfolding room_made
+room_broken peer n m above below a b olds mids t t1 t2 f f1 f2 first then one two =
     broken_both peer n m (taken (waiting_on Above a) a) b (λ last. taken (waiting_on Below a) last) olds mids t t1 t2 f f1 f2
     (subst (λ (x : ℕ). Makes (Goes peer n m (taken x a) (done b) olds mids) t t1 f f1) first one)
     (subst (λ (x : ℕ). Makes (BreaksOff peer m (taken x b) mids) t1 t2 f1 f2) then two)

@@ -14,9 +14,9 @@ use Rattle.value_node.specs.ValueValue.{ValueValue}
 use Rattle.value_node.specs.declared.states.Side.TheVariants.{Below, Above}
 use Rattle.value_node.specs.declared.states.ValueTurn.{ValueTurn}
 use Rattle.value_node.specs.declared.states.ValueTurn.TheVariants.{Nothing, Took, Connect}
-use Rattle.value_serving.specs.Adds.{given_above, given_below, next_given, one_taken, waiting_on, with_node}
+use Rattle.value_serving.specs.Adds.{can_give, given_above, given_below, next_given, one_taken, waiting_on, with_node}
 use Rattle.value_serving.specs.Following.{BreaksOff, Goes, answered as goes_answered, here, told}
-use Rattle.value_serving.specs.Passing.{after_giving, after_turn, all_taken, answered, count_of, given_so_many, leaving, passed_on, taken}
+use Rattle.value_serving.specs.Passing.{after_giving, after_turn, answered, count_of, given_so_many, leaving, passed_on, room_made, taken}
 use Rattle.value_serving.specs.Process.{Answer, Process, asks, done, tells, and_then}
 use Rattle.value_serving.specs.declared.add.Add.{Add}
 use Rattle.value_serving.proofs.Leading.{breaks_bound, breaks_then, goes_bound, goes_then}
@@ -106,13 +106,19 @@ within_turn most Nothing v a later less so = less
 within_turn most Took v a later less so = so (with_node v a) less
 within_turn most Connect v a later less so = λ answer. within_then most (answered answer (with_node v a)) later (within_answered most answer (with_node v a) less) so
 
+within_unless : (most : ℕ) (flag : Bool) (a : Add) (p : Process Add) → count_of a ≤ most → Within most p → Within most (if flag then done a else p)
+within_unless most true a p less within = less
+within_unless most false a p less within = within
+
 within_taken : (most count : ℕ) (a : Add) → count_of a ≤ most → Within most (taken count a)
 within_taken most zero a less = less
-within_taken most (suc count) a less = within_turn most (one_taken a.node).0 (one_taken a.node).1 a (λ next. taken count next) less (λ b fewer. within_taken most count b fewer)
+within_taken most (suc count) a less =
+    within_unless most (can_give a) a (after_turn (one_taken a.node) a (λ next. taken count next)) less
+    (within_turn most (one_taken a.node).0 (one_taken a.node).1 a (λ next. taken count next) less (λ b fewer. within_taken most count b fewer))
 
-within_all : (a : Add) → Within (count_of a) (all_taken a)
-unfolding all_taken
-within_all a =
+within_room : (a : Add) → Within (count_of a) (room_made a)
+unfolding room_made
+within_room a =
     within_then (count_of a) (taken (waiting_on Above a) a) (λ next. taken (waiting_on Below a) next) (within_taken (count_of a) (waiting_on Above a) a (omega arith))
     (λ b fewer. within_taken (count_of a) (waiting_on Below a) b fewer)
 
@@ -123,8 +129,8 @@ within_goes peer n m most p q olds news calls (goes_answered u l answer next q2 
     within_goes peer _ m most (next answer) q _ news cs goes (within answer)
 
 pub taken_within : (peer : List ℕ) (n m : ℕ) (a next : Add) (olds news : Rows) (t t1 : Option (List WireCall)) (f f1 : ℕ)
-    → Makes (Goes peer n m (all_taken a) (done next) olds news) t t1 f f1 → count_of next ≤ count_of a
-taken_within peer n m a next olds news t t1 f f1 made = within_goes peer n m (count_of a) (all_taken a) (done next) olds news made.calls made.fits (within_all a)
+    → Makes (Goes peer n m (room_made a) (done next) olds news) t t1 f f1 → count_of next ≤ count_of a
+taken_within peer n m a next olds news t t1 f f1 made = within_goes peer n m (count_of a) (room_made a) (done next) olds news made.calls made.fits (within_room a)
 
 -- ---- as the code goes on
 
@@ -144,7 +150,7 @@ pass_begins peer n a rows t f =
 
 -- one round more
 abbrev round_of : ℕ → Add → Process Add
-round_of rounds given = and_then (all_taken given) (λ last. given_so_many rounds last)
+round_of rounds given = and_then (room_made given) (λ last. given_so_many rounds last)
 
 one_round : (rounds : ℕ) (now given : Add) (flag : Bool) → (flag, given) ≡ next_given now → flag ≡ true → given_so_many (suc rounds) now ≡ round_of rounds given
 one_round rounds now given flag is so =
@@ -162,30 +168,30 @@ next_round (suc rounds) now given flag is so enough =
 
 pub pass_next : (peer : List ℕ) (n m k : ℕ) (first now given next : Add) (flag : Bool) (olds mids news : Rows) (t t1 t2 : Option (List WireCall)) (f f1 f2 : ℕ)
     → (flag, given) ≡ next_given now → flag ≡ true → PassesTo peer n m first now olds mids t t1 f f1
-    → Makes (Goes peer m k (all_taken given) (done next) mids news) t1 t2 f1 f2 → PassesTo peer n k first next olds news t t2 f f2
+    → Makes (Goes peer m k (room_made given) (done next) mids news) t1 t2 f1 f2 → PassesTo peer n k first next olds news t t2 f f2
 pass_next peer n m k first now given next flag olds mids news t t1 t2 f f1 f2 is so passes made =
     let r = next_round passes.rounds now given flag is so passes.enough in
     record {
       rounds = r.rest;
       enough = (let less = taken_within peer m k given next mids news t1 t2 f1 f2 made in omega (arith, less, r.fewer));
-      goes = makes_both (Goes peer n m (passed_on first) (given_so_many passes.rounds now) olds mids) (Goes peer m k (all_taken given) (done next) mids news)
+      goes = makes_both (Goes peer n m (passed_on first) (given_so_many passes.rounds now) olds mids) (Goes peer m k (room_made given) (done next) mids news)
           (Goes peer n k (passed_on first) (given_so_many r.rest next) olds news) t t1 t2 f f1 f2
           (λ calls more one two.
           goes_then peer n m k (passed_on first) (given_so_many passes.rounds now) (given_so_many r.rest next) olds mids news calls more one
           (subst (λ (p : Process Add). Goes peer m k p (given_so_many r.rest next) mids news more) (sym r.is)
-          (goes_bound peer m k (all_taken given) (done next) (λ last. given_so_many r.rest last) mids news more two)))
+          (goes_bound peer m k (room_made given) (done next) (λ last. given_so_many r.rest last) mids news more two)))
           passes.goes made;
     }
 
 pub pass_breaks : (peer : List ℕ) (n m : ℕ) (first now given : Add) (flag : Bool) (olds mids : Rows) (t t1 t2 : Option (List WireCall)) (f f1 f2 : ℕ)
     → (flag, given) ≡ next_given now → flag ≡ true → PassesTo peer n m first now olds mids t t1 f f1
-    → Makes (BreaksOff peer m (all_taken given) mids) t1 t2 f1 f2 → Makes (BreaksOff peer n (passed_on first) olds) t t2 f f2
+    → Makes (BreaksOff peer m (room_made given) mids) t1 t2 f1 f2 → Makes (BreaksOff peer n (passed_on first) olds) t t2 f f2
 pass_breaks peer n m first now given flag olds mids t t1 t2 f f1 f2 is so passes =
     let r = next_round passes.rounds now given flag is so passes.enough in
-    makes_both (Goes peer n m (passed_on first) (given_so_many passes.rounds now) olds mids) (BreaksOff peer m (all_taken given) mids) (BreaksOff peer n (passed_on first) olds) t t1 t2 f f1 f2
+    makes_both (Goes peer n m (passed_on first) (given_so_many passes.rounds now) olds mids) (BreaksOff peer m (room_made given) mids) (BreaksOff peer n (passed_on first) olds) t t1 t2 f f1 f2
     (λ calls more one two.
     breaks_then peer n m (passed_on first) (given_so_many passes.rounds now) olds mids calls more one
-    (subst (λ (p : Process Add). BreaksOff peer m p mids more) (sym r.is) (breaks_bound peer m (all_taken given) (λ last. given_so_many r.rest last) mids more two)))
+    (subst (λ (p : Process Add). BreaksOff peer m p mids more) (sym r.is) (breaks_bound peer m (room_made given) (λ last. given_so_many r.rest last) mids more two)))
     passes.goes
 
 pub pass_not_given : (peer : List ℕ) (n m : ℕ) (first now : Add) (olds mids : Rows) (t t1 : Option (List WireCall)) (f f1 : ℕ) → PassesTo peer n m first now olds mids t t1 f f1

@@ -1,5 +1,5 @@
 -- A value-add with its wires, and its calls.
-use Rattle.std.specs.Prelude.{ℕ, Bool, true, false, List, [], ◌∷◌, ◌++◌, Option, None, Some, option_map, if◌then◌else◌}
+use Rattle.std.specs.Prelude.{ℕ, Bool, true, false, ◌||◌, is_some, List, [], ◌∷◌, ◌++◌, Option, None, Some, option_map, if◌then◌else◌}
 use Rattle.std.specs.List.{flat_map}
 use Rattle.channel_core.specs.EndValue.{EndValue}
 use Rattle.channel_core.specs.declared.held.Outgoing.{Outgoing}
@@ -50,6 +50,10 @@ given_below (Some what) a = (true, with_node (came_to Below what a.node) a)
 
 unfoldable pub next_given : Add → Bool × Add
 next_given a = given_below (next_for (waiting_on Below a) a.lower) (record a { lower = left_for (waiting_on Below a) a.lower })
+
+-- something that waits can be given
+unfoldable pub can_give : Add → Bool
+can_give a = is_some (next_for (waiting_on Below a) a.lower) || is_some (next_for (waiting_on Above a) a.upper)
 
 -- ---- a message is taken: from above where there is one, and else from below
 

@@ -1,5 +1,5 @@
 -- What came for a value-add passes through it.
-use Rattle.std.specs.Prelude.{ℕ, zero, suc, ◌+◌, Bool, true, false, [], length, Option, None, Some, Ok, Err}
+use Rattle.std.specs.Prelude.{ℕ, zero, suc, ◌+◌, Bool, true, false, [], length, Option, None, Some, Ok, Err, if◌then◌else◌}
 use Rattle.serving_wires.specs.declared.intake.Came.{Came}
 use Rattle.value_node.specs.Value.{connect_failed, connected}
 use Rattle.value_node.specs.ValueValue.{ValueValue}
@@ -7,7 +7,7 @@ use Rattle.value_node.specs.declared.states.Side.{Side}
 use Rattle.value_node.specs.declared.states.Side.TheVariants.{Below, Above}
 use Rattle.value_node.specs.declared.states.ValueTurn.{ValueTurn}
 use Rattle.value_node.specs.declared.states.ValueTurn.TheVariants.{Nothing, Took, Connect}
-use Rattle.value_serving.specs.Adds.{bytes_for, emptied, is_over, next_given, one_taken, waiting_on, waits, with_node}
+use Rattle.value_serving.specs.Adds.{bytes_for, can_give, emptied, is_over, next_given, one_taken, waiting_on, waits, with_node}
 use Rattle.value_serving.specs.Order.{closes, leaves, queues}
 use Rattle.value_serving.specs.Process.{Answer, Process, asks, done, tells, and_then}
 use Rattle.value_serving.specs.declared.add.Add.{Add}
@@ -33,17 +33,17 @@ after_turn (Nothing, v) a later = done (with_node v a)
 after_turn (Took, v) a later = later (with_node v a)
 after_turn (Connect, v) a later = asks (λ answer. and_then (answered answer (with_node v a)) later)
 
--- so many, as far as there are so many
+-- so many, as far as there are so many, and only while nothing that waits can be given
 abbrev pub taken : ℕ → Add → Process Add
 taken zero a = done a
-taken (suc count) a = after_turn (one_taken a.node) a (λ next. taken count next)
+taken (suc count) a = if can_give a then done a else after_turn (one_taken a.node) a (λ next. taken count next)
 
--- all that can be taken
-unfoldable pub all_taken : Add → Process Add
-all_taken a = and_then (taken (waiting_on Above a) a) (λ next. taken (waiting_on Below a) next)
+-- until something that waits can be given, and else all that can be taken
+unfoldable pub room_made : Add → Process Add
+room_made a = and_then (taken (waiting_on Above a) a) (λ next. taken (waiting_on Below a) next)
 
--- ---- what waits is given, one after the other, as far as there is room, and all messages that can be taken are taken behind
--- each
+-- ---- what waits is given as soon as there is room for it, before the next message is taken; behind the last that can be given
+-- all messages are taken that can be
 
 abbrev pub after_giving : Bool × Add → (Add → Process Add) → Process Add
 after_giving (false, a) later = done a
@@ -51,7 +51,7 @@ after_giving (true, a) later = later a
 
 abbrev pub given_so_many : ℕ → Add → Process Add
 given_so_many zero a = done a
-given_so_many (suc count) a = after_giving (next_given a) (λ next. and_then (all_taken next) (λ last. given_so_many count last))
+given_so_many (suc count) a = after_giving (next_given a) (λ next. and_then (room_made next) (λ last. given_so_many count last))
 
 abbrev pub count_of : Add → ℕ
 count_of a = length a.lower + length a.upper

@@ -1,6 +1,6 @@
 //! A value-add with its wires, and what came on them and waits.
 ghost use Rattle.std.specs.Prelude.{◌≡◌, IfOk, OnOk};
-ghost use Rattle.value_serving.specs.Adds.{came_to, emptied, is_over, new_add, next_given, one_taken, bytes_for, waits};
+ghost use Rattle.value_serving.specs.Adds.{came_to, can_give, emptied, is_over, new_add, next_given, one_taken, bytes_for, waits};
 
 use serving_wires::{Came, Intake};
 use std::alloc::{AllocError, Global};
@@ -41,6 +41,15 @@ impl Add {
             Side::Below => self.lower.push(came),
             Side::Above => self.upper.push(came),
         }
+    }
+
+    /// Whether something that waits can be given.
+    #[tactic(auto, unfolding(crate::specs::Adds::can_give))]
+    pub(crate) fn can_give(&self) -> bool
+        ensures { result ≡ can_give self.now }
+    {
+        self.lower.has_next(self.node.waiting(Side::Below))
+            || self.upper.has_next(self.node.waiting(Side::Above))
     }
 
     /// Gives the value-add what is next of what waits, from below first. Answers whether there was something that can be

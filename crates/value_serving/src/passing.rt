@@ -3,7 +3,7 @@ ghost use Rattle.std.specs.Prelude.{◌≡◌, IfOk, OnErr, OnOk, Some, [], if�
 ghost use Rattle.serving_wires.specs.Calls.{Makes};
 ghost use Rattle.value_serving.specs.Adds.{emptied, is_over, bytes_for};
 ghost use Rattle.value_serving.specs.Following.{BreaksOff, BreaksOffBehind, Goes, GoesBehind};
-ghost use Rattle.value_serving.specs.Passing.{all_taken, answered, connected_on, gathered, heard, passed_on, taken};
+ghost use Rattle.value_serving.specs.Passing.{room_made, answered, connected_on, gathered, heard, passed_on, taken};
 ghost use Rattle.value_serving.specs.Process.{asks, done};
 ghost use Rattle.value_serving.specs.Sending.{begun, closed_if, left_for, ordered};
 ghost use Rattle.value_serving.specs.Order.{queues};
@@ -15,7 +15,7 @@ use std::alloc::{AllocError, Global};
 use tcf_wires::{WireRefusal, Wires};
 use value_node::{Side, ValueNode, ValueTurn};
 
-/// Something came on a side of a value-add: it is given to it, with what waits, as far as there is room; all messages that
+/// Something came on a side of a value-add: it is given to it, with what waits, as soon as there is room; all messages that
 /// can be taken are taken; and what the value-add has to send is queued.
 pub(crate) fn hear<W: Wires>(
     alloc: Global,
@@ -34,7 +34,7 @@ pub(crate) fn hear<W: Wires>(
     gather(alloc, add, sending)
 }
 
-/// Gives the value-add what waits, as far as there is room, and takes all messages that can be taken behind each.
+/// Gives the value-add what waits, each as soon as there is room, and takes all messages that can be taken.
 fn pass_on<W: Wires>(
     alloc: Global,
     add: &mut Add,
@@ -46,21 +46,21 @@ fn pass_on<W: Wires>(
     ensures err { OnErr result (Makes (BreaksOff peer.now (W.unused wires.old) (passed_on add.old) sending.old) (W.told wires.old) (W.told wires.new) (W.faults wires.old) (W.faults wires.new)) }
 {
     while add.give_next()? {
-        take_all(alloc, add, sending, wires, peer)?;
+        make_room(alloc, add, sending, wires, peer)?;
     }
     Ok(())
 }
 
-/// Takes all messages that can be taken.
-fn take_all<W: Wires>(
+/// Takes messages until something that waits can be given, or none can be taken any more.
+fn make_room<W: Wires>(
     alloc: Global,
     add: &mut Add,
     sending: &mut Sending,
     wires: &mut W,
     peer: &str,
 ) -> Result<(), AllocError>
-    ensures ok { OnOk result (Makes (Goes peer.now (W.unused wires.old) (W.unused wires.new) (all_taken add.old) (done add.new) sending.old sending.new) (W.told wires.old) (W.told wires.new) (W.faults wires.old) (W.faults wires.new)) }
-    ensures err { OnErr result (Makes (BreaksOff peer.now (W.unused wires.old) (all_taken add.old) sending.old) (W.told wires.old) (W.told wires.new) (W.faults wires.old) (W.faults wires.new)) }
+    ensures ok { OnOk result (Makes (Goes peer.now (W.unused wires.old) (W.unused wires.new) (room_made add.old) (done add.new) sending.old sending.new) (W.told wires.old) (W.told wires.new) (W.faults wires.old) (W.faults wires.new)) }
+    ensures err { OnErr result (Makes (BreaksOff peer.now (W.unused wires.old) (room_made add.old) sending.old) (W.told wires.old) (W.told wires.new) (W.faults wires.old) (W.faults wires.new)) }
 {
     let below = add.node.waiting(Side::Below);
     let above = add.node.waiting(Side::Above);
@@ -68,7 +68,7 @@ fn take_all<W: Wires>(
     take(alloc, add, sending, wires, peer, below)
 }
 
-/// Takes so many messages, as far as there are so many.
+/// Takes so many messages, as far as there are so many, and only while nothing that waits can be given.
 fn take<W: Wires>(
     alloc: Global,
     add: &mut Add,
@@ -81,6 +81,9 @@ fn take<W: Wires>(
     ensures err { OnErr result (Makes (BreaksOff peer.now (W.unused wires.old) (taken count add.old) sending.old) (W.told wires.old) (W.told wires.new) (W.faults wires.old) (W.faults wires.new)) }
 {
     for _ in 0..count {
+        if add.can_give() {
+            return Ok(());
+        }
         let is_taken = turn(alloc, add, sending, wires, peer)?;
         if !is_taken {
             return Ok(());

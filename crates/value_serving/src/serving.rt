@@ -10,7 +10,7 @@ ghost use Rattle.value_serving.specs.Serving.{above_of, handled, heard_at, heard
 use crate::add::{Add, is_over, new_add};
 use crate::passing::{gather, hear};
 use crate::sending::Sending;
-use serving_wires::{Came, Roster};
+use serving_wires::{Came, END_OF_STREAM, Roster};
 use std::alloc::{AllocError, Global};
 use std::marker::Model;
 use tcf_values::Text;
@@ -19,9 +19,6 @@ use value_node::Side;
 
 /// The most value-adds.
 const MOST: usize = 64;
-
-/// The end of a stream.
-const END: &[u8] = b"\x03\x02";
 
 /// The value-adds that aren't closed, one for each connection that came, and what is to be put on all wires.
 #[derive(Drop)]
@@ -81,7 +78,7 @@ impl Serving {
     {
         self.sending.begin(channel)?;
         if self.adds.len() >= MOST {
-            self.sending.queue(channel, END)?;
+            self.sending.queue(channel, END_OF_STREAM)?;
             self.sending.close(channel);
             return Ok(());
         }

@@ -31,6 +31,14 @@ const UNKNOWN: &[u8] = b"N\x001\0\x03\x01";
 
 const PASSED_BACK: &[u8] = b"N\0x\0\x03\x01";
 
+/// C x Locator sync
+const SYNC: &[u8] = b"C\0x\0Locator\0sync\0\x03\x01";
+
+/// F 1 and F -50.
+const SLOWER: &[u8] = b"F\x001\0\x03\x01";
+
+const FASTER: &[u8] = b"F\0-50\0\x03\x01";
+
 /// The end of the stream.
 const END: &[u8] = b"\x03\x02";
 
@@ -40,6 +48,8 @@ enum Step {
     /// Channels below this one are opened.
     OpensAllBelow(u64),
     Brings(u64, &'static [&'static [u8]]),
+    /// A piece that ends with so many C x Locator sync.
+    BringsSyncs(u64, &'static [&'static [u8]], u32),
     Ends(u64),
     /// The next connect fails.
     Refuses,
@@ -58,7 +68,7 @@ struct Run {
     shut: &'static [u64],
 }
 
-static RUNS: [Run; 6] = [
+static RUNS: [Run; 7] = [
     // A redirect connects, and all is passed on behind it. The wires end together.
     Run {
         turns: 99,
@@ -105,6 +115,19 @@ static RUNS: [Run; 6] = [
         taken: &[(0, &[HELLO, FAILED]), (1, &[]), (2, &[HELLO])],
         shut: &[1],
     },
+    // A piece that waits is given as soon as the inbox holds fewer than 200 messages, before its level falls to -50.
+    Run {
+        turns: 99,
+        steps: &[
+            Step::Opens(0),
+            Step::BringsSyncs(0, &[HELLO, REDIRECT], 250),
+            Step::BringsSyncs(0, &[], 250),
+            Step::Brings(1, &[AGENT]),
+        ],
+        end: ServeEnd::Stopped { events: 5 },
+        taken: &[(0, &[HELLO, SLOWER, DONE, AGENT, FASTER])],
+        shut: &[],
+    },
     // One connection too many is sent away.
     Run {
         turns: 99,
@@ -143,6 +166,15 @@ fn bytes_of(alloc: Global, parts: &[&[u8]]) -> Result<Octets, Fail> {
     Ok(bytes)
 }
 
+/// These bytes, and so many C x Locator sync behind them.
+fn with_syncs(alloc: Global, parts: &[&[u8]], count: u32) -> Result<Octets, Fail> {
+    let mut bytes = bytes_of(alloc, parts)?;
+    for _ in 0..count {
+        bytes.extend(SYNC)?;
+    }
+    Ok(bytes)
+}
+
 /// Wires over which this comes.
 fn wires_of(alloc: Global, steps: &[Step]) -> Result<WireScript, Fail> {
     let mut wires = WireScript::new(alloc);
@@ -152,6 +184,9 @@ fn wires_of(alloc: Global, steps: &[Step]) -> Result<WireScript, Fail> {
             Step::OpensAllBelow(high) => open_all_below(*high, &mut wires)?,
             Step::Brings(channel, parts) => {
                 wires.give(WireEvent::Piece(*channel, bytes_of(alloc, parts)?))?
+            }
+            Step::BringsSyncs(channel, parts, count) => {
+                wires.give(WireEvent::Piece(*channel, with_syncs(alloc, parts, *count)?))?
             }
             Step::Ends(channel) => wires.give(WireEvent::Ended(*channel))?,
             Step::Refuses => wires.answer(None)?,

@@ -9,19 +9,19 @@ loop-add-init g c = pass_begins c.args.peer.now _ c.args.add.now c.args.sending.
 pub loop-add-smaller : goal.loop-add-smaller
 loop-add-smaller g c =
     let given = fewer_wait c.in_ok-give_next.field-0 c.loop-add.add c.give_next.new.self c.in_ok-give_next.ensures c.if-branch.true in
-    let taken = taken_within c.args.peer.now _ _ c.give_next.new.self c.take_all.new.add c.loop-add.sending c.take_all.new.sending _ _ _ _ c.in_ok-take_all.ensures.ok in
+    let taken = taken_within c.args.peer.now _ _ c.give_next.new.self c.make_room.new.add c.loop-add.sending c.make_room.new.sending _ _ _ _ c.in_ok-make_room.ensures.ok in
     omega (arith, given, taken)
 
 pub loop-add-preserved : goal.loop-add-preserved
 loop-add-preserved g c =
-    pass_next c.args.peer.now _ _ _ c.args.add.now c.loop-add.add c.give_next.new.self c.take_all.new.add c.in_ok-give_next.field-0 c.args.sending.now c.loop-add.sending c.take_all.new.sending
-    _ _ _ _ _ _ c.in_ok-give_next.ensures c.if-branch.true c.loop-add.invariant c.in_ok-take_all.ensures.ok
+    pass_next c.args.peer.now _ _ _ c.args.add.now c.loop-add.add c.give_next.new.self c.make_room.new.add c.in_ok-give_next.field-0 c.args.sending.now c.loop-add.sending c.make_room.new.sending
+    _ _ _ _ _ _ c.in_ok-give_next.ensures c.if-branch.true c.loop-add.invariant c.in_ok-make_room.ensures.ok
 
-pub returns-in_err-take_all-clause-err : goal.returns-in_err-take_all-clause-err
-returns-in_err-take_all-clause-err g c =
-    on_err c.from_residual-in_err-take_all.result _
+pub returns-in_err-make_room-clause-err : goal.returns-in_err-make_room-clause-err
+returns-in_err-make_room-clause-err g c =
+    on_err c.from_residual-in_err-make_room.result _
     (pass_breaks c.args.peer.now _ _ c.args.add.now c.loop-add.add c.give_next.new.self c.in_ok-give_next.field-0 c.args.sending.now c.loop-add.sending _ _ _ _ _ _ c.in_ok-give_next.ensures
-    c.if-branch.true c.loop-add.invariant c.in_err-take_all.ensures.err)
+    c.if-branch.true c.loop-add.invariant c.in_err-make_room.ensures.err)
 
 pub returns-clause-ok : goal.returns-clause-ok
 returns-clause-ok g c =

@@ -9,10 +9,10 @@ use crate::wires::Wires;
 use mio::net::{TcpListener, TcpStream};
 use mio::{Events, Interest, Poll, Token};
 use std::alloc::{AllocError, Global};
+use std::io;
 use std::io::{ErrorKind, Read, Write};
 use std::net::{Net, SocketAddr};
 use std::time::Duration;
-use std::{io, mem};
 use tcf_outside::Octets;
 
 /// The most bytes of one piece.
@@ -49,10 +49,9 @@ pub struct RealWires<R: Net + Drop> {
     /// Whether a peer may wait to be let in.
     has_peer: bool,
     lines: Vec<Line>,
-    /// Into which all pieces are read.
+    /// Into which all pieces are read. Each is given out at its own size, so that many small ones that wait take little
+    /// room.
     room: Vec<u8>,
-    /// The room for the next piece, made before it is read, so that want of memory loses nothing.
-    piece: Vec<u8>,
     /// The place that is looked at first, so that each connection has its turn.
     turn: usize,
     unused: u64,
@@ -96,7 +95,6 @@ impl<R: Net + Drop> RealWires<R> {
             has_peer: false,
             lines: Vec::new(alloc),
             room: Vec::new(alloc),
-            piece: Vec::new(alloc),
             turn: 0,
             unused: 0,
             faults: 0,
@@ -224,8 +222,6 @@ impl<R: Net + Drop> RealWires<R> {
             return Ok(WireEvent::Idle);
         }
         self.room.resize(MOST, 0)?;
-        self.piece.clear();
-        self.piece.try_reserve(MOST)?;
         let mut reader = &line.stream;
         match reader.read(&mut self.room) {
             Ok(0) => {
@@ -234,9 +230,8 @@ impl<R: Net + Drop> RealWires<R> {
             }
             Ok(count) => {
                 let bytes = self.room.as_slice().get(..count).unwrap_or(&[]);
-                self.piece.extend_from_slice(bytes)?;
-                let piece = mem::replace(&mut self.piece, Vec::new(self.alloc));
-                Ok(WireEvent::Piece(line.channel, Octets::from_vec(piece)))
+                let piece = Octets::from_slice(self.alloc, bytes)?;
+                Ok(WireEvent::Piece(line.channel, piece))
             }
             Err(error) if error.kind() == ErrorKind::WouldBlock => {
                 line.is_ready = false;

@@ -134,7 +134,7 @@ silent_placed history before x silent = absurd (true≢false silent)
 
 placed_same : (history : List Input) (one other : List LogLine) → last_mark one ≡ last_mark other → list_any is_placed_hello one ≡ list_any is_placed_hello other
     → (x : LogLine) → IsPlaced history one x → IsPlaced history other x
-placed_same history one other marks hellos (Hello None body) placed = tt
+placed_same history one other marks hellos (Hello None body) placed = sym hellos ∙ placed
 placed_same history one other marks hellos (Hello (Some position) body) placed = (sym hellos ∙ placed.0, placed.1)
 placed_same history one other marks hellos (Event mark service name body) placed = subst (λ last. ComesAfter last mark) marks placed
 placed_same history one other marks hellos (Progress number mark body) placed = subst (λ last. ComesAfter last mark) marks placed

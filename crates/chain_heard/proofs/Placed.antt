@@ -180,13 +180,14 @@ told_placed history k position services ys opened rises prior none =
     (rising_placed history ys position rises (prior ++ line ∷ []) (mark_pushed prior line (Some position) refl))
 
 -- lines without a position, behind others without one
-bare_placed : (history : List Input) (prior : List LogLine) (line : LogLine) → last_mark prior ≡ Some None → IsBare line → IsPlaced history prior line
-bare_placed history prior (lines.Hello mark body) last bare = let none : mark ≡ None = cc in subst (OpensOnce history prior) (sym none) tt
-bare_placed history prior (lines.Event mark service name body) last bare = let none : mark ≡ None = cc in subst (λ l. ComesAfter l mark) (sym last) none
-bare_placed history prior (lines.Progress number mark body) last bare = let none : mark ≡ None = cc in subst (λ l. ComesAfter l mark) (sym last) none
-bare_placed history prior (lines.Final number mark body) last bare = let none : mark ≡ None = cc in subst (λ l. ComesAfter l mark) (sym last) none
-bare_placed history prior (lines.Unknown number mark) last bare = let none : mark ≡ None = cc in subst (λ l. ComesAfter l mark) (sym last) none
-bare_placed history prior line last bare = tt
+bare_placed : (history : List Input) (prior : List LogLine) (line : LogLine) → last_mark prior ≡ Some None → list_any is_placed_hello prior ≡ false → IsBare line
+    → IsPlaced history prior line
+bare_placed history prior (lines.Hello mark body) last before bare = let none : mark ≡ None = cc in subst (OpensOnce history prior) (sym none) before
+bare_placed history prior (lines.Event mark service name body) last before bare = let none : mark ≡ None = cc in subst (λ l. ComesAfter l mark) (sym last) none
+bare_placed history prior (lines.Progress number mark body) last before bare = let none : mark ≡ None = cc in subst (λ l. ComesAfter l mark) (sym last) none
+bare_placed history prior (lines.Final number mark body) last before bare = let none : mark ≡ None = cc in subst (λ l. ComesAfter l mark) (sym last) none
+bare_placed history prior (lines.Unknown number mark) last before bare = let none : mark ≡ None = cc in subst (λ l. ComesAfter l mark) (sym last) none
+bare_placed history prior line last before bare = tt
 
 bare_pushed : (prior : List LogLine) (line : LogLine) → list_any is_placed_hello prior ≡ false → IsBare line → list_any is_placed_hello (prior ++ line ∷ []) ≡ false
 bare_pushed prior line none bare =
@@ -202,14 +203,14 @@ bares_placed : (history : List Input) (xs ys prior : List LogLine) → AllByRecu
     → HasPlace history ys → PlacedAfter history prior (xs ++ ys)
 bares_placed history [] ys prior bare last none behind = behind prior none
 bares_placed history (x ∷ xs) ys prior bare last none behind =
-    placed_first history prior x (xs ++ ys) (bare_placed history prior x last bare.0)
+    placed_first history prior x (xs ++ ys) (bare_placed history prior x last none bare.0)
     (bares_placed history xs ys (prior ++ x ∷ []) bare.1 (mark_pushed prior x None bare.0) (bare_pushed prior x none bare.0) behind)
 
 -- where the first of them is a Hello, they can stand at the beginning
 greeted_placed : (history : List Input) (xs ys : List LogLine) → AllByRecursion IsBare xs → GreetsFirst xs → HasPlace history ys → Each (IsPlaced history) (xs ++ ys)
 greeted_placed history [] ys bare begins behind = behind [] refl
 greeted_placed history (x ∷ xs) ys bare begins behind =
-    placed_first history [] x (xs ++ ys) (subst (IsPlaced history []) (sym begins.1) tt)
+    placed_first history [] x (xs ++ ys) (subst (IsPlaced history []) (sym begins.1) refl)
     (bares_placed history xs ys (x ∷ []) bare.1 bare.0 (bare_pushed [] x refl bare.0) behind)
 
 pub bare_first_placed : (history : List Input) (xs : List LogLine) → AllByRecursion IsBare xs → GreetsFirst xs → Each (IsPlaced history) xs

@@ -36,9 +36,9 @@ ComesAfter None mark = ⊥
 ComesAfter (Some None) mark = mark ≡ None
 ComesAfter (Some (Some position)) mark = IsSomeAnd mark (λ p. position ≤ p)
 
--- A Hello with a position is the only one, and at that position the history opens a channel.
+-- Behind a Hello with a position comes no other one, and at that position the history opens a channel.
 abbrev pub OpensOnce : List Input → List LogLine → Option ℕ → Type 0
-OpensOnce history before None = Unit {0}
+OpensOnce history before None = list_any is_placed_hello before ≡ false
 OpensOnce history before (Some position) = (list_any is_placed_hello before ≡ false) × ((k : ℕ) × OpensAt history position k)
 
 -- the place of a line among the positions

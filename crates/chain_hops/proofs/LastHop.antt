@@ -1,16 +1,21 @@
 -- The hop to the agent.
-use Rattle.std.proofs.Common.{◌≡◌, true, false, [], ◌++◌, Option, None, Some, sym, ap, ◌∙◌, append_assoc}
-use Rattle.std.specs.Prelude.{IfSome}
-use Rattle.channel_core.specs.Arrivals.{arrived, bytes_of}
+use Rattle.std.proofs.Common.{◌≡◌, true, false, List, [], ◌∷◌, ◌++◌, Option, None, Some, ◌⊎◌, inl, inr, refl, sym, ap, ◌∙◌, append_assoc, append-nil}
+use Rattle.std.specs.List.{flat_map}
+use Rattle.channel_core.specs.Arrivals.{Marked, arrived, bytes_of}
+use Rattle.channel_core.specs.Receiving.{is_over}
+use Rattle.channel_core.specs.ReceivingLaws.{incoming_of}
+use Rattle.channel_core.specs.Wire.{end_of_stream}
+use Rattle.channel_core.specs.declared.held.Outgoing.{Outgoing}
 use Rattle.channel_hop.specs.Hop.{Carries}
 use Rattle.channel_rest.specs.Meeting.{IsLasting, Side, run_of}
 use Rattle.channel_rest.specs.Numbering.{TakesNumbered}
-use Rattle.chain_hops.specs.Hops.{HopOfAgent, IsAgentSide}
+use Rattle.chain_hops.specs.Hops.{HopOfAgent, HopRefused, HopToAgent, IsAgentSide}
 use Rattle.chain_rest.specs.Stuck.{IsChannel, IsReadable, end_of_side, unmarked}
 use Rattle.chain_route.specs.Carrying.{HopCarries, end_of}
 use Rattle.chain_route.specs.Runs.{Talk}
 use Rattle.chain_route.specs.declared.hop.Hop.{Hop}
-use Rattle.chain_hops.proofs.Facts.{EndLaws}
+use Rattle.chain_through.proofs.Fronts.{front_none}
+use Rattle.chain_hops.proofs.Facts.{EndLaws, took_front}
 use Rattle.chain_hops.proofs.Marks.{unmarked_parts}
 
 module _ {T : Type 0} (laws : EndLaws T) (s : Side T) (hop : Hop) (talk : Talk) (sends : IsReadable s) (carries : HopCarries hop (end_of_side s) (end_of talk))
@@ -49,6 +54,24 @@ module _ {T : Type 0} (laws : EndLaws T) (s : Side T) (hop : Hop) (talk : Talk) 
     agent_hop : HopOfAgent hop s a
     agent_hop = record { stands = laws.stand true false s a (bytes_of hop.down) (unmarked hop.up) lasting agent_lasts falls rises; answers = channel.answers numbered }
 
-  pub last_hop : (agent : Option (Side Unit)) → IsAgentSide agent talk → IfSome agent (HopOfAgent hop s)
-  last_hop None is = tt
+  -- all that comes of a channel that was refused is the end of the stream
+  module _ (refused : talk.gave ≡ end_of_stream ∷ []) where
+    comes : bytes_of (end_of_stream ∷ []) ≡ arrived s.calls ++ bytes_of hop.down
+    comes = sym (ap bytes_of refused) ∙ carries.down live
+
+    closes_by : (down : List Marked) → bytes_of hop.down ≡ down → (is_over (run_of s).end ≡ true) ⊎ (bytes_of hop.down ≡ [] → ⊥)
+    closes_by [] is =
+        let all : bytes_of (end_of_stream ∷ []) ≡ arrived s.calls ++ [] = comes ∙ ap (λ bytes. arrived s.calls ++ bytes) is in
+        inl (laws.hears s.hello s.mark s.calls [] true tt ([], all) refl (sym (append-nil (arrived s.calls)) ∙ sym all))
+    closes_by (byte ∷ down) is = inr (λ none. let one : [] ≡ byte ∷ down = sym none ∙ is in absurd cc)
+
+    refused_hop : HopRefused hop s
+    refused_hop = record {
+      gave = comes;
+      silent = front_none (flat_map incoming_of (run_of s).past.taken) (took_front laws.alone s [] true tt (bytes_of hop.down, comes));
+      closes = closes_by (bytes_of hop.down) refl;
+    }
+
+  pub last_hop : (agent : Option (Side Unit)) → IsAgentSide agent talk → HopToAgent hop s agent
+  last_hop None is = refused_hop is
   last_hop (Some a) is = agent_hop a is

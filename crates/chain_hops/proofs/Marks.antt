@@ -1,8 +1,8 @@
 -- Bytes without their marks, of what came and of what is in flight.
-use Rattle.std.proofs.Common.{◌≡◌, List, ◌++◌, map, None, sym, ap, ◌∙◌}
+use Rattle.std.proofs.Common.{◌≡◌, List, [], ◌∷◌, ◌++◌, map, None, refl, sym, ap, ◌∙◌}
 use Rattle.std.proofs.lemmas.List.{map-append}
 use Rattle.std.proofs.lemmas.List.Concat.{flat_map-append}
-use Rattle.channel_core.specs.Arrivals.{bytes_of, marked}
+use Rattle.channel_core.specs.Arrivals.{IsFront, Marked, bytes_of, marked}
 use Rattle.channel_core.specs.declared.held.Outgoing.{Outgoing}
 use Rattle.chain_rest.specs.Stuck.{unmarked}
 use Rattle.chain_rest.proofs.Marks.{unmarked_same}
@@ -17,3 +17,17 @@ unmarked_more outs more =
 -- a queue of the bytes of two others
 pub unmarked_parts : (outs came more : List Outgoing) → bytes_of outs ≡ bytes_of came ++ bytes_of more → unmarked outs ≡ unmarked came ++ unmarked more
 unmarked_parts outs came more is = unmarked_same outs (came ++ more) (is ∙ sym (bytes_more came more)) ∙ unmarked_more came more
+
+-- ---- Fronts
+
+-- each byte by itself
+abbrev each_alone : List Marked → List Outgoing
+each_alone bytes = map (λ b. record { bytes = b.byte ∷ []; mark = b.mark }) bytes
+
+bytes_alone : (bytes : List Marked) → bytes_of (each_alone bytes) ≡ bytes
+bytes_alone [] = refl
+bytes_alone (b ∷ bytes) = ap (λ bs. b ∷ bs) (bytes_alone bytes)
+
+pub front_unmarked : (outs all : List Outgoing) → IsFront (bytes_of outs) (bytes_of all) → IsFront (unmarked outs) (unmarked all)
+front_unmarked outs all p =
+    let more = each_alone p.0 in (unmarked more, unmarked_parts all outs more (p.1 ∙ ap (λ bytes. bytes_of outs ++ bytes) (sym (bytes_alone p.0))))

@@ -11,6 +11,7 @@ use Rattle.chain_route.specs.declared.hop.Hop.{Hop}
 use Rattle.value_node.specs.ForwardedValue.{ForwardedValue}
 use Rattle.chain_hops.proofs.AddHop.{above_given, add_hop}
 use Rattle.chain_hops.proofs.Connections.{connected_above, connected_later}
+use Rattle.chain_hops.proofs.CutHop.{cut_to_add, cut_to_agent}
 use Rattle.chain_hops.proofs.Facts.{EndLaws, NodeLaws}
 use Rattle.chain_hops.proofs.LastHop.{last_hop}
 
@@ -26,16 +27,23 @@ way_above nodes s hop next hops m made agent talk way = record {
   adds = way.adds.1;
   carries = way.carries.1;
   connected = connected_later m made (last_is_live (next ∷ hops)) way.connected;
+  channel = way.channel;
   served = way.served;
 }
 
 module _ (upper : EndLaws ForwardedValue) (nodes : NodeLaws) where
   pub hops_stand : {T : Type 0} → EndLaws T → EachHopStands T
   hops_stand laws s [] made agent talk way = tt
-  hops_stand laws s (hop ∷ []) [] agent talk way = λ live. last_hop laws s hop talk way.sends way.carries (way.given (ap (λ flag. flag || false) live)) live agent (way.served live)
-  hops_stand laws s (hop ∷ next ∷ hops) [] agent talk way = tt
+  hops_stand laws s (hop ∷ []) [] agent talk way = (
+    λ live. last_hop laws s hop talk way.sends way.carries (way.given (ap (λ flag. flag || false) live)) live agent (way.served live),
+    λ dead. cut_to_agent laws nodes s hop talk way.sends way.carries dead agent way.channel,
+  )
+  hops_stand laws s (hop ∷ next ∷ hops) [] agent talk way = way.carries
   hops_stand laws s (hop ∷ []) (m ∷ made) agent talk way = absurd way.carries.1
   hops_stand laws s (hop ∷ next ∷ hops) (m ∷ made) agent talk way = (
-    λ live. add_hop laws nodes s hop m way.sends way.adds.0 way.carries.0 (way.given (ap (λ flag. flag || lives (next ∷ hops)) live)) live,
+    (
+      λ live. add_hop laws nodes s hop m way.sends way.adds.0 way.carries.0 (way.given (ap (λ flag. flag || lives (next ∷ hops)) live)) live,
+      cut_to_add laws nodes s hop m way.sends way.carries.0,
+    ),
     hops_stand upper (side_above m) (next ∷ hops) made agent talk (way_above nodes s hop next hops m made agent talk way),
   )

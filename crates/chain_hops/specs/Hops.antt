@@ -1,15 +1,17 @@
 -- The hops of a way, at any moment.
-use Rattle.std.specs.Prelude.{◌≡◌, true, false, List, [], ◌∷◌, filter, Option, None, Some, IfSome}
-use Rattle.std.specs.List.{AllByRecursion, list_any}
-use Rattle.chain_route.specs.Carrying.{AllCarry, GivesAll, HaveConnected, Made, end_of, past_of, value_of}
+use Rattle.std.specs.Prelude.{◌≡◌, ◌⊎◌, Bool, true, false, List, [], ◌∷◌, ◌++◌, filter, Option, None, Some, IfSome}
+use Rattle.std.specs.List.{AllByRecursion, flat_map, list_any}
+use Rattle.chain_route.specs.Carrying.{AllCarry, GivesAll, HaveConnected, IsDead, IsUnused, Made, end_of, past_of, value_of}
 use Rattle.chain_route.specs.Runs.{Talk}
 use Rattle.chain_route.specs.declared.hop.Hop.{Hop}
-use Rattle.channel_core.specs.Arrivals.{AreSpoken, Spoken, bytes_of}
+use Rattle.channel_core.specs.Arrivals.{AreSpoken, IsFront, Spoken, arrived, bytes_of, messages_in, queue_of}
 use Rattle.channel_core.specs.Closing.{is_closed}
 use Rattle.channel_core.specs.QueueLaws.{is_message}
+use Rattle.channel_core.specs.Receiving.{is_over}
+use Rattle.channel_core.specs.ReceivingLaws.{incoming_of}
 use Rattle.channel_core.specs.Wire.{end_of_stream}
 use Rattle.channel_hop.specs.Hop.{HopStands}
-use Rattle.channel_rest.specs.Meeting.{AnswersAll, Side, all_said, run_of}
+use Rattle.channel_rest.specs.Meeting.{AnswersAll, Side, all_said, as_comes, run_of}
 use Rattle.chain_rest.specs.Stuck.{IsChannel, IsReadable, end_of_side, last_is_live, side_above, side_below, unmarked}
 use Rattle.value_node.specs.Runs.{after_all, below, no_calls}
 use Rattle.value_rest.specs.Waiting.{LeavesUnanswered}
@@ -30,6 +32,7 @@ pub record IsWay {T : Type 0} (s : Side T) (hops : List Hop) (made : List Made) 
   pub adds : AllByRecursion (λ m. GivesAll (value_of m)) made
   pub carries : AllCarry (end_of_side s) hops made (end_of talk)
   pub connected : HaveConnected made (last_is_live hops)  -- a value-add above which a hop is live has connected
+  pub channel : IfSome agent (λ a. IsChannel a talk)
   pub served : last_is_live hops ≡ true → IsAgentSide agent talk
 
 -- A hop that leads to a value-add. What this has not answered is the redirect that it does, or pending above it.
@@ -43,12 +46,43 @@ pub record HopOfAgent {T : Type 0} (hop : Hop) (s : Side T) (a : Side Unit) : Ty
   pub stands : HopStands true false s a (bytes_of hop.down) (unmarked hop.up)
   pub answers : (spoken : List Spoken) × AnswersAll (run_of a) spoken
 
--- each live hop from this end on up to the agent stands so
+-- One whose channel the agent refused is closed above: the end of the stream alone was given there, and of it came what isn't in
+-- flight; so no message came.
+pub record HopRefused {T : Type 0} (hop : Hop) (s : Side T) : Type 0 where
+  pub gave : bytes_of (end_of_stream ∷ []) ≡ arrived s.calls ++ bytes_of hop.down
+  pub silent : flat_map incoming_of (run_of s).past.taken ≡ []
+  pub closes : (is_over (run_of s).end ≡ true) ⊎ (bytes_of hop.down ≡ [] → ⊥)
+
+abbrev pub HopToAgent : {T : Type 0} → Hop → Side T → Option (Side Unit) → Type 0
+HopToAgent hop s None = HopRefused hop s
+HopToAgent hop s (Some a) = HopOfAgent hop s a
+
+-- ---- a hop that was cut
+
+-- the messages that an end took are, in order and with marks, a front of those that the other one queued
+pub record TakesFront {T U : Type 0} (is_marked : Bool) (s : Side T) (other : Side U) : Type 0 where
+  pub spoken : List Spoken
+  pub is_ended : Bool
+  pub formed : AreSpoken spoken
+  pub queued : as_comes is_marked (run_of other).past.queued ≡ queue_of spoken is_ended
+  pub front : IsFront (flat_map incoming_of (run_of s).past.taken) (messages_in spoken)
+
+-- one that was ever used is closed, or its last entry waits in its inbox
+abbrev pub IsLost : {T : Type 0} → Side T → Type 0
+IsLost s = IsUnused (end_of_side s) ⊎ (is_over (run_of s).end ≡ true)
+
+pub record HopIsLost {T U : Type 0} (others_are : Bool) (s : Side T) (other : Side U) : Type 0 where
+  pub first : TakesFront true s other
+  pub second : TakesFront others_are other s
+  pub lost_below : IsLost s
+  pub lost_above : IsLost other
+
+-- each hop from this end on up to the agent stands so; beyond the last value-add that was made none is live
 abbrev pub HopsStand : {T : Type 0} → Side T → List Hop → List Made → Option (Side Unit) → Type 0
 HopsStand s [] made agent = Unit {0}
-HopsStand s (hop ∷ hops) (m ∷ made) agent = (hop.is_live ≡ true → HopOfAdd hop s m) × HopsStand (side_above m) hops made agent
-HopsStand s (hop ∷ []) [] agent = hop.is_live ≡ true → IfSome agent (HopOfAgent hop s)
-HopsStand s (hop ∷ hops) [] agent = Unit {0}
+HopsStand s (hop ∷ hops) (m ∷ made) agent = ((hop.is_live ≡ true → HopOfAdd hop s m) × (hop.is_live ≡ false → HopIsLost true s (side_below m))) × HopsStand (side_above m) hops made agent
+HopsStand s (hop ∷ []) [] agent = (hop.is_live ≡ true → HopToAgent hop s agent) × (hop.is_live ≡ false → IfSome agent (HopIsLost false s))
+HopsStand s (hop ∷ hops) [] agent = IsUnused (end_of_side s) × AllByRecursion IsDead (hop ∷ hops)
 
 abbrev pub EachHopStands : Type 0 → Type 0
 EachHopStands T = (s : Side T) (hops : List Hop) (made : List Made) (agent : Option (Side Unit)) (talk : Talk) → IsWay s hops made agent talk → HopsStand s hops made agent

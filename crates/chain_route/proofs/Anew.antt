@@ -4,7 +4,7 @@ use Rattle.std.specs.List.{AllByRecursion}
 use Rattle.chain_route.specs.Carrying.{IsDead, Made}
 use Rattle.chain_route.specs.declared.hop.Hop.{Hop}
 use Rattle.chain_route.proofs.Each.{EachCarries}
-use Rattle.chain_route.proofs.Flows.{HopHolds, fresh_end, unused_tip}
+use Rattle.chain_route.proofs.Flows.{HopHolds, unused_tip}
 
 -- one of which nothing was called
 abbrev pub fresh_made : List ℕ → Made
@@ -17,8 +17,8 @@ AreDeadBehind zero (hop ∷ []) = ⊥
 AreDeadBehind zero (hop ∷ hops) = AllByRecursion IsDead hops
 AreDeadBehind (suc k) (hop ∷ hops) = AreDeadBehind k hops
 
-dead_carries : (hop : Hop) → IsDead hop → HopHolds hop unused_tip fresh_end
-dead_carries hop dead = subst (λ h. HopHolds h unused_tip fresh_end) (sym dead) (record {
+dead_carries : (hop : Hop) → IsDead hop → HopHolds hop unused_tip unused_tip
+dead_carries hop dead = subst (λ h. HopHolds h unused_tip unused_tip) (sym dead) (record {
   up = λ live. refl;
   up_front = ([], refl);
   down = λ live. refl;
@@ -26,9 +26,10 @@ dead_carries hop dead = subst (λ h. HopHolds h unused_tip fresh_end) (sym dead)
   dead = λ none. refl;
   lasting = λ live. (refl, refl);
   lost = λ none is. absurd cc;
+  lost_above = λ none is. absurd cc;
 })
 
 -- the agent wasn't reached
-pub dead_above : (hop : Hop) (hops : List Hop) → AllByRecursion IsDead (hop ∷ hops) → EachCarries unused_tip (hop ∷ hops) [] fresh_end
+pub dead_above : (hop : Hop) (hops : List Hop) → AllByRecursion IsDead (hop ∷ hops) → EachCarries unused_tip (hop ∷ hops) [] unused_tip
 dead_above hop [] dead = dead_carries hop dead.0
 dead_above hop (h ∷ hops) dead = dead

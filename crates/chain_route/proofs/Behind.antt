@@ -3,12 +3,12 @@ use Rattle.std.proofs.Common.{◌≡◌, ℕ, zero, suc, ◌+◌, ◌-◌, ◌<�
 use Rattle.std.specs.Prelude.{IsSome, slice_get}
 use Rattle.channel_core.specs.Arrivals.{IsFront, bytes_of}
 use Rattle.value_node.specs.Runs.{UpperCall}
-use Rattle.chain_route.specs.Carrying.{End, Made, end_above, end_below, past_of}
+use Rattle.chain_route.specs.Carrying.{Made, end_above, end_below, past_of}
 use Rattle.chain_route.specs.declared.hop.Hop.{Hop}
 use Rattle.chain_route.proofs.Each.{EachCarries, IsUnconnected}
 use Rattle.chain_route.proofs.Adds.{tip_above}
 use Rattle.chain_route.proofs.Anew.{AreDeadBehind}
-use Rattle.chain_route.proofs.Flows.{HopHolds, Tip}
+use Rattle.chain_route.proofs.Flows.{HopHolds, Tip, used}
 use Rattle.chain_route.proofs.Reaching.{Awaits, waits_unheard}
 use Rattle.chain_route.proofs.Unheard.{Laws, unheard_unconnected}
 use Rattle.chain_route.proofs.Ways.{Way, way_above}
@@ -17,7 +17,7 @@ abbrev pub Gave : Made → Made → Type 0
 Gave m other = IsFront (end_below (past_of other)).came (bytes_of (end_above (past_of m)).gave)
 
 -- what came to a value-add is a front of what the one below it gave
-gave_next : (at : ℕ) (lower : Tip) (hops : List Hop) (made : List Made) (agent : End) (m other : Made) → slice_get made at ≡ Some m → slice_get made (suc at) ≡ Some other
+gave_next : (at : ℕ) (lower : Tip) (hops : List Hop) (made : List Made) (agent : Tip) (m other : Made) → slice_get made at ≡ Some m → slice_get made (suc at) ≡ Some other
     → EachCarries lower hops made agent → Gave m other
 gave_next at lower [] made agent m other there next all = absurd all
 gave_next at lower (h ∷ hops) [] agent m other there next all = absurd cc
@@ -26,7 +26,7 @@ gave_next zero lower (h ∷ g ∷ hops) (x ∷ []) agent m other there next all 
 gave_next zero lower (h ∷ g ∷ hops) (x ∷ y ∷ made) agent m other there next all =
     let is_m : x ≡ m = cc in
     let is_other : y ≡ other = cc in
-    let carries : HopHolds g (tip_above x) (end_below (past_of y)) = all.1.0 in
+    let carries : HopHolds g (tip_above x) (used (end_below (past_of y))) = all.1.0 in
     subst (λ a. Gave a other) is_m (subst (λ b. Gave x b) is_other carries.up_front)
 gave_next (suc at) lower (h ∷ g ∷ hops) (x ∷ made) agent m other there next all = gave_next at (tip_above x) (g ∷ hops) made agent m other there next all.1
 
@@ -42,32 +42,32 @@ not_true : (b : Bool) → (b ≡ true → ⊥) → b ≡ false
 not_true true none = absurd (none refl)
 not_true false none = refl
 
-nothing_behind : (at : ℕ) (lower : Tip) (hops : List Hop) (made : List Made) (agent : End) (is_reached : Bool) (m : Made) → slice_get made at ≡ Some m
+nothing_behind : (at : ℕ) (lower : Tip) (hops : List Hop) (made : List Made) (agent : Tip) (m : Made) → slice_get made at ≡ Some m
     → ((other : Made) → slice_get made (suc at) ≡ Some other → IsUnconnected other) → at + 1 < length hops - 1
-    → Way lower hops made agent is_reached → EndsBehind at hops is_reached
-nothing_behind at lower [] made agent is_reached m there next more way = absurd way.all
-nothing_behind at lower (h ∷ []) made agent is_reached m there next more way = absurd (omega (arith, more))
-nothing_behind at lower (h ∷ g ∷ []) made agent is_reached m there next more way = absurd (omega (arith, more))
-nothing_behind at lower (h ∷ g ∷ f ∷ hops) [] agent is_reached m there next more way = absurd cc
-nothing_behind zero lower (h ∷ g ∷ f ∷ hops) (x ∷ []) agent is_reached m there next more way = record {
-  unreached = not_true is_reached (λ is. let size = way.reached is in absurd (omega (arith, size)));
+    → Way lower hops made agent → EndsBehind at hops agent.is_used
+nothing_behind at lower [] made agent m there next more way = absurd way.all
+nothing_behind at lower (h ∷ []) made agent m there next more way = absurd (omega (arith, more))
+nothing_behind at lower (h ∷ g ∷ []) made agent m there next more way = absurd (omega (arith, more))
+nothing_behind at lower (h ∷ g ∷ f ∷ hops) [] agent m there next more way = absurd cc
+nothing_behind zero lower (h ∷ g ∷ f ∷ hops) (x ∷ []) agent m there next more way = record {
+  unreached = not_true agent.is_used (λ is. let size = way.reached is in absurd (omega (arith, size)));
   dead = way.all.1.1;
 }
-nothing_behind zero lower (h ∷ g ∷ f ∷ []) (x ∷ y ∷ []) agent is_reached m there next more way =
-    let none : is_reached ≡ false = not_true is_reached (λ is. some_none y (next y refl) (way.connected.1 is)) in
+nothing_behind zero lower (h ∷ g ∷ f ∷ []) (x ∷ y ∷ []) agent m there next more way =
+    let none : agent.is_used ≡ false = not_true agent.is_used (λ is. some_none y (next y refl) (way.connected.1 is)) in
     record { unreached = none; dead = (way.unreached none, tt) }
-nothing_behind zero lower (h ∷ g ∷ f ∷ e ∷ hops) (x ∷ y ∷ []) agent is_reached m there next more way = record {
-  unreached = not_true is_reached (λ is. some_none y (next y refl) (way.connected.1 is));
+nothing_behind zero lower (h ∷ g ∷ f ∷ e ∷ hops) (x ∷ y ∷ []) agent m there next more way = record {
+  unreached = not_true agent.is_used (λ is. some_none y (next y refl) (way.connected.1 is));
   dead = way.all.1.1;
 }
-nothing_behind zero lower (h ∷ g ∷ f ∷ hops) (x ∷ y ∷ z ∷ made) agent is_reached m there next more way = absurd (some_none y (next y refl) way.connected.1.0)
-nothing_behind (suc at) lower (h ∷ g ∷ f ∷ hops) (x ∷ []) agent is_reached m there next more way = absurd cc
-nothing_behind (suc at) lower (h ∷ g ∷ f ∷ hops) (x ∷ y ∷ made) agent is_reached m there next more way =
-    let rest = nothing_behind at (tip_above x) (g ∷ f ∷ hops) (y ∷ made) agent is_reached m there next (omega (arith, more)) (way_above lower h g (f ∷ hops) x y made agent is_reached way) in
+nothing_behind zero lower (h ∷ g ∷ f ∷ hops) (x ∷ y ∷ z ∷ made) agent m there next more way = absurd (some_none y (next y refl) way.connected.1.0)
+nothing_behind (suc at) lower (h ∷ g ∷ f ∷ hops) (x ∷ []) agent m there next more way = absurd cc
+nothing_behind (suc at) lower (h ∷ g ∷ f ∷ hops) (x ∷ y ∷ made) agent m there next more way =
+    let rest = nothing_behind at (tip_above x) (g ∷ f ∷ hops) (y ∷ made) agent m there next (omega (arith, more)) (way_above lower h g (f ∷ hops) x y made agent way) in
     record { unreached = rest.unreached; dead = rest.dead }
 
-pub ends_behind : Laws → (at : ℕ) (lower : Tip) (hops : List Hop) (made : List Made) (agent : End) (is_reached : Bool) (m : Made) → slice_get made at ≡ Some m → Awaits m
-    → at + 1 < length hops - 1 → Way lower hops made agent is_reached → EndsBehind at hops is_reached
-ends_behind laws at lower hops made agent is_reached m there waits more way =
-    nothing_behind at lower hops made agent is_reached m there
+pub ends_behind : Laws → (at : ℕ) (lower : Tip) (hops : List Hop) (made : List Made) (agent : Tip) (m : Made) → slice_get made at ≡ Some m → Awaits m
+    → at + 1 < length hops - 1 → Way lower hops made agent → EndsBehind at hops agent.is_used
+ends_behind laws at lower hops made agent m there waits more way =
+    nothing_behind at lower hops made agent m there
     (λ other next. unheard_unconnected laws m other (waits_unheard laws.runs m waits) (gave_next at lower hops made agent m other there next way.all)) more way

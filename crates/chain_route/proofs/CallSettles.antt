@@ -6,7 +6,7 @@ use Rattle.value_node.specs.Value.{awaits, turned as value_turned}
 use Rattle.value_node.specs.ValueValue.{ValueValue}
 use Rattle.value_node.specs.declared.states.Side.{Side}
 use Rattle.value_node.specs.declared.states.ValueTurn.TheVariants.{Connect}
-use Rattle.chain_route.specs.Carrying.{Carries, GivesAll, NoneAwaits, end_of, value_of}
+use Rattle.chain_route.specs.Carrying.{Carries, GivesAll, NoneAwaits, value_of}
 use Rattle.chain_route.specs.Hop as hop
 use Rattle.chain_route.specs.Lane.{staying}
 use Rattle.chain_route.specs.Passing.{delivered, pair, parts_came}
@@ -15,7 +15,7 @@ use Rattle.chain_route.specs.RouteValue.{RouteValue}
 use Rattle.chain_route.specs.Runs.{Call, Past, RouteRun, after_call, arrives_down, arrives_up, awaits_of, cuts, delivers, is_waiting, joined_by, joins, reached_past, reaches, sends_down, sends_up, turns}
 use Rattle.chain_route.specs.declared.hop.Hop.{Hop}
 use Rattle.chain_route.proofs.Each.{all_carry}
-use Rattle.chain_route.proofs.Holding.{Holds, client_tip, idle_client, unused_client}
+use Rattle.chain_route.proofs.Holding.{Holds, agent_tip, client_tip, idle_agent, idle_client, unused_client}
 use Rattle.chain_route.proofs.Places.{has_last, last_is}
 use Rattle.chain_route.proofs.Settled.{Settled, delivered_settled, nowhere}
 use Rattle.chain_route.proofs.Settling.{AllSettled, cuts_settled, delivers_settled, hop_settled, joins_settled, reaches_settled, turns_settled}
@@ -111,7 +111,7 @@ pub carries_of : (calls : List Call) (r : RouteRun) → Holds calls r → IsSett
 carries_of calls r h all = record {
   made = h.made;
   adds = h.adds;
-  hops = all_carry (client_tip r.past) r.route.hops h.made (end_of r.past.agent) (idle_client calls r h) (unused_client calls r h) h.way.unconnected h.way.all;
+  hops = all_carry (client_tip r.past) r.route.hops h.made (agent_tip r.past) (idle_client calls r h) (idle_agent calls r h) (unused_client calls r h) h.way.unconnected h.way.all;
   connected = h.way.connected;
   reached = h.way.reached;
   earlier = h.earlier;

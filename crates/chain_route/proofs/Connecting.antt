@@ -6,7 +6,7 @@ use Rattle.value_node.specs.Runs.{called, connects}
 use Rattle.value_node.specs.Value.{connected as value_connected, new_value}
 use Rattle.value_node.specs.ValueValue.{ValueValue}
 use Rattle.value_node.specs.declared.states.Side.TheVariants.{Below, Above}
-use Rattle.chain_route.specs.Carrying.{HaveConnected, Made, end_of, past_of, value_of}
+use Rattle.chain_route.specs.Carrying.{HaveConnected, Made, past_of, value_of}
 use Rattle.chain_route.specs.Hop.{connected as hop_connected}
 use Rattle.chain_route.specs.Route.{add_put, connected, hop_put, joined, last_of, made_at, on_hop, peer_of, with_carried, with_upper}
 use Rattle.chain_route.specs.RouteValue.{RouteValue}
@@ -16,8 +16,7 @@ use Rattle.chain_route.proofs.Each.{EachCarries, last_anew}
 use Rattle.chain_route.proofs.Anew.{AreDeadBehind, fresh_made}
 use Rattle.chain_route.proofs.Behind.{EndsBehind, ends_behind}
 use Rattle.chain_route.proofs.Bytes.{take_mapped}
-use Rattle.chain_route.proofs.Flows.{fresh_end}
-use Rattle.chain_route.proofs.Holding.{Holds, client_tip, with_route}
+use Rattle.chain_route.proofs.Holding.{Holds, agent_tip, client_tip, unreached_agent, with_route}
 use Rattle.chain_route.proofs.Joining.{carried_holds}
 use Rattle.chain_route.proofs.Losses.{loses_same, losses_anew, losses_set, lost_same}
 use Rattle.chain_route.proofs.Moving.{call_value}
@@ -102,9 +101,9 @@ module _ (laws : Laws) (at : ℕ) (calls : List Call) (r : RouteRun) (h : Holds 
       ∙ ap (λ v. slice_set (map value_of front) at v) (sym (call_value connects m))
       ∙ set_mapped value_of at front (anew m)
 
-  way_now : Way (client_tip r.past) begun.hops made_now (end_of r.past.agent) r.past.is_reached
+  way_now : Way (client_tip r.past) begun.hops made_now (agent_tip r.past)
   way_now =
-      let agent : end_of r.past.agent ≡ fresh_end = ap end_of (h.unreached behind.unreached) in
+      let agent = unreached_agent calls r h behind.unreached in
       record {
         all = subst (λ e. EachCarries (client_tip r.past) begun.hops made_now e) (sym agent)
             (turned_anew at peer (client_tip r.past) r.route.hops h.made m (anew m) there behind.dead (below_anew m waits) (above_anew m waits)
@@ -156,6 +155,6 @@ connects_kept laws at calls r h m there waits =
         → Holds calls (with_route (cond {A = Bool × RouteValue} flag (false, with_carried Below (suc at) (joined (suc at) (made_at (suc at) r.route))) (true, r.route)).1 r)
     by_flag true is =
         let less = ltb-true (suc at) (last_of r.route) is in
-        let behind = ends_behind laws at (client_tip r.past) r.route.hops h.made (end_of r.past.agent) r.past.is_reached m there waits (omega (arith, less)) h.way in
+        let behind = ends_behind laws at (client_tip r.past) r.route.hops h.made (agent_tip r.past) m there waits (omega (arith, less)) h.way in
         joined_holds laws at calls r h m there waits behind
     by_flag false is = h

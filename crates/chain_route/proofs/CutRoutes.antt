@@ -1,7 +1,6 @@
 -- The route, when a hop of it is cut and the value-adds at its ends have ended.
-use Rattle.std.proofs.Common.{◌≡◌, ℕ, zero, suc, ◌-◌, ◌==◌, Bool, true, false, cond, List, [], ◌∷◌, Option, Some, None, refl, sym, ap, ◌∙◌, arith}
+use Rattle.std.proofs.Common.{◌≡◌, ℕ, zero, suc, ◌-◌, ◌==◌, false, cond, List, [], ◌∷◌, Option, Some, None, refl, ap, ◌∙◌, arith, eq-eqb, ne_eqb}
 use Rattle.std.specs.Prelude.{slice_get, slice_set}
-use Rattle.std.proofs.lemmas.Bool.{eqb-false}
 use Rattle.value_node.specs.Value.{ended}
 use Rattle.value_node.specs.ValueValue.{ValueValue}
 use Rattle.value_node.specs.declared.states.Side.TheVariants.{Below, Above}
@@ -12,23 +11,9 @@ use Rattle.chain_route.specs.RouteValue.{RouteValue}
 abbrev pub cut_route : ℕ → RouteValue → RouteValue
 cut_route at r = record r { hops = slice_set r.hops at no_hop }
 
-pub add_hops : (change : ValueValue → ValueValue) (at : ℕ) (r : RouteValue) → (on_add change at r).hops ≡ r.hops
-add_hops change at r = by_add (slice_get r.adds at)
-  where
-    by_add : (add : Option ValueValue) → (add_put change at add r).hops ≡ r.hops
-    by_add None = refl
-    by_add (Some v) = refl
+-- a value-add changes
 
-pub below_hops : (at : ℕ) (r : RouteValue) → (ended_below at r).hops ≡ r.hops
-below_hops at r = by_flag (at == 0)
-  where
-    by_flag : (flag : Bool) → (cond flag r (on_add (ended Above) (at - 1) r)).hops ≡ r.hops
-    by_flag true = refl
-    by_flag false = add_hops (ended Above) (at - 1) r
-
--- two value-adds change, the one first or the other
-
-abbrev changed_at : {A : Type 0} → (A → A) → ℕ → List A → List A
+abbrev pub changed_at : {A : Type 0} → (A → A) → ℕ → List A → List A
 changed_at change i [] = []
 changed_at change zero (x ∷ xs) = change x ∷ xs
 changed_at change (suc i) (x ∷ xs) = x ∷ changed_at change i xs
@@ -48,27 +33,21 @@ adds_changed change at r = by_list at r.adds
     by_list zero (x ∷ adds) = refl
     by_list (suc i) (x ∷ adds) = lifted i x adds (changed_at change i adds) (slice_get adds i) (by_list i adds)
 
-changed_apart : {A : Type 0} → (f g : A → A) (i : ℕ) (xs : List A) → changed_at f i (changed_at g (suc i) xs) ≡ changed_at g (suc i) (changed_at f i xs)
-changed_apart f g i [] = refl
-changed_apart f g zero (x ∷ xs) = refl
-changed_apart f g (suc i) (x ∷ xs) = ap (λ ys. x ∷ ys) (changed_apart f g i xs)
+-- both that stand at the ends of the hop
 
-pub ends_apart : (at : ℕ) (r : RouteValue) → ended_below at (on_add (ended Below) at r) ≡ on_add (ended Below) at (ended_below at r)
-ends_apart at r = by_flag (at == 0) refl
-  where
-    to : List ValueValue → RouteValue
-    to adds = record r { adds = adds }
+abbrev pub ended_at : ℕ → List ValueValue → List ValueValue
+ended_at zero adds = changed_at (ended Below) zero adds
+ended_at (suc at) adds = changed_at (ended Above) at (changed_at (ended Below) (suc at) adds)
 
-    by_flag : (flag : Bool) → (at == 0) ≡ flag
-        → cond flag (on_add (ended Below) at r) (on_add (ended Above) (at - 1) (on_add (ended Below) at r)) ≡ on_add (ended Below) at (cond flag r (on_add (ended Above) (at - 1) r))
-    by_flag true is = refl
-    by_flag false is =
-        let some : at ≡ 0 → ⊥ = eqb-false at 0 is in
-        let same : at ≡ suc (at - 1) = omega (arith, some) in
-        ap (on_add (ended Above) (at - 1)) (adds_changed (ended Below) at r)
-        ∙ adds_changed (ended Above) (at - 1) (to (changed_at (ended Below) at r.adds))
-        ∙ ap (λ k. to (changed_at (ended Above) (at - 1) (changed_at (ended Below) k r.adds))) same
-        ∙ ap to (changed_apart (ended Above) (ended Below) (at - 1) r.adds)
-        ∙ ap (λ k. to (changed_at (ended Below) k (changed_at (ended Above) (at - 1) r.adds))) (sym same)
-        ∙ sym (adds_changed (ended Below) at (to (changed_at (ended Above) (at - 1) r.adds)))
-        ∙ sym (ap (on_add (ended Below) at) (adds_changed (ended Above) (at - 1) r))
+pub both_ended : (at : ℕ) (r : RouteValue) → ended_below at (on_add (ended Below) at r) ≡ record r { adds = ended_at at r.adds }
+both_ended zero r =
+    let next = on_add (ended Below) zero r in
+    ap (λ flag. cond flag next (on_add (ended Above) (zero - 1) next)) (eq-eqb zero 0 refl) ∙ adds_changed (ended Below) zero r
+both_ended (suc at) r =
+    let next = on_add (ended Below) (suc at) r in
+    let some : (suc at == 0) ≡ false = ne_eqb (suc at) 0 (λ is. absurd (omega (arith, is))) in
+    let less : suc at - 1 ≡ at = omega arith in
+    ap (λ flag. cond flag next (on_add (ended Above) (suc at - 1) next)) some
+    ∙ ap (λ k. on_add (ended Above) k next) less
+    ∙ ap (on_add (ended Above) at) (adds_changed (ended Below) (suc at) r)
+    ∙ adds_changed (ended Above) at (record r { adds = changed_at (ended Below) (suc at) r.adds })

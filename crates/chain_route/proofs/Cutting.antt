@@ -1,8 +1,8 @@
 -- A call of a value-add that neither brings bytes nor gives any out, and a hop that is cut: a way carries on.
-use Rattle.std.proofs.Common.{◌≡◌, ℕ, zero, suc, ◌+◌, ◌-◌, ◌==◌, ◌&&◌, Bool, true, false, cond, List, [], ◌∷◌, ◌++◌, length, map, Option, Some, None, refl, sym, ap, ◌∙◌, subst, arith}
+use Rattle.std.proofs.Common.{◌≡◌, ℕ, zero, suc, ◌+◌, ◌-◌, ◌==◌, ◌&&◌, Bool, true, false, cond, List, [], ◌∷◌, ◌++◌, length, map, Option, Some, None, refl, sym, ap, ◌∙◌, subst, arith, add-one, eq-eqb, ne_eqb}
 use Rattle.std.specs.Prelude.{IsSome, slice_get, slice_set}
 use Rattle.std.specs.List.{AllByRecursion, list_any}
-use Rattle.std.proofs.lemmas.Bool.{eqb-false, eqb-true}
+use Rattle.std.proofs.lemmas.Bool.{eqb-true}
 use Rattle.channel_core.specs.Beginning.{new_end}
 use Rattle.value_node.specs.Passing.{Upper}
 use Rattle.value_node.specs.RelayLaws.{AfterAllCalls, EndsAreRuns}
@@ -10,52 +10,61 @@ use Rattle.value_node.specs.Runs.{Call, bytes_end, called, upper_by, upper_from}
 use Rattle.value_node.specs.Value.{ended, value_services}
 use Rattle.value_node.specs.ValueValue.{ValueValue}
 use Rattle.value_node.specs.declared.relay.Relay.{Relay}
+use Rattle.value_node.specs.declared.states.Side.{Side}
 use Rattle.value_node.specs.declared.states.Side.TheVariants.{Below, Above}
-use Rattle.chain_route.specs.Carrying.{End, IsDead, LosesByCut, Made, end_below, end_of, is_cut_of, past_of, value_of}
+use Rattle.chain_route.specs.Carrying.{AllLoseByCuts, HaveConnected, IsDead, LosesByCut, Made, end_below, end_of, is_cut_of, past_of, value_of}
 use Rattle.chain_route.specs.Hop as hop
 use Rattle.chain_route.specs.Hop.{no_hop}
-use Rattle.chain_route.specs.Passing.{pair}
-use Rattle.chain_route.specs.Route.{add_put, cut, ended_below, hop_put, last_of, live_of, on_add, with_pair}
+use Rattle.chain_route.specs.Route.{cut, ended_below, hop_put, last_of, live_of, on_add}
 use Rattle.chain_route.specs.RouteValue.{RouteValue}
-use Rattle.chain_route.specs.Runs.{Call as RouteCall, Past, RouteRun, cut_past, loses_if, with_agent, with_client}
+use Rattle.chain_route.specs.Runs.{Call as RouteCall, Past, RouteRun, cut_past, loses_if, no_talk}
 use Rattle.chain_route.specs.declared.hop.Hop.{Hop}
 use Rattle.chain_route.proofs.Adds.{Adds, above_added, above_same, below_added, below_same, end_of_calls, lower_added, lower_calls, run_of, still_connected, still_unconnected, tip_above, upper_end, with_call}
-use Rattle.chain_route.proofs.Connecting.{HasAt, mapped_at}
-use Rattle.chain_route.proofs.CutRoutes.{add_hops, below_hops, cut_route, ends_apart}
-use Rattle.chain_route.proofs.Each.{EachCarries, last_kept}
+use Rattle.chain_route.proofs.Connecting.{HasAt}
+use Rattle.chain_route.proofs.CutRoutes.{both_ended, changed_at, cut_route, ended_at}
+use Rattle.chain_route.proofs.Each.{EachCarries, LastUnconnected, last_kept}
 use Rattle.chain_route.proofs.EndCalls.{AreIdle, lost_end}
-use Rattle.chain_route.proofs.Ended.{agent_loses, first_dead, first_holds}
-use Rattle.chain_route.proofs.Flows.{Tip, cut_carries, grown, losing, lost_above, used}
-use Rattle.chain_route.proofs.Holding.{Holds, client_tip, moved_holds, with_route}
+use Rattle.chain_route.proofs.Flows.{HopHolds, Tip, cut_carries, grown, losing, used}
+use Rattle.chain_route.proofs.Holding.{Holds, agent_tip, client_tip}
 use Rattle.chain_route.proofs.Idle.{IsQuiet}
-use Rattle.chain_route.proofs.Lent.{set_same}
 use Rattle.chain_route.proofs.Losses.{loses_same, losses_set, lost_same}
-use Rattle.chain_route.proofs.Moving.{Moves, call_value, has_upper, moved_by}
+use Rattle.chain_route.proofs.Moving.{call_value, has_upper}
 use Rattle.chain_route.proofs.Places.{last_is, same_ends}
-use Rattle.chain_route.proofs.Ways.{IsMapped, LastDead, Way, connected_set, get_mapped, get_set, is_open, last_dead, not_live, set_length, set_mapped}
+use Rattle.chain_route.proofs.Settling.{some_within}
+use Rattle.chain_route.proofs.Ways.{LastDead, Way, above_live, all_dead, connected_set, last_dead, last_set, made_size, not_live, set_length, set_mapped}
 
 abbrev pub with_add : ℕ → ValueValue → RouteRun → RouteRun
 with_add at v r = record r { route = record r.route { adds = slice_set r.route.adds at v } }
 
 -- ---- What stands at the ends of a hop that is live
 
+dead_in : (i : ℕ) (hops : List Hop) (x : Hop) → slice_get hops i ≡ Some x → AllByRecursion IsDead hops → IsDead x
+dead_in i [] x there dead = absurd cc
+dead_in zero (h ∷ hops) x there dead = let is : h ≡ x = cc in subst IsDead is dead.0
+dead_in (suc i) (h ∷ hops) x there dead = dead_in i hops x there dead.1
+
 -- the value-add below it was made
-made_below : (at : ℕ) (lower : Tip) (hops : List Hop) (made : List Made) (agent : End) (x : Hop) → slice_get hops (suc at) ≡ Some x → x.is_live ≡ true
+made_below : (at : ℕ) (lower : Tip) (hops : List Hop) (made : List Made) (agent : Tip) (x : Hop) → slice_get hops (suc at) ≡ Some x → x.is_live ≡ true
     → EachCarries lower hops made agent → HasAt made at
 made_below at lower [] made agent x there live all = absurd all
 made_below at lower (h ∷ []) made agent x there live all = absurd cc
-made_below zero lower (h ∷ g ∷ hops) [] agent x there live all = let is : g ≡ x = cc in absurd (not_live x live (subst IsDead is all.1.0))
-made_below (suc at) lower (h ∷ g ∷ hops) [] agent x there live all = absurd (not_live x live (dead_in at hops x there all.1.1))
-  where
-    dead_in : (i : ℕ) (hs : List Hop) (y : Hop) → slice_get hs i ≡ Some y → AllByRecursion IsDead hs → IsDead y
-    dead_in i [] y is dead = absurd cc
-    dead_in zero (z ∷ hs) y is dead = let same : z ≡ y = cc in subst IsDead same dead.0
-    dead_in (suc i) (z ∷ hs) y is dead = dead_in i hs y is dead.1
+made_below at lower (h ∷ g ∷ hops) [] agent x there live all = absurd (not_live x live (dead_in (suc at) (h ∷ g ∷ hops) x there all))
 made_below zero lower (h ∷ g ∷ hops) (m ∷ made) agent x there live all = record { x = m; there = refl }
 made_below (suc at) lower (h ∷ g ∷ hops) (m ∷ made) agent x there live all =
     let rest = made_below at (tip_above m) (g ∷ hops) made agent x there live all.1 in record { x = rest.x; there = rest.there }
 
--- where it is the last one, the agent was reached
+-- where no value-add above it was made it is the last one
+none_above : (at : ℕ) (lower : Tip) (hops : List Hop) (made : List Made) (agent : Tip) (x : Hop) → slice_get hops at ≡ Some x → x.is_live ≡ true → slice_get made at ≡ None
+    → EachCarries lower hops made agent → length hops ≡ at + 1
+none_above at lower [] made agent x there live none all = absurd all
+none_above at lower (h ∷ g ∷ hops) [] agent x there live none all = absurd (not_live x live (dead_in at (h ∷ g ∷ hops) x there all))
+none_above zero lower (h ∷ []) [] agent x there live none all = refl
+none_above zero lower (h ∷ hops) (m ∷ made) agent x there live none all = absurd cc
+none_above (suc at) lower (h ∷ []) [] agent x there live none all = absurd cc
+none_above (suc at) lower (h ∷ hops) (m ∷ made) agent x there live none all =
+    let rest = none_above at (tip_above m) hops made agent x there live none all.1 in omega (arith, rest)
+
+-- and then the agent was reached
 reached_live : {calls : List RouteCall} (at : ℕ) (hops : List Hop) (x : Hop) → at ≡ length hops - 1 → slice_get hops at ≡ Some x → x.is_live ≡ true
     → (r : RouteRun) (h : Holds calls r) → r.route.hops ≡ hops → r.past.is_reached ≡ true
 reached_live at [] x last there live r h is = absurd cc
@@ -65,6 +74,80 @@ reached_live at (y ∷ hops) x last there live r h is = by_flag r.past.is_reache
     by_flag true reached = reached
     by_flag false unreached =
         absurd (not_live x live (last_dead (y ∷ hops) x (sym (ap (slice_get (y ∷ hops)) (last ∙ last_is y hops)) ∙ there) (subst LastDead is (h.way.unreached unreached))))
+
+-- the client has connected
+joined_live : {calls : List RouteCall} (at : ℕ) (x : Hop) (r : RouteRun) (h : Holds calls r) → slice_get r.route.hops at ≡ Some x → x.is_live ≡ true → r.past.is_joined ≡ true
+joined_live at x r h there live = by_flag r.past.is_joined refl
+  where
+    by_flag : (flag : Bool) → r.past.is_joined ≡ flag → r.past.is_joined ≡ true
+    by_flag true is = is
+    by_flag false none =
+        let way : Way (client_tip r.past) r.route.hops [] (agent_tip r.past) = subst (λ ms. Way (client_tip r.past) r.route.hops ms (agent_tip r.past)) (h.unmade none) h.way in
+        absurd (not_live x live (dead_in at r.route.hops x there (all_dead (client_tip r.past) r.route.hops (agent_tip r.past) (h.unstarted none) way)))
+
+-- ---- What was made, where the bytes end at both ends of a hop
+
+abbrev ends_at : Side → ℕ → List Made → List Made
+ends_at side at made = changed_at (with_call (bytes_end side)) at made
+
+abbrev cut_made : ℕ → List Made → List Made
+cut_made zero made = ends_at Below zero made
+cut_made (suc at) made = ends_at Above at (ends_at Below (suc at) made)
+
+ends_values : (side : Side) (at : ℕ) (made : List Made) → changed_at (ended side) at (map value_of made) ≡ map value_of (ends_at side at made)
+ends_values side at [] = refl
+ends_values side zero (m ∷ made) = ap (λ v. v ∷ map value_of made) (sym (call_value (bytes_end side) m))
+ends_values side (suc at) (m ∷ made) = ap (λ vs. value_of m ∷ vs) (ends_values side at made)
+
+cut_values : (at : ℕ) (made : List Made) → ended_at at (map value_of made) ≡ map value_of (cut_made at made)
+cut_values zero made = ends_values Below zero made
+cut_values (suc at) made = ap (changed_at (ended Above) at) (ends_values Below (suc at) made) ∙ ends_values Above at (ends_at Below (suc at) made)
+
+none_ends : (side : Side) (at : ℕ) (made : List Made) → slice_get made at ≡ None → ends_at side at made ≡ made
+none_ends side at [] none = refl
+none_ends side zero (m ∷ made) none = absurd cc
+none_ends side (suc at) (m ∷ made) none = ap (λ ms. m ∷ ms) (none_ends side at made none)
+
+one_ends : (side : Side) (at : ℕ) (made : List Made) (m : Made) → slice_get made at ≡ Some m → ends_at side at made ≡ slice_set made at (with_call (bytes_end side) m)
+one_ends side at [] m there = absurd cc
+one_ends side zero (x ∷ made) m there = let is : x ≡ m = cc in ap (λ y. with_call (bytes_end side) y ∷ made) is
+one_ends side (suc at) (x ∷ made) m there = ap (λ ms. x ∷ ms) (one_ends side at made m there)
+
+-- ---- Its ends, of which the one above is the agent's where no value-add was made there
+
+abbrev cut_below : ℕ → Tip → Tip
+cut_below zero lower = grown losing lower
+cut_below (suc at) lower = lower
+
+abbrev cut_above : Option Made → Tip → Tip
+cut_above None agent = grown losing agent
+cut_above (Some m) agent = agent
+
+client_cut : (at : ℕ) (p : Past) → record { end = end_of (loses_if (at == 0) p.client); is_used = p.is_joined } ≡ cut_below at (client_tip p)
+client_cut at p = by_place at
+  where
+    client : Bool → Tip
+    client flag = record { end = end_of (loses_if flag p.client); is_used = p.is_joined }
+
+    by_place : (i : ℕ) → client (i == 0) ≡ cut_below i (client_tip p)
+    by_place zero = ap client (eq-eqb zero 0 refl)
+    by_place (suc i) = ap client (ne_eqb (suc i) 0 (λ is. absurd (omega (arith, is))))
+
+agent_cut : {calls : List RouteCall} (at : ℕ) (x : Hop) (r : RouteRun) (h : Holds calls r) → slice_get r.route.hops at ≡ Some x → x.is_live ≡ true
+    → record { end = end_of (loses_if (at == last_of r.route) r.past.agent); is_used = r.past.is_reached } ≡ cut_above (slice_get h.made at) (agent_tip r.past)
+agent_cut at x r h there live = by_made (slice_get h.made at) refl
+  where
+    agent : Bool → Tip
+    agent flag = record { end = end_of (loses_if flag r.past.agent); is_used = r.past.is_reached }
+
+    by_made : (m : Option Made) → slice_get h.made at ≡ m → agent (at == last_of r.route) ≡ cut_above m (agent_tip r.past)
+    by_made None none =
+        let size = none_above at (client_tip r.past) r.route.hops h.made (agent_tip r.past) x there live none h.way.all in
+        ap agent (eq-eqb at (last_of r.route) (omega (arith, size)))
+    by_made (Some m) is =
+        let most = made_size (client_tip r.past) r.route.hops h.made (agent_tip r.past) h.way.all in
+        let least = some_within at h.made m is in
+        ap agent (ne_eqb at (last_of r.route) (λ last. absurd (omega (arith, last, most, least))))
 
 module _ (runs : AfterAllCalls EndsAreRuns) (calls : List RouteCall) where
   -- ---- A quiet call of a value-add
@@ -78,7 +161,7 @@ module _ (runs : AfterAllCalls EndsAreRuns) (calls : List RouteCall) where
         adds = ap (λ vs. slice_set vs at (called call (value_of m))) h.adds
             ∙ ap (λ v. slice_set (map value_of h.made) at v) (sym (call_value call m)) ∙ set_mapped value_of at h.made next;
         way = record {
-          all = same_ends at (client_tip r.past) r.route.hops h.made (end_of r.past.agent) m next there (below_same runs call m adds quiet.below) (above_same runs call m adds quiet.above) h.way.all;
+          all = same_ends at (client_tip r.past) r.route.hops h.made (agent_tip r.past) m next there (below_same runs call m adds quiet.below) (above_same runs call m adds quiet.above) h.way.all;
           connected = connected_set at h.made r.past.is_reached m next there (still_connected runs call m adds) h.way.connected;
           reached = λ is. h.way.reached is ∙ ap (λ n. n + 1) (sym (set_length at h.made next));
           unreached = h.way.unreached;
@@ -101,150 +184,141 @@ module _ (runs : AfterAllCalls EndsAreRuns) (calls : List RouteCall) where
   idle_above v None = tt
   idle_above v (Some e) = tt
 
-  -- above it, with the hop that is cut there
-  above_ends : (m : Made) (hop : Hop) → IsSome (past_of m).connection → Moves Above m (with_call (bytes_end Above) m) hop no_hop
-  above_ends m hop some =
-      let next = with_call (bytes_end Above) m in
+  -- above it, where it has connected
+  above_ends : (m : Made) → IsSome (past_of m).connection → tip_above (with_call (bytes_end Above) m) ≡ grown losing (tip_above m)
+  above_ends m some =
       let has = has_upper runs m some in
-      let lost : tip_above next ≡ grown losing (tip_above m) =
       above_added runs (bytes_end Above) m has.calls has.connection refl
       ∙ ap (λ u. used (upper_end (has.calls ++ upper_from (bytes_end Above) (value_of m).relay u))) has.upper
       ∙ ap used (lost_end (new_end value_services None) has.calls)
-      ∙ ap (grown losing) (sym (end_of_calls (past_of m) has.calls has.connection)) in
-      record {
-        moved = moved_by Above m next hop no_hop losing lost (λ own other c. cut_carries hop own other.end c) (λ d. refl);
-        rests = below_same runs (bytes_end Above) m refl tt;
-        connected = still_connected runs (bytes_end Above) m refl;
-        unconnected = still_unconnected runs (bytes_end Above) m refl;
-      }
+      ∙ ap (grown losing) (sym (end_of_calls (past_of m) has.calls has.connection))
 
-  -- below it, where the hop isn't live any more
-  below_ends : (m : Made) (hop : Hop) → IsDead hop → Moves Below m (with_call (bytes_end Below) m) hop hop
-  below_ends m hop dead =
-      let next = with_call (bytes_end Below) m in
-      let v = (value_of m).relay in
-      let lost : used (end_below (past_of next)) ≡ grown losing (used (end_below (past_of m))) =
-      ap used (below_added runs (bytes_end Below) m refl ∙ lost_end (new_end value_services None) (lower_calls (past_of m))) in
-      record {
-        moved = moved_by Below m next hop hop losing lost (λ own other c. lost_above hop other own.end dead c) (λ d. d);
-        rests = above_same runs (bytes_end Below) m refl (idle_above v v.upper);
-        connected = still_connected runs (bytes_end Below) m refl;
-        unconnected = still_unconnected runs (bytes_end Below) m refl;
-      }
+  -- below it
+  below_ends : (m : Made) → end_below (past_of (with_call (bytes_end Below) m)) ≡ losing (end_below (past_of m))
+  below_ends m = below_added runs (bytes_end Below) m refl ∙ lost_end (new_end value_services None) (lower_calls (past_of m))
 
-  -- ---- A hop that is live is cut, and lost to the end below it
+  -- ---- A hop that is live is cut, and lost to both its ends
 
-  cut_first : (r : RouteRun) (x : Hop) → slice_get r.route.hops 0 ≡ Some x → x.is_live ≡ true → Holds calls r
-      → Holds calls (record { route = cut_route 0 r.route; past = with_client (loses_if true r.past.client) r.past })
-  cut_first r x there live h = by_hops r.route.hops r.route.adds r.past there h
+  -- the first one
+  first_cut : (lower : Tip) (x : Hop) (hops : List Hop) (made : List Made) (agent : Tip) → x.is_live ≡ true → EachCarries lower (x ∷ hops) made agent
+      → EachCarries (grown losing lower) (no_hop ∷ hops) (ends_at Below zero made) (cut_above (slice_get made zero) agent)
+  first_cut lower x hops (m ∷ made) agent live all =
+      let v = (value_of m).relay in (
+        subst (λ e. HopHolds no_hop (grown losing lower) (used e)) (sym (below_ends m)) (cut_carries x lower (used (end_below (past_of m))) all.0),
+        subst (λ t. EachCarries t hops made agent) (sym (above_same runs (bytes_end Below) m refl (idle_above v v.upper))) all.1,
+      )
+  first_cut lower x [] [] agent live all = cut_carries x lower agent all
+  first_cut lower x (h ∷ hops) [] agent live all = absurd (not_live x live all.0)
+
+  -- one above a value-add
+  next_cut : (at : ℕ) (lower : Tip) (hops : List Hop) (made : List Made) (agent : Tip) (m : Made) (x : Hop) → slice_get made at ≡ Some m → slice_get hops (suc at) ≡ Some x → x.is_live ≡ true
+      → IsSome (past_of m).connection → EachCarries lower hops made agent
+      → EachCarries lower (slice_set hops (suc at) no_hop) (cut_made (suc at) made) (cut_above (slice_get made (suc at)) agent)
+  next_cut at lower [] made agent m x there hop_is live some all = absurd all
+  next_cut at lower (h ∷ hops) [] agent m x there hop_is live some all = absurd cc
+  next_cut at lower (h ∷ []) (y ∷ made) agent m x there hop_is live some all = absurd all.1
+  next_cut zero lower (h ∷ g ∷ hops) (y ∷ made) agent m x there hop_is live some all =
+      let is_m : m ≡ y = cc in
+      let is_hop : g ≡ x = cc in
+      let connected = subst (λ z. IsSome (past_of z).connection) is_m some in (
+        subst (λ e. HopHolds h lower (used e)) (sym (below_same runs (bytes_end Above) y refl tt)) all.0,
+        subst (λ t. EachCarries t (no_hop ∷ hops) (ends_at Below zero made) (cut_above (slice_get made zero) agent)) (sym (above_ends y connected))
+            (first_cut (tip_above y) g hops made agent (ap (λ z. z.is_live) is_hop ∙ live) all.1),
+      )
+  next_cut (suc at) lower (h ∷ g ∷ hops) (y ∷ made) agent m x there hop_is live some all = (all.0, next_cut at (tip_above y) (g ∷ hops) made agent m x there hop_is live some all.1)
+
+  each_cut : (at : ℕ) (lower : Tip) (hops : List Hop) (made : List Made) (agent : Tip) (x : Hop) → slice_get hops at ≡ Some x → x.is_live ≡ true → Way lower hops made agent
+      → EachCarries (cut_below at lower) (slice_set hops at no_hop) (cut_made at made) (cut_above (slice_get made at) agent)
+  each_cut at lower [] made agent x there live way = absurd way.all
+  each_cut zero lower (h ∷ hops) made agent x there live way = let is : h ≡ x = cc in first_cut lower h hops made agent (ap (λ z. z.is_live) is ∙ live) way.all
+  each_cut (suc at) lower (h ∷ hops) made agent x there live way =
+      let m = made_below at lower (h ∷ hops) made agent x there live way.all in
+      next_cut at lower (h ∷ hops) made agent m.x x m.there there live (above_live at lower (h ∷ hops) made agent m.x x m.there there live way) way.all
+
+  -- ---- What else holds of the value-adds that were made
+
+  record Keeps (is_reached : Bool) (made next : List Made) : Type 0 where
+    size : length next ≡ length made
+    connected : HaveConnected made is_reached → HaveConnected next is_reached
+    unconnected : LastUnconnected made → LastUnconnected next
+    losses : AllLoseByCuts calls 0 made → AllLoseByCuts calls 0 next
+
+  ends_keep : (is_reached : Bool) (side : Side) (at : ℕ) (made : List Made) → ((m : Made) → LosesByCut calls at m → LosesByCut calls at (with_call (bytes_end side) m)) → Keeps is_reached made (ends_at side at made)
+  ends_keep is_reached side at made loses = by_made (slice_get made at) refl
     where
-      dead_first : (y : Hop) (hops : List Hop) (adds : List ValueValue) (p : Past) → p.is_joined ≡ false → Holds calls (record { route = record { hops = y ∷ hops; adds = adds }; past = p }) → IsDead y
-      dead_first y hops adds p none k =
-          first_dead (client_tip p) y hops (end_of p.agent) p.is_reached (k.unstarted none)
-          (subst (λ ms. Way (client_tip p) (y ∷ hops) ms (end_of p.agent) p.is_reached) (k.unmade none) k.way)
+      by_made : (m : Option Made) → slice_get made at ≡ m → Keeps is_reached made (ends_at side at made)
+      by_made None none = subst (Keeps is_reached made) (sym (none_ends side at made none)) (record { size = refl; connected = λ have. have; unconnected = λ last. last; losses = λ all. all })
+      by_made (Some m) is =
+          let next = with_call (bytes_end side) m in
+          subst (Keeps is_reached made) (sym (one_ends side at made m is)) (record {
+            size = set_length at made next;
+            connected = connected_set at made is_reached m next is (still_connected runs (bytes_end side) m refl);
+            unconnected = last_kept at made m next is (still_unconnected runs (bytes_end side) m refl);
+            losses = losses_set calls at made m next is (loses m);
+          })
 
-      by_hops : (hops : List Hop) (adds : List ValueValue) (p : Past) → slice_get hops 0 ≡ Some x → Holds calls (record { route = record { hops = hops; adds = adds }; past = p })
-          → Holds calls (record { route = cut_route 0 (record { hops = hops; adds = adds }); past = with_client (loses_if true p.client) p })
-      by_hops [] adds p is k = absurd k.way.all
-      by_hops (y ∷ hops) adds p is k =
-          let same : y ≡ x = cc in
-          let up : y.is_live ≡ true = ap (λ z. z.is_live) same ∙ live in
-          first_holds calls hop.cut (λ z d. refl) (loses_if true p.client) (y ∷ hops) adds p (λ z upper at c. cut_carries z (client_tip p) upper c)
-          (λ none. absurd (not_live y up (dead_first y hops adds p none k))) k
-
-  cut_next : (at : ℕ) (r : RouteRun) (x : Hop) → slice_get r.route.hops (at + 1) ≡ Some x → x.is_live ≡ true → list_any (is_cut_of (at + 1)) calls ≡ true → Holds calls r
-      → Holds calls (with_route (on_add (ended Above) at (cut_route (at + 1) r.route)) r)
-  cut_next at r x there live cuts h =
-      let below = made_below at (client_tip r.past) r.route.hops h.made (end_of r.past.agent) x (subst (λ k. slice_get r.route.hops k ≡ Some x) (omega arith) there) live h.way.all in
-      let m = below.x in
-      let next = with_call (bytes_end Above) m in
-      let some = is_open Above at (client_tip r.past) r.route.hops h.made (end_of r.past.agent) r.past.is_reached m x below.there there h.way live in
-      let holds = moved_holds Above at calls r h m next x no_hop below.there there (above_ends m x some) (λ loses is. cuts) in
-      let route = cut_route (at + 1) r.route in
-      let add_is : slice_get r.route.adds at ≡ Some (value_of m) = ap (λ vs. slice_get vs at) h.adds ∙ mapped_at at h.made m below.there in
-      let same : with_pair Above at (pair (value_of next) no_hop) r.route ≡ on_add (ended Above) at route =
-      ap (λ v. with_pair Above at (pair v no_hop) r.route) (call_value (bytes_end Above) m) ∙ sym (ap (λ o. add_put (ended Above) at o route) add_is) in
-      subst (λ to. Holds calls (with_route to r)) same holds
-
-  -- ---- It is lost to the value-add above it
-
-  lower_ends : (at : ℕ) (r : RouteRun) (x : Hop) → slice_get r.route.hops at ≡ Some x → IsDead x → Holds calls r → Holds calls (with_route (on_add (ended Below) at r.route) r)
-  lower_ends at r x there dead h = by_add (slice_get r.route.adds at) refl
+  cut_keeps : (is_reached : Bool) (at : ℕ) (made : List Made) → list_any (is_cut_of at) calls ≡ true → Keeps is_reached made (cut_made at made)
+  cut_keeps is_reached at made cuts = by_place at cuts
     where
-      by_made : (v : ValueValue) → IsMapped value_of h.made at v → Holds calls (with_route (add_put (ended Below) at (Some v) r.route) r)
-      by_made v m =
-          let next = with_call (bytes_end Below) m.from in
-          let holds = moved_holds Below at calls r h m.from next x x m.there there (below_ends m.from x dead)
-          (loses_same calls at m.from next (lost_same (bytes_end Below) m.from refl)) in
-          let same : with_pair Below at (pair (value_of next) x) r.route ≡ add_put (ended Below) at (Some v) r.route =
-          ap (λ hs. record { hops = hs; adds = slice_set r.route.adds at (value_of next) }) (set_same at r.route.hops x there)
-          ∙ ap (λ w. record r.route { adds = slice_set r.route.adds at w }) (call_value (bytes_end Below) m.from ∙ ap (ended Below) m.value) in
-          subst (λ to. Holds calls (with_route to r)) same holds
+      lower : (i : ℕ) → Keeps is_reached made (ends_at Below i made)
+      lower i = ends_keep is_reached Below i made (λ m loses. loses_same calls i m (with_call (bytes_end Below) m) (lost_same (bytes_end Below) m refl) loses)
 
-      by_add : (add : Option ValueValue) → slice_get r.route.adds at ≡ add → Holds calls (with_route (add_put (ended Below) at add r.route) r)
-      by_add None is = h
-      by_add (Some v) is = by_made v (get_mapped value_of at h.made v (sym (ap (λ vs. slice_get vs at) h.adds) ∙ is))
+      by_place : (i : ℕ) → list_any (is_cut_of i) calls ≡ true → Keeps is_reached made (cut_made i made)
+      by_place zero so = lower zero
+      by_place (suc i) so =
+          let first = lower (suc i) in
+          let then = ends_keep is_reached Above i (ends_at Below (suc i) made) (λ m loses lost. subst (λ k. list_any (is_cut_of k) calls ≡ true) (sym (add-one i)) so) in
+          record {
+            size = then.size ∙ first.size;
+            connected = λ have. then.connected (first.connected have);
+            unconnected = λ last. then.unconnected (first.unconnected last);
+            losses = λ all. then.losses (first.losses all);
+          }
 
   -- ---- All of it
-
-  -- the end below it
-  cut_below : (at : ℕ) (r : RouteRun) (x : Hop) → slice_get r.route.hops at ≡ Some x → x.is_live ≡ true → list_any (is_cut_of at) calls ≡ true → Holds calls r
-      → Holds calls (record { route = ended_below at (cut_route at r.route); past = with_client (loses_if (at == 0) r.past.client) r.past })
-  cut_below at r x there live cuts h = by_flag (at == 0) refl
-    where
-      by_flag : (flag : Bool) → (at == 0) ≡ flag
-          → Holds calls (record { route = cond flag (cut_route at r.route) (on_add (ended Above) (at - 1) (cut_route at r.route)); past = with_client (loses_if flag r.past.client) r.past })
-      by_flag true is =
-          let none : 0 ≡ at = sym (eqb-true at 0 is) in
-          subst (λ k. Holds calls (record { route = cut_route k r.route; past = with_client (loses_if true r.past.client) r.past })) none
-          (cut_first r x (subst (λ k. slice_get r.route.hops k ≡ Some x) (sym none) there) live h)
-      by_flag false is =
-          let some : at ≡ 0 → ⊥ = eqb-false at 0 is in
-          let same : at ≡ (at - 1) + 1 = omega (arith, some) in
-          subst (λ k. Holds calls (with_route (on_add (ended Above) (at - 1) (cut_route k r.route)) r)) (sym same)
-          (cut_next (at - 1) r x (subst (λ k. slice_get r.route.hops k ≡ Some x) same there) live (subst (λ k. list_any (is_cut_of k) calls ≡ true) same cuts) h)
-
-  -- the end above it
-  cut_above : (at : ℕ) (r : RouteRun) (x : Hop) → slice_get r.route.hops at ≡ Some x → x.is_live ≡ true → list_any (is_cut_of at) calls ≡ true → Holds calls r
-      → Holds calls (record { route = ended_below at (on_add (ended Below) at (cut_route at r.route)); past = with_client (loses_if (at == 0) r.past.client) r.past })
-  cut_above at r x there live cuts h =
-      let p = with_client (loses_if (at == 0) r.past.client) r.past in
-      let r1 : RouteRun = record { route = ended_below at (cut_route at r.route); past = p } in
-      let hops_are : r1.route.hops ≡ slice_set r.route.hops at no_hop = below_hops at (cut_route at r.route) in
-      subst (λ route. Holds calls (record { route = route; past = p })) (sym (ends_apart at (cut_route at r.route)))
-      (lower_ends at r1 no_hop (ap (λ hs. slice_get hs at) hops_are ∙ get_set at r.route.hops no_hop x there) refl (cut_below at r x there live cuts h))
 
   live_cut : (at : ℕ) (r : RouteRun) (x : Hop) → slice_get r.route.hops at ≡ Some x → x.is_live ≡ true → list_any (is_cut_of at) calls ≡ true → Holds calls r
       → Holds calls (record {
         route = ended_below at (on_add (ended Below) at (cut_route at r.route));
         past = record r.past { client = loses_if (at == 0) r.past.client; agent = loses_if (at == last_of r.route) r.past.agent };
       })
-  live_cut at r x there live cuts h = by_flag (at == last_of r.route) refl
+  live_cut at r x there live cuts h =
+      let keeps = cut_keeps r.past.is_reached at h.made cuts in
+      let hops = slice_set r.route.hops at no_hop in
+      let size : length hops ≡ length r.route.hops = set_length at r.route.hops no_hop in
+      let agent = cut_above (slice_get h.made at) (agent_tip r.past) in
+      subst (λ route. Holds calls (record { route = route; past = p })) (sym (both_ended at (cut_route at r.route))) (record {
+        made = cut_made at h.made;
+        adds = ap (ended_at at) h.adds ∙ cut_values at h.made;
+        way = record {
+          all = subst (λ t. EachCarries (client_tip p) hops (cut_made at h.made) t) (sym (agent_cut at x r h there live))
+              (subst (λ t. EachCarries t hops (cut_made at h.made) agent) (sym (client_cut at r.past))
+              (each_cut at (client_tip r.past) r.route.hops h.made (agent_tip r.past) x there live h.way));
+          connected = keeps.connected h.way.connected;
+          reached = λ is. size ∙ h.way.reached is ∙ ap (λ n. n + 1) (sym keeps.size);
+          unreached = λ is. last_set at r.route.hops x no_hop there (λ dead. refl) (h.way.unreached is);
+          unconnected = λ more. keeps.unconnected (h.way.unconnected (omega (arith, more, keeps.size, size)));
+        };
+        unmade = λ none. absurd (both (joined_live at x r h there live) none);
+        unjoined = λ none. absurd (both (joined_live at x r h there live) none);
+        unreached = unreached (at == last_of r.route) refl;
+        none_earlier = h.none_earlier;
+        wanted = h.wanted;
+        unstarted = h.unstarted;
+        started = λ is more. omega (arith, keeps.size, h.started is (omega (arith, more, size)));
+        earlier = h.earlier;
+        losses = keeps.losses h.losses;
+      })
     where
-      next : RouteValue
-      next = ended_below at (on_add (ended Below) at (cut_route at r.route))
-
       p : Past
-      p = with_client (loses_if (at == 0) r.past.client) r.past
+      p = record r.past { client = loses_if (at == 0) r.past.client; agent = loses_if (at == last_of r.route) r.past.agent }
 
-      holds : Holds calls (record { route = next; past = p })
-      holds = cut_above at r x there live cuts h
+      both : {b : Bool} → b ≡ true → b ≡ false → ⊥
+      both is isnt = let no : true ≡ false = sym is ∙ isnt in cc
 
-      hops_are : next.hops ≡ slice_set r.route.hops at no_hop
-      hops_are = below_hops at (on_add (ended Below) at (cut_route at r.route)) ∙ add_hops (ended Below) at (cut_route at r.route)
-
-      by_flag : (flag : Bool) → (at == last_of r.route) ≡ flag → Holds calls (record { route = next; past = with_agent (loses_if flag p.agent) p })
-      by_flag false is = holds
-      by_flag true is =
-          let place : at ≡ last_of r.route = eqb-true at (last_of r.route) is in
-          let last : last_of next ≡ at = ap (λ hs. length hs - 1) hops_are ∙ ap (λ n. n - 1) (set_length at r.route.hops no_hop) ∙ sym place in
-          agent_loses calls next.hops next.adds p (reached_live at r.route.hops x place there live r h refl)
-          (λ y is_there. dead_at y (sym (ap (slice_get next.hops) last) ∙ is_there)) holds
-        where
-          dead_at : (y : Hop) → slice_get next.hops at ≡ Some y → IsDead y
-          dead_at y is_there =
-              let here : Some no_hop ≡ Some y = sym (ap (λ hs. slice_get hs at) hops_are ∙ get_set at r.route.hops no_hop x there) ∙ is_there in
-              let same : no_hop ≡ y = cc in sym same
+      unreached : (flag : Bool) → (at == last_of r.route) ≡ flag → r.past.is_reached ≡ false → loses_if flag r.past.agent ≡ no_talk
+      unreached true last none = absurd (both (reached_live at r.route.hops x (eqb-true at (last_of r.route) last) there live r h refl) none)
+      unreached false last none = h.unreached none
 
   pub cuts_holds : (at : ℕ) (r : RouteRun) → list_any (is_cut_of at) calls ≡ true → Holds calls r → Holds calls (record { route = (cut at r.route).1; past = cut_past at r.route r.past })
   cuts_holds at r cuts h = by_hop (slice_get r.route.hops at) refl

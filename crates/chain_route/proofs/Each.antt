@@ -3,16 +3,16 @@ use Rattle.std.proofs.Common.{◌≡◌, ◌+◌, ◌<◌, ◌⊎◌, inl, inr, 
 use Rattle.std.specs.Prelude.{is_some, slice_get, slice_set}
 use Rattle.std.specs.List.{AllByRecursion}
 use Rattle.value_node.specs.Runs.{UpperCall}
-use Rattle.chain_route.specs.Carrying.{AllCarry, End, HopCarries, IsDead, IsUnused, Made, end_above, end_below, past_of}
+use Rattle.chain_route.specs.Carrying.{AllCarry, HopCarries, IsDead, IsUnused, Made, end_above, end_below, past_of}
 use Rattle.chain_route.specs.declared.hop.Hop.{Hop}
 use Rattle.chain_route.proofs.Adds.{end_of_none, tip_above}
-use Rattle.chain_route.proofs.Flows.{HopHolds, Tip}
+use Rattle.chain_route.proofs.Flows.{HopHolds, Tip, used}
 
 -- ---- Each hop carries, whatever is known of an end that was never used
 
-abbrev pub EachCarries : Tip → List Hop → List Made → End → Type 0
+abbrev pub EachCarries : Tip → List Hop → List Made → Tip → Type 0
 EachCarries lower [] made agent = ⊥
-EachCarries lower (hop ∷ hops) (m ∷ made) agent = HopHolds hop lower (end_below (past_of m)) × EachCarries (tip_above m) hops made agent
+EachCarries lower (hop ∷ hops) (m ∷ made) agent = HopHolds hop lower (used (end_below (past_of m))) × EachCarries (tip_above m) hops made agent
 EachCarries lower (hop ∷ []) [] agent = HopHolds hop lower agent
 EachCarries lower (hop ∷ hops) [] agent = AllByRecursion IsDead (hop ∷ hops)
 
@@ -55,31 +55,33 @@ unused_tip m none = by_connection (past_of m).connection refl none
     by_connection (Some calls) is unused = absurd cc
 
 -- one hop
-carries_of_holds : (hop : Hop) (lower : Tip) (upper : End) → (lower.is_used ≡ false → IsUnused lower.end) → HopHolds hop lower upper → HopCarries hop lower.end upper
-carries_of_holds hop lower upper unused h = record {
+carries_of_holds : (hop : Hop) (lower upper : Tip) → (lower.is_used ≡ false → IsUnused lower.end) → (upper.is_used ≡ false → IsUnused upper.end) → HopHolds hop lower upper
+    → HopCarries hop lower.end upper.end
+carries_of_holds hop lower upper unused idle h = record {
   up = h.up;
   up_front = h.up_front;
   down = h.down;
   down_front = h.down_front;
   dead = h.dead;
   lasting = h.lasting;
-  lost = λ dead. by_flag lower.is_used refl dead;
+  lost = λ dead. by_flag lower.is_used lower refl unused (h.lost dead);
+  lost_above = λ dead. by_flag upper.is_used upper refl idle (h.lost_above dead);
 }
   where
-    by_flag : (flag : Bool) → lower.is_used ≡ flag → hop.is_live ≡ false → IsUnused lower.end ⊎ (lower.end.is_lost ≡ true)
-    by_flag true is dead = inr (h.lost dead is)
-    by_flag false is dead = inl (unused is)
+    by_flag : (flag : Bool) (tip : Tip) → tip.is_used ≡ flag → (tip.is_used ≡ false → IsUnused tip.end) → (tip.is_used ≡ true → tip.end.is_lost ≡ true) → IsUnused tip.end ⊎ (tip.end.is_lost ≡ true)
+    by_flag true tip is none lost = inr (lost is)
+    by_flag false tip is none lost = inl (none is)
 
-pub all_carry : (lower : Tip) (hops : List Hop) (made : List Made) (agent : End) → (lower.is_used ≡ false → IsUnused lower.end) → (length made ≡ 0 → 1 < length hops → IsUnused lower.end)
-    → (length made + 1 < length hops → LastUnconnected made) → EachCarries lower hops made agent → AllCarry lower.end hops made agent
-all_carry lower [] made agent idle unused last all = absurd all
-all_carry lower (hop ∷ []) [] agent idle unused last all = carries_of_holds hop lower agent idle all
-all_carry lower (hop ∷ h ∷ hops) [] agent idle unused last all = (unused refl (omega arith), all)
-all_carry lower (hop ∷ hops) (m ∷ []) agent idle unused last all = (
-  carries_of_holds hop lower (end_below (past_of m)) idle all.0,
-  all_carry (tip_above m) hops [] agent (unused_tip m) (λ none more. unused_above m (last (omega (arith, more)))) (λ more. tt) all.1,
+pub all_carry : (lower : Tip) (hops : List Hop) (made : List Made) (agent : Tip) → (lower.is_used ≡ false → IsUnused lower.end) → (agent.is_used ≡ false → IsUnused agent.end)
+    → (length made ≡ 0 → 1 < length hops → IsUnused lower.end) → (length made + 1 < length hops → LastUnconnected made) → EachCarries lower hops made agent → AllCarry lower.end hops made agent.end
+all_carry lower [] made agent idle unreached unused last all = absurd all
+all_carry lower (hop ∷ []) [] agent idle unreached unused last all = carries_of_holds hop lower agent idle unreached all
+all_carry lower (hop ∷ h ∷ hops) [] agent idle unreached unused last all = (unused refl (omega arith), all)
+all_carry lower (hop ∷ hops) (m ∷ []) agent idle unreached unused last all = (
+  carries_of_holds hop lower (used (end_below (past_of m))) idle (λ none. absurd cc) all.0,
+  all_carry (tip_above m) hops [] agent (unused_tip m) unreached (λ none more. unused_above m (last (omega (arith, more)))) (λ more. tt) all.1,
 )
-all_carry lower (hop ∷ hops) (m ∷ n ∷ made) agent idle unused last all = (
-  carries_of_holds hop lower (end_below (past_of m)) idle all.0,
-  all_carry (tip_above m) hops (n ∷ made) agent (unused_tip m) (λ none more. absurd (omega (arith, none))) (λ more. last (omega (arith, more))) all.1,
+all_carry lower (hop ∷ hops) (m ∷ n ∷ made) agent idle unreached unused last all = (
+  carries_of_holds hop lower (used (end_below (past_of m))) idle (λ none. absurd cc) all.0,
+  all_carry (tip_above m) hops (n ∷ made) agent (unused_tip m) unreached (λ none more. absurd (omega (arith, none))) (λ more. last (omega (arith, more))) all.1,
 )

@@ -38,17 +38,18 @@ unused_tip = record { end = fresh_end; is_used = false }
 abbrev pub grown : (End → End) → Tip → Tip
 grown more t = record t { end = more t.end }
 
--- ---- a hop, from the end below it, which was connected or not, to the one above it: it carries, and where it isn't live it was
--- lost to the lower end, if that was connected
+-- ---- a hop, from the end below it to the one above it, of which each was connected or not: it carries, and where it isn't live
+-- it was lost to each end that was connected
 
-pub record HopHolds (hop : Hop) (lower : Tip) (upper : End) : Type 0 where
-  pub up : hop.is_live ≡ true → bytes_of lower.end.gave ≡ upper.came ++ bytes_of hop.up
-  pub up_front : IsFront upper.came (bytes_of lower.end.gave)
-  pub down : hop.is_live ≡ true → bytes_of upper.gave ≡ lower.end.came ++ bytes_of hop.down
-  pub down_front : IsFront lower.end.came (bytes_of upper.gave)
+pub record HopHolds (hop : Hop) (lower upper : Tip) : Type 0 where
+  pub up : hop.is_live ≡ true → bytes_of lower.end.gave ≡ upper.end.came ++ bytes_of hop.up
+  pub up_front : IsFront upper.end.came (bytes_of lower.end.gave)
+  pub down : hop.is_live ≡ true → bytes_of upper.end.gave ≡ lower.end.came ++ bytes_of hop.down
+  pub down_front : IsFront lower.end.came (bytes_of upper.end.gave)
   pub dead : hop.is_live ≡ false → hop ≡ no_hop
-  pub lasting : hop.is_live ≡ true → (lower.end.is_lost ≡ false) × (upper.is_lost ≡ false)
+  pub lasting : hop.is_live ≡ true → (lower.end.is_lost ≡ false) × (upper.end.is_lost ≡ false)
   pub lost : hop.is_live ≡ false → lower.is_used ≡ true → lower.end.is_lost ≡ true
+  pub lost_above : hop.is_live ≡ false → upper.is_used ≡ true → upper.end.is_lost ≡ true
 
 not_both : {b : Bool} → b ≡ true → b ≡ false → ⊥
 not_both is isnt = let no : true ≡ false = sym is ∙ isnt in cc
@@ -68,50 +69,54 @@ lane_given came e outs flight is =
 
 -- ---- a node gives
 
-pub up_given : (outs : List Outgoing) (hop : Hop) (lower : Tip) (upper : End) → HopHolds hop lower upper → HopHolds (sent_up outs hop) (grown (gave_more outs) lower) upper
+pub up_given : (outs : List Outgoing) (hop : Hop) (lower upper : Tip) → HopHolds hop lower upper → HopHolds (sent_up outs hop) (grown (gave_more outs) lower) upper
 up_given outs hop lower upper h = by_flag hop.is_live refl
   where
     by_flag : (flag : Bool) → hop.is_live ≡ flag → HopHolds (cond flag (record hop { up = hop.up ++ outs }) hop) (grown (gave_more outs) lower) upper
     by_flag true live = record {
-      up = λ _. lane_given upper.came lower.end outs hop.up (h.up live);
-      up_front = front_given upper.came lower.end outs h.up_front;
+      up = λ _. lane_given upper.end.came lower.end outs hop.up (h.up live);
+      up_front = front_given upper.end.came lower.end outs h.up_front;
       down = h.down;
       down_front = h.down_front;
       dead = λ none. absurd (not_both live none);
       lasting = h.lasting;
       lost = λ none. absurd (not_both live none);
+      lost_above = λ none. absurd (not_both live none);
     }
     by_flag false dead = record {
       up = λ live. absurd (not_both live dead);
-      up_front = front_given upper.came lower.end outs h.up_front;
+      up_front = front_given upper.end.came lower.end outs h.up_front;
       down = h.down;
       down_front = h.down_front;
       dead = h.dead;
       lasting = h.lasting;
       lost = h.lost;
+      lost_above = h.lost_above;
     }
 
-pub down_given : (outs : List Outgoing) (hop : Hop) (lower : Tip) (upper : End) → HopHolds hop lower upper → HopHolds (sent_down outs hop) lower (gave_more outs upper)
+pub down_given : (outs : List Outgoing) (hop : Hop) (lower upper : Tip) → HopHolds hop lower upper → HopHolds (sent_down outs hop) lower (grown (gave_more outs) upper)
 down_given outs hop lower upper h = by_flag hop.is_live refl
   where
-    by_flag : (flag : Bool) → hop.is_live ≡ flag → HopHolds (cond flag (record hop { down = hop.down ++ outs }) hop) lower (gave_more outs upper)
+    by_flag : (flag : Bool) → hop.is_live ≡ flag → HopHolds (cond flag (record hop { down = hop.down ++ outs }) hop) lower (grown (gave_more outs) upper)
     by_flag true live = record {
       up = h.up;
       up_front = h.up_front;
-      down = λ _. lane_given lower.end.came upper outs hop.down (h.down live);
-      down_front = front_given lower.end.came upper outs h.down_front;
+      down = λ _. lane_given lower.end.came upper.end outs hop.down (h.down live);
+      down_front = front_given lower.end.came upper.end outs h.down_front;
       dead = λ none. absurd (not_both live none);
       lasting = h.lasting;
       lost = λ none. absurd (not_both live none);
+      lost_above = λ none. absurd (not_both live none);
     }
     by_flag false dead = record {
       up = h.up;
       up_front = h.up_front;
       down = λ live. absurd (not_both live dead);
-      down_front = front_given lower.end.came upper outs h.down_front;
+      down_front = front_given lower.end.came upper.end outs h.down_front;
       dead = h.dead;
       lasting = h.lasting;
       lost = h.lost;
+      lost_above = h.lost_above;
     }
 
 -- ---- bytes arrive
@@ -125,15 +130,15 @@ none_more : (came all : List Marked) → IsFront came all → IsFront (came ++ [
 none_more came all p = subst (λ bs. IsFront bs all) (sym (append-nil came)) p
 
 -- a hop that isn't live has nothing in flight
-pub up_came : (count : ℕ) (hop : Hop) (lower : Tip) (upper : End) → HopHolds hop lower upper → HopHolds (record hop { up = staying count hop.up }) lower (came_more (bytes_of (arriving count hop.up)) upper)
+pub up_came : (count : ℕ) (hop : Hop) (lower upper : Tip) → HopHolds hop lower upper → HopHolds (record hop { up = staying count hop.up }) lower (grown (came_more (bytes_of (arriving count hop.up))) upper)
 up_came count hop lower upper h = by_flag hop.is_live refl
   where
     After : Hop → Type 0
-    After x = HopHolds (record x { up = staying count x.up }) lower (came_more (bytes_of (arriving count x.up)) upper)
+    After x = HopHolds (record x { up = staying count x.up }) lower (grown (came_more (bytes_of (arriving count x.up))) upper)
 
     by_flag : (flag : Bool) → hop.is_live ≡ flag → After hop
     by_flag true live =
-        let split = split_flight count hop.up upper.came (bytes_of lower.end.gave) (h.up live) in
+        let split = split_flight count hop.up upper.end.came (bytes_of lower.end.gave) (h.up live) in
         record {
           up = λ _. split;
           up_front = (bytes_of (staying count hop.up), split);
@@ -142,18 +147,20 @@ up_came count hop lower upper h = by_flag hop.is_live refl
           dead = λ none. absurd (not_both live none);
           lasting = h.lasting;
           lost = λ none. absurd (not_both live none);
+          lost_above = λ none. absurd (not_both live none);
         }
     by_flag false dead = subst After (sym (h.dead dead)) (record {
       up = λ live. absurd cc;
-      up_front = none_more upper.came (bytes_of lower.end.gave) h.up_front;
+      up_front = none_more upper.end.came (bytes_of lower.end.gave) h.up_front;
       down = λ live. absurd cc;
       down_front = h.down_front;
       dead = λ _. refl;
       lasting = λ live. absurd cc;
       lost = λ _. h.lost dead;
+      lost_above = λ _. h.lost_above dead;
     })
 
-pub down_came : (count : ℕ) (hop : Hop) (lower : Tip) (upper : End) → HopHolds hop lower upper → HopHolds (record hop { down = staying count hop.down }) (grown (came_more (bytes_of (arriving count hop.down))) lower) upper
+pub down_came : (count : ℕ) (hop : Hop) (lower upper : Tip) → HopHolds hop lower upper → HopHolds (record hop { down = staying count hop.down }) (grown (came_more (bytes_of (arriving count hop.down))) lower) upper
 down_came count hop lower upper h = by_flag hop.is_live refl
   where
     After : Hop → Type 0
@@ -161,7 +168,7 @@ down_came count hop lower upper h = by_flag hop.is_live refl
 
     by_flag : (flag : Bool) → hop.is_live ≡ flag → After hop
     by_flag true live =
-        let split = split_flight count hop.down lower.end.came (bytes_of upper.gave) (h.down live) in
+        let split = split_flight count hop.down lower.end.came (bytes_of upper.end.gave) (h.down live) in
         record {
           up = h.up;
           up_front = h.up_front;
@@ -170,21 +177,23 @@ down_came count hop lower upper h = by_flag hop.is_live refl
           dead = λ none. absurd (not_both live none);
           lasting = h.lasting;
           lost = λ none. absurd (not_both live none);
+          lost_above = λ none. absurd (not_both live none);
         }
     by_flag false dead = subst After (sym (h.dead dead)) (record {
       up = λ live. absurd cc;
       up_front = h.up_front;
       down = λ live. absurd cc;
-      down_front = none_more lower.end.came (bytes_of upper.gave) h.down_front;
+      down_front = none_more lower.end.came (bytes_of upper.end.gave) h.down_front;
       dead = λ _. refl;
       lasting = λ live. absurd cc;
       lost = λ _. h.lost dead;
+      lost_above = λ _. h.lost_above dead;
     })
 
 -- ---- it is cut, or begins anew
 
--- it is lost to the end below it
-pub cut_carries : (hop : Hop) (lower : Tip) (upper : End) → HopHolds hop lower upper → HopHolds no_hop (grown losing lower) upper
+-- it is lost to both its ends
+pub cut_carries : (hop : Hop) (lower upper : Tip) → HopHolds hop lower upper → HopHolds no_hop (grown losing lower) (grown losing upper)
 cut_carries hop lower upper h = record {
   up = λ live. absurd cc;
   up_front = h.up_front;
@@ -193,26 +202,11 @@ cut_carries hop lower upper h = record {
   dead = λ _. refl;
   lasting = λ live. absurd cc;
   lost = λ _ _. refl;
+  lost_above = λ _ _. refl;
 }
 
--- and to the one above it
-pub lost_above : (hop : Hop) (lower : Tip) (upper : End) → IsDead hop → HopHolds hop lower upper → HopHolds hop lower (losing upper)
-lost_above hop lower upper dead h =
-    subst (λ x. HopHolds x lower (losing upper)) (sym dead) (from_dead (subst (λ x. HopHolds x lower upper) dead h))
-  where
-    from_dead : HopHolds no_hop lower upper → HopHolds no_hop lower (losing upper)
-    from_dead d = record {
-      up = λ live. absurd cc;
-      up_front = d.up_front;
-      down = λ live. absurd cc;
-      down_front = d.down_front;
-      dead = λ _. refl;
-      lasting = λ live. absurd cc;
-      lost = d.lost;
-    }
-
-pub begun_carries : (is_used : Bool) → HopHolds (connected []) (record { end = fresh_end; is_used = is_used }) fresh_end
-begun_carries is_used = record {
+pub begun_carries : HopHolds (connected []) (used fresh_end) (used fresh_end)
+begun_carries = record {
   up = λ _. refl;
   up_front = ([], refl);
   down = λ _. refl;
@@ -220,21 +214,22 @@ begun_carries is_used = record {
   dead = λ none. absurd cc;
   lasting = λ _. (refl, refl);
   lost = λ none. absurd cc;
+  lost_above = λ none. absurd cc;
 }
 
 -- ---- at a side of a value-add
 
 abbrev pub CarriesAt : Side → Hop → Tip → Tip → Type 0
-CarriesAt Below hop own other = HopHolds hop other own.end
-CarriesAt Above hop own other = HopHolds hop own other.end
+CarriesAt Below hop own other = HopHolds hop other own
+CarriesAt Above hop own other = HopHolds hop own other
 
 pub side_given : (side : Side) (outs : List Outgoing) (hop : Hop) (own other : Tip) → CarriesAt side hop own other → CarriesAt side (sent_from side outs hop) (grown (gave_more outs) own) other
-side_given Below outs hop own other h = down_given outs hop other own.end h
-side_given Above outs hop own other h = up_given outs hop own other.end h
+side_given Below outs hop own other h = down_given outs hop other own h
+side_given Above outs hop own other h = up_given outs hop own other h
 
 pub side_came : (side : Side) (count : ℕ) (hop : Hop) (own other : Tip) → CarriesAt side hop own other → CarriesAt side (arrived_at side count hop) (grown (came_more (bytes_of (arriving count (lane_to side hop)))) own) other
-side_came Below count hop own other h = up_came count hop other own.end h
-side_came Above count hop own other h = down_came count hop own other.end h
+side_came Below count hop own other h = up_came count hop other own h
+side_came Above count hop own other h = down_came count hop own other h
 
 pub dead_given : (side : Side) (outs : List Outgoing) (hop : Hop) → IsDead hop → IsDead (sent_from side outs hop)
 dead_given Below outs hop dead = let P : Hop → Type 0 = λ x. sent_from Below outs x ≡ no_hop in subst P (sym dead) refl

@@ -12,7 +12,7 @@ use Rattle.chain_route.specs.Route.{beside, delivered_at, pair_put, with_pair}
 use Rattle.chain_route.specs.RouteValue.{RouteValue}
 use Rattle.chain_route.specs.Runs.{Call, Past, RouteRun, no_talk}
 use Rattle.chain_route.specs.declared.hop.Hop.{Hop}
-use Rattle.chain_route.proofs.Flows.{Tip}
+use Rattle.chain_route.proofs.Flows.{Tip, fresh_end, unused_tip}
 use Rattle.chain_route.proofs.Stepping.{IsOpenAt, delivered_step}
 use Rattle.chain_route.proofs.Losses.{loses_same, losses_set}
 use Rattle.chain_route.proofs.Moving.{Moves, Step}
@@ -22,10 +22,14 @@ use Rattle.chain_route.proofs.Ways.{IsMapped, Way, get_mapped, is_open, set_leng
 abbrev pub client_tip : Past → Tip
 client_tip p = record { end = end_of p.client; is_used = p.is_joined }
 
+-- and the agent's
+abbrev pub agent_tip : Past → Tip
+agent_tip p = record { end = end_of p.agent; is_used = p.is_reached }
+
 pub record Holds (calls : List Call) (r : RouteRun) : Type 0 where
   pub made : List Made
   pub adds : r.route.adds ≡ map value_of made
-  pub way : Way (client_tip r.past) r.route.hops made (end_of r.past.agent) r.past.is_reached
+  pub way : Way (client_tip r.past) r.route.hops made (agent_tip r.past)
   pub unmade : r.past.is_joined ≡ false → made ≡ []
   pub unjoined : r.past.is_joined ≡ false → r.past.client ≡ no_talk
   pub unreached : r.past.is_reached ≡ false → r.past.agent ≡ no_talk
@@ -47,18 +51,26 @@ unused_client calls r h none more = by_flag r.past.is_joined refl
     by_flag true is = let some = h.started is more in absurd (omega (arith, none, some))
     by_flag false is = idle_client calls r h is
 
+-- nothing was said to the agent before it was reached
+pub unreached_agent : (calls : List Call) (r : RouteRun) (h : Holds calls r) → r.past.is_reached ≡ false → agent_tip r.past ≡ unused_tip
+unreached_agent calls r h is =
+    ap (λ talk. record { end = end_of talk; is_used = r.past.is_reached }) (h.unreached is) ∙ ap (λ flag. record { end = fresh_end; is_used = flag }) is
+
+pub idle_agent : (calls : List Call) (r : RouteRun) (h : Holds calls r) → r.past.is_reached ≡ false → IsUnused (end_of r.past.agent)
+idle_agent calls r h is = subst (λ t. IsUnused t.end) (sym (unreached_agent calls r h is)) (refl, refl)
+
 -- ---- A value-add and a hop beside it change
 
 abbrev pub with_route : RouteValue → RouteRun → RouteRun
 with_route route r = record r { route = route }
 
 module _ (side : Side) (at : ℕ) (calls : List Call) (r : RouteRun) (h : Holds calls r) where
-  pub moved_holds : (m next : Made) (hop after : Hop) → slice_get h.made at ≡ Some m → slice_get r.route.hops (beside side at) ≡ Some hop → Moves side m next hop after
+  moved_holds : (m next : Made) (hop after : Hop) → slice_get h.made at ≡ Some m → slice_get r.route.hops (beside side at) ≡ Some hop → Moves side m next hop after
       → (LosesByCut calls at m → LosesByCut calls at next) → Holds calls (with_route (with_pair side at (pair (value_of next) after) r.route) r)
   moved_holds m next hop after there hop_is moves loses = record {
     made = slice_set h.made at next;
     adds = ap (λ vs. slice_set vs at (value_of next)) h.adds ∙ set_mapped value_of at h.made next;
-    way = way_moved side at (client_tip r.past) r.route.hops h.made (end_of r.past.agent) r.past.is_reached m next hop after there hop_is moves h.way;
+    way = way_moved side at (client_tip r.past) r.route.hops h.made (agent_tip r.past) m next hop after there hop_is moves h.way;
     unmade = λ is. ap (λ ms. slice_set ms at next) (h.unmade is);
     unjoined = h.unjoined;
     unreached = h.unreached;
@@ -85,7 +97,7 @@ module _ (side : Side) (at : ℕ) (change : Pair → Pair) (calls : List Call) w
       by_made : (v : ValueValue) (hop : Hop) → IsMapped value_of h.made at v → slice_get r.route.hops (beside side at) ≡ Some hop
           → Holds calls (with_route (with_pair side at (change (pair v hop)) r.route) r)
       by_made v hop m hop_is =
-          let has_end = is_open side at (client_tip r.past) r.route.hops h.made (end_of r.past.agent) r.past.is_reached m.from hop m.there hop_is h.way in
+          let has_end = is_open side at (client_tip r.past) r.route.hops h.made (agent_tip r.past) m.from hop m.there hop_is h.way in
           subst (λ x. Holds calls (with_route (with_pair side at (change (pair x hop)) r.route) r)) m.value (pair_holds r h m.from hop m.there hop_is (steps m.from hop has_end))
 
       by_parts : (add : Option ValueValue) (hop : Option Hop) → slice_get r.route.adds at ≡ add → slice_get r.route.hops (beside side at) ≡ hop

@@ -15,7 +15,7 @@ use Rattle.chain_route.specs.declared.hop.Hop.{Hop}
 use Rattle.chain_route.proofs.Each.{EachCarries}
 use Rattle.chain_route.proofs.Anew.{dead_above, fresh_made}
 use Rattle.chain_route.proofs.Flows.{HopHolds, begun_carries, fresh_end, used}
-use Rattle.chain_route.proofs.Holding.{Holds, client_tip, on_pair_holds, with_route}
+use Rattle.chain_route.proofs.Holding.{Holds, agent_tip, client_tip, on_pair_holds, unreached_agent, with_route}
 use Rattle.chain_route.proofs.Stepping.{carried_step}
 
 pub carried_holds : AfterAllCalls EndsAreRuns → (side : Side) (at : ℕ) (calls : List Call) (r : RouteRun) → Holds calls r → Holds calls (with_route (with_carried side at r.route) r)
@@ -56,14 +56,14 @@ first_made calls (x ∷ g ∷ hops) adds p none unwanted more h =
     let route : RouteValue = record { hops = x ∷ g ∷ hops; adds = adds } in
     let unreached : p.is_reached ≡ false = h.unstarted none in
     let no_client : end_of p.client ≡ fresh_end = ap end_of (h.unjoined none) in
-    let no_agent : end_of p.agent ≡ fresh_end = ap end_of (h.unreached unreached) in
-    let dead : AllByRecursion IsDead (x ∷ g ∷ hops) = subst (λ ms. EachCarries (client_tip p) (x ∷ g ∷ hops) ms (end_of p.agent)) (h.unmade none) h.way.all in
+    let no_agent = unreached_agent calls (record { route = route; past = p }) h unreached in
+    let dead : AllByRecursion IsDead (x ∷ g ∷ hops) = subst (λ ms. EachCarries (client_tip p) (x ∷ g ∷ hops) ms (agent_tip p)) (h.unmade none) h.way.all in
     record {
       made = fresh_made (peer_of 0 route) ∷ [];
       adds = refl;
       way = record {
         all = subst (λ e. EachCarries (used (end_of p.client)) (hop_connected [] ∷ g ∷ hops) (fresh_made (peer_of 0 route) ∷ []) e) (sym no_agent)
-            (subst (λ e. HopHolds (hop_connected []) (used e) fresh_end) (sym no_client) (begun_carries true), dead_above g hops dead.1);
+            (subst (λ e. HopHolds (hop_connected []) (used e) (used fresh_end)) (sym no_client) begun_carries, dead_above g hops dead.1);
         connected = λ is. absurd (both is unreached);
         reached = λ is. absurd (both is unreached);
         unreached = h.way.unreached;

@@ -13,7 +13,7 @@ pub ok_both : {T E P Q R : Type 0} → (r : Result T E) → (P → Q → R) → 
 ok_both (Ok x) f p q = f p q
 ok_both (Err e) f p q = tt
 
-pub set_same : {A : Type 0} → (i : ℕ) (xs : List A) (x : A) → slice_get xs i ≡ Some x → slice_set xs i x ≡ xs
+set_same : {A : Type 0} → (i : ℕ) (xs : List A) (x : A) → slice_get xs i ≡ Some x → slice_set xs i x ≡ xs
 set_same i [] x there = absurd cc
 set_same zero (y ∷ ys) x there = let is : y ≡ x = cc in ap (λ z. z ∷ ys) (sym is)
 set_same (suc i) (y ∷ ys) x there = ap (λ zs. y ∷ zs) (set_same i ys x there)

@@ -1,5 +1,5 @@
 -- The agent is reached, or refuses: a way carries on.
-use Rattle.std.proofs.Common.{◌≡◌, ℕ, zero, suc, ◌+◌, ◌-◌, ◌==◌, ◌<◌, ◌≤◌, Bool, true, false, cond, List, [], ◌∷◌, ◌++◌, length, map, Some, refl, sym, ap, ◌∙◌, subst, arith, ne_eqb}
+use Rattle.std.proofs.Common.{◌≡◌, ℕ, zero, suc, ◌+◌, ◌-◌, ◌==◌, ◌<◌, Bool, true, false, cond, List, [], ◌∷◌, ◌++◌, length, map, Some, refl, sym, ap, ◌∙◌, subst, arith, ne_eqb}
 use Rattle.std.specs.Prelude.{IsSome, slice_get, slice_set}
 use Rattle.std.specs.List.{AllByRecursion}
 use Rattle.channel_core.specs.Wire.{end_of_stream}
@@ -7,7 +7,7 @@ use Rattle.channel_core.specs.Arrivals.{IsFront, bytes_of}
 use Rattle.value_node.specs.Runs.{called, connects}
 use Rattle.value_node.specs.ValueValue.{ValueValue}
 use Rattle.value_node.specs.declared.states.Side.TheVariants.{Above}
-use Rattle.chain_route.specs.Carrying.{End, HaveConnected, IsGoneBy, Made, end_above, end_of, past_of, value_of}
+use Rattle.chain_route.specs.Carrying.{HaveConnected, IsGoneBy, Made, end_above, end_of, past_of, value_of}
 use Rattle.chain_route.specs.Hop as hop
 use Rattle.chain_route.specs.Hop.{connected, sent_from}
 use Rattle.chain_route.specs.Passing.{carried, pair, queued_at}
@@ -21,18 +21,18 @@ use Rattle.chain_route.proofs.Connecting.{HasAt, begun_at, joined_at, mapped_at}
 use Rattle.chain_route.proofs.EndCalls.{all_append}
 use Rattle.chain_route.proofs.Ended.{sends_down_holds}
 use Rattle.chain_route.proofs.Flows.{HopHolds, Tip, fresh_end, used}
-use Rattle.chain_route.proofs.Holding.{Holds, client_tip}
+use Rattle.chain_route.proofs.Holding.{Holds, agent_tip, client_tip}
 use Rattle.chain_route.proofs.Joining.{carried_holds}
 use Rattle.chain_route.proofs.Losses.{loses_same, losses_set, lost_same}
 use Rattle.chain_route.proofs.Moving.{call_value}
 use Rattle.chain_route.proofs.Reaching.{Awaits, above_anew, anew, below_anew, connected_anew, gone_by, opened_carries, reached_all, waits_in}
 use Rattle.chain_route.proofs.Settling.{some_within}
 use Rattle.chain_route.proofs.Unheard.{Laws}
-use Rattle.chain_route.proofs.Ways.{get_set, set_length, set_mapped}
+use Rattle.chain_route.proofs.Ways.{get_set, made_size, set_length, set_mapped}
 
 -- ---- Straight from the client: nothing was said on the hop, and the agent wasn't reached
 
-opened_way : (calls : List Call) (did : Bool) (x after : Hop) (adds : List ValueValue) (p : Past) → p.is_wanted ≡ true → HopHolds after (used fresh_end) (end_of (reached_past did p).agent)
+opened_way : (calls : List Call) (did : Bool) (x after : Hop) (adds : List ValueValue) (p : Past) → p.is_wanted ≡ true → HopHolds after (used fresh_end) (agent_tip (reached_past did p))
     → Holds calls (record { route = record { hops = x ∷ []; adds = adds }; past = p })
     → Holds calls (record { route = record { hops = after ∷ []; adds = adds }; past = reached_past did p })
 opened_way calls did x after adds p wanted carries h =
@@ -43,7 +43,7 @@ opened_way calls did x after adds p wanted carries h =
       made = [];
       adds = h.adds ∙ ap (map value_of) (h.unmade none);
       way = record {
-        all = subst (λ e. HopHolds after (used e) (end_of (reached_past did p).agent)) (sym client) carries;
+        all = subst (λ e. HopHolds after (used e) (agent_tip (reached_past did p))) (sym client) carries;
         connected = tt;
         reached = λ is. refl;
         unreached = λ is. absurd cc;
@@ -68,11 +68,6 @@ wanted_reached calls false x adds p wanted h = opened_way calls false x (connect
 -- ---- By the last value-add
 
 -- all value-adds were made
-made_size : (lower : Tip) (hops : List Hop) (made : List Made) (agent : End) → EachCarries lower hops made agent → length made + 1 ≤ length hops
-made_size lower [] made agent all = absurd all
-made_size lower (h ∷ hops) [] agent all = omega arith
-made_size lower (h ∷ hops) (m ∷ made) agent all = let rest = made_size (tip_above m) hops made agent all.1 in omega (arith, rest)
-
 all_connected : (at : ℕ) (made : List Made) (is_reached : Bool) (m next : Made) → slice_get made at ≡ Some m → length made ≡ at + 1 → IsSome (past_of next).connection
     → HaveConnected made is_reached → HaveConnected (slice_set made at next) true
 all_connected at [] is_reached m next there size some have = absurd cc
@@ -94,7 +89,7 @@ earlier_gone laws calls r h at m there size waits = by_flag r.past.is_reached re
     last_connected (suc i) (x ∷ []) is few have = absurd cc
     last_connected (suc i) (x ∷ y ∷ made) is few have = last_connected i (y ∷ made) is (omega (arith, few)) have.1
 
-    last_front : (i : ℕ) (lower : Tip) (hops : List Hop) (made : List Made) → slice_get made i ≡ Some m → length hops ≡ i + 2 → EachCarries lower hops made (end_of r.past.agent)
+    last_front : (i : ℕ) (lower : Tip) (hops : List Hop) (made : List Made) → slice_get made i ≡ Some m → length hops ≡ i + 2 → EachCarries lower hops made (agent_tip r.past)
         → IsFront (bytes_of r.past.agent.got) (bytes_of (end_above (past_of m)).gave)
     last_front i lower [] made is few all = absurd all
     last_front i lower (h ∷ hops) [] is few all = absurd cc
@@ -103,13 +98,13 @@ earlier_gone laws calls r h at m there size waits = by_flag r.past.is_reached re
     last_front zero lower (h ∷ g ∷ []) (x ∷ y ∷ made) is few all = absurd all.1.1
     last_front zero lower (h ∷ g ∷ []) (x ∷ []) is few all =
         let same : x ≡ m = cc in
-        let carries : HopHolds g (tip_above x) (end_of r.past.agent) = all.1 in
+        let carries : HopHolds g (tip_above x) (agent_tip r.past) = all.1 in
         subst (λ y. IsFront (bytes_of r.past.agent.got) (bytes_of (end_above (past_of y)).gave)) same carries.up_front
     last_front (suc i) lower (h ∷ g ∷ hops) (x ∷ made) is few all = last_front i (tip_above x) (g ∷ hops) made is (omega (arith, few)) all.1
 
     count : length h.made ≡ at + 1
     count =
-        let most = made_size (client_tip r.past) r.route.hops h.made (end_of r.past.agent) h.way.all in
+        let most = made_size (client_tip r.past) r.route.hops h.made (agent_tip r.past) h.way.all in
         let least = some_within at h.made m there in
         omega (arith, most, least, size)
 
@@ -133,7 +128,7 @@ module _ (laws : Laws) (calls : List Call) (r : RouteRun) (h : Holds calls r) (a
 
   count : length h.made ≡ at + 1
   count =
-      let most = made_size (client_tip r.past) r.route.hops h.made (end_of r.past.agent) h.way.all in
+      let most = made_size (client_tip r.past) r.route.hops h.made (agent_tip r.past) h.way.all in
       let least = some_within at h.made m there in
       omega (arith, most, least, size)
 
@@ -145,8 +140,8 @@ module _ (laws : Laws) (calls : List Call) (r : RouteRun) (h : Holds calls r) (a
       by_flag true is = is
       by_flag false is = let none : slice_get [] at ≡ Some m = sym (ap (λ ms. slice_get ms at) (h.unmade is)) ∙ there in absurd cc
 
-  used_way : EachCarries (used (end_of r.past.client)) r.route.hops h.made (end_of r.past.agent)
-  used_way = subst (λ b. EachCarries (record { end = end_of r.past.client; is_used = b }) r.route.hops h.made (end_of r.past.agent)) has_joined h.way.all
+  used_way : EachCarries (used (end_of r.past.client)) r.route.hops h.made (agent_tip r.past)
+  used_way = subst (λ b. EachCarries (record { end = end_of r.past.client; is_used = b }) r.route.hops h.made (agent_tip r.past)) has_joined h.way.all
 
   begun_holds : Holds calls (record { route = begun; past = p })
   begun_holds = record {
@@ -154,7 +149,7 @@ module _ (laws : Laws) (calls : List Call) (r : RouteRun) (h : Holds calls r) (a
     adds = ap (λ vs. slice_set vs at (called connects (value_of m))) h.adds
         ∙ ap (λ v. slice_set (map value_of h.made) at v) (sym (call_value connects m)) ∙ set_mapped value_of at h.made (anew m);
     way = record {
-      all = reached_all at (used (end_of r.past.client)) r.route.hops h.made (end_of r.past.agent) (end_of p.agent) m (anew m) (connected []) there size (below_anew m waits) (above_anew m waits)
+      all = reached_all at (used (end_of r.past.client)) r.route.hops h.made (agent_tip r.past) (agent_tip p) m (anew m) (connected []) there size (below_anew m waits) (above_anew m waits)
           (opened_carries true) used_way;
       connected = all_connected at h.made r.past.is_reached m (anew m) there count (connected_anew m waits) h.way.connected;
       reached = λ is. omega (arith, made_count, hops_count);

@@ -14,14 +14,14 @@ use Rattle.value_node.specs.Value.{awaits, is_free, is_opening}
 use Rattle.value_node.specs.declared.relay.Relay.{Relay}
 use Rattle.value_node.specs.declared.states.Bind.{Bind}
 use Rattle.value_node.specs.declared.states.Bind.TheVariants.{Unbound, Opening, Bound, Closed}
-use Rattle.chain_route.specs.Carrying.{End, IsGoneBy, Made, end_above, end_below, past_of, value_of}
+use Rattle.chain_route.specs.Carrying.{IsGoneBy, Made, end_above, end_below, past_of, value_of}
 use Rattle.chain_route.specs.Hop.{connected}
 use Rattle.chain_route.specs.Runs.{awaits_of, given_by}
 use Rattle.chain_route.specs.declared.hop.Hop.{Hop}
 use Rattle.chain_route.proofs.Each.{EachCarries}
 use Rattle.chain_route.proofs.Adds.{call_run, facts_of, tip_above, tip_of, with_call}
 use Rattle.chain_route.proofs.Anew.{AreDeadBehind, dead_above, fresh_made}
-use Rattle.chain_route.proofs.Flows.{HopHolds, Tip, begun_carries, fresh_end, used}
+use Rattle.chain_route.proofs.Flows.{HopHolds, Tip, begun_carries, fresh_end, unused_tip, used}
 use Rattle.chain_route.proofs.Unsent.{unsent_above}
 use Rattle.chain_route.proofs.Waits.{both_true}
 
@@ -102,7 +102,7 @@ module _ (runs : AfterAllCalls EndsAreRuns) where
 abbrev pub opened : Bool → Hop
 opened did = connected (given_by did)
 
-pub opened_carries : (did : Bool) → HopHolds (opened did) (used fresh_end) (record { gave = given_by did; came = []; is_lost = false })
+pub opened_carries : (did : Bool) → HopHolds (opened did) (used fresh_end) (used (record { gave = given_by did; came = []; is_lost = false }))
 opened_carries did = record {
   up = λ live. refl;
   up_front = ([], refl);
@@ -111,9 +111,10 @@ opened_carries did = record {
   dead = λ none. absurd cc;
   lasting = λ live. (refl, refl);
   lost = λ none. absurd cc;
+  lost_above = λ none. absurd cc;
 }
 
-pub reached_all : (at : ℕ) (lower : Tip) (hops : List Hop) (made : List Made) (agent next : End) (m m1 : Made) (after : Hop) → slice_get made at ≡ Some m → length hops ≡ at + 2
+pub reached_all : (at : ℕ) (lower : Tip) (hops : List Hop) (made : List Made) (agent next : Tip) (m m1 : Made) (after : Hop) → slice_get made at ≡ Some m → length hops ≡ at + 2
     → end_below (past_of m1) ≡ end_below (past_of m) → tip_above m1 ≡ used fresh_end → HopHolds after (used fresh_end) next
     → EachCarries lower hops made agent → EachCarries lower (slice_set hops (suc at) after) (slice_set made at m1) next
 reached_all at lower [] made agent next m m1 after there size below above carries all = absurd all
@@ -123,8 +124,8 @@ reached_all zero lower (h ∷ g ∷ f ∷ hops) (x ∷ made) agent next m m1 aft
 reached_all zero lower (h ∷ g ∷ []) (x ∷ y ∷ made) agent next m m1 after there size below above carries all = absurd all.1.1
 reached_all zero lower (h ∷ g ∷ []) (x ∷ []) agent next m m1 after there size below above carries all =
     let is : x ≡ m = cc in
-    let first : HopHolds h lower (end_below (past_of m)) = subst (λ y. HopHolds h lower (end_below (past_of y))) is all.0 in
-    (subst (λ e. HopHolds h lower e) (sym below) first, subst (λ e. HopHolds after e next) (sym above) carries)
+    let first : HopHolds h lower (used (end_below (past_of m))) = subst (λ y. HopHolds h lower (used (end_below (past_of y)))) is all.0 in
+    (subst (λ e. HopHolds h lower (used e)) (sym below) first, subst (λ e. HopHolds after e next) (sym above) carries)
 reached_all (suc at) lower (h ∷ g ∷ hops) (x ∷ made) agent next m m1 after there size below above carries all =
     (all.0, reached_all at (tip_above x) (g ∷ hops) made agent next m m1 after there (omega (arith, size)) below above carries all.1)
 
@@ -132,15 +133,15 @@ reached_all (suc at) lower (h ∷ g ∷ hops) (x ∷ made) agent next m m1 after
 
 pub turned_anew : (at : ℕ) (peer : List ℕ) (lower : Tip) (hops : List Hop) (made : List Made) (m m1 : Made) → slice_get made at ≡ Some m → AreDeadBehind (suc at) hops
     → end_below (past_of m1) ≡ end_below (past_of m) → tip_above m1 ≡ used fresh_end
-    → EachCarries lower hops made fresh_end
-    → EachCarries lower (slice_set hops (suc at) (connected [])) (slice_set (take (suc at) made ++ fresh_made peer ∷ []) at m1) fresh_end
+    → EachCarries lower hops made unused_tip
+    → EachCarries lower (slice_set hops (suc at) (connected [])) (slice_set (take (suc at) made ++ fresh_made peer ∷ []) at m1) unused_tip
 turned_anew at peer lower [] made m m1 there dead below above all = absurd all
 turned_anew at peer lower (h ∷ hops) [] m m1 there dead below above all = absurd cc
 turned_anew at peer lower (h ∷ []) (x ∷ made) m m1 there dead below above all = absurd all.1
 turned_anew zero peer lower (h ∷ g ∷ []) (x ∷ made) m m1 there dead below above all = absurd dead
 turned_anew zero peer lower (h ∷ g ∷ f ∷ hops) (x ∷ made) m m1 there dead below above all =
     let is : x ≡ m = cc in
-    let first : HopHolds h lower (end_below (past_of m)) = subst (λ y. HopHolds h lower (end_below (past_of y))) is all.0 in
-    (subst (λ e. HopHolds h lower e) (sym below) first, (subst (λ e. HopHolds (connected []) e fresh_end) (sym above) (begun_carries true), dead_above f hops dead))
+    let first : HopHolds h lower (used (end_below (past_of m))) = subst (λ y. HopHolds h lower (used (end_below (past_of y)))) is all.0 in
+    (subst (λ e. HopHolds h lower (used e)) (sym below) first, (subst (λ e. HopHolds (connected []) e (used fresh_end)) (sym above) begun_carries, dead_above f hops dead))
 turned_anew (suc at) peer lower (h ∷ g ∷ hops) (x ∷ made) m m1 there dead below above all =
     (all.0, turned_anew at peer (tip_above x) (g ∷ hops) made m m1 there dead below above all.1)

@@ -1,9 +1,10 @@
 -- A way as it stands, from one of its ends on, and a value-add with a hop beside it that moves on.
-use Rattle.std.proofs.Common.{◌≡◌, ℕ, zero, suc, ◌+◌, ◌<◌, Bool, true, false, List, [], ◌∷◌, length, map, Some, refl, sym, ap, ◌∙◌, subst, arith, add-one}
+use Rattle.std.proofs.Common.{◌≡◌, ℕ, zero, suc, ◌+◌, ◌<◌, ◌≤◌, Bool, true, false, List, [], ◌∷◌, length, map, Some, refl, sym, ap, ◌∙◌, subst, arith, add-one}
 use Rattle.std.specs.Prelude.{IsSome, slice_get, slice_set}
+use Rattle.std.specs.List.{AllByRecursion}
 use Rattle.value_node.specs.declared.states.Side.{Side}
 use Rattle.value_node.specs.declared.states.Side.TheVariants.{Below, Above}
-use Rattle.chain_route.specs.Carrying.{End, HaveConnected, IsDead, Made, past_of}
+use Rattle.chain_route.specs.Carrying.{HaveConnected, IsDead, Made, past_of}
 use Rattle.chain_route.specs.Route.{beside}
 use Rattle.chain_route.specs.declared.hop.Hop.{Hop}
 use Rattle.chain_route.proofs.Adds.{tip_above}
@@ -76,14 +77,26 @@ connected_set (suc (suc i)) (x ∷ y ∷ made) is_reached m next there keeps hav
 
 -- ---- A way
 
-pub record Way (lower : Tip) (hops : List Hop) (made : List Made) (agent : End) (is_reached : Bool) : Type 0 where
+pub record Way (lower : Tip) (hops : List Hop) (made : List Made) (agent : Tip) : Type 0 where
   pub all : EachCarries lower hops made agent
-  pub connected : HaveConnected made is_reached
-  pub reached : is_reached ≡ true → length hops ≡ length made + 1
-  pub unreached : is_reached ≡ false → LastDead hops  -- none is in flight on the hop to the agent
+  pub connected : HaveConnected made agent.is_used
+  pub reached : agent.is_used ≡ true → length hops ≡ length made + 1
+  pub unreached : agent.is_used ≡ false → LastDead hops  -- none is in flight on the hop to the agent
   pub unconnected : length made + 1 < length hops → LastUnconnected made  -- not all value-adds were made
 
-all_moved : (side : Side) (at : ℕ) (lower : Tip) (hops : List Hop) (made : List Made) (agent : End) (m next : Made) (hop after : Hop)
+-- nothing is in flight where no value-add was made and the agent wasn't reached
+pub all_dead : (lower : Tip) (hops : List Hop) (agent : Tip) → agent.is_used ≡ false → Way lower hops [] agent → AllByRecursion IsDead hops
+all_dead lower [] agent unreached way = absurd way.all
+all_dead lower (h ∷ []) agent unreached way = (way.unreached unreached, tt)
+all_dead lower (h ∷ g ∷ hops) agent unreached way = way.all
+
+-- it has more hops than value-adds
+pub made_size : (lower : Tip) (hops : List Hop) (made : List Made) (agent : Tip) → EachCarries lower hops made agent → length made + 1 ≤ length hops
+made_size lower [] made agent all = absurd all
+made_size lower (h ∷ hops) [] agent all = omega arith
+made_size lower (h ∷ hops) (m ∷ made) agent all = let rest = made_size (tip_above m) hops made agent all.1 in omega (arith, rest)
+
+all_moved : (side : Side) (at : ℕ) (lower : Tip) (hops : List Hop) (made : List Made) (agent : Tip) (m next : Made) (hop after : Hop)
     → slice_get made at ≡ Some m → slice_get hops (beside side at) ≡ Some hop → Moves side m next hop after
     → EachCarries lower hops made agent → EachCarries lower (slice_set hops (beside side at) after) (slice_set made at next) agent
 all_moved Below at lower hops made agent m next hop after there hop_is moves all = below_changed at lower hops made agent m next hop after there hop_is moves.moved moves.rests all
@@ -91,12 +104,12 @@ all_moved Above at lower hops made agent m next hop after there hop_is moves all
     subst (λ i. EachCarries lower (slice_set hops i after) (slice_set made at next) agent) (sym (add-one at))
     (above_changed at lower hops made agent m next hop after there (subst (λ i. slice_get hops i ≡ Some hop) (add-one at) hop_is) moves.moved moves.rests all)
 
-pub way_moved : (side : Side) (at : ℕ) (lower : Tip) (hops : List Hop) (made : List Made) (agent : End) (is_reached : Bool) (m next : Made) (hop after : Hop)
+pub way_moved : (side : Side) (at : ℕ) (lower : Tip) (hops : List Hop) (made : List Made) (agent : Tip) (m next : Made) (hop after : Hop)
     → slice_get made at ≡ Some m → slice_get hops (beside side at) ≡ Some hop → Moves side m next hop after
-    → Way lower hops made agent is_reached → Way lower (slice_set hops (beside side at) after) (slice_set made at next) agent is_reached
-way_moved side at lower hops made agent is_reached m next hop after there hop_is moves way = record {
+    → Way lower hops made agent → Way lower (slice_set hops (beside side at) after) (slice_set made at next) agent
+way_moved side at lower hops made agent m next hop after there hop_is moves way = record {
   all = all_moved side at lower hops made agent m next hop after there hop_is moves way.all;
-  connected = connected_set at made is_reached m next there moves.connected way.connected;
+  connected = connected_set at made agent.is_used m next there moves.connected way.connected;
   reached = λ is. set_length (beside side at) hops after ∙ way.reached is ∙ ap (λ n. n + 1) (sym (set_length at made next));
   unreached = λ is. last_set (beside side at) hops hop after hop_is moves.moved.dead (way.unreached is);
   unconnected = λ more. last_kept at made m next there moves.unconnected (way.unconnected (fewer more));
@@ -111,9 +124,9 @@ pub not_live : (h : Hop) → h.is_live ≡ true → IsDead h → ⊥
 not_live h live dead = let no : false ≡ true = sym (ap (λ x. x.is_live) dead) ∙ live in absurd cc
 
 -- the way from the next value-add on
-pub way_above : (lower : Tip) (h g : Hop) (hops : List Hop) (x y : Made) (made : List Made) (agent : End) (is_reached : Bool)
-    → Way lower (h ∷ g ∷ hops) (x ∷ y ∷ made) agent is_reached → Way (tip_above x) (g ∷ hops) (y ∷ made) agent is_reached
-way_above lower h g hops x y made agent is_reached way = record {
+pub way_above : (lower : Tip) (h g : Hop) (hops : List Hop) (x y : Made) (made : List Made) (agent : Tip)
+    → Way lower (h ∷ g ∷ hops) (x ∷ y ∷ made) agent → Way (tip_above x) (g ∷ hops) (y ∷ made) agent
+way_above lower h g hops x y made agent way = record {
   all = way.all.1;
   connected = way.connected.1;
   reached = λ is. let all = way.reached is in omega (arith, all);
@@ -121,29 +134,29 @@ way_above lower h g hops x y made agent is_reached way = record {
   unconnected = λ more. way.unconnected (omega (arith, more));
 }
 
-above_live : (at : ℕ) (lower : Tip) (hops : List Hop) (made : List Made) (agent : End) (is_reached : Bool) (m : Made) (hop : Hop)
-    → slice_get made at ≡ Some m → slice_get hops (suc at) ≡ Some hop → hop.is_live ≡ true → Way lower hops made agent is_reached → IsSome (past_of m).connection
-above_live at lower [] made agent is_reached m hop there hop_is live way = absurd way.all
-above_live at lower (h ∷ hops) [] agent is_reached m hop there hop_is live way = absurd cc
-above_live at lower (h ∷ []) (x ∷ made) agent is_reached m hop there hop_is live way = absurd way.all.1
-above_live zero lower (h ∷ g ∷ []) (x ∷ []) agent is_reached m hop there hop_is live way = by_flag is_reached refl
+pub above_live : (at : ℕ) (lower : Tip) (hops : List Hop) (made : List Made) (agent : Tip) (m : Made) (hop : Hop)
+    → slice_get made at ≡ Some m → slice_get hops (suc at) ≡ Some hop → hop.is_live ≡ true → Way lower hops made agent → IsSome (past_of m).connection
+above_live at lower [] made agent m hop there hop_is live way = absurd way.all
+above_live at lower (h ∷ hops) [] agent m hop there hop_is live way = absurd cc
+above_live at lower (h ∷ []) (x ∷ made) agent m hop there hop_is live way = absurd way.all.1
+above_live zero lower (h ∷ g ∷ []) (x ∷ []) agent m hop there hop_is live way = by_flag agent.is_used refl
   where
     is_m : x ≡ m
     is_m = cc
 
-    by_flag : (flag : Bool) → is_reached ≡ flag → IsSome (past_of m).connection
+    by_flag : (flag : Bool) → agent.is_used ≡ flag → IsSome (past_of m).connection
     by_flag true is = subst (λ y. IsSome (past_of y).connection) is_m (way.connected is)
     by_flag false is = let is_hop : g ≡ hop = cc in absurd (not_live hop live (subst IsDead is_hop (way.unreached is)))
-above_live zero lower (h ∷ g ∷ f ∷ hops) (x ∷ []) agent is_reached m hop there hop_is live way =
+above_live zero lower (h ∷ g ∷ f ∷ hops) (x ∷ []) agent m hop there hop_is live way =
     let is_hop : g ≡ hop = cc in absurd (not_live hop live (subst IsDead is_hop way.all.1.0))
-above_live zero lower (h ∷ g ∷ hops) (x ∷ y ∷ made) agent is_reached m hop there hop_is live way =
+above_live zero lower (h ∷ g ∷ hops) (x ∷ y ∷ made) agent m hop there hop_is live way =
     let is_m : x ≡ m = cc in subst (λ z. IsSome (past_of z).connection) is_m way.connected.0
-above_live (suc at) lower (h ∷ g ∷ hops) (x ∷ []) agent is_reached m hop there hop_is live way = absurd cc
-above_live (suc at) lower (h ∷ g ∷ hops) (x ∷ y ∷ made) agent is_reached m hop there hop_is live way =
-    above_live at (tip_above x) (g ∷ hops) (y ∷ made) agent is_reached m hop there hop_is live (way_above lower h g hops x y made agent is_reached way)
+above_live (suc at) lower (h ∷ g ∷ hops) (x ∷ []) agent m hop there hop_is live way = absurd cc
+above_live (suc at) lower (h ∷ g ∷ hops) (x ∷ y ∷ made) agent m hop there hop_is live way =
+    above_live at (tip_above x) (g ∷ hops) (y ∷ made) agent m hop there hop_is live (way_above lower h g hops x y made agent way)
 
-pub is_open : (side : Side) (at : ℕ) (lower : Tip) (hops : List Hop) (made : List Made) (agent : End) (is_reached : Bool) (m : Made) (hop : Hop)
-    → slice_get made at ≡ Some m → slice_get hops (beside side at) ≡ Some hop → Way lower hops made agent is_reached → hop.is_live ≡ true → IsOpenAt side m
-is_open Below at lower hops made agent is_reached m hop there hop_is way live = tt
-is_open Above at lower hops made agent is_reached m hop there hop_is way live =
-    above_live at lower hops made agent is_reached m hop there (subst (λ i. slice_get hops i ≡ Some hop) (add-one at) hop_is) live way
+pub is_open : (side : Side) (at : ℕ) (lower : Tip) (hops : List Hop) (made : List Made) (agent : Tip) (m : Made) (hop : Hop)
+    → slice_get made at ≡ Some m → slice_get hops (beside side at) ≡ Some hop → Way lower hops made agent → hop.is_live ≡ true → IsOpenAt side m
+is_open Below at lower hops made agent m hop there hop_is way live = tt
+is_open Above at lower hops made agent m hop there hop_is way live =
+    above_live at lower hops made agent m hop there (subst (λ i. slice_get hops i ≡ Some hop) (add-one at) hop_is) live way

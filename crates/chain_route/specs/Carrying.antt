@@ -53,9 +53,10 @@ pub record HopCarries (hop : Hop) (lower upper : End) : Type 0 where
   pub down : hop.is_live ≡ true → bytes_of upper.gave ≡ lower.came ++ bytes_of hop.down
   pub down_front : IsFront lower.came (bytes_of upper.gave)
   pub dead : hop.is_live ≡ false → hop ≡ no_hop  -- nothing is in flight on one that isn't live
-  -- one that is live was lost at neither end; else the lower end was never used, or the hop was lost to it
+  -- one that is live was lost at neither end; else each end was never used, or the hop was lost to it
   pub lasting : hop.is_live ≡ true → (lower.is_lost ≡ false) × (upper.is_lost ≡ false)
   pub lost : hop.is_live ≡ false → IsUnused lower ⊎ (lower.is_lost ≡ true)
+  pub lost_above : hop.is_live ≡ false → IsUnused upper ⊎ (upper.is_lost ≡ true)
 
 abbrev pub IsDead : Hop → Type 0
 IsDead hop = hop ≡ no_hop

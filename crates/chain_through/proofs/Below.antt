@@ -21,8 +21,7 @@ use Rattle.value_node.specs.RelayLaws.{asked_by, asked_in, asked_since, told_fro
 use Rattle.value_node.specs.Runs.{Past, above, below, below_since_bound, below_until_bound, lower_after}
 use Rattle.value_node.specs.Value.{value_services}
 use Rattle.chain_route.proofs.Unheard.{value_hello}
-use Rattle.chain_route.specs.Carrying.{End, HopCarries, Made, end_above, end_below, past_of}
-use Rattle.chain_route.specs.declared.hop.Hop.{Hop}
+use Rattle.chain_route.specs.Carrying.{End, Made, end_above, end_below, past_of}
 use Rattle.chain_told.specs.Told.{numbered}
 use Rattle.chain_told.specs.TellsOn.{tells}
 use Rattle.chain_through.specs.Calling.{Calls, all_asking, entering, greeting}
@@ -157,15 +156,15 @@ are_readable back [] formed = tt
 are_readable back (s ∷ heard) formed = (back.1 s.message formed.0, are_readable back heard formed.1)
 
 module _ (laws : Laws) where
-  pub took : (hop : Hop) (lower : End) (m : Made) (commands : List Asked) → HopCarries hop lower (end_below (past_of m)) → (calls : Calls commands lower.gave)
+  pub took : (lower : End) (m : Made) (commands : List Asked) → IsFront (end_below (past_of m)).came (bytes_of lower.gave) → (calls : Calls commands lower.gave)
       → Took (past_of m) commands (length (entering calls.spoken) - 1)
-  took hop lower m commands carries calls =
+  took lower m commands comes calls =
       let p = past_of m in
       let r = below p in
       let all = p.until_bound ++ p.since_bound in
       let queue = queue_of calls.spoken calls.is_ended in
       let gave : IsFront (bytes_of lower.gave) (bytes_of queue) = front_flat (λ o. marked o.bytes o.mark) lower.gave queue calls.front in
-      let came : IsFront (arrived all) (bytes_of queue) = front_then (arrived all) (bytes_of lower.gave) (bytes_of queue) carries.up_front gave in
+      let came : IsFront (arrived all) (bytes_of queue) = front_then (arrived all) (bytes_of lower.gave) (bytes_of queue) comes gave in
       let order = laws.lower_receives value_services None all calls.spoken calls.is_ended calls.formed came in
       let got : IsFront (flat_map incoming_of r.past.taken) (messages_in calls.spoken) = received_front r (messages_in calls.spoken) order.front in
       let commands_got : IsFront (commands_in (flat_map incoming_of r.past.taken)) (commands_in (messages_in calls.spoken)) =

@@ -32,7 +32,6 @@ use Rattle.value_node.specs.RelayLaws.{asked_since}
 use Rattle.value_node.specs.Runs.{Past, above, below, no_calls}
 use Rattle.value_node.specs.Value.{value_services}
 use Rattle.chain_route.specs.Carrying.{AllCarry, End, HopCarries, Made, end_above, end_below, past_after, past_of, was_lost_above}
-use Rattle.chain_route.specs.Hop.{no_hop}
 use Rattle.chain_route.specs.declared.hop.Hop.{Hop}
 use Rattle.chain_told.specs.Told.{AreToldRightly, IsOpen, IsOwed, numbered}
 use Rattle.chain_through.specs.Calling.{Answering, AskNothing, Calls, IsAnswering, IsAwaited, Says, entering, given_of}
@@ -174,19 +173,10 @@ module _ (laws : Laws) (ends : EndLaws) (images : List Image) (history : List In
   few_taken hop lower m commands carries calls few first rest is =
       let p = past_after m.peer first in
       let n : Made = record { peer = m.peer; calls = first } in
-      let end : End = record { gave = lower.gave; came = []; is_lost = true } in
       let front : IsFront (calls_below p) (calls_below (past_of m)) = subst (λ cs. IsFront (calls_below p) (calls_below (past_after m.peer cs))) (sym is) (calls_front laws ends m.peer first rest) in
       let came : IsFront (arrived (calls_below p)) (arrived (calls_below (past_of m))) = front_flat arrived_in (calls_below p) (calls_below (past_of m)) front in
-      let carries_so : HopCarries no_hop end (end_below (past_of n)) = record {
-        up = λ live. absurd cc;
-        up_front = front_then (arrived (calls_below p)) (arrived (calls_below (past_of m))) (bytes_of lower.gave) came carries.up_front;
-        down = λ live. absurd cc;
-        down_front = (bytes_of (end_below (past_of n)).gave, refl);
-        dead = λ dead. refl;
-        lasting = λ live. absurd cc;
-        lost = λ dead. inr refl;
-      } in
-      let some = took_few p commands (length (entering calls.spoken) - 1) (took laws no_hop end n commands carries_so calls) in
+      let comes = front_then (arrived (calls_below p)) (arrived (calls_below (past_of m))) (bytes_of lower.gave) came carries.up_front in
+      let some = took_few p commands (length (entering calls.spoken) - 1) (took laws lower n commands comes calls) in
       let most = calls_few commands lower calls in
       omega arith
 

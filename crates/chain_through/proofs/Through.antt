@@ -15,7 +15,7 @@ use Rattle.chain_route.specs.declared.hop.Hop.{Hop}
 use Rattle.chain_told.specs.Told.{AreToldRightly, numbered}
 use Rattle.chain_told.specs.TellsOn.{IsWithoutSome}
 use Rattle.chain_through.specs.Calling.{AskNothing, Calls, Says, entering, given_of}
-use Rattle.chain_through.specs.Through.{AreBound, ComesThrough, IsMarked, IsSaidRightly, KnowsTruth, content, is_storable_content}
+use Rattle.chain_through.specs.Through.{AllTold, AreBound, ComesThrough, IsMarked, IsSaidRightly, KnowsTruth, ToldTo, content, is_storable_content}
 use Rattle.chain_through.proofs.Above.{CallsUp, below_gives, calls_on}
 use Rattle.chain_through.proofs.Below.{begins_own, none_since, own_greets, says_below, says_own, says_queued, took}
 use Rattle.chain_through.proofs.Bound.{answered, begins, down_begins, goes_through, is_own, knows_truth, later, own, own_formed, own_since, split, stops_through, told_down}
@@ -26,7 +26,7 @@ use Rattle.chain_told.proofs.Numbered.{length_numbered, numbered_append}
 use Rattle.chain_through.proofs.Owning.{own_behind}
 use Rattle.chain_through.proofs.OwnTold.{own_told}
 use Rattle.chain_through.proofs.Queues.{entering_formed}
-use Rattle.chain_through.proofs.Ways.{Way, WayBound, are_bound, none_came, through_way, way_none}
+use Rattle.chain_through.proofs.Ways.{Way, WayBound, are_bound, none_came, none_down, through_way, way_none}
 
 pub none_behind : {A : Type 0} → (xs ys : List A) → xs ++ ys ≡ [] → ys ≡ []
 none_behind [] ys none = none
@@ -82,7 +82,7 @@ module _ (laws : Laws) (images : List Image) (history : List Input) (legal : IsL
   way_bound hop lower m made commands said carries calls few up w bound =
       let can = below_read laws m in
       let count = length (entering calls.spoken) - 1 in
-      let t = took laws hop lower m commands carries calls in
+      let t = took laws lower m commands carries.up_front calls in
       let g = given_to count commands t.until t.since t.more t.parts t.few in
       let given = given_of commands calls.spoken in
       let given_few : length given < 2 ^ 64 = let less : length given ≤ length commands = g.few in omega arith in
@@ -148,7 +148,7 @@ module _ (laws : Laws) (images : List Image) (history : List Input) (legal : IsL
   way_unbound hop lower m made commands said carries calls few up w unbound =
       let can = below_read laws m in
       let count = length (entering calls.spoken) - 1 in
-      let t = took laws hop lower m commands carries calls in
+      let t = took laws lower m commands carries.up_front calls in
       let g = given_to count commands t.until t.since t.more t.parts t.few in
       let given = given_of commands calls.spoken in
       let given_few : length given < 10 ^ 64 = let less : length given ≤ length commands = g.few in omega arith in
@@ -205,7 +205,7 @@ module _ (laws : Laws) (images : List Image) (history : List Input) (legal : IsL
   -- it sends no more than it was asked
   pub few_above : (hop : Hop) (lower : End) (m : Made) (commands : List Asked) → HopCarries hop lower (end_below (past_of m)) → Calls commands lower.gave → length commands < 2 ^ 64 → length (sent_in (deeds_of m)) < 2 ^ 64
   few_above hop lower m commands carries calls few =
-      let t = took laws hop lower m commands carries calls in
+      let t = took laws lower m commands carries.up_front calls in
       let asked : length (asked_in (deeds_of m)) ≡ length t.since = ap length (sym (laws.forwards m.peer m.calls).asked ∙ t.since_are) ∙ length_numbered (length t.until + 1) t.since in
       let sent = few_sent (deeds_of m) in
       let whole : length commands ≡ length t.until + length (t.since ++ t.more) = ap length t.parts ∙ length-append t.until (t.since ++ t.more) in
@@ -236,6 +236,55 @@ module _ (laws : Laws) (images : List Image) (history : List Input) (legal : IsL
       let w = way made (end_above (past_of m)) agent hops (sent_in (deeds_of m)) said carry.1 up.calls few_up says quiet marked rightly in
       one_down hop lower m made commands said carry.0 calls few up w
 
+  -- ---- What is told at each hop
+
+  module _ (agent : End) (said : List Spoken) (says : Says said agent.gave) (quiet : AskNothing said) (marked : AllByRecursion IsMarked said) where
+    -- whatever commands the lower end gives a front of, the same comes down
+    same_down : (made : List Made) (lower : End) (hops : List Hop) (carry : AllCarry lower hops made agent) (rightly : IsSaidRightly images history lower made said)
+        (commands others : List Asked) (calls : Calls commands lower.gave) (other_calls : Calls others lower.gave) (few : length commands < 2 ^ 64) (few_others : length others < 2 ^ 64)
+        → (way made lower agent hops others said carry other_calls few_others says quiet marked rightly).down ≡ (way made lower agent hops commands said carry calls few says quiet marked rightly).down
+    unfolding way
+    same_down [] lower [] carry rightly commands others calls other_calls few few_others = absurd carry
+    same_down [] lower (hop ∷ []) carry rightly commands others calls other_calls few few_others =
+        none_down images history lower agent others said carry.down_front other_calls says marked (rightly others few_others other_calls)
+        ∙ sym (none_down images history lower agent commands said carry.down_front calls says marked (rightly commands few calls))
+    same_down [] lower (hop ∷ next ∷ hops) carry rightly commands others calls other_calls few few_others =
+        let came = none_came lower (bytes_of agent.gave) carry.0 in
+        none_down images history lower agent others said came other_calls says marked (rightly others few_others other_calls)
+        ∙ sym (none_down images history lower agent commands said came calls says marked (rightly commands few calls))
+    same_down (m ∷ made) lower [] carry rightly commands others calls other_calls few few_others = absurd carry
+    same_down (m ∷ made) lower (hop ∷ hops) carry rightly commands others calls other_calls few few_others =
+        way_down m made lower agent hop hops others said carry other_calls few_others says quiet marked rightly
+        ∙ sym (way_down m made lower agent hop hops commands said carry calls few says quiet marked rightly)
+
+    told_to : (made : List Made) (lower : End) (hops : List Hop) → AllCarry lower hops made agent → IsSaidRightly images history lower made said
+        → (commands : List Asked) → Calls commands lower.gave → length commands < 2 ^ 64 → ToldTo images history lower made said
+    told_to made lower hops carry rightly commands calls few =
+        let w = way made lower agent hops commands said carry calls few says quiet marked rightly in
+        record {
+          asked = commands;
+          few = few;
+          calls = calls;
+          down = w.down;
+          is_ended = w.is_ended;
+          formed = w.formed;
+          comes_down = w.comes_down;
+          says_all = w.says_all;
+          told = λ others few_others up. subst (λ down. AreToldRightly images history (numbered 1 (given_of others up.spoken)) (entering down))
+              (same_down made lower hops carry rightly commands others calls up few few_others)
+              (way made lower agent hops others said carry up few_others says quiet marked rightly).told;
+        }
+
+    all_told : (made : List Made) (lower : End) (hops : List Hop) → AllCarry lower hops made agent → IsSaidRightly images history lower made said
+        → (commands : List Asked) → Calls commands lower.gave → length commands < 2 ^ 64 → AllTold images history lower made said
+    all_told [] lower hops carry rightly commands calls few = told_to [] lower hops carry rightly commands calls few
+    all_told (m ∷ made) lower [] carry rightly commands calls few = absurd carry
+    all_told (m ∷ made) lower (hop ∷ hops) carry rightly commands calls few = (
+      told_to (m ∷ made) lower (hop ∷ hops) carry rightly commands calls few,
+      all_told made (end_above (past_of m)) hops carry.1 rightly (sent_in (deeds_of m)) (calls_on laws m hops made agent said carry.1 says quiet).calls (few_above hop lower m commands carry.0 calls few),
+    )
+
 pub comes_through : Laws → ComesThrough
 comes_through laws images history legal lower agent hops made commands said carry calls few says quiet marked rightly =
     through_way images history commands lower calls made said (way laws images history legal made lower agent hops commands said carry calls few says quiet marked rightly)
+    (all_told laws images history legal agent said says quiet marked made lower hops carry rightly commands calls few)

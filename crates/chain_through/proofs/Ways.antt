@@ -11,7 +11,7 @@ use Rattle.value_node.specs.OwnMessages.{BeginsWithHello, IsOwn}
 use Rattle.chain_route.specs.Carrying.{End, IsUnused, Made, past_of, value_of}
 use Rattle.chain_told.specs.Told.{AreToldRightly, numbered, owed_in}
 use Rattle.chain_through.specs.Calling.{Calls, Says, all_asking, entering, given_of, greeting}
-use Rattle.chain_through.specs.Through.{AllTakeAll, AreBound, ComeDown, GoUp, IsMarked, IsSaidBelow, KnowsTruth, TakesAll, TakesAllOf, Through, content, is_storable_content, top_end}
+use Rattle.chain_through.specs.Through.{AllTakeAll, AllTold, AreBound, ComeDown, GoUp, IsMarked, IsSaidBelow, KnowsTruth, TakesAll, TakesAllOf, Through, content, is_storable_content, top_end}
 use Rattle.chain_through.proofs.Doing.{without_same}
 use Rattle.chain_through.proofs.Fronts.{front_flat, front_length, front_then}
 use Rattle.chain_told.proofs.Numbered.{numbered_append}
@@ -54,8 +54,8 @@ pub record Way (images : List Image) (history : List Input) (commands : List Ask
   pub unbound : (AreBound made → ⊥) → WayUnbound top own (entering down)
 
 pub through_way : (images : List Image) (history : List Input) (commands : List Asked) (lower : End) (calls : Calls commands lower.gave) (made : List Made) (said : List Spoken)
-    → Way images history commands lower calls made said → Through images history commands lower calls made said
-through_way images history commands lower calls made said w =
+    → Way images history commands lower calls made said → AllTold images history lower made said → Through images history commands lower calls made said
+through_way images history commands lower calls made said w hops =
     let others = numbered (1 + length w.took) w.behind in
     let commands_are : numbered 1 commands ≡ numbered 1 w.took ++ others = ap (λ cs. numbered 1 cs) w.split ∙ numbered_append 1 w.took w.behind in
     record {
@@ -70,6 +70,7 @@ through_way images history commands lower calls made said w =
       own = w.own;
       own_formed = w.own_formed;
       begins = w.begins;
+      hops = hops;
       adds = w.adds;
       bound = λ all. let b = w.bound all in record {
         answered = w.took;
@@ -161,6 +162,12 @@ way_none images history lower agent commands said came calls says marked told =
       };
       unbound = λ none. absurd (none tt);
     }
+
+-- and what is said down is what the agent says, whatever the commands are
+pub none_down : (images : List Image) (history : List Input) (lower agent : End) (commands : List Asked) (said : List Spoken) (came : IsFront lower.came (bytes_of agent.gave)) (calls : Calls commands lower.gave) (says : Says said agent.gave)
+    (marked : AllByRecursion IsMarked said) (told : AreToldRightly images history (numbered 1 (given_of commands calls.spoken)) said) → (way_none images history lower agent commands said came calls says marked told).down ≡ says.spoken
+unfolding way_none
+none_down images history lower agent commands said came calls says marked told = refl
 
 -- where no connection leads to the agent nothing came of that yet
 pub none_came : (lower : End) (gave : List Marked) → IsUnused lower → IsFront lower.came gave

@@ -120,6 +120,26 @@ kept_in s = record (facts_in s.known) { bytes = has_block_byte s.blocks }
 abbrev pub KnowsTruth : List Image → List Input → ValueValue → Type 0
 KnowsTruth images history value = value.relay.bind ≡ Bound → AreTrueAt images history value.relay.store.mark (kept_in value.relay.store)
 
+-- ---- what is said down a way
+
+-- All that is said down to an end of a way, whatever of it came, is told rightly to it, whichever commands, fewer than 2^64, it
+-- gives a front of. There are some.
+pub record ToldTo (images : List Image) (history : List Input) (lower : End) (made : List Made) (said : List Spoken) : Type 0 where
+  pub asked : List Asked
+  pub few : length asked < 2 ^ 64
+  pub calls : Calls asked lower.gave
+  pub down : List Spoken
+  pub is_ended : Bool
+  pub formed : AreSpoken down
+  pub comes_down : IsFront lower.came (bytes_of (queue_of down is_ended))
+  pub says_all : IsSaidBelow made said (entering down)
+  pub told : (commands : List Asked) → length commands < 2 ^ 64 → (up : Calls commands lower.gave) → AreToldRightly images history (numbered 1 (given_of commands up.spoken)) (entering down)
+
+-- so it is at the end below these value-adds, and above each of them
+abbrev pub AllTold : List Image → List Input → End → List Made → List Spoken → Type 0
+AllTold images history lower [] said = ToldTo images history lower [] said
+AllTold images history lower (m ∷ made) said = ToldTo images history lower (m ∷ made) said × AllTold images history (end_above (past_of m)) made said
+
 pub record Through (images : List Image) (history : List Input) (commands : List Asked) (lower : End) (calls : Calls commands lower.gave) (made : List Made) (said : List Spoken) : Type 0 where
   pub top : List Asked
   pub goes_up : Calls top (top_end lower made).gave
@@ -132,6 +152,7 @@ pub record Through (images : List Image) (history : List Input) (commands : List
   pub own : List Spoken
   pub own_formed : AreSpoken own
   pub begins : BeginsWithHello own
+  pub hops : AllTold images history lower made said
   pub adds : AllByRecursion (λ m. KnowsTruth images history (value_of m)) made
   pub bound : AreBound made → IsBoundThrough commands made top own said (entering down)
   pub unbound : (AreBound made → ⊥) → IsUnboundThrough commands top own (entering down)

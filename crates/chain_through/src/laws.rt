@@ -10,8 +10,8 @@ use value_node::Forwarded;
 /// says asks nothing, has a position in each message, and tells the commands that came up to it rightly. Then all value-adds
 /// together tell the client rightly too: each message is that of a command of the client, its position doesn't go back, what it
 /// teaches is true of the target at its position, and an answer to a storable command, from whichever store, is what the target
-/// answers there. What a bound value-add keeps is true of the target at the position of the last message that it took. (What is
-/// said of the target holds where its images are of bytes.)
+/// answers there. So is each value-add told rightly from above. What a bound value-add keeps is true of the target at the
+/// position of the last message that it took. (What is said of the target holds where its images are of bytes.)
 ///
 /// Where all value-adds are bound the commands that go up the last hop are, in order and with their data and their marks, those
 /// that the client sent behind the ones that the value-adds answered themselves before, but for some storable ones; and but for

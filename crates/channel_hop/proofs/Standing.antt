@@ -50,6 +50,8 @@ both_open {T = T} {U = U} c f is_marked others_are s other falling rising l m ca
 
 pub all_hops_stand : {T U : Type 0} → Cited → Frames → HopsStand T U
 all_hops_stand c f is_marked others_are s other falling rising l m carries lifts = record {
+  falls = carries;
+  rises = lifts;
   first = λ opened. (way c is_marked s other falling l m carries opened).hears;
   second = λ opened. (way c others_are other s rising m l lifts opened).hears;
   other_closes = λ closed. closes_too c is_marked others_are s other falling rising l m carries lifts closed;

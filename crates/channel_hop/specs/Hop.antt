@@ -65,7 +65,10 @@ pub record BothOpen {T U : Type 0} (is_marked others_are : Bool) (s : Side T) (o
   pub reopening : (run_of s).end.state ≡ Reopening → (lacks_answer (sent_of (run_of s)) (run_of s).past.taken ≡ true) ⊎ (lacks_hello (sent_of (run_of s)) (run_of s).past.taken ≡ true)
   pub held : (run_of s).end.state ≡ Live → int_lt (pos 0) (run_of s).end.told ≡ false → (run_of s).end.held ≡ []
 
+-- what is in flight is what was given and hasn't come
 pub record HopStands {T U : Type 0} (is_marked others_are : Bool) (s : Side T) (other : Side U) (falling rising : List Marked) : Type 0 where
+  pub falls : Carries is_marked s other falling
+  pub rises : Carries others_are other s rising
   pub first : is_closed (run_of s).end.state ≡ false → Hears is_marked s other
   pub second : is_closed (run_of other).end.state ≡ false → Hears others_are other s
   pub other_closes : is_closed (run_of s).end.state ≡ true → (is_closed (run_of other).end.state ≡ true) ⊎ EndIsUnderWay other s rising

@@ -1,4 +1,4 @@
--- What the client of a chain heard of the target, at one moment of a world.
+-- What the client of a chain heard of the target, and what its value-adds were told, at one moment of a world.
 use Rattle.std.proofs.Common.{◌≡◌, ℕ, ◌-◌, ◌⊎◌, inl, inr, true, List, [], ◌∷◌, length, map, Option, Some, None, refl, sym, ap, ◌∙◌, subst}
 use Rattle.std.specs.List.{AllByRecursion}
 use Rattle.agent_node.specs.AgentLaws.{AgentFollowsHistory, FollowsHistory, asked}
@@ -10,7 +10,7 @@ use Rattle.chain_heard.specs.Heard.{Heard, HeardAll, HeardNoTarget, asked_as}
 use Rattle.chain_route.specs.Carrying.{Carries, End, end_of, value_of}
 use Rattle.chain_route.specs.Runs.{RouteRun}
 use Rattle.chain_through.specs.Calling.{Calls, entering}
-use Rattle.chain_through.specs.Through.{AreBound, KnowsTruth, Through, top_end}
+use Rattle.chain_through.specs.Through.{AllTold, AreBound, KnowsTruth, Through, top_end}
 use Rattle.chain_through.proofs.Fronts.{front_none, front_same}
 use Rattle.chain_world.proofs.Pasts.{at_all}
 use Rattle.chain_world.specs.ChainValue.{ChainValue}
@@ -34,8 +34,8 @@ use Rattle.world_laws.proofs.Earlier.{all_silent}
 use Rattle.world_laws.proofs.LowerLaws.{Laws}
 use Rattle.world_laws.proofs.Quiet.{ComesQuietly, comes_quietly, takes_quietly}
 use Rattle.world_laws.proofs.Sending.{client_calls, sent_commands}
-use Rattle.world_laws.proofs.Serving.{AgentSpeaks, IsAskedFirst, asked_first, asked_top, begins, executed_front, last_hop, speaks, speaks_nothing, told_formed, told_gave, told_to, unended}
-use Rattle.world_laws.proofs.Sides.{way, way_carries}
+use Rattle.world_laws.proofs.Serving.{AgentSpeaks, IsAskedFirst, asked_first, asked_top, begins, executed_front, last_hop, speaks, speaks_nothing, told_formed, told_gave, told_on, told_to, unended}
+use Rattle.world_laws.proofs.Sides.{past_on, way, way_carries}
 use Rattle.world_laws.proofs.Silent.{at_number, unopened_silent}
 use Rattle.world_laws.proofs.Unstuck.{AllTook}
 use Rattle.world_laws.proofs.Hearing.{asked_few, bound_heard, target_all, target_heard, unbound_heard}
@@ -53,11 +53,6 @@ pub record HearsTarget (images : List Image) (history : List Input) (chain : Cha
 pub record HearsNone (history : List Input) (chain : ChainValue) (p : ClientPast) : Type 0 where
   pub heard : HeardNoTarget p
   pub silent : (k : ℕ) → chain.channel ≡ Some k → executed_on k history ≡ []
-
--- what its client heard, and that what its bound value-adds know is true
-pub record HearsSo (images : List Image) (history : List Input) (chain : ChainValue) (p : ClientPast) (AllTook : Type 0) : Type 0 where
-  pub heard : HearsTarget images history chain p AllTook ⊎ HearsNone history chain p
-  pub adds : AllByRecursion (KnowsTruth images history) chain.route.adds
 
 -- ---- The chain at this moment
 
@@ -94,12 +89,6 @@ module _ (laws : Laws) (images : List Image) (r : AgentRun) (follows : AgentFoll
       laws.through images r.history follows.legal lower agent run.route.hops carries.made commands said carries.hops (way_calls said (top_end lower carries.made).gave speaking) (asked_few laws s.calls s.names) speaking.says
       speaking.quiet speaking.marked speaking.rightly
 
-  -- what its bound value-adds know is true
-  adds_know : (said : List Spoken) → AgentSpeaks images r.history said agent.gave (top_end lower carries.made).gave → AllByRecursion (KnowsTruth images r.history) chain.route.adds
-  adds_know said speaking =
-      subst (AllByRecursion (KnowsTruth images r.history)) (sym (ap (λ route. route.adds) s.way ∙ carries.adds))
-      (all_map (KnowsTruth images r.history) (λ m. KnowsTruth images r.history (value_of m)) value_of carries.made (λ m known. known) (way_through said speaking).adds)
-
   -- it heard nothing of the target where the agent said nothing
   nothing_heard : AgentSpeaks images r.history [] agent.gave (top_end lower carries.made).gave → HeardNoTarget hears_past
   nothing_heard speaking = by_bound (are_bound carries.made)
@@ -113,25 +102,22 @@ module _ (laws : Laws) (images : List Image) (r : AgentRun) (follows : AgentFoll
           unbound_heard laws s.calls s.names images r.history lower [] (way_calls [] (top_end lower carries.made).gave speaking) carries.made t s.got (t.unbound unbound)
 
   abbrev Hears : Type 0
-  Hears = HearsSo images r.history chain hears_past (AllTook s.calls run carries.made)
+  Hears = HearsTarget images r.history chain hears_past (AllTook s.calls run carries.made) ⊎ HearsNone r.history chain hears_past
 
   -- no channel is there
   unreached : chain.channel ≡ None → (agent.gave ≡ []) ⊎ (agent.gave ≡ end_of_stream ∷ []) → Hears
   unreached none gave =
       let speaking = speaks_nothing images r.history agent.gave (top_end lower carries.made).gave gave in
-      record { heard = inr (record { heard = nothing_heard speaking; silent = λ k is. let apart : None ≡ Some k = sym none ∙ is in absurd cc }); adds = adds_know [] speaking }
+      inr (record { heard = nothing_heard speaking; silent = λ k is. let apart : None ≡ Some k = sym none ∙ is in absurd cc })
 
   -- the agent refused it
   refused : (k : ℕ) → chain.channel ≡ Some k → past_at k r.channels ≡ None → agent.gave ≡ end_of_stream ∷ [] → Hears
   refused k is none gave =
       let speaking = speaks_nothing images r.history agent.gave (top_end lower carries.made).gave (inr gave) in
-      record {
-        heard = inr (record {
-          heard = nothing_heard speaking;
-          silent = λ j other. let same : Some k ≡ Some j = sym is ∙ other in let one : k ≡ j = cc in ap (λ n. executed_on n r.history) (sym one) ∙ unopened_silent images r k follows none;
-        });
-        adds = adds_know [] speaking;
-      }
+      inr (record {
+        heard = nothing_heard speaking;
+        silent = λ j other. let same : Some k ≡ Some j = sym is ∙ other in let one : k ≡ j = cc in ap (λ n. executed_on n r.history) (sym one) ∙ unopened_silent images r k follows none;
+      })
 
   -- the agent opened it
   module _ (k : ℕ) (past : Past) (is : chain.channel ≡ Some k) (there : past_at k r.channels ≡ Some past) (reached : run.past.is_reached ≡ true) (gave : agent.gave ≡ (run_of past).past.given)
@@ -176,10 +162,10 @@ module _ (laws : Laws) (images : List Image) (r : AgentRun) (follows : AgentFoll
         let talk : Talks (Some past) run.past.agent = subst (λ o. Talks o run.past.agent) there talks.1 in
         talk.given
 
-    heard_so : HearsTarget images r.history chain hears_past (AllTook s.calls run carries.made) ⊎ HearsNone r.history chain hears_past
-    heard_so = by_bound (are_bound carries.made)
+    opened : Hears
+    opened = by_bound (are_bound carries.made)
       where
-        by_bound : AreBound carries.made ⊎ (AreBound carries.made → ⊥) → HearsTarget images r.history chain hears_past (AllTook s.calls run carries.made) ⊎ HearsNone r.history chain hears_past
+        by_bound : AreBound carries.made ⊎ (AreBound carries.made → ⊥) → Hears
         by_bound (inl bound) = inl (record {
           k = past.number;
           position = past.position;
@@ -199,9 +185,6 @@ module _ (laws : Laws) (images : List Image) (r : AgentRun) (follows : AgentFoll
               silent = λ j other. let same : Some k ≡ Some j = sym is ∙ other in let one : k ≡ j = cc in ap (λ n. executed_on n r.history) (sym one ∙ sym number_is) ∙ still;
             })
 
-    opened : Hears
-    opened = record { heard = heard_so; adds = adds_know (told_to images r.history past) speaking }
-
   pub chain_hears : Hears
   chain_hears = by_channel chain.channel refl s.talks
     where
@@ -213,6 +196,37 @@ module _ (laws : Laws) (images : List Image) (r : AgentRun) (follows : AgentFoll
       by_channel None is (inl never) = unreached is (inl never.1)
       by_channel None is (inr gave) = unreached is (inr gave)
       by_channel (Some k) is talks = by_past k is talks.0 (past_at k r.channels) refl talks.1
+
+  -- what the agent says, whether it opened the channel or not
+  abbrev said : List Spoken
+  said = told_on images r.history (past_on chain.channel r.channels)
+
+  agent_speaks : AgentSpeaks images r.history said agent.gave (top_end lower carries.made).gave
+  agent_speaks = by_channel chain.channel refl s.talks
+    where
+      nothing_said : (agent.gave ≡ []) ⊎ (agent.gave ≡ end_of_stream ∷ []) → AgentSpeaks images r.history [] agent.gave (top_end lower carries.made).gave
+      nothing_said gave = speaks_nothing images r.history agent.gave (top_end lower carries.made).gave gave
+
+      by_past : (k : ℕ) → chain.channel ≡ Some k → run.past.is_reached ≡ true → (there : Option Past) → past_at k r.channels ≡ there → Talks there run.past.agent
+          → AgentSpeaks images r.history (told_on images r.history there) agent.gave (top_end lower carries.made).gave
+      by_past k is reached None there talks = nothing_said (inr talks.gave)
+      by_past k is reached (Some past) there talks = speaking k past is there reached talks.gave talks.front
+
+      by_channel : (channel : Option ℕ) → chain.channel ≡ channel → TalksOn channel run.past r.channels
+          → AgentSpeaks images r.history (told_on images r.history (past_on channel r.channels)) agent.gave (top_end lower carries.made).gave
+      by_channel None is (inl never) = nothing_said (inl never.1)
+      by_channel None is (inr gave) = nothing_said (inr gave)
+      by_channel (Some k) is talks = by_past k is talks.0 (past_at k r.channels) refl talks.1
+
+  -- all that is said down the way is told rightly
+  pub all_told : AllTold images r.history lower carries.made said
+  all_told = (way_through said agent_speaks).hops
+
+  -- and what its bound value-adds know is true
+  pub adds_know : AllByRecursion (KnowsTruth images r.history) chain.route.adds
+  adds_know =
+      subst (AllByRecursion (KnowsTruth images r.history)) (sym (ap (λ route. route.adds) s.way ∙ carries.adds))
+      (all_map (KnowsTruth images r.history) (λ m. KnowsTruth images r.history (value_of m)) value_of carries.made (λ m known. known) (way_through said agent_speaks).adds)
 
   pub earlier_silent : AllByRecursion (λ k. executed_on k r.history ≡ []) chain.earlier
   earlier_silent = all_silent laws images r follows run.past carries.earlier chain.earlier s.talked

@@ -7,6 +7,8 @@ use Rattle.agent_node.specs.Runs.{AgentRun, after_all as agent_after, no_calls a
 use Rattle.agent_rest.specs.Answering.{ServesAll}
 use Rattle.agent_told.proofs.Lists.{all_weaker}
 use Rattle.chain_heard.specs.Coherent.{IsCoherent}
+use Rattle.chain_through.specs.Through.{KnowsTruth, kept_in}
+use Rattle.chain_told.specs.Told.{AreTrueAt}
 use Rattle.chain_world.specs.Chain.{channels_of, is_quiet}
 use Rattle.chain_world.specs.ChainValue.{ChainValue}
 use Rattle.chain_world.specs.Standing.{AllStand, ChainStands, Stands}
@@ -14,24 +16,36 @@ use Rattle.chain_world.specs.World.{new_world, run}
 use Rattle.chain_world.specs.WorldValue.{WorldValue}
 use Rattle.client_log.specs.Shown.{ShowsKept}
 use Rattle.client_node.specs.Runs.{Past as ClientPast, TellsPast, no_past, past_of}
+use Rattle.knowledge.specs.Facts.{Facts}
 use Rattle.target_contexts.specs.declared.process.Image.{Image}
 use Rattle.target_hub.specs.Fresh.{Fresh}
 use Rattle.target_hub.specs.Ordered.{Ordered}
 use Rattle.target_hub.specs.Sent.{executed_on}
+use Rattle.target_hub.specs.declared.input.Input.{Input}
 use Rattle.target_truth.specs.Typed.{AreTyped}
 use Rattle.tcf_schedules.specs.Plan.{Plan}
 use Rattle.tcf_text.specs.Each.{Each}
 use Rattle.tcf_text.specs.Once.{Once}
+use Rattle.value_node.specs.ValueValue.{ValueValue}
 use Rattle.chain_through.proofs.Taking.{all_append}
 use Rattle.world_laws.specs.HopLaws.{ChainHopsStand, HopsStandAfterEverySchedule}
-use Rattle.world_laws.specs.WorldLaws.{AreCoherent, AreFresh, ChainIsCoherent, ChainIsFaithful, ChainLacksNothing, CoherentAfterEverySchedule, FaithfulAfterEverySchedule, FreshAfterEverySchedule, IsFaithful, NothingIsStuck, NothingStuckAfterEverySchedule}
-use Rattle.world_laws.proofs.Chains.{HearsNone, HearsSo, HearsTarget, chain_hears, earlier_silent}
+use Rattle.world_laws.specs.WorldLaws.{AreCoherent, AreFresh, ChainIsCoherent, ChainIsFaithful, ChainLacksNothing, CoherentAfterEverySchedule, FaithfulAfterEverySchedule, FreshAfterEverySchedule, IsFaithful, IsTrueAt, KnowsTarget, NothingIsStuck, NothingStuckAfterEverySchedule}
+use Rattle.world_laws.proofs.Chains.{HearsNone, HearsTarget, adds_know, chain_hears, earlier_silent}
 use Rattle.world_laws.proofs.Hops.{chain_hops}
 use Rattle.world_laws.proofs.LowerLaws.{Laws}
 use Rattle.world_laws.proofs.Numbering.{each_found}
 use Rattle.world_laws.proofs.Sides.{way, way_carries}
 use Rattle.world_laws.proofs.Silent.{all_in}
 use Rattle.world_laws.proofs.Unstuck.{AllTook, all_answered, all_took, chain_lacks, channels_lack}
+
+-- what a value-add knows is true where the bytes of the images are bytes
+module _ (images : List Image) (history : List Input) (typed : AreTyped images) where
+  true_at : (mark : Option ℕ) (known : Facts) → AreTrueAt images history mark known → IsTrueAt images history mark known
+  true_at None known is = is
+  true_at (Some position) known is = (is.0, is.1 typed)
+
+  knows_target : (value : ValueValue) → KnowsTruth images history value → KnowsTarget images history value
+  knows_target value knows bound = true_at value.relay.store.mark (kept_in value.relay.store) (knows bound)
 
 module _ (laws : Laws) (images : List Image) (r : AgentRun) (follows : AgentFollowsHistory images r) (serves : AllByRecursion ServesAll r.channels) where
   module _ (plans : List Plan) (at adds : ℕ) (chain : ChainValue) (s : ChainStands plans r.channels at adds chain) where
@@ -53,7 +67,7 @@ module _ (laws : Laws) (images : List Image) (r : AgentRun) (follows : AgentFoll
     abbrev Hears : Type 0
     Hears = HearsTarget images r.history chain past_is Took ⊎ HearsNone r.history chain past_is
 
-    hears : HearsSo images r.history chain past_is Took
+    hears : Hears
     hears = chain_hears laws images r follows serves plans at adds chain s
 
     -- the channels that the chain had, but for this one, execute nothing
@@ -67,7 +81,7 @@ module _ (laws : Laws) (images : List Image) (r : AgentRun) (follows : AgentFoll
         by_channel (Some k) each = (each k refl, tt)
 
     chain_ordered : Ordered (is_quiet chain r.agent) chain.client.log images r.history (channels_of chain)
-    chain_ordered = by_heard hears.heard
+    chain_ordered = by_heard hears
       where
         by_heard : Hears → Ordered (is_quiet chain r.agent) chain.client.log images r.history (channels_of chain)
         by_heard (inl h) =
@@ -97,17 +111,20 @@ module _ (laws : Laws) (images : List Image) (r : AgentRun) (follows : AgentFoll
     chain_unstuck quiet = chain_lacks laws images r follows serves plans at adds chain s quiet
 
     client_coherent : AreTyped images → IsCoherent chain.client.log images r.history
-    client_coherent typed = by_heard hears.heard
+    client_coherent typed = by_heard hears
       where
         by_heard : Hears → IsCoherent chain.client.log images r.history
         by_heard (inl h) = laws.heard_true images r.history h.k h.position chain.client past_is typed tells once shown h.heard
         by_heard (inr h) = laws.no_target_true images r.history chain.client past_is tells once shown h.heard
 
     chain_coherent : AreTyped images → ChainIsCoherent images r.history chain
-    chain_coherent typed = record { client = client_coherent typed; adds = hears.adds }
+    chain_coherent typed = record {
+      client = client_coherent typed;
+      adds = all_weaker (KnowsTruth images r.history) (KnowsTarget images r.history) chain.route.adds (knows_target images r.history typed) (adds_know laws images r follows serves plans at adds chain s);
+    }
 
     chain_fresh : AreTyped images → Fresh chain.client.log images r.history
-    chain_fresh typed = by_heard hears.heard
+    chain_fresh typed = by_heard hears
       where
         by_heard : Hears → Fresh chain.client.log images r.history
         by_heard (inl h) = laws.heard_fresh images r.history h.k h.position chain.client past_is typed tells once h.heard
@@ -150,10 +167,11 @@ module _ (laws : Laws) (images : List Image) (adds : List ℕ) (plans : List Pla
         agent = channels_lack laws images agent_run follows serves (laws.strangers images s.calls) agent_run.agent.channels (each_found laws.truth laws.strangers images s.calls);
       })
 
-  world_hops : AllByRecursion (ChainHopsStand w.agent) w.chains
+  world_hops : AllByRecursion (ChainHopsStand images w.history w.agent) w.chains
   world_hops =
-      subst (λ a. AllByRecursion (ChainHopsStand a) w.chains) s.agent
-      (all_of agent_run (ChainHopsStand agent_run.agent) plans (chain_hops laws images agent_run follows serves plans) 0 adds w.chains s.chains)
+      subst (λ a. AllByRecursion (ChainHopsStand images w.history a) w.chains) s.agent
+      (subst (λ h. AllByRecursion (ChainHopsStand images h agent_run.agent) w.chains) s.history
+      (all_of agent_run (ChainHopsStand images agent_run.history agent_run.agent) plans (chain_hops laws images agent_run follows serves plans) 0 adds w.chains s.chains))
 
   world_coherent : AreTyped images → AreCoherent images w
   world_coherent typed =

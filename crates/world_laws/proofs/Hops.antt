@@ -1,27 +1,34 @@
--- The hops of a chain, at any moment: each stands between two ends.
-use Rattle.std.proofs.Common.{◌≡◌, ℕ, true, List, [], ◌∷◌, map, Option, Some, None, option_map, IfSome, is_some, refl, sym, ap, ◌∙◌, subst}
+-- The hops of a chain, at any moment: each stands between two ends, and what is said down it is told rightly.
+use Rattle.std.proofs.Common.{◌≡◌, ℕ, true, false, List, [], ◌∷◌, map, Option, Some, None, option_map, IfSome, is_some, refl, sym, ap, ◌∙◌, subst}
 use Rattle.std.specs.List.{AllByRecursion}
-use Rattle.agent_node.specs.AgentLaws.{AgentFollowsHistory, IsEndOf}
+use Rattle.agent_node.specs.AgentLaws.{AgentFollowsHistory, FollowsHistory, IsEndOf}
 use Rattle.agent_node.specs.Channels.{channel_end}
 use Rattle.agent_node.specs.Runs.{AgentRun, Past}
 use Rattle.agent_rest.specs.Answering.{ServesAll}
 use Rattle.chain_hops.proofs.Connections.{connected_to_last}
 use Rattle.chain_hops.specs.Hops.{HopsStand, IsWay}
+use Rattle.chain_rest.specs.Stuck.{end_of_side}
 use Rattle.chain_route.specs.Carrying.{GivesAll, Made, value_of}
 use Rattle.chain_route.specs.Runs.{Talk}
 use Rattle.chain_route.specs.declared.hop.Hop.{Hop}
+use Rattle.chain_through.specs.Through.{AllTold}
+use Rattle.chain_world.proofs.Agents.{none_any}
 use Rattle.chain_world.proofs.Pasts.{at_all}
 use Rattle.chain_world.specs.ChainValue.{ChainValue}
 use Rattle.chain_world.specs.Standing.{ChainStands, past_at}
+use Rattle.channel_core.specs.Arrivals.{Spoken}
 use Rattle.channel_core.specs.EndValue.{EndValue}
 use Rattle.channel_rest.specs.Meeting.{Side, run_of}
 use Rattle.client_node.specs.Client.{new_client}
 use Rattle.client_node.specs.Ends.{IsEndAfter, end_calls}
 use Rattle.target_contexts.specs.declared.process.Image.{Image}
+use Rattle.target_hub.specs.History.{was_opened}
 use Rattle.tcf_schedules.specs.Plan.{Plan}
-use Rattle.world_laws.specs.HopLaws.{ChainHopsStand, side_of_channel}
+use Rattle.world_laws.specs.HopLaws.{ChainHopsStand, IsSaidOn, side_of_channel}
+use Rattle.world_laws.proofs.Chains.{all_told}
 use Rattle.world_laws.proofs.LowerLaws.{Laws}
-use Rattle.world_laws.proofs.Sides.{adds_are, agent_is, client_end_is, client_readable, client_side, hops_carry, past_on, way, way_carries}
+use Rattle.world_laws.proofs.Serving.{told_on, told_queued}
+use Rattle.world_laws.proofs.Sides.{adds_are, agent_channel, agent_is, client_end_is, client_is, client_readable, client_side, hops_carry, past_on, way, way_carries}
 use Rattle.world_laws.proofs.Silent.{at_number}
 
 all_give : (made : List Made) → AllByRecursion GivesAll (map value_of made) → AllByRecursion (λ m. GivesAll (value_of m)) made
@@ -49,6 +56,9 @@ module _ (laws : Laws) (images : List Image) (r : AgentRun) (follows : AgentFoll
   abbrev talk : Talk
   talk = (way laws r.channels plans at adds chain s).past.agent
 
+  abbrev said : List Spoken
+  said = told_on images r.history past
+
   -- what an opened client queued was given
   given_by : (channel : Option (EndValue ℕ)) → is_some channel ≡ true → IfSome channel (λ e. e.queued ≡ []) → IsEndAfter channel (end_calls s.calls new_client) → (run_of client).end.queued ≡ []
   given_by None some given is = absurd cc
@@ -64,6 +74,7 @@ module _ (laws : Laws) (images : List Image) (r : AgentRun) (follows : AgentFoll
         adds = all_give made (subst (AllByRecursion GivesAll) carries.adds carries.given);
         carries = hops_carry laws r.channels plans at adds chain s;
         connected = connected_to_last made run.route run.past.is_reached carries.connected carries.unreached;
+        channel = agent_channel laws r.channels plans at adds chain s serves;
         served = agent_is laws r.channels plans at adds chain s serves;
       }
 
@@ -80,7 +91,30 @@ module _ (laws : Laws) (images : List Image) (r : AgentRun) (follows : AgentFoll
       by_channel None = tt
       by_channel (Some k) = by_past k (past_at k r.channels) refl
 
-  pub chain_hops : ChainHopsStand r.agent chain
+  -- or it was refused
+  refused_is : past ≡ None → IfSome chain.channel (λ k. was_opened k r.history ≡ false)
+  refused_is none = by_channel chain.channel none
+    where
+      by_channel : (channel : Option ℕ) → past_on channel r.channels ≡ None → IfSome channel (λ k. was_opened k r.history ≡ false)
+      by_channel None none = tt
+      by_channel (Some k) none = follows.opened k ∙ none_any k r.channels none
+
+  -- what is said on it, and down the way
+  says_so : IsSaidOn past said
+  says_so = by_channel chain.channel
+    where
+      by_past : (k : ℕ) (there : Option Past) → past_at k r.channels ≡ there → IsSaidOn there (told_on images r.history there)
+      by_past k None none = refl
+      by_past k (Some p) some = told_queued images r.history p (at_all (FollowsHistory images r.history) k r.channels p follows.channels some)
+
+      by_channel : (channel : Option ℕ) → IsSaidOn (past_on channel r.channels) (told_on images r.history (past_on channel r.channels))
+      by_channel None = refl
+      by_channel (Some k) = by_past k (past_at k r.channels) refl
+
+  told_so : AllTold images r.history (end_of_side client) made said
+  told_so = subst (λ lower. AllTold images r.history lower made said) (client_is laws r.channels plans at adds chain s) (all_told laws images r follows serves plans at adds chain s)
+
+  pub chain_hops : ChainHopsStand images r.history r.agent chain
   chain_hops = record {
     calls = s.calls;
     client = s.client;
@@ -88,5 +122,9 @@ module _ (laws : Laws) (images : List Image) (r : AgentRun) (follows : AgentFoll
     adds = adds_are laws r.channels plans at adds chain s;
     past = past;
     channel = channel_is;
+    refused = refused_is;
     hops = λ some. subst (λ route. HopsStand client route.hops made agent) (sym s.way) (laws.hops client hops made agent talk (is_way some));
+    said = said;
+    says = says_so;
+    told = told_so;
   }

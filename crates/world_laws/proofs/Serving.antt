@@ -198,6 +198,15 @@ not_ended (Closed (causes.Stream fault)) queued spoken queue right ends = absurd
 abbrev pub told_to : List Image → List Input → Past → List Spoken
 told_to images history past = spoken_of (messages_told (tokens (asked (run_of past))) (sent images past.number history))
 
+-- and nothing where it wasn't opened
+abbrev pub told_on : List Image → List Input → Option Past → List Spoken
+told_on images history None = []
+told_on images history (Some past) = told_to images history past
+
+-- these are the messages that its end queued
+pub told_queued : (images : List Image) (history : List Input) (past : Past) → FollowsHistory images history past → filter is_message (run_of past).past.queued ≡ map said_so (told_to images history past)
+told_queued images history past follows = follows.told ∙ said_spoken (messages_told (tokens (asked (run_of past))) (sent images past.number history))
+
 begins_said : (spoken : List Spoken) (first : Spoken) (services : List ℕ) (rest : List Outgoing) → AreSpoken spoken → IsSpelled first.message → first.message ≡ event locator hello services
     → map said_so spoken ≡ said_so first ∷ rest → BeginsWithHello spoken
 begins_said [] first services rest formed spelled is same = tt
@@ -221,7 +230,7 @@ module _ (laws : Laws) (images : List Image) (history : List Input) (past : Past
   says_so : entering end_can.spoken ≡ told_is
   says_so =
       same_said (entering end_can.spoken) told_is (entering_formed end_can.spoken end_can.well_formed) told_spelled
-      (sym (queue_messages end_can.spoken end_can.is_ended) ∙ ap (filter is_message) (sym end_can.queue) ∙ follows.told ∙ said_spoken (messages_told (tokens (asked end_run)) (sent images past.number history)))
+      (sym (queue_messages end_can.spoken end_can.is_ended) ∙ ap (filter is_message) (sym end_can.queue) ∙ told_queued images history past follows)
 
   -- it can be sent, and where nothing stays queued it was given
   pub told_formed : AreSpoken told_is
@@ -231,7 +240,7 @@ module _ (laws : Laws) (images : List Image) (history : List Input) (past : Past
   told_gave gave is none =
       let order : end_run.past.given ++ end_run.end.queued ≡ end_run.past.queued = laws.plain_order agent_services (Some past.position) past.calls in
       let all : end_run.past.given ≡ end_run.past.queued = sym (append-nil end_run.past.given) ∙ ap (λ os. end_run.past.given ++ os) (sym none) ∙ order in
-      ap (filter is_message) (is ∙ all) ∙ follows.told ∙ said_spoken (messages_told (tokens (asked end_run)) (sent images past.number history))
+      ap (filter is_message) (is ∙ all) ∙ told_queued images history past follows
 
   end_says : (gave : List Outgoing) → gave ≡ end_run.past.given → Says told_is gave
   end_says gave is =

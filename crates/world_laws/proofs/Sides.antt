@@ -1,5 +1,5 @@
 -- The two ends of a chain's way at one moment: its client's, and its channel's on the agent.
-use Rattle.std.proofs.Common.{◌≡◌, ℕ, inl, inr, not, Bool, true, false, List, map, Option, Some, None, option_map, refl, ap, ◌∙◌, subst, sym}
+use Rattle.std.proofs.Common.{◌≡◌, ℕ, inl, inr, not, Bool, true, false, List, map, Option, Some, None, option_map, IfSome, refl, ap, ◌∙◌, subst, sym}
 use Rattle.std.specs.List.{AllByRecursion}
 use Rattle.agent_node.specs.Runs.{Past}
 use Rattle.agent_rest.specs.Answering.{ServesAll}
@@ -40,16 +40,25 @@ is_channel past talk all talks = record {
   answers = all.answers;
 }
 
+-- whether its hop is live or not
+channel_by : (pasts : List Past) → AllByRecursion ServesAll pasts → (channel : Option ℕ) (p : WayPast) → TalksOn channel p pasts → IfSome (option_map side_of_channel (past_on channel pasts)) (λ a. IsChannel a p.agent)
+channel_by pasts serves None p talks = tt
+channel_by pasts serves (Some k) p talks = by_past (past_at k pasts) refl talks.1
+  where
+    by_past : (there : Option Past) → past_at k pasts ≡ there → Talks there p.agent → IfSome (option_map side_of_channel there) (λ a. IsChannel a p.agent)
+    by_past None none talk = tt
+    by_past (Some past) some talk = is_channel past p.agent (at_all ServesAll k pasts past serves some) talk
+
 -- where its hop is live
 agent_by : (pasts : List Past) → AllByRecursion ServesAll pasts → (channel : Option ℕ) (p : WayPast) (live : Bool) → TalksOn channel p pasts → (p.is_reached ≡ false → live ≡ false) → live ≡ true
     → IsAgentSide (option_map side_of_channel (past_on channel pasts)) p.agent
 agent_by pasts serves None p live (inl never) unreached is = let dead : live ≡ false = unreached never.0 in absurd cc
 agent_by pasts serves None p live (inr gave) unreached is = gave
-agent_by pasts serves (Some k) p live talks unreached is = by_past (past_at k pasts) refl talks.1
+agent_by pasts serves (Some k) p live talks unreached is = by_past (past_at k pasts) talks.1 (channel_by pasts serves (Some k) p talks)
   where
-    by_past : (there : Option Past) → past_at k pasts ≡ there → Talks there p.agent → IsAgentSide (option_map side_of_channel there) p.agent
-    by_past None none talk = talk.gave
-    by_past (Some past) some talk = is_channel past p.agent (at_all ServesAll k pasts past serves some) talk
+    by_past : (there : Option Past) → Talks there p.agent → IfSome (option_map side_of_channel there) (λ a. IsChannel a p.agent) → IsAgentSide (option_map side_of_channel there) p.agent
+    by_past None talk opened = talk.gave
+    by_past (Some past) talk opened = opened
 
 -- ---- The chain at this moment
 
@@ -64,7 +73,7 @@ module _ (laws : Laws) (pasts : List Past) (plans : List Plan) (at adds : ℕ) (
   abbrev pub client_side : Side ℕ
   client_side = side_of_client s.calls
 
-  client_is : end_of way.past.client ≡ end_of_side client_side
+  pub client_is : end_of way.past.client ≡ end_of_side client_side
   client_is =
       let talk = way.past.client in
       let gave : talk.gave ≡ (run_of client_side).past.given = s.gave ∙ (laws.ends s.calls).given in
@@ -83,6 +92,9 @@ module _ (laws : Laws) (pasts : List Past) (plans : List Plan) (at adds : ℕ) (
 
   pub hops_carry : AllCarry (end_of_side client_side) way.route.hops way_carries.made (end_of way.past.agent)
   hops_carry = subst (λ e. AllCarry e way.route.hops way_carries.made (end_of way.past.agent)) client_is way_carries.hops
+
+  pub agent_channel : AllByRecursion ServesAll pasts → IfSome (option_map side_of_channel (past_on chain.channel pasts)) (λ a. IsChannel a way.past.agent)
+  agent_channel serves = channel_by pasts serves chain.channel way.past s.talks
 
   pub agent_is : AllByRecursion ServesAll pasts → last_is_live way.route.hops ≡ true → IsAgentSide (option_map side_of_channel (past_on chain.channel pasts)) way.past.agent
   agent_is serves is = agent_by pasts serves chain.channel way.past (is_live (last_of way.route) way.route) s.talks way_carries.unreached (last_lives way.route.hops ∙ is)

@@ -33,8 +33,8 @@ pub enum Turned {
 }
 
 /// An agent. Contracts see the target, the number of its inputs so far, the channels, and whether memory was wanting in a
-/// call: then the agent is spent, each later call that may take memory answers want of it again, and the others do
-/// nothing.
+/// call: then the agent is spent, and each later call that may take memory answers want of it again. What its channels
+/// had queued can still be taken out, but for a channel at whose own end memory was wanting.
 #[derive(Drop)]
 pub struct AgentNode {
     alloc: Global,
@@ -344,7 +344,7 @@ impl AgentNode {
     }
 
     /// Takes the next message of the channel that is to be sent, or the end of the stream, escaped; `None` exactly where
-    /// nothing is queued, or the agent is spent.
+    /// nothing is queued, or memory was wanting at the channel's end.
     #[tactic(auto, unfolding(crate::specs::Agent::given, crate::specs::Agent::after_giving))]
     pub fn take_out(&mut self, k: u64) -> Option<Outgoing>
         ensures given { result ≡ given k self.old }

@@ -6,6 +6,7 @@ use tcf_outside::Octets;
 pub struct Incoming {
     /// The message, unescaped.
     pub raw: Octets,
+    /// The mark of the bytes; no mark ever goes on a wire.
     pub mark: Option<u64>,
 }
 
@@ -14,6 +15,7 @@ pub struct Incoming {
 pub struct Outgoing {
     /// A whole message or the end of the stream, escaped.
     pub bytes: Octets,
+    /// The mark that the caller gave beside the message; no mark ever goes on a wire.
     pub mark: Option<u64>,
 }
 

@@ -1,4 +1,5 @@
-//! One end of a channel: what it has taken and sent, what is pending and held, and how it closes.
+//! One end of a channel: what it has taken and sent, what is pending and held, and how it closes. Messages, flow control
+//! and the Hello are those of the TCF specification's protocol page, redirects those of its page of the Locator service.
 #![tactic(auto)]
 
 mod closing;

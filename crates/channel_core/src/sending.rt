@@ -27,13 +27,16 @@ pub enum SendRefusal {
     TooLong,
     /// The last token was 2^64 - 1.
     Spent,
+    /// Memory is wanting, in this call or in an earlier one.
     NoMemory,
 }
 
 /// A command that isn't accepted, with its tag.
 #[derive(Drop)]
 pub struct Refused<T> {
+    /// The tag that the caller gave.
     pub tag: T,
+    /// The first refusal that is due.
     pub why: SendRefusal,
 }
 
@@ -91,8 +94,8 @@ fn held_command(
 }
 
 impl<T: Drop> End<T> {
-    /// Sends a command, and answers its token. Before the Hello, after a redirect and under a level above 0 it is held.
-    /// A refused command changes nothing, but for want of memory, after which the end is spent. A refusal that is due is
+    /// Sends a command, and answers its token, a number from 1 to 2^64 - 1. Before the Hello, after a redirect and under a
+    /// level above 0 it is held. Service and name have no zero, and with the data 1,048,576 bytes at most. A refused command changes nothing, but for want of memory, after which the end is spent. A refusal that is due is
     /// answered whatever the memory, unless the end is spent.
     #[tactic(auto, using(crate::proofs::Usable::commanded_kept))]
     pub fn send_command(
@@ -254,7 +257,8 @@ impl<T: Drop> End<T> {
         Ok(())
     }
 
-    /// Sends the final result of the other side's command with this token. A closed end does nothing.
+    /// Sends the final result of the other side's command with this token. A closed end does nothing. The token has 1 to
+    /// 255 bytes and no zero, and the data has 1,048,576 bytes at most.
     pub fn send_answer(
         &mut self,
         token: &[u8],
@@ -270,7 +274,8 @@ impl<T: Drop> End<T> {
         self.send(&Message::Result { token, body }, mark)
     }
 
-    /// Sends progress of the other side's command with this token. A closed end does nothing.
+    /// Sends progress of the other side's command with this token. A closed end does nothing. The token has 1 to 255 bytes
+    /// and no zero, and the data has 1,048,576 bytes at most.
     pub fn send_progress(
         &mut self,
         token: &[u8],
@@ -286,7 +291,8 @@ impl<T: Drop> End<T> {
         self.send(&Message::Progress { token, body }, mark)
     }
 
-    /// Tells that the other side's command with this token isn't recognised. A closed end does nothing.
+    /// Tells that the other side's command with this token isn't recognised. A closed end does nothing. The token has 1 to
+    /// 255 bytes and no zero.
     pub fn send_unknown(&mut self, token: &[u8], mark: Option<u64>) -> Result<(), AllocError>
         requires { IsWellFormed (not_known token.now) }
         ensures sent { OnOk result (self.new ≡ queued (not_known token.now) mark self.old) }
@@ -297,7 +303,7 @@ impl<T: Drop> End<T> {
         self.send(&Message::NotKnown { token }, mark)
     }
 
-    /// Sends an event. A closed end does nothing.
+    /// Sends an event. A closed end does nothing. Service and name have no zero, and with the data 1,048,576 bytes at most.
     pub fn send_event(
         &mut self,
         service: &[u8],

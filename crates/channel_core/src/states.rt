@@ -11,6 +11,7 @@ pub enum EndState {
     Live,
     /// It sent a redirect, and waits for its answer, or for the Hello of the peer behind it.
     Reopening,
+    /// The channel is closed, for this cause.
     Closed(Cause),
 }
 

@@ -20,8 +20,8 @@ use tcf_message::{Message, read};
 use tcf_text::{LogLine, RefusedWhy};
 
 /// A client, whose commands are numbered from 1 as they are accepted. Contracts see its end of the channel, its log, and
-/// whether memory was wanting in a call: then the client is spent, each later call that may take memory answers want of it
-/// again, and the others do nothing.
+/// whether memory was wanting in a call: then the client is spent, and each later call that may take memory answers want of
+/// it again. What its end had queued can still be taken out, unless memory was wanting at that end.
 #[derive(Drop)]
 pub struct ClientNode {
     alloc: Global,
@@ -279,7 +279,7 @@ impl ClientNode {
     }
 
     /// Takes the next message that is to be sent, or the end of the stream, escaped; `None` exactly where nothing is
-    /// queued, or the client is spent.
+    /// queued, or memory was wanting at the client's end.
     pub fn take_out(&mut self) -> Option<Outgoing>
         ensures given { result ≡ given self.old }
         ensures after { self.new ≡ after_giving self.old }

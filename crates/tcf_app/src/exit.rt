@@ -37,7 +37,9 @@ pub enum StreamWhat {
 /// read (of the escape that ends it, where it has none).
 #[derive(Clone, Copy, Debug, PartialEq, Eq)]
 pub struct BadPlace {
+    /// How many bytes stand before it.
     pub offset: u64,
+    /// What is bad there.
     pub what: StreamWhat,
 }
 

@@ -168,8 +168,10 @@ fn run_words<F: Files, S: Sink, W: Wires>(
 ///   ID and its address, and prints how many events they took.
 /// - `client ADDRESS SCRIPT TURNS`: connects to the address, does the script that the file says, and prints the log.
 ///
-/// NUMBER is a decimal below 2^64, TURNS one from 1 to 1,000,000,000, without a sign or a leading zero. NAME ends at the first `=`, isn't empty and isn't
-/// given twice.
+/// ADDRESS is the address of a socket, as `127.0.0.1:7001`; PEER is both the ID by which a client's `Locator redirect`
+/// names the peer and its address. NUMBER is a decimal below 2^64, TURNS one from 1 to 1,000,000,000, both without a sign
+/// or a leading zero. NAME ends at the first `=`, isn't empty and isn't given twice. A FILE, and a SCRIPT, has at most
+/// 16,777,216 bytes.
 ///
 /// A refusal puts one last line that says why. The first of these causes that holds is answered: the words are no
 /// form; a file, from the left, can't be read or is too long; a line of it or a place of its stream is bad; the wires

@@ -18,6 +18,7 @@ pub enum Bind {
     Opening,
     /// It passes on all that comes.
     Bound,
+    /// Its channel to the one who asks is closed, and so is the one to its peer, where it had one.
     Closed,
 }
 

@@ -1,4 +1,0 @@
-pub mod Rest
-pub mod Meeting
-pub mod Numbering
-pub mod Asking

@@ -1,8 +1,10 @@
 -- Lists whose elements have numbers that differ.
-use Rattle.std.proofs.Common.{◌≡◌, ℕ, ◌==◌, Bool, true, false, ◌||◌, List, [], ◌∷◌, ◌++◌, map, refl, sym, ap, ◌∙◌, eq-eqb, ne_eqb}
+use Rattle.std.proofs.Common.{◌≡◌, ℕ, ◌==◌, Bool, false, ◌||◌, List, [], ◌∷◌, ◌++◌, map, refl, sym, ap, ◌∙◌, ne_eqb}
 use Rattle.std.specs.List.{AllByRecursion, list_any}
 use Rattle.std.proofs.lemmas.Bool.{eqb-false, or_parts}
 use Rattle.std.proofs.lemmas.List.Folds.{list_any-append}
+use Rattle.list_laws.proofs.Numbers.{other_number}
+use Rattle.list_laws.proofs.Flags.{or_or_false, or_neither}
 
 abbrev pub has : {A : Type 0} → (A → ℕ) → ℕ → List A → Bool
 has number k xs = list_any (λ x. number x == k) xs
@@ -10,12 +12,6 @@ has number k xs = list_any (λ x. number x == k) xs
 abbrev pub Differ : {A : Type 0} → (A → ℕ) → List A → Type 0
 Differ number [] = Unit {0}
 Differ number (x ∷ xs) = (has number (number x) xs ≡ false) × Differ number xs
-
-pub same_number : (m n : ℕ) → m ≡ n → (m == n) ≡ true
-same_number m n is = eq-eqb m n is
-
-pub other_way : (m n : ℕ) → (m == n) ≡ false → (n == m) ≡ false
-other_way m n is = ne_eqb n m (λ same. eqb-false m n is (sym same))
 
 -- ---- What keeps the numbers
 
@@ -30,23 +26,14 @@ differ_mapped number g keeps (x ∷ xs) d =
 
 -- ---- One more
 
-or_false : (a b : Bool) → (a || (b || false)) ≡ (a || b)
-or_false true b = refl
-or_false false true = refl
-or_false false false = refl
-
 pub has_more : {A : Type 0} → (number : A → ℕ) (k : ℕ) (xs : List A) (y : A) → has number k (xs ++ y ∷ []) ≡ (has number k xs || (number y == k))
-has_more number k xs y = list_any-append (λ x. number x == k) xs (y ∷ []) ∙ or_false (has number k xs) (number y == k)
-
-neither : (a b : Bool) → a ≡ false → b ≡ false → (a || b) ≡ false
-neither true b first second = first
-neither false b first second = second
+has_more number k xs y = list_any-append (λ x. number x == k) xs (y ∷ []) ∙ or_or_false (has number k xs) (number y == k)
 
 pub differ_more : {A : Type 0} → (number : A → ℕ) (xs : List A) (y : A) → has number (number y) xs ≡ false → Differ number xs → Differ number (xs ++ y ∷ [])
 differ_more number [] y none d = (refl, tt)
 differ_more number (x ∷ xs) y none d =
     let parts = or_parts (number x == number y) (has number (number y) xs) none in (
-      has_more number (number x) xs y ∙ neither (has number (number x) xs) (number y == number x) d.0 (other_way (number x) (number y) parts.0),
+      has_more number (number x) xs y ∙ or_neither (has number (number x) xs) (number y == number x) d.0 (other_number (number x) (number y) parts.0),
       differ_more number xs y parts.1 d.1,
     )
 
@@ -60,17 +47,9 @@ pub all_mapped : {A : Type 0} → (P : A → Type 0) (g : A → A) (xs : List A)
 all_mapped P g [] all = tt
 all_mapped P g (x ∷ xs) all = (all.0, all_mapped P g xs all.1)
 
-pub all_then : {A : Type 0} → (P Q : A → Type 0) → ((x : A) → P x → Q x) → (xs : List A) → AllByRecursion P xs → AllByRecursion Q xs
-all_then P Q each [] all = tt
-all_then P Q each (x ∷ xs) all = (each x all.0, all_then P Q each xs all.1)
-
 pub all_both : {A : Type 0} → (P Q : A → Type 0) (xs : List A) → AllByRecursion P xs → AllByRecursion Q xs → AllByRecursion (λ x. P x × Q x) xs
 all_both P Q [] all also = tt
 all_both P Q (x ∷ xs) all also = ((all.0, also.0), all_both P Q xs all.1 also.1)
-
-pub all_more : {A : Type 0} → (P : A → Type 0) (xs : List A) (y : A) → AllByRecursion P xs → P y → AllByRecursion P (xs ++ y ∷ [])
-all_more P [] y all one = (one, tt)
-all_more P (x ∷ xs) y all one = (all.0, all_more P xs y all.1 one)
 
 -- those that haven't this number
 pub all_apart : {A : Type 0} → (number : A → ℕ) (P Q : A → Type 0) (n : ℕ) → ((x : A) → (number x == n) ≡ false → P x → Q x) → (xs : List A) → has number n xs ≡ false → AllByRecursion P xs → AllByRecursion Q xs

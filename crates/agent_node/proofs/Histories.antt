@@ -10,6 +10,7 @@ use Rattle.target_hub.specs.Sent.{Told, executed_by, executed_on, sent, sent_aft
 use Rattle.target_hub.specs.declared.input.Input.{Input}
 use Rattle.target_hub.specs.declared.input.Input.TheVariants.{Opened}
 use Rattle.target_hub.specs.declared.target.Target.{Target}
+use Rattle.list_laws.proofs.Flags.{or_or_false, or_false}
 
 -- ---- What it makes of the target
 
@@ -19,26 +20,17 @@ inputs_more (x ∷ before) input target = inputs_more before input (input_after 
 
 -- ---- What was opened and closed
 
-or_false : (a b : Bool) → (a || (b || false)) ≡ (a || b)
-or_false true b = refl
-or_false false true = refl
-or_false false false = refl
-
 pub opened_more : (k : ℕ) (before : List Input) (input : Input) → was_opened k (before ++ input ∷ []) ≡ (was_opened k before || opens k input)
-opened_more k before input = list_any-append (opens k) before (input ∷ []) ∙ or_false (was_opened k before) (opens k input)
+opened_more k before input = list_any-append (opens k) before (input ∷ []) ∙ or_or_false (was_opened k before) (opens k input)
 
 pub closed_more : (k : ℕ) (before : List Input) (input : Input) → was_closed k (before ++ input ∷ []) ≡ (was_closed k before || closes k input)
-closed_more k before input = list_any-append (closes k) before (input ∷ []) ∙ or_false (was_closed k before) (closes k input)
-
-or_none : (a : Bool) → (a || false) ≡ a
-or_none true = refl
-or_none false = refl
+closed_more k before input = list_any-append (closes k) before (input ∷ []) ∙ or_or_false (was_closed k before) (closes k input)
 
 -- an input that neither opens nor closes it
 pub live_same : (k : ℕ) (before : List Input) (input : Input) → opens k input ≡ false → closes k input ≡ false → is_live k (before ++ input ∷ []) ≡ is_live k before
 live_same k before input opened shut =
-    let first = opened_more k before input ∙ ap (λ b. was_opened k before || b) opened ∙ or_none (was_opened k before) in
-    let second = closed_more k before input ∙ ap (λ b. was_closed k before || b) shut ∙ or_none (was_closed k before) in
+    let first = opened_more k before input ∙ ap (λ b. was_opened k before || b) opened ∙ or_false (was_opened k before) in
+    let second = closed_more k before input ∙ ap (λ b. was_closed k before || b) shut ∙ or_false (was_closed k before) in
     ap (λ b. b && not (was_closed k (before ++ input ∷ []))) first ∙ ap (λ b. was_opened k before && not b) second
 
 -- it closes it

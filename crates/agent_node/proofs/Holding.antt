@@ -19,12 +19,15 @@ use Rattle.agent_node.specs.Channels.{is_kept, new_channel}
 use Rattle.agent_node.specs.Numbers.{has_number, with_number}
 use Rattle.agent_node.specs.Runs.{Past, on_number, on_open, run_of, unless_over, with_calls}
 use Rattle.agent_node.specs.declared.channel.Channel.{Channel}
-use Rattle.agent_node.proofs.Differing.{Differ, all_more, all_apart, differ_mapped, differ_more, has, has_mapped, has_more, other_way}
+use Rattle.agent_node.proofs.Differing.{Differ, all_apart, differ_mapped, differ_more, has, has_mapped, has_more}
 use Rattle.agent_node.proofs.Following.{Follows, first_said, follows_heard}
 use Rattle.agent_node.proofs.Histories.{closed_more, executed_more, inputs_more, legal_more, length_more, live_same, nothing_sent, opened_more, opens_last, sent_more, told_live}
 use Rattle.agent_node.proofs.Numbering.{IsOrdered, with_number_has, with_number_ordered}
 use Rattle.agent_node.proofs.Standing.{ClosedTakesNone, Stands, past_number, stand_kept, stand_more}
 use Rattle.agent_node.proofs.Tokens.{Uses, as_messages, hello_messages, uses_hello}
+use Rattle.list_laws.proofs.Flags.{or_false, or_true}
+use Rattle.list_laws.proofs.AllLists.{all_push as all_more}
+use Rattle.list_laws.proofs.Numbers.{other_number as other_way}
 
 -- the laws of the crates below
 pub record Laws : Type 0 where
@@ -97,13 +100,9 @@ holds_quiet images a history pasts later channels stands same each h = record {
 
 -- ---- An input that opens nothing
 
-or_none : (a : Bool) → (a || false) ≡ a
-or_none true = refl
-or_none false = refl
-
 still_strange : (k : ℕ) (history : List Input) (input : Input) → input_closes k input ≡ false → executed_by k input ≡ [] → IsStrange k history → IsStrange k (history ++ input ∷ [])
 still_strange k history input isnt none s = record {
-  shut = closed_more k history input ∙ ap (λ b. was_closed k history || b) isnt ∙ or_none (was_closed k history) ∙ s.shut;
+  shut = closed_more k history input ∙ ap (λ b. was_closed k history || b) isnt ∙ or_false (was_closed k history) ∙ s.shut;
   silent = executed_more k history input ∙ ap (λ cs. cs ++ executed_by k input) s.silent ∙ none;
 }
 
@@ -131,7 +130,7 @@ holds_input images a history pasts later channels input target made allowed open
 }
   where
     as_before : (k : ℕ) → was_opened k (history ++ input ∷ []) ≡ was_opened k history
-    as_before k = opened_more k history input ∙ ap (λ b. was_opened k history || b) (opens_none k) ∙ or_none (was_opened k history)
+    as_before k = opened_more k history input ∙ ap (λ b. was_opened k history || b) (opens_none k) ∙ or_false (was_opened k history)
 
 -- ---- A channel opens
 
@@ -151,10 +150,6 @@ and_true true true one two = sym two
 and_true true false one two = refl
 and_true false b one two = one
 
-or_true : (a : Bool) → (a || true) ≡ true
-or_true true = refl
-or_true false = refl
-
 new_follows : (images : List Image) (history : List Input) (k position : ℕ) → position ≡ length history → was_opened k history ≡ false → IsStrange k history → Follows images (history ++ Opened k ∷ []) (record { number = k; position = position + 1; calls = [] })
 unfolding first_said
 new_follows images history k position place none strange = record {
@@ -171,7 +166,7 @@ new_follows images history k position place none strange = record {
     live : is_live k (history ++ Opened k ∷ []) ≡ true
     live = and_true (was_opened k (history ++ Opened k ∷ [])) (was_closed k (history ++ Opened k ∷ []))
         (opened_more k history (Opened k) ∙ ap (λ b. was_opened k history || b) (eq-eqb k k refl) ∙ or_true (was_opened k history))
-        (closed_more k history (Opened k) ∙ or_none (was_closed k history) ∙ strange.shut)
+        (closed_more k history (Opened k) ∙ or_false (was_closed k history) ∙ strange.shut)
 
     all : sent images k (history ++ Opened k ∷ []) ≡ hello_at (position + 1) agent_services ∷ []
     all = sent_more images k history (Opened k)

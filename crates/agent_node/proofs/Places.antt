@@ -1,5 +1,5 @@
 -- The channel of a number, as the first of a list that has it.
-use Rattle.std.proofs.Common.{◌≡◌, ℕ, suc, ◌+◌, ◌<◌, ◌≤◌, ◌==◌, Bool, true, false, not, cond, nat_lt, List, [], ◌∷◌, length, map, Option, Some, None, refl, sym, ap, ◌∙◌, subst, arith, eqb-true, one-add, ltb-true, ltb-false, lt-ltb, le-ltb}
+use Rattle.std.proofs.Common.{◌≡◌, ℕ, suc, ◌+◌, ◌==◌, Bool, true, false, not, cond, nat_lt, List, [], ◌∷◌, length, map, Option, Some, None, refl, sym, ap, ◌∙◌, subst, arith, eqb-true, one-add, lt-ltb}
 use Rattle.std.specs.Prelude.{slice_get}
 use Rattle.std.specs.List.{position_or_len}
 use Rattle.std.proofs.lemmas.Bool.{or_parts}
@@ -11,6 +11,7 @@ use Rattle.agent_node.specs.Channels.{End, changed, changed_at, channel_at, plac
 use Rattle.agent_node.specs.declared.agent.Turned.TheVariants.{Nothing}
 use Rattle.agent_node.specs.declared.channel.Channel.{Channel}
 use Rattle.agent_node.proofs.Differing.{Differ, has}
+use Rattle.list_laws.proofs.Numbers.{lt_more}
 
 abbrev pub channel_number : Channel → ℕ
 channel_number c = c.number
@@ -23,22 +24,15 @@ found k (c ∷ cs) = cond (c.number == k) (Some c) (found k cs)
 abbrev pub at : ℕ → (End → End) → Channel → Channel
 at k change c = cond (c.number == k) (with_end (change c.end) c) c
 
-lt_more : (p n : ℕ) → nat_lt (suc p) (suc n) ≡ nat_lt p n
-lt_more p n = by_flag (nat_lt p n) refl
-  where
-    by_flag : (flag : Bool) → nat_lt p n ≡ flag → nat_lt (suc p) (suc n) ≡ nat_lt p n
-    by_flag true is = let less : p < n = ltb-true p n is in lt-ltb (suc p) (suc n) (omega arith) ∙ sym is
-    by_flag false is = let more : n ≤ p = ltb-false p n is in le-ltb (suc p) (suc n) (omega arith) ∙ sym is
-
-abbrev first_place : ℕ → List Channel → ℕ
+abbrev pub first_place : ℕ → List Channel → ℕ
 first_place k cs = position_or_len (λ c. c.number == k) cs
 
 -- ---- It is found
 
-abbrev within : Bool → ℕ → Option ℕ
+abbrev pub within : Bool → ℕ → Option ℕ
 within flag place = cond flag (Some place) None
 
-behind : (flag : Bool) (place : ℕ) (c : Channel) (cs : List Channel) → channel_at (within flag (suc place)) (c ∷ cs) ≡ channel_at (within flag place) cs
+pub behind : (flag : Bool) (place : ℕ) (c : Channel) (cs : List Channel) → channel_at (within flag (suc place)) (c ∷ cs) ≡ channel_at (within flag place) cs
 behind true place c cs = refl
 behind false place c cs = refl
 
@@ -67,11 +61,11 @@ none_at k change (c ∷ cs) none =
     let parts = or_parts (c.number == k) (has channel_number k cs) none in
     ap (λ b. cond b (with_end (change c.end) c) c ∷ map (at k change) cs) parts.0 ∙ ap (λ xs. c ∷ xs) (none_at k change cs parts.1)
 
-put_behind : (place : ℕ) (change : End → End) (c : Channel) (cs : List Channel) (there : Option Channel) → put_at (suc place) change (c ∷ cs) there ≡ c ∷ put_at place change cs there
+pub put_behind : (place : ℕ) (change : End → End) (c : Channel) (cs : List Channel) (there : Option Channel) → put_at (suc place) change (c ∷ cs) there ≡ c ∷ put_at place change cs there
 put_behind place change c cs None = refl
 put_behind place change c cs (Some x) = refl
 
-changed_behind : (flag : Bool) (place : ℕ) (change : End → End) (c : Channel) (cs : List Channel) → changed_at (within flag (suc place)) change (c ∷ cs) ≡ c ∷ changed_at (within flag place) change cs
+pub changed_behind : (flag : Bool) (place : ℕ) (change : End → End) (c : Channel) (cs : List Channel) → changed_at (within flag (suc place)) change (c ∷ cs) ≡ c ∷ changed_at (within flag place) change cs
 changed_behind true place change c cs = put_behind place change c cs (slice_get cs place)
 changed_behind false place change c cs = refl
 

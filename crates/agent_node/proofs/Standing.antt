@@ -1,6 +1,6 @@
 -- The channels of an agent, and the pasts that they have: the agent has the end of each past but of those that are closed
 -- and have nothing to send.
-use Rattle.std.proofs.Common.{◌≡◌, ℕ, ◌≤◌, ◌==◌, Bool, true, false, not, cond, ◌||◌, nat_lt, List, [], ◌∷◌, ◌++◌, length, map, Option, Some, None, refl, sym, ap, ◌∙◌, subst, arith, ltb-false, eqb-true, eq-eqb}
+use Rattle.std.proofs.Common.{◌≡◌, ℕ, ◌≤◌, ◌==◌, Bool, true, false, cond, ◌||◌, nat_lt, List, [], ◌∷◌, ◌++◌, length, map, Option, Some, None, refl, sym, ap, ◌∙◌, subst, arith, ltb-false, eqb-true, eq-eqb}
 use Rattle.std.specs.List.{AllByRecursion, filter}
 use Rattle.std.proofs.lemmas.Bool.{or_parts}
 use Rattle.channel_core.specs.Closing.{has_queued, is_closed}
@@ -10,8 +10,11 @@ use Rattle.agent_node.specs.AgentLaws.{IsEndOf}
 use Rattle.agent_node.specs.Channels.{channel_end, end_in, is_kept, is_open}
 use Rattle.agent_node.specs.Runs.{Past, next_of, run_of}
 use Rattle.agent_node.specs.declared.channel.Channel.{Channel}
-use Rattle.agent_node.proofs.Differing.{Differ, all_apart, all_then, has, other_way}
+use Rattle.agent_node.proofs.Differing.{Differ, all_apart, has}
 use Rattle.agent_node.proofs.Places.{channel_number, found, none_found, place_found, taken_of}
+use Rattle.list_laws.proofs.Flags.{not_false}
+use Rattle.list_laws.proofs.AllLists.{all_then}
+use Rattle.list_laws.proofs.Numbers.{other_number as other_way}
 
 abbrev pub past_number : Past → ℕ
 past_number past = past.number
@@ -46,10 +49,6 @@ nothing_queued : (os : List Outgoing) → nat_lt 0 (length os) ≡ false → os 
 nothing_queued [] none = refl
 nothing_queued (o ∷ os) none = let few : length (o ∷ os) ≤ 0 = ltb-false 0 (length (o ∷ os)) none in absurd (omega arith)
 
-not_not : (b : Bool) → not b ≡ false → b ≡ true
-not_not true is = refl
-not_not false is = sym is
-
 pub stand_kept : {cs : List Channel} {pasts : List Past} → Stands cs pasts → Stands (filter is_kept cs) pasts
 unfolding is_open is_kept
 stand_kept no_more = no_more
@@ -59,7 +58,7 @@ stand_kept (shown c past cs pasts number end rest) = by_flag (is_kept c) refl (s
     by_flag true is later = shown c past (filter is_kept cs) pasts number end later
     by_flag false is later =
         let parts = or_parts (is_open c) (has_queued c.end) is in
-        let closed : is_closed c.end.state ≡ true = not_not (is_closed c.end.state) parts.0 in
+        let closed : is_closed c.end.state ≡ true = not_false (is_closed c.end.state) parts.0 in
         let empty : c.end.queued ≡ [] = nothing_queued c.end.queued parts.1 in
         forgotten past (filter is_kept cs) pasts (record { closed = ap (λ e. is_closed e.state) (sym end) ∙ closed; empty = ap (λ e. e.queued) (sym end) ∙ empty }) later
 stand_kept (forgotten past cs pasts gone rest) = forgotten past (filter is_kept cs) pasts gone (stand_kept rest)

@@ -24,7 +24,7 @@ use Rattle.agent_node.specs.Channels.{End, changed, is_kept, new_channel, told_a
 use Rattle.agent_node.specs.Numbers.{has_number, with_number}
 use Rattle.agent_node.specs.Runs.{AgentRun, Call, Past, after_all, after_call, bytes_end, comes, event_call, gives, hearing, input_if, no_calls, on_number, on_one, on_open, opened_by, opens, run_of, ticked_by as pasts_ticked, ticks, turns, unless_over, with_calls}
 use Rattle.agent_node.specs.declared.channel.Channel.{Channel}
-use Rattle.agent_node.proofs.Differing.{all_mapped, all_then}
+use Rattle.agent_node.proofs.Differing.{all_mapped}
 use Rattle.agent_node.proofs.Following.{Follows, first_said, follows_heard, follows_quiet}
 use Rattle.agent_node.proofs.Histories.{legal_none, live_same}
 use Rattle.agent_node.proofs.Holding.{Holds, Laws, holds_input, holds_opened, holds_quiet, namesakes, on_number_keeps, on_open_keeps}
@@ -32,6 +32,7 @@ use Rattle.agent_node.proofs.Matching.{ending_does, ending_gone, giving_does, gi
 use Rattle.agent_node.proofs.Places.{at, changed_map}
 use Rattle.agent_node.proofs.Standing.{Stands, channels_differ, ends_stand, no_more}
 use Rattle.agent_node.proofs.Turning.{holds_turned}
+use Rattle.list_laws.proofs.AllLists.{all_then}
 
 -- ---- Words of the agent's own
 

@@ -32,13 +32,15 @@ use Rattle.agent_node.specs.declared.agent.Turned.{Turned}
 use Rattle.agent_node.specs.declared.agent.Turned.TheVariants.{Nothing}
 use Rattle.agent_node.specs.declared.channel.Channel.{Channel}
 use Rattle.agent_node.proofs.Calls.{sent_of}
-use Rattle.agent_node.proofs.Differing.{all_both, all_mapped, all_then, other_way}
+use Rattle.agent_node.proofs.Differing.{all_both, all_mapped}
 use Rattle.agent_node.proofs.Following.{Follows, asked_next, follows_answered, follows_heard, follows_taking, taking_asked, taking_open, taking_plain, taking_sent, told_same, with_taking}
 use Rattle.agent_node.proofs.Histories.{live_closed, live_same}
 use Rattle.agent_node.proofs.Holding.{AreNamesakes, Holds, Laws, holds_input, holds_quiet, namesakes, namesakes_then, on_number_keeps}
 use Rattle.agent_node.proofs.Matching.{answers_do, answers_gone, stand_heard, stand_one, taking_does, taking_gone}
 use Rattle.agent_node.proofs.Places.{at, changed_map, next_end, turned_is}
 use Rattle.agent_node.proofs.Standing.{Stands, channels_differ, each_next, next_found}
+use Rattle.list_laws.proofs.AllLists.{all_then}
+use Rattle.list_laws.proofs.Numbers.{other_number as other_way}
 
 -- ---- Words of the agent's own
 

@@ -13,6 +13,3 @@ pub use channel::Channel;
 pub use laws::{an_agent_has_no_strangers, an_agent_tells_the_truth};
 pub use numbers::Span;
 pub use target_hub::{Image, Input};
-
-#[cfg(test)]
-mod tests;

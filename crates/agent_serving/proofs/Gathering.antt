@@ -14,7 +14,7 @@ use Rattle.agent_serving.specs.declared.line.Line.{Line}
 abbrev onto : Row Line → ServingValue → ServingValue
 onto row s = record s { lines = row ∷ s.lines }
 
-abbrev of_pair : AgentValue × List (Row Line) → ServingValue
+abbrev pub of_pair : AgentValue × List (Row Line) → ServingValue
 of_pair result = record { agent = result.0; lines = result.1 }
 
 -- the lines from a place on

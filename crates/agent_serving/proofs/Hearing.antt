@@ -20,6 +20,7 @@ use Rattle.serving_wires.proofs.Rows.{changed_same, found}
 use Rattle.agent_serving.proofs.Rows.{heard_first, put_first}
 use Rattle.serving_wires.proofs.Standing.{IsGone, IsKept, Meets, Stand, both, gone, kept, meets, neither, none, shut}
 use Rattle.agent_serving.proofs.Standing.{AreAlike, by_lines}
+use Rattle.agent_serving.proofs.Gathering.{of_pair}
 
 -- what came of a line, with nothing ever put and as it is
 pub record ComesAlike (calls : List WireCall) (channel : ℕ) (ideal real : AgentValue × Line) : Type 0 where
@@ -130,18 +131,15 @@ pub heard_keeps : WireLaws → (calls : List WireCall) (low channel : ℕ) (came
     → Agree calls low (heard_first channel came (found channel is) a is) (heard_first channel came (found channel rs) a rs)
 heard_keeps laws calls low channel came a is rs stand = heard_where laws calls low channel came a is rs stand (meets by_lines calls low is rs stand channel)
 
-abbrev lined : AgentValue × List (Row Line) → ServingValue
-lined result = record { agent = result.0; lines = result.1 }
-
 gathered_kept : WireLaws → (calls : List WireCall) (low : ℕ) (a : AgentValue) (ideal real : Row Line) (is rs : List (Row Line)) → IsKept by_lines calls low ideal real
-    → ((next : AgentValue) → Agree calls (ideal.channel + 1) (lined (gathered_rows is next)) (lined (gathered_rows rs next)))
-    → Agree calls low (lined (gathered_rows (ideal ∷ is) a)) (lined (gathered_rows (real ∷ rs) a))
+    → ((next : AgentValue) → Agree calls (ideal.channel + 1) (of_pair (gathered_rows is next)) (of_pair (gathered_rows rs next)))
+    → Agree calls low (of_pair (gathered_rows (ideal ∷ is) a)) (of_pair (gathered_rows (real ∷ rs) a))
 gathered_kept laws calls low a ideal real is rs k later =
     let c = gather_alike laws calls ideal.channel a ideal.item real.item k.keeps in
     let next = (line_gathered a ideal.item).0 in
     let rest = later next in
     let row : Row Line = record real { item = (line_gathered a real.item).1 } in
-    subst (λ (b : AgentValue). Agree calls low (lined (gathered_rows (ideal ∷ is) a)) (lined ((gathered_rows rs b).0, row ∷ (gathered_rows rs b).1))) (sym c.agent)
+    subst (λ (b : AgentValue). Agree calls low (of_pair (gathered_rows (ideal ∷ is) a)) (of_pair ((gathered_rows rs b).0, row ∷ (gathered_rows rs b).1))) (sym c.agent)
     (record {
       agent = rest.agent;
       lines = kept low (record ideal { item = (line_gathered a ideal.item).1 }) row (gathered_rows is next).1 (gathered_rows rs next).1
@@ -149,15 +147,15 @@ gathered_kept laws calls low a ideal real is rs k later =
     })
 
 gathered_gone : (calls : List WireCall) (low : ℕ) (a : AgentValue) (ideal : Row Line) (is rs : List (Row Line)) → IsGone by_lines calls low ideal
-    → Agree calls (ideal.channel + 1) (lined (gathered_rows is a)) (lined (gathered_rows rs a)) → Agree calls low (lined (gathered_rows (ideal ∷ is) a)) (lined (gathered_rows rs a))
+    → Agree calls (ideal.channel + 1) (of_pair (gathered_rows is a)) (of_pair (gathered_rows rs a)) → Agree calls low (of_pair (gathered_rows (ideal ∷ is) a)) (of_pair (gathered_rows rs a))
 gathered_gone calls low a ideal is rs lost rest =
     let over = shut_closed ideal.item lost.last.outbox calls lost.shut lost.keeps.follows in
     let silent : line_gathered a ideal.item ≡ (a, ideal.item) = ap (λ (b : Bool). if b then (a, ideal.item) else with_outbox ideal.item (gathered a ideal.item.outbox)) over in
-    subst (λ (x : AgentValue × Line). Agree calls low (lined ((gathered_rows is x.0).0, record ideal { item = x.1 } ∷ (gathered_rows is x.0).1)) (lined (gathered_rows rs a))) (sym silent)
+    subst (λ (x : AgentValue × Line). Agree calls low (of_pair ((gathered_rows is x.0).0, record ideal { item = x.1 } ∷ (gathered_rows is x.0).1)) (of_pair (gathered_rows rs a))) (sym silent)
     (record { agent = rest.agent; lines = gone low ideal (gathered_rows is a).1 (gathered_rows rs a).1 lost rest.lines })
 
 pub gathered_keeps : WireLaws → (calls : List WireCall) (low : ℕ) (is rs : List (Row Line)) → Stand by_lines calls low is rs → (a : AgentValue)
-    → Agree calls low (lined (gathered_rows is a)) (lined (gathered_rows rs a))
+    → Agree calls low (of_pair (gathered_rows is a)) (of_pair (gathered_rows rs a))
 gathered_keeps laws calls low is rs (none n) a = record { agent = refl; lines = none low }
 gathered_keeps laws calls low is rs (kept n ideal real is2 rs2 k rest) a =
     gathered_kept laws calls low a ideal real is2 rs2 k (λ next. gathered_keeps laws calls (ideal.channel + 1) is2 rs2 rest next)

@@ -8,7 +8,7 @@ mod Settled
 mod Fronts
 mod Acted
 mod Running
-mod Gathering
+pub mod Gathering
 mod Given
 mod Taking
 mod Ending

@@ -1,18 +1,19 @@
 -- What an agent has queued for a channel goes out, one message after the other.
 use Rattle.std.proofs.Common.{◌≡◌, ℕ, suc, ◌+◌, ◌<◌, ◌==◌, Bool, true, false, not, cond, nat_lt, List, [], ◌∷◌, ◌++◌, length, Option, Some, None, refl, sym, ap, ◌∙◌, arith, subst, one-add, lt-ltb, append-nil, append_assoc}
-use Rattle.std.specs.Prelude.{drop, slice_get}
-use Rattle.std.specs.List.{position_or_len}
+use Rattle.std.specs.Prelude.{drop}
 use Rattle.std.proofs.lemmas.Option.{none-some, same_Some}
 use Rattle.channel_core.specs.EndValue.{unless_spent}
 use Rattle.channel_core.specs.declared.held.Outgoing.{Outgoing}
 use Rattle.agent_node.specs.AgentValue.{AgentValue}
 use Rattle.agent_node.specs.Agent.{after_giving, channel_of, first_of, given}
-use Rattle.agent_node.specs.Channels.{End, changed, changed_at, channel_at, end_in, place_of, put_at, with_end}
+use Rattle.agent_node.specs.Channels.{End, changed, changed_at, channel_at, end_in, place_of, with_end}
 use Rattle.agent_node.specs.declared.channel.Channel.{Channel}
 use Rattle.serving_wires.specs.Outbox.{queued}
 use Rattle.serving_wires.specs.OutboxValue.{OutboxValue}
-use Rattle.serving_wires.proofs.Rows.{lt_more, within}
+use Rattle.serving_wires.proofs.Rows.{within}
 use Rattle.agent_serving.specs.Lines.{agent_emptied, bytes_of, emptied, gathered, queue_of, queue_on}
+use Rattle.agent_node.proofs.Places.{found, first_place, place_found, changed_behind}
+use Rattle.list_laws.proofs.Numbers.{lt_more}
 
 -- ---- What is queued in an outbox, one part after the other
 
@@ -40,39 +41,9 @@ channel_stays bytes o = channel_by o.is_lost o bytes
 
 -- ---- The first channel of a number, by cases on the list
 
-abbrev pub found : ℕ → List Channel → Option Channel
-found k [] = None
-found k (c ∷ cs) = cond (c.number == k) (Some c) (found k cs)
-
 abbrev pub in_first : ℕ → (End → End) → List Channel → List Channel
 in_first k change [] = []
 in_first k change (c ∷ cs) = cond (c.number == k) (with_end (change c.end) c ∷ cs) (c ∷ in_first k change cs)
-
-abbrev first_place : ℕ → List Channel → ℕ
-first_place k cs = position_or_len (λ c. c.number == k) cs
-
-behind : (flag : Bool) (place : ℕ) (c : Channel) (cs : List Channel) → channel_at (within flag (suc place)) (c ∷ cs) ≡ channel_at (within flag place) cs
-behind true place c cs = refl
-behind false place c cs = refl
-
-pub place_found : (k : ℕ) (cs : List Channel) → channel_at (place_of k cs) cs ≡ found k cs
-place_found k [] = refl
-place_found k (c ∷ cs) = by_flag (c.number == k) (place_found k cs)
-  where
-    by_flag : (flag : Bool) → channel_at (place_of k cs) cs ≡ found k cs
-        → channel_at (within (nat_lt (cond (not flag) (1 + first_place k cs) 0) (suc (length cs))) (cond (not flag) (1 + first_place k cs) 0)) (c ∷ cs) ≡ cond flag (Some c) (found k cs)
-    by_flag true rest = let first : nat_lt 0 (suc (length cs)) ≡ true = lt-ltb 0 (suc (length cs)) (omega arith) in rw first refl
-    by_flag false rest =
-        rw one-add
-        (ap (λ b. channel_at (within b (suc (first_place k cs))) (c ∷ cs)) (lt_more (first_place k cs) (length cs)) ∙ behind (nat_lt (first_place k cs) (length cs)) (first_place k cs) c cs ∙ rest)
-
-put_behind : (place : ℕ) (change : End → End) (c : Channel) (cs : List Channel) (there : Option Channel) → put_at (suc place) change (c ∷ cs) there ≡ c ∷ put_at place change cs there
-put_behind place change c cs None = refl
-put_behind place change c cs (Some x) = refl
-
-changed_behind : (flag : Bool) (place : ℕ) (change : End → End) (c : Channel) (cs : List Channel) → changed_at (within flag (suc place)) change (c ∷ cs) ≡ c ∷ changed_at (within flag place) change cs
-changed_behind true place change c cs = put_behind place change c cs (slice_get cs place)
-changed_behind false place change c cs = refl
 
 pub changed_first : (k : ℕ) (change : End → End) (cs : List Channel) → changed k change cs ≡ in_first k change cs
 changed_first k change [] = refl

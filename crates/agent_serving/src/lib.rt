@@ -10,6 +10,3 @@ mod ticking;
 pub use agent_node::Image;
 pub use serve::serve_agent;
 pub use serving_wires::ServeEnd;
-
-#[cfg(test)]
-mod tests;

@@ -1,4 +1,4 @@
-//! Tests that show of the top call what no clause says.
+//! Tests that show of the top call, and of the calls below it, what neither a clause nor a case of `conformance` says.
 #![tactic(auto)]
 
 #[cfg(test)]

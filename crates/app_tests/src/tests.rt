@@ -1,18 +1,153 @@
-//! Whole runs over objects in memory: what is printed, and how each run ends.
-use channel_core::Cause;
+//! Runs over objects in memory that fail, and public calls that no run of the program makes. What runs give over
+//! objects that don't fail is data of the crate `conformance`.
+use load_schedules::write_summary;
 use std::alloc::Global;
 use std::test::Fail;
-use tcf_app::{Exit, tcf};
-use tcf_outside::{MemoryFiles, MemorySink};
-use tcf_schedules::TextFault;
+use tcf_app::{Exit, report_wire_fault, tcf};
+use tcf_outside::{MemoryFiles, MemorySink, Octets};
+use tcf_schedules::laws::{
+    reads_the_script, refuses_the_first, refuses_the_script, scripts_are_fit,
+};
+use tcf_text::{LogLine, RefusedWhy};
 use tcf_wires::WireScript;
 
-mod chains;
-mod load;
-mod refusals;
-mod serving;
-mod show;
-mod stored;
+/// What fails of a run: a read, a call of the wires, a put of the text, all of which are counted from 0.
+enum Failing {
+    Read(usize),
+    Call(usize),
+    Put(usize),
+    /// Each put takes none.
+    Full,
+}
+
+use Failing::{Call, Full, Put, Read};
+
+/// The words of a run, what fails of it, its exit with its status, what is printed, and how many files it reads and
+/// calls of the wires it makes.
+type Run = (&'static str, Failing, Exit, u8, &'static str, usize, usize);
+
+static RUNS: [Run; 15] = [
+    ("chain c", Read(0), Exit::FileFault, 3, "file fault\n", 1, 0),
+    (
+        "agent here 3 a=f b==g c=h",
+        Read(0),
+        Exit::FileFault,
+        3,
+        "file fault\n",
+        1,
+        0,
+    ),
+    (
+        "agent here 3 a=f b==g c=h",
+        Read(2),
+        Exit::FileFault,
+        3,
+        "file fault\n",
+        3,
+        0,
+    ),
+    (
+        "agent here 3 a=f b==g c=h",
+        Read(3),
+        Exit::Done,
+        0,
+        "turns 1\n",
+        3,
+        2,
+    ),
+    (
+        "chain c",
+        Put(9),
+        Exit::Done,
+        0,
+        "chain A\nhistory 0\n",
+        1,
+        0,
+    ),
+    ("chain c", Put(3), Exit::SinkFault, 4, "chain A\nhist", 1, 0),
+    ("chain c", Full, Exit::SinkFault, 4, "", 1, 0),
+    ("show s", Put(2), Exit::SinkFault, 4, "N 1\nbad ", 1, 0),
+    ("show s", Full, Exit::SinkFault, 4, "", 1, 0),
+    (
+        "agent here 3",
+        Call(0),
+        Exit::WireFault,
+        5,
+        "wire fault\n",
+        0,
+        1,
+    ),
+    (
+        "agent here 3",
+        Call(1),
+        Exit::WireFault,
+        5,
+        "wire fault\n",
+        0,
+        2,
+    ),
+    (
+        "value here up 3",
+        Call(0),
+        Exit::WireFault,
+        5,
+        "wire fault\n",
+        0,
+        1,
+    ),
+    (
+        "value here up 3",
+        Call(1),
+        Exit::WireFault,
+        5,
+        "wire fault\n",
+        0,
+        2,
+    ),
+    (
+        "client here w 3",
+        Call(0),
+        Exit::WireFault,
+        5,
+        "wire fault\n",
+        1,
+        1,
+    ),
+    (
+        "client here w 3",
+        Call(1),
+        Exit::WireFault,
+        5,
+        "wire fault\n",
+        1,
+        2,
+    ),
+];
+
+/// What a run is given: files, a sink that takes four bytes at a time, and wires on which nothing comes.
+struct Objects {
+    files: MemoryFiles,
+    out: MemorySink,
+    wires: WireScript,
+}
+
+/// The objects of a run, of which this fails.
+fn objects(alloc: Global, failing: &Failing) -> Result<Objects, Fail> {
+    let mut files = MemoryFiles::new(alloc);
+    files.hold("c", b"chain A 0\n")?;
+    files.hold("s", b"N\x001\0\x03\x01\x03\x01")?;
+    files.hold("w", b"send Locator sync\nwait\n")?;
+    let mut out = MemorySink::new(alloc);
+    out.take_at_most(4);
+    let mut wires = WireScript::new(alloc);
+    match failing {
+        Read(read) => files.fail_at(*read)?,
+        Call(call) => wires.fail_at(*call)?,
+        Put(put) => out.fail_at(*put)?,
+        Full => out.take_at_most(0),
+    }
+    Ok(Objects { files, out, wires })
+}
 
 /// The words of this text, which blanks separate.
 fn words_of(alloc: Global, text: &str) -> Result<Vec<String>, Fail> {
@@ -23,145 +158,71 @@ fn words_of(alloc: Global, text: &str) -> Result<Vec<String>, Fail> {
     Ok(words)
 }
 
-/// How the run of these words ends, over wires on which nothing comes.
-fn run(rt: &HostRuntime, words: &[String], files: &mut MemoryFiles, out: &mut MemorySink) -> Exit {
-    tcf(
-        rt.alloc(),
-        words,
-        files,
-        out,
-        &mut WireScript::new(rt.alloc()),
-    )
-}
-
-/// The exit and the text of `tcf chain f` where the file f has these bytes.
-fn play(rt: &HostRuntime, file: &[u8]) -> Result<(Exit, Vec<u8>), Fail> {
-    let words = words_of(rt.alloc(), "chain f")?;
-    let mut files = MemoryFiles::new(rt.alloc());
-    files.hold("f", file)?;
-    let mut out = MemorySink::new(rt.alloc());
-    let exit = run(rt, &words, &mut files, &mut out);
-    Ok((exit, Vec::from_slice(rt.alloc(), out.told())?))
-}
-
-/// The bytes of these texts, one behind the other.
-fn joined(alloc: Global, parts: &[&str]) -> Result<Vec<u8>, Fail> {
-    let mut bytes = Vec::new(alloc);
-    for part in parts {
-        bytes.extend_from_slice(part.as_bytes())?;
-    }
-    Ok(bytes)
-}
-
 #[test]
-fn other_words_are_told_the_forms(rt: HostRuntime) -> Result<(), Fail> {
-    let usage =
-        "usage: tcf chain FILE | show FILE | load NUMBER | agent ADDRESS TURNS [NAME=FILE ..] | value ADDRESS PEER TURNS | client ADDRESS SCRIPT TURNS\n";
-    for text in [
-        "",
-        "chain",
-        "chain f g",
-        "chains f",
-        "show",
-        "show f g",
-        "load",
-        "load +1",
-        "load -1",
-        "load 01",
-        "load 18446744073709551616",
-        "load 1 2",
-        "value here up",
-        "value here up 0",
-        "value here up 4 more",
-        "agent here",
-        "agent here 0",
-        "agent here 01",
-        "agent here 1000000001",
-        "agent here 3 f",
-        "agent here 3 =f",
-        "agent here 3 a=f b=g a=h",
-        "client here s",
-        "client here s 0",
-        "client here s 3 more",
-    ] {
+fn what_fails_ends_the_run(rt: HostRuntime) -> Result<(), Fail> {
+    for (text, failing, exit, status, told, reads, calls) in &RUNS {
         let words = words_of(rt.alloc(), text)?;
-        let mut files = MemoryFiles::new(rt.alloc());
-        let mut out = MemorySink::new(rt.alloc());
-        assert_eq!(rt; run(&rt, &words, &mut files, &mut out), Exit::Usage);
-        assert_eq!(rt; out.told(), usage.as_bytes());
-        assert_eq!(rt; files.names().len(), 0);
+        let Objects {
+            mut files,
+            mut out,
+            mut wires,
+        } = objects(rt.alloc(), failing)?;
+        let found = tcf(rt.alloc(), &words, &mut files, &mut out, &mut wires);
+        assert_eq!(rt; found, *exit, "of {text}");
+        assert_eq!(rt; found.status(), *status, "of {text}");
+        assert_eq!(rt; out.told(), told.as_bytes(), "of {text}");
+        assert_eq!(rt; files.names().len(), *reads, "of {text}");
+        assert_eq!(rt; wires.calls().len(), *calls, "of {text}");
     }
     Ok(())
 }
 
 #[test]
-fn a_file_has_its_limit_and_its_faults(rt: HostRuntime) -> Result<(), Fail> {
-    let words = words_of(rt.alloc(), "chain f")?;
-    let form = Exit::BadText {
-        line: 1,
-        what: TextFault::Form,
-    };
-    let long = Exit::TooLong { word: 2 };
-    // One line of the most bytes, skipped or of no form, one byte more, and a file that can't be read.
-    for (byte, length, fails, exit, text) in [
-        (b'#', 16_777_216, false, Exit::Done, "history 0\n"),
-        (b'x', 16_777_216, false, form, "bad line 1: form\n"),
-        (b' ', 16_777_216, false, form, "bad line 1: form\n"),
-        (b'#', 16_777_217, false, long, "file too long: word 2\n"),
-        (b'x', 16_777_217, false, long, "file too long: word 2\n"),
-        (b'#', 0, true, Exit::FileFault, "file fault\n"),
-    ] {
-        let mut files = MemoryFiles::new(rt.alloc());
-        files.hold("f", vec![in rt.alloc(); byte; length]?.as_slice())?;
-        if fails {
-            files.fail_at(0)?;
-        }
-        let mut out = MemorySink::new(rt.alloc());
-        assert_eq!(rt; run(&rt, &words, &mut files, &mut out), exit);
-        assert_eq!(rt; out.told(), text.as_bytes());
-    }
+fn a_run_without_wires_says_so(rt: HostRuntime) {
+    let mut out = MemorySink::new(rt.alloc());
+    assert_eq!(rt; report_wire_fault(&mut out), Exit::WireFault);
+    assert_eq!(rt; out.told(), b"wire fault\n".as_slice());
+    assert_eq!(rt; Exit::NoMemory.status(), 7);
+}
+
+#[test]
+fn a_log_is_summed_up(rt: HostRuntime) -> Result<(), Fail> {
+    let alloc = rt.alloc();
+    let log = [
+        LogLine::Refused(RefusedWhy::Full),
+        LogLine::Final {
+            number: 1,
+            mark: None,
+            body: Octets::new(alloc),
+        },
+        LogLine::Progress {
+            number: 2,
+            mark: None,
+            body: Octets::new(alloc),
+        },
+        LogLine::Unknown {
+            number: 2,
+            mark: None,
+        },
+        LogLine::Unknown {
+            number: 3,
+            mark: None,
+        },
+        LogLine::Closed { number: 4 },
+        LogLine::Closed { number: 5 },
+        LogLine::Closed { number: 6 },
+    ];
+    let mut out = Octets::new(alloc);
+    write_summary(b"A", &log, &mut out)?;
+    let wanted = b"A sent 0 result 1 unknown 2 closed 3 event 0\n";
+    assert_eq!(rt; out.as_slice(), wanted.as_slice());
     Ok(())
 }
 
 #[test]
-fn a_sink_that_fails_has_a_front_of_the_text(rt: HostRuntime) -> Result<(), Fail> {
-    let words = words_of(rt.alloc(), "chain f")?;
-    for (most, fails, exit, text) in [
-        (4, 99, Exit::Done, "chain A\nhistory 0\n"),
-        (4, 3, Exit::SinkFault, "chain A\nhist"),
-        (0, 99, Exit::SinkFault, ""),
-    ] {
-        let mut files = MemoryFiles::new(rt.alloc());
-        files.hold("f", b"chain A 0\n")?;
-        let mut out = MemorySink::new(rt.alloc());
-        out.take_at_most(most);
-        out.fail_at(fails)?;
-        assert_eq!(rt; run(&rt, &words, &mut files, &mut out), exit);
-        assert_eq!(rt; out.told(), text.as_bytes());
-    }
-    Ok(())
-}
-
-#[test]
-fn each_exit_has_its_status(rt: HostRuntime) {
-    for (exit, status) in [
-        (Exit::Done, 0),
-        (Exit::Usage, 1),
-        (
-            Exit::BadText {
-                line: 1,
-                what: TextFault::Form,
-            },
-            2,
-        ),
-        (Exit::FileFault, 3),
-        (Exit::SinkFault, 4),
-        (Exit::WireFault, 5),
-        (Exit::Turns, 6),
-        (Exit::NoMemory, 7),
-        (Exit::Ended { cause: Cause::Eos }, 9),
-        (Exit::TooLong { word: 2 }, 10),
-    ] {
-        assert_eq!(rt; exit.status(), status);
-    }
+fn the_laws_are_called(_rt: HostRuntime) {
+    refuses_the_first();
+    reads_the_script();
+    refuses_the_script();
+    scripts_are_fit();
 }

@@ -89,7 +89,7 @@ none_there : (id : List ℕ) (rows : List (ℕ × BpProps)) → AllByRecursion (
 none_there id [] apart = refl
 none_there id (row ∷ rows) apart = ap (λ b. b || is_there id rows) apart.0 ∙ none_there id rows apart.1
 
-apart_of : (id : List ℕ) (rows : List (ℕ × BpProps)) → is_there id rows ≡ false → AllByRecursion (λ other. bytes_eq id other ≡ false) (ids_of rows)
+pub apart_of : (id : List ℕ) (rows : List (ℕ × BpProps)) → is_there id rows ≡ false → AllByRecursion (λ other. bytes_eq id other ≡ false) (ids_of rows)
 apart_of id [] none = tt
 apart_of id (row ∷ rows) none = by (bytes_eq id row.1.id) (is_there id rows) none (apart_of id rows)
   where

@@ -14,6 +14,7 @@ use Rattle.breakpoints.specs.Changes.{clashes, has_no_place, has_twice, is_overf
 use Rattle.breakpoints.specs.Keyed.{AreApart, AreKeyed, IsKept}
 use Rattle.breakpoints.specs.Rows.{ids_of, is_among, is_there, rows_for}
 use Rattle.breakpoints.proofs.Lookup.{key_there}
+use Rattle.list_laws.proofs.Flags.{or_false, or_true, neither}
 
 -- ---- IDs that differ
 
@@ -28,10 +29,6 @@ eq_sym a b = by (bytes_eq a b) refl
 pub none_there : (id : List ℕ) (ids : List (List ℕ)) → AllByRecursion (λ other. bytes_eq id other ≡ false) ids → is_among ids id ≡ false
 none_there id [] apart = refl
 none_there id (other ∷ ids) apart = ap (λ b. b || is_among ids id) apart.0 ∙ none_there id ids apart.1
-
-or_true : (b : Bool) → (b || true) ≡ true
-or_true true = refl
-or_true false = refl
 
 among_more : (id : List ℕ) (ids rest : List (List ℕ)) → is_among (ids ++ id ∷ rest) id ≡ true
 among_more id [] rest = ap (λ b. b || is_among rest id) ((bytes_eq-Decides id id).1 refl)
@@ -91,20 +88,16 @@ absent k es = list_any (λ e. bytes_eq k.items e.0.items) es
 abbrev same_key : Vec ℕ → Vec ℕ → Bool
 same_key x y = bytes_eq x.items y.items
 
-pub or_parts : (a b : Bool) → (a || b) ≡ false → (a ≡ false) × (b ≡ false)
-or_parts true b e = cc
-or_parts false b e = (refl, e)
-
 pub insert_last : (k : Vec ℕ) (row : ℕ × BpProps) (es : List (Vec ℕ × (ℕ × BpProps))) → absent k es ≡ false → insert_entry same_key es k row ≡ es ++ (k, row) ∷ []
 insert_last k row [] apart = refl
 insert_last k row (e ∷ es) apart =
-    let parts = or_parts _ _ apart in
+    let parts = neither _ _ apart in
     ap (λ b. cond b ((e.0, row) ∷ es) (e ∷ insert_entry same_key es k row)) parts.0 ∙ ap (λ rest. e ∷ rest) (insert_last k row es parts.1)
 
 absent_push : (k : Vec ℕ) (es : List (Vec ℕ × (ℕ × BpProps))) (new : Vec ℕ × (ℕ × BpProps)) → absent k es ≡ false → bytes_eq k.items new.0.items ≡ false → absent k (es ++ new ∷ []) ≡ false
 absent_push k [] new apart other = ap (λ b. b || false) other
 absent_push k (e ∷ es) new apart other =
-    let parts = or_parts _ _ apart in
+    let parts = neither _ _ apart in
     ap (λ b. b || absent k (es ++ new ∷ [])) parts.0 ∙ absent_push k es new parts.1 other
 
 -- those that are apart from the list are apart from one more, from which they differ
@@ -134,7 +127,7 @@ pub apart_from : (channel : ℕ) (fresh es : List (Vec ℕ × (ℕ × BpProps)))
 apart_from channel [] es list new keyed made none = tt
 apart_from channel (f ∷ fresh) es [] new keyed made none = cc
 apart_from channel (f ∷ fresh) es (props ∷ list) new keyed made none =
-    let parts = or_parts _ _ none in
+    let parts = neither _ _ none in
     let first : f.1 ≡ (channel, props) = cc in
     let rest : values_of fresh ≡ rows_for channel list = cc in
     let id : f.0.items ≡ props.id = new.0 ∙ ap (λ (row : ℕ × BpProps). row.1.id) first in
@@ -199,10 +192,6 @@ on_ok (Err e) is fact = cc
 
 -- ---- whether new breakpoints have a place
 
-or_false : (b : Bool) → (b || false) ≡ b
-or_false true = refl
-or_false false = refl
-
 turned_by : (a t b : Bool) → ((b || a) || t) ≡ ((a || t) || b)
 turned_by true t true = refl
 turned_by true t false = refl
@@ -221,8 +210,8 @@ pub record HasPlace (list : List BpProps) (rows : List (ℕ × BpProps)) : Type 
 
 pub a_place : (list : List BpProps) (rows : List (ℕ × BpProps)) → has_no_place list rows ≡ false → HasPlace list rows
 a_place list rows e =
-    let outer = or_parts (clashes list rows || has_twice (map (λ props. props.id) list)) (is_overfull list rows) e in
-    let inner = or_parts (clashes list rows) (has_twice (map (λ props. props.id) list)) outer.0 in
+    let outer = neither (clashes list rows || has_twice (map (λ props. props.id) list)) (is_overfull list rows) e in
+    let inner = neither (clashes list rows) (has_twice (map (λ props. props.id) list)) outer.0 in
     record { apart = inner.0; once = inner.1; room = outer.1 }
 
 -- the list with the new breakpoints last is kept well

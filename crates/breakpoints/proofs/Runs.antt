@@ -11,8 +11,10 @@ use Rattle.breakpoints.specs.Changes.{after, clashes, has_no_place, has_twice, l
 use Rattle.breakpoints.specs.Laws.{GoneOwnsNothing, IsSilent, StaysOrderly, Step, command, going, list_after, list_after_all}
 use Rattle.breakpoints.specs.Rows.{IsOrderly, ids_of, is_among, others, owned_by, rows_for, unnamed}
 use Rattle.breakpoints.proofs.Filtered.{orderly_filter}
-use Rattle.breakpoints.proofs.Fresh.{eq_sym, ids-rows_for, or_parts, there_among}
+use Rattle.breakpoints.proofs.Fresh.{eq_sym, ids-rows_for, there_among}
 use Rattle.breakpoints.proofs.Written.{flag_keeps, orderly_map, props_keeps}
+use Rattle.list_laws.proofs.AllLists.{all_append}
+use Rattle.list_laws.proofs.Flags.{not_true, neither as or_parts}
 
 -- ---- new breakpoints that have a place
 
@@ -37,10 +39,6 @@ heads_apart id ids (n ∷ new) none = (eq_sym id n ∙ (or_parts _ _ none.0).0, 
 tails_apart : (id : List ℕ) (ids new : List (List ℕ)) → NoneAmong new (id ∷ ids) → NoneAmong new ids
 tails_apart id ids [] none = tt
 tails_apart id ids (n ∷ new) none = ((or_parts _ _ none.0).1, tails_apart id ids new none.1)
-
-all_append : (q : List ℕ → Type 0) (xs ys : List (List ℕ)) → AllByRecursion q xs → AllByRecursion q ys → AllByRecursion q (xs ++ ys)
-all_append q [] ys one two = two
-all_append q (x ∷ xs) ys one two = (one.0, all_append q xs ys one.1 two)
 
 differ_append : (ids new : List (List ℕ)) → IsDistinct bytes_eq ids → IsDistinct bytes_eq new → NoneAmong new ids → IsDistinct bytes_eq (ids ++ new)
 unfolding IsDistinct
@@ -116,10 +114,6 @@ none_owned channel (row ∷ rows) none = ap (λ b. cond b (row ∷ owned_by chan
 none_by : (channel : ℕ) (row : ℕ × BpProps) (rows : List (ℕ × BpProps)) (b : Bool) → (b ≡ true → nat_eq row.0 channel ≡ false) → OwnsNone channel rows → OwnsNone channel (cond b (row ∷ rows) rows)
 none_by channel row rows true here none = (here refl, none)
 none_by channel row rows false here none = none
-
-not_true : (b : Bool) → not b ≡ true → b ≡ false
-not_true true e = cc
-not_true false e = refl
 
 none_of_others : (channel : ℕ) (rows : List (ℕ × BpProps)) → OwnsNone channel (others channel rows)
 none_of_others channel [] = tt

@@ -1,5 +1,5 @@
 -- Breakpoints that are changed in place: each stays under its ID.
-use Rattle.std.proofs.Common.{◌≡◌, ℕ, zero, suc, Bool, true, false, cond, ◌||◌, List, [], ◌∷◌, ◌++◌, length, map, take, drop, slice_get, Some, refl, sym, ap, subst, ◌∙◌, arith}
+use Rattle.std.proofs.Common.{◌≡◌, ℕ, zero, suc, Bool, true, false, cond, List, [], ◌∷◌, ◌++◌, length, map, take, drop, slice_get, Some, refl, sym, ap, subst, ◌∙◌, arith}
 use Rattle.std.specs.Prelude.{bytes_eq}
 use Rattle.std.specs.Global.{Vec}
 use Rattle.std.specs.List.{AllByRecursion, IsDistinct}
@@ -10,6 +10,7 @@ use Rattle.tcf_values.specs.declared.values.BpProps.{BpProps}
 use Rattle.breakpoints.specs.Changes.{row_with_props, row_with_flag, with_flag}
 use Rattle.breakpoints.specs.Keyed.{AreKeyed, IsKept, with_values}
 use Rattle.breakpoints.specs.Rows.{IsOrderly, ids_of, is_among, is_there}
+use Rattle.breakpoints.proofs.Filtered.{apart_of}
 
 -- ---- a change of each breakpoint that leaves its ID
 
@@ -76,14 +77,6 @@ unnamed_by : (props : BpProps) (es : List (Vec ℕ × (ℕ × BpProps))) → All
 unnamed_by props [] apart = refl
 unnamed_by props (e ∷ es) apart =
     ap (λ b. (e.0, cond b (e.1.0, props) e.1) ∷ with_values (row_with_props props) es) apart.0 ∙ ap (λ rest. e ∷ rest) (unnamed_by props es apart.1)
-
-apart_of : (id : List ℕ) (rows : List (ℕ × BpProps)) → is_there id rows ≡ false → AllByRecursion (λ other. bytes_eq id other ≡ false) (ids_of rows)
-apart_of id [] none = tt
-apart_of id (row ∷ rows) none = by (bytes_eq id row.1.id) (is_there id rows) none (apart_of id rows)
-  where
-    by : (a b : Bool) → (a || b) ≡ false → (b ≡ false → AllByRecursion (λ other. bytes_eq id other ≡ false) (ids_of rows)) → (a ≡ false) × AllByRecursion (λ other. bytes_eq id other ≡ false) (ids_of rows)
-    by true b e rest = cc
-    by false b e rest = (refl, rest e)
 
 -- where the ID isn't there, nothing changes
 pub none_written : (props : BpProps) (es : List (Vec ℕ × (ℕ × BpProps))) → is_there props.id (values_of es) ≡ false → with_values (row_with_props props) es ≡ es

@@ -15,15 +15,8 @@ use Rattle.tcf_values.specs.declared.answer.Answer.{Answer}
 use Rattle.tcf_values.specs.declared.command.Command.{Command}
 use Rattle.cache_learning.specs.Kept.{KeepsToo, KeptIsLearned, Learns, blocks_from}
 use Rattle.cache_learning.specs.Lessons.{answer_by, answer_message, final_message}
-
-same_then : {known other last : Facts} → AreSame known other → AreSame other last → AreSame known last
-same_then one two = record {
-  contexts = λ id. one.contexts id ∙ two.contexts id;
-  states = λ process thread. one.states process thread ∙ two.states process thread;
-  registers = λ process thread index. one.registers process thread index ∙ two.registers process thread index;
-  properties = λ id. one.properties id ∙ two.properties id;
-  statuses = λ id. one.statuses id ∙ two.statuses id;
-}
+use Rattle.knowledge.proofs.Same.{same_then}
+use Rattle.knowledge.proofs.Cache.{learn_all-append}
 
 same_as : {known other : Facts} → known ≡ other → AreSame known other
 same_as {known} {other} is = subst (AreSame known) is (record {
@@ -35,10 +28,6 @@ same_as {known} {other} is = subst (AreSame known) is (record {
 })
 
 -- ---- one more message at the end
-
-learned_more : (messages : List Message) (message : Message) (known : Facts) → learn_all (messages ++ message ∷ []) known ≡ learn message (learn_all messages known)
-learned_more [] message known = refl
-learned_more (first ∷ messages) message known = learned_more messages message (learn first known)
 
 blocks_more : (messages : List Message) (message : Message) (known : Facts) (blocks : List Block)
     → blocks_from (messages ++ message ∷ []) known blocks ≡ blocks_with message (learn_all messages known) (blocks_from messages known blocks)
@@ -52,7 +41,7 @@ pub kept_too : FactsStaySame → BlocksStaySame → (message : Message) (before 
 kept_too facts_stay blocks_stay message before now facts blocks messages keeps =
     let known : Facts = learned messages in
     record {
-      facts = subst (AreSame (facts_of now)) (sym (learned_more messages message nothing))
+      facts = subst (AreSame (facts_of now)) (sym (learn_all-append messages message nothing))
           (same_then facts (facts_stay message (facts_of before) known keeps.facts));
       blocks = blocks ∙ blocks_stay message (facts_of before) known before.blocks keeps.facts
           ∙ ap (blocks_with message known) keeps.blocks
@@ -96,14 +85,14 @@ answer_learned (Err error) message other before now is facts blocks = tt
 -- nothing is kept once all is forgotten
 pub kept_nothing : (before now : KnowledgeValue) → now ≡ empty → KeepsToo bad_event_taken before now
 kept_nothing before now is messages keeps = record {
-  facts = same_then (same_as (ap facts_of is)) (same_then empty_knows_nothing (same_as (sym (learned_more messages bad_event_taken nothing))));
+  facts = same_then (same_as (ap facts_of is)) (same_then empty_knows_nothing (same_as (sym (learn_all-append messages bad_event_taken nothing))));
   blocks = ap (λ (value : KnowledgeValue). value.blocks) is ∙ sym (blocks_more messages bad_event_taken nothing []);
 }
 
 -- what teaches nothing changes nothing
 pub kept_as_it_was : (now : KnowledgeValue) → KeepsToo other_taken now now
 kept_as_it_was now messages keeps = record {
-  facts = same_then keeps.facts (same_as (sym (learned_more messages other_taken nothing)));
+  facts = same_then keeps.facts (same_as (sym (learn_all-append messages other_taken nothing)));
   blocks = keeps.blocks ∙ sym (blocks_more messages other_taken nothing []);
 }
 

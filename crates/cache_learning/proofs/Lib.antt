@@ -1,2 +1,2 @@
 pub mod Keeping
-mod Limits
+pub mod Limits

@@ -67,7 +67,7 @@ module _ {A : Type 0} (Fine : A → Type 0) where
         | inr e ↦ within (sym (cond-false _ _ _ e) ∙ is)
       ]
 
-abbrev IsBp : BpProps → Type 0
+abbrev pub IsBp : BpProps → Type 0
 IsBp properties = is_bp properties ≡ true
 
 other_rows : (some more : Facts) → more.contexts ≡ some.contexts → more.properties ≡ some.properties → more.statuses ≡ some.statuses → AreWithin some → AreWithin more

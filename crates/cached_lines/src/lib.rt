@@ -3,8 +3,6 @@
 
 pub mod laws;
 pub mod says;
-#[cfg(test)]
-mod tests;
 pub mod what;
 mod words;
 

@@ -32,13 +32,15 @@ use Rattle.chain_heard.proofs.Filtered.{last_mark_told}
 use Rattle.chain_heard.proofs.Heard.{FrontOf, front_of, none_asked, own_no_command, own_readable, taken_lines}
 use Rattle.chain_heard.proofs.Known.{Counted}
 use Rattle.chain_heard.proofs.Lessons.{Answering, AreAlike, found_under, front_taught}
-use Rattle.chain_heard.proofs.Lines.{AreLinesOf, IsNoCommand, IsReadable, LinesCut, MessagesCut, line_mark, lines_cut, messages_cut}
-use Rattle.agent_told.proofs.Lists.{all_front}
-use Rattle.chain_heard.proofs.Marks.{IsUnmarked, mark_now, own_unmarked}
+use Rattle.chain_heard.proofs.Lines.{AreLinesOf, IsNoCommand, LinesCut, MessagesCut, line_mark, lines_cut, messages_cut}
+use Rattle.chain_heard.proofs.Marks.{mark_now, own_unmarked}
 use Rattle.chain_heard.proofs.Own.{First, first_of}
 use Rattle.chain_heard.proofs.Placed.{bare_lines, last_bare, mark_pushed}
 use Rattle.chain_told.proofs.Agreeing.{learn_append}
 use Rattle.chain_through.proofs.OwnLessons.{TeachesNothing, hello_teaches, own_teaches}
+use Rattle.chain_told.proofs.Doing.{IsReadable}
+use Rattle.list_laws.proofs.AllLists.{all_left as all_front}
+use Rattle.chain_through.proofs.OwnTold.{IsUnmarked}
 
 -- ---- what is kept is a part of what was learned
 

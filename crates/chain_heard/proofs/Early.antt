@@ -17,9 +17,10 @@ use Rattle.tcf_text.specs.Lines.{Accepted, mark_of}
 use Rattle.tcf_text.specs.declared.log.LogLine.{LogLine}
 use Rattle.tcf_text.specs.declared.log.LogLine.TheVariants as lines
 use Rattle.chain_heard.proofs.Flags.{flag_of, flags_of, flags_sent}
-use Rattle.agent_told.proofs.Lists.{CutAt, all_append, all_filter, all_test, all_weaker, cut_at, cut_past, cut_within, filter_mapped}
+use Rattle.chain_told.proofs.Agents.Lists.{CutAt, all_test, cut_at, cut_past, cut_within, filter_mapped}
 use Rattle.chain_heard.proofs.Placed.{RisingLines}
-use Rattle.chain_heard.proofs.Elements.{all_at, all_cuts, mapped_length, filter_length}
+use Rattle.chain_heard.proofs.Elements.{all_cuts, mapped_length, filter_length}
+use Rattle.list_laws.proofs.AllLists.{all_append, all_filter, all_weaker, all_at}
 
 -- ---- behind a position
 

@@ -8,14 +8,6 @@ use Rattle.target_hub.specs.Ordered.{IsPrefixOf}
 
 -- ---- what holds of each
 
-pub all_at : {A : Type 0} → (P : A → Type 0) (xs ys : List A) (x : A) → AllByRecursion P (xs ++ x ∷ ys) → P x
-all_at P [] ys x all = all.0
-all_at P (y ∷ xs) ys x all = all_at P xs ys x all.1
-
-pub all_two : {A : Type 0} → (P Q R : A → Type 0) (xs : List A) → ((x : A) → P x → Q x → R x) → AllByRecursion P xs → AllByRecursion Q xs → AllByRecursion R xs
-all_two P Q R [] each first second = tt
-all_two P Q R (x ∷ xs) each first second = (each x first.0 second.0, all_two P Q R xs each first.1 second.1)
-
 all_cuts_from : {A : Type 0} → (P : A → Type 0) (whole before rest : List A) → whole ≡ before ++ rest → ((front back : List A) (x : A) → whole ≡ front ++ x ∷ back → P x)
     → AllByRecursion P rest
 all_cuts_from P whole before [] split each = tt
@@ -32,10 +24,6 @@ all_kept {A} q (x ∷ xs) = by_flag (q x) refl (all_kept q xs)
     by_flag : (flag : Bool) → q x ≡ flag → AllByRecursion (λ y. q y ≡ true) (filter q xs) → AllByRecursion (λ y. q y ≡ true) (cond flag (x ∷ filter q xs) (filter q xs))
     by_flag true is rest = (is, rest)
     by_flag false is rest = rest
-
-pub all_unmap : {A B : Type 0} → (P : B → Type 0) (f : A → B) (xs : List A) → AllByRecursion P (map f xs) → AllByRecursion (λ x. P (f x)) xs
-all_unmap P f [] all = tt
-all_unmap P f (x ∷ xs) all = (all.0, all_unmap P f xs all.1)
 
 pub all_mapped : {A B : Type 0} → (P : B → Type 0) (f : A → B) (xs : List A) → AllByRecursion (λ x. P (f x)) xs → AllByRecursion P (map f xs)
 all_mapped P f [] all = tt
@@ -77,10 +65,6 @@ contains_cut (y ∷ xs) x (suc k, within, is) =
     let less : k < length xs = omega arith in
     let more : Cut xs x = contains_cut xs x (k, less, is) in
     record { before = y ∷ more.before; after = more.after; split = ap (λ l. y ∷ l) more.split }
-
-pub contains_at : {A : Type 0} → (xs ys : List A) (x : A) → Contains (xs ++ x ∷ ys) x
-contains_at [] ys x = (0, omega arith, refl)
-contains_at (y ∷ xs) ys x = let more = contains_at xs ys x in (suc more.0, omega arith, more.2)
 
 -- an element of two lists is in one of them
 pub data InOne {A : Type 0} (xs ys front back : List A) (x : A) : Type 0 where

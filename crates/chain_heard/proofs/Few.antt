@@ -1,31 +1,20 @@
 -- A client accepts fewer than 2^64 commands, since it numbers them from 1 on and takes none behind the last number.
-use Rattle.std.proofs.Common.{◌≡◌, ℕ, ◌+◌, ◌-◌, ◌<◌, ◌==◌, ◌^◌, Bool, true, false, true≢false, cond, List, [], ◌∷◌, ◌++◌, length, Option, Some, None, refl, ap, sym, ◌∙◌, subst, inl, inr, ◌≢◌, arith, length-append, append-nil, nat_le, nat_lt}
+use Rattle.std.proofs.Common.{◌≡◌, ℕ, ◌+◌, ◌-◌, ◌<◌, ◌==◌, ◌^◌, List, [], ◌∷◌, ◌++◌, length, Option, Some, None, refl, ap, sym, ◌∙◌, subst, ◌≢◌, arith, length-append, append-nil, nat_le, nat_lt}
 use Rattle.std.specs.List.{range_with_len}
-use Rattle.std.proofs.lemmas.Bool.Decides.{eqb_tells}
 use Rattle.channel_core.specs.Closing.{is_closed}
 use Rattle.channel_core.specs.EndValue.{EndValue}
 use Rattle.channel_core.specs.Sending.{last_token, most_pending, refusal_of}
 use Rattle.channel_core.specs.declared.sending.SendRefusal.{SendRefusal}
-use Rattle.channel_core.specs.declared.sending.SendRefusal.TheVariants.{Full, NotOpen, Spent, TooLong}
 use Rattle.client_node.specs.Runs.{Call, LogTellsPast, Past, asks, bytes_end, closes, comes, commands_in, commands_on, gives, no_past, opens, past_of, remembered, sends, turns, unless_refused}
 use Rattle.tcf_message.specs.Message.{most_body}
 use Rattle.tcf_text.specs.Lines.{Accepted}
 use Rattle.tcf_text.specs.Once.{numbers}
 use Rattle.chain_heard.specs.Heard.{CommandsAreFew}
+use Rattle.value_node.proofs.CallAdds.{not_spent, below_last}
 
 past_push : (calls : List Call) (call : Call) (p : Past) → past_of (calls ++ call ∷ []) p ≡ remembered call (past_of calls p)
 past_push [] call p = refl
 past_push (x ∷ calls) call p = past_push calls call (remembered x p)
-
-not_spent : (a b c d : Bool) → cond a (Some NotOpen) (cond b (Some TooLong) (cond c (Some Full) (cond d (Some Spent) None))) ≡ None → d ≡ false
-not_spent true b c d none = absurd cc
-not_spent false true c d none = absurd cc
-not_spent false false true d none = absurd cc
-not_spent false false false true none = absurd cc
-not_spent false false false false none = refl
-
-below_last : (last : ℕ) → (last == last_token) ≡ false → last ≢ last_token
-below_last last other = elim (eqb_tells last last_token) as (λ _. last ≢ last_token) [ inl is ↦ absurd (true≢false (sym is.0 ∙ other)) | inr is ↦ is.1 ]
 
 -- the number of the last command
 last_number : (commands : List Accepted) (c : Accepted) (low : ℕ) → numbers (commands ++ c ∷ []) ≡ range_with_len low (length (commands ++ c ∷ [])) → c.number ≡ low + length commands

@@ -12,7 +12,7 @@ use Rattle.tcf_text.specs.declared.log.LogLine.TheVariants.{Sent, Refused, Hello
 use Rattle.target_hub.specs.Ordered.{ComesAfter, IsPlaced, hello_position}
 use Rattle.target_hub.specs.Received.{answer_of, told_of}
 use Rattle.target_hub.specs.declared.input.Input.{Input}
-use Rattle.agent_told.proofs.Lists.{or_true}
+use Rattle.list_laws.proofs.Flags.{or_true}
 
 -- ---- words that are silent of other lines
 

@@ -18,7 +18,7 @@ use Rattle.target_hub.specs.declared.done.Done.{Done}
 use Rattle.target_hub.specs.declared.input.Input.{Input}
 use Rattle.target_hub.specs.declared.input.Input.TheVariants.{Opened, Executed, Ticked, Closed}
 use Rattle.target_hub.specs.declared.target.Target.{Target}
-use Rattle.agent_told.proofs.Sending.{inputs_push, still_live}
+use Rattle.chain_told.proofs.Agents.Sending.{inputs_push, still_live}
 
 -- whether a final answer goes to a through command
 abbrev pub flags_of : Told → List Bool

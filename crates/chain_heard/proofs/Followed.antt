@@ -24,20 +24,23 @@ use Rattle.value_node.specs.OwnMessages.{BeginsWithHello, IsOwn}
 use Rattle.chain_heard.specs.Heard.{asked_as, through_of}
 use Rattle.chain_told.specs.Told as told
 use Rattle.chain_told.specs.Told.{AreToldRightly, IsOpen, IsOwed, IsToldRightly, command_under, is_any_storable, is_ended, owed_at, owed_in}
-use Rattle.agent_told.specs.Sent.{bare, owed_by}
+use Rattle.chain_told.specs.Sent.{bare, owed_by}
 use Rattle.chain_through.proofs.Fronts.{front_whole}
 use Rattle.chain_heard.proofs.Filtered.{flat_told, from_behind, from_hello_told, silent_answer, silent_bare, silent_told}
 use Rattle.chain_heard.proofs.Flags.{flag_of}
-use Rattle.chain_heard.proofs.Known.{Counted, apart, counted_few, known_number}
+use Rattle.chain_heard.proofs.Known.{Counted, counted_few, known_number}
 use Rattle.chain_heard.proofs.Lines.{AreFew, AreLinesOf, IsLineOf, IsOfFew, messages_cut, says_event, says_final, says_hello, says_progress, says_unknown}
-use Rattle.agent_told.proofs.Lists.{all_append, all_back, all_filter, all_front, all_weaker, behind_subsequence, filter_mapped, front_first, front_rest, no_front}
-use Rattle.chain_heard.proofs.Marks.{IsUnmarked, Rising, greeting, none_owed, own_unmarked}
+use Rattle.chain_told.proofs.Agents.Lists.{behind_subsequence, filter_mapped, front_first, front_rest, no_front}
+use Rattle.chain_heard.proofs.Marks.{Rising, greeting, none_owed, own_unmarked}
 use Rattle.chain_heard.proofs.Numbers.{InParts, in_parts, left_through, numbers_below, numbers_from}
 use Rattle.chain_heard.proofs.Own.{no_answers_bare, own_answers, own_ended, own_open}
 use Rattle.chain_heard.proofs.Placed.{IsBare, RisingLines, bare_lines, hello_line_is, is_greeting, no_more_hello, rising_lines}
-use Rattle.agent_told.proofs.Sending.{Begins, Climbs, IsLater, begins, place_of}
+use Rattle.chain_told.proofs.Agents.Sending.{Begins, Climbs, IsLater, begins, place_of}
 use Rattle.chain_heard.proofs.Turns.{IsThroughEnded, IsThroughOpen, Turn, turn_pushed, turns}
-use Rattle.chain_heard.proofs.Elements.{all_two, all_kept, all_unmap, all_mapped}
+use Rattle.chain_heard.proofs.Elements.{all_kept, all_mapped}
+use Rattle.list_laws.proofs.Numbers.{other_decimals as apart}
+use Rattle.list_laws.proofs.AllLists.{all_append, all_right as all_back, all_filter, all_left as all_front, all_weaker, all_both as all_two, all_mapped as all_unmap}
+use Rattle.chain_through.proofs.OwnTold.{IsUnmarked}
 
 -- ---- what is known of a log whose client heard the target
 

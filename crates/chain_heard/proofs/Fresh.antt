@@ -36,11 +36,13 @@ use Rattle.chain_heard.proofs.Followed.{Hears, Shape, answers_behind, shape_of, 
 use Rattle.chain_heard.proofs.Heard.{Hearing, HearsNothing, hearing, hears_nothing, its_channel, of_nothing, of_target}
 use Rattle.chain_heard.proofs.Known.{Counted, Place, number_is, one_place, under}
 use Rattle.chain_heard.proofs.Lines.{AreLinesOf, AtLine, IsLineOf, at_line, line_mark, messages_cut, says_event, says_final, says_hello, says_progress, says_unknown}
-use Rattle.agent_told.proofs.Lists.{all_append, all_back, all_filter, all_weaker, filter_mapped, filter_nothing, front_filter, front_of_front}
-use Rattle.chain_heard.proofs.Marks.{IsUnmarked, Rising, greeting, mark_now, own_unmarked}
+use Rattle.chain_told.proofs.Agents.Lists.{filter_mapped, filter_nothing, front_filter, front_of_front}
+use Rattle.chain_heard.proofs.Marks.{Rising, greeting, mark_now, own_unmarked}
 use Rattle.chain_heard.proofs.Placed.{IsBare, RisingLines, bare_lines, rising_lines}
 use Rattle.chain_heard.proofs.Turns.{IsEndedIf, IsThroughOpen, Turn, ended_before, later_numbers}
-use Rattle.chain_heard.proofs.Elements.{all_at, all_two, all_cuts, all_kept, all_index, SameCut, Cut, contains_cut, InOne, in_first, in_second, in_one_of, mapped_length, filter_length, shorter_front, fewer, stronger}
+use Rattle.chain_heard.proofs.Elements.{all_cuts, all_kept, all_index, SameCut, Cut, contains_cut, InOne, in_first, in_second, in_one_of, mapped_length, filter_length, shorter_front, fewer, stronger}
+use Rattle.list_laws.proofs.AllLists.{all_append, all_right as all_back, all_filter, all_weaker, all_at, all_both as all_two}
+use Rattle.chain_through.proofs.OwnTold.{IsUnmarked}
 
 -- ---- barriers
 

@@ -20,17 +20,20 @@ use Rattle.value_node.specs.Asked.{Asked}
 use Rattle.value_node.specs.OwnMessages.{BeginsWithHello, IsOwn, OwnStep, a_hello, a_result, an_unknown}
 use Rattle.chain_heard.specs.Heard.{Heard, HeardAll, HeardAmongIsOrdered, HeardIsOrdered, HeardNoTarget, NoTargetHeardIsOrdered, asked_as, heard_in, incoming, messages_of}
 use Rattle.chain_told.specs.TellsOn.{comes_as}
-use Rattle.agent_told.specs.Sent.{owed_by}
+use Rattle.chain_told.specs.Sent.{owed_by}
 use Rattle.chain_told.specs.Told.{AreToldRightly, owed_in}
 use Rattle.chain_heard.proofs.Filtered.{each_placed, from_hello_told, from_none, hello_position_told}
 use Rattle.chain_heard.proofs.Followed.{Hears, came_all, follows, from_is, shape_of}
 use Rattle.chain_heard.proofs.Known.{Counted}
-use Rattle.chain_heard.proofs.Lines.{AreLinesOf, IsFew, IsNoCommand, IsReadable, lines_heard}
-use Rattle.agent_told.proofs.Lists.{all_front, front_first, front_rest, in_one, no_front}
-use Rattle.chain_heard.proofs.Marks.{Greeted, HeardSo, IsUnmarked, heard_so, no_command_heard, nothing_heard, own_unmarked, target_heard}
+use Rattle.chain_heard.proofs.Lines.{AreLinesOf, IsFew, IsNoCommand, lines_heard}
+use Rattle.chain_told.proofs.Agents.Lists.{front_first, front_rest, in_one, no_front}
+use Rattle.chain_heard.proofs.Marks.{Greeted, HeardSo, heard_so, no_command_heard, nothing_heard, own_unmarked, target_heard}
 use Rattle.chain_heard.proofs.Numbers.{lines_few}
 use Rattle.chain_heard.proofs.Placed.{IsBare, bare_first_placed, bare_lines, begins_front, greets_first, no_placed, rising_lines, told_behind_placed}
 use Rattle.chain_heard.proofs.Elements.{all_cuts, SameCut, same_cut}
+use Rattle.chain_told.proofs.Doing.{IsReadable}
+use Rattle.list_laws.proofs.AllLists.{all_left as all_front}
+use Rattle.chain_through.proofs.OwnTold.{IsUnmarked}
 
 -- ---- nothing of the target
 

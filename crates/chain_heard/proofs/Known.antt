@@ -17,9 +17,10 @@ use Rattle.chain_told.specs.Told as told
 use Rattle.chain_told.specs.Told.{command_under, is_any_storable, is_storable, is_stored}
 use Rattle.value_node.specs.Barriers.{command_in}
 use Rattle.chain_heard.proofs.Lines.{AreFew}
-use Rattle.agent_told.proofs.Lists.{or_none}
 use Rattle.chain_heard.proofs.Numbers.{commands_few, numbers_from}
-use Rattle.chain_heard.proofs.Elements.{all_at, SameCut, same_cut}
+use Rattle.chain_heard.proofs.Elements.{SameCut, same_cut}
+use Rattle.list_laws.proofs.Flags.{or_false as or_none}
+use Rattle.list_laws.proofs.AllLists.{all_at}
 
 -- ---- numbered commands
 
@@ -81,17 +82,6 @@ few_there all done left c counted split = few_at done left c (subst AreFew split
 -- the command of a token is that of its number
 pub number_is : (all : List Accepted) (c : Asked) (number : ℕ) → Counted all → number < 2 ^ 64 → (p : Place all c (decimal number)) → number ≡ p.command.number
 number_is all c number counted bound p = decimal_injective number p.command.number bound (few_there all p.done p.left p.command counted p.split) p.token_is
-
--- no two tokens are the same
-pub apart : (m n : ℕ) → m < 2 ^ 64 → n < 2 ^ 64 → (m ≡ n → ⊥) → bytes_eq (decimal m) (decimal n) ≡ false
-apart m n small less other = by_flag (bytes_eq (decimal m) (decimal n)) refl
-  where
-    by_flag : (flag : Bool) → bytes_eq (decimal m) (decimal n) ≡ flag → flag ≡ false
-    by_flag true is = absurd (other (decimal_injective m n small less ((bytes_eq-Decides (decimal m) (decimal n)).0 is)))
-    by_flag false is = refl
-
-pub same_token : (bytes : List ℕ) → bytes_eq bytes bytes ≡ true
-same_token bytes = (bytes_eq-Decides bytes bytes).1 refl
 
 -- ---- whether it goes through
 

@@ -26,12 +26,13 @@ use Rattle.chain_told.specs.Told.{command_under, lesson, lessons}
 use Rattle.value_node.specs.Store as value
 use Rattle.value_node.specs.Barriers.{command_in}
 use Rattle.value_node.specs.Deeds.{command_asked}
-use Rattle.chain_heard.proofs.Known.{Counted, apart, counted_few, number_at, same_token}
+use Rattle.chain_heard.proofs.Known.{Counted, counted_few, number_at}
 use Rattle.chain_heard.proofs.Lines.{AreFew, AreLinesOf, IsLineOf, IsOfFew, says_event, says_final, says_hello, says_progress, says_unknown}
-use Rattle.agent_told.proofs.Lists.{all_front}
 use Rattle.chain_heard.proofs.Numbers.{InParts, in_parts, numbers_below}
 use Rattle.chain_told.proofs.Agreeing.{learn_append}
-use Rattle.chain_heard.proofs.Elements.{all_two}
+use Rattle.list_laws.proofs.Numbers.{other_decimals as apart}
+use Rattle.list_laws.proofs.Lists.{equal_itself as same_token}
+use Rattle.list_laws.proofs.AllLists.{all_left as all_front, all_both as all_two}
 
 -- ---- a command by its number
 

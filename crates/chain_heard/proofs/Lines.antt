@@ -1,5 +1,5 @@
 -- The lines of what a client took: one for each message, with its mark, and under the number that its token is.
-use Rattle.std.proofs.Common.{◌≡◌, ℕ, ◌<◌, ◌^◌, Bool, true, false, ◌&&◌, true≢false, List, [], ◌∷◌, ◌++◌, map, filter, Option, Some, None, Ok, filter_map, refl, ap, ap₂, sym, ◌∙◌, subst}
+use Rattle.std.proofs.Common.{◌≡◌, ℕ, ◌<◌, ◌^◌, true, false, List, [], ◌∷◌, ◌++◌, map, filter, Option, Some, None, Ok, filter_map, refl, ap, ap₂, sym, ◌∙◌, subst}
 use Rattle.std.specs.Prelude.{IfSome, bytes_eq, cond, decimal}
 use Rattle.std.specs.List.{AllByRecursion, cons_option, flat_map}
 use Rattle.std.proofs.lemmas.List.Elements.{filter-append}
@@ -12,11 +12,13 @@ use Rattle.channel_core.specs.declared.taking.Taken.{Taken}
 use Rattle.channel_core.specs.declared.taking.Taken.TheVariants as taken
 use Rattle.client_node.specs.Lines.{event_line, final_line, hello_line, progress_line}
 use Rattle.client_node.specs.Runs.{FitsMessage, IsAnswerTo, IsCommand, IsHello, IsOtherEvent, IsProgressOf, is_hello, line_of, tells}
-use Rattle.tcf_message.specs.Message.{MessageValue, command, event, final, flow, not_known, progress, reading, spelling}
+use Rattle.tcf_message.specs.Message.{MessageValue, command, event, final, flow, not_known, progress, reading}
 use Rattle.tcf_text.specs.Lines.{Accepted, mark_of}
 use Rattle.tcf_text.specs.declared.log.LogLine.{LogLine}
 use Rattle.tcf_text.specs.declared.log.LogLine.TheVariants as lines
 use Rattle.chain_told.specs.TellsOn.{comes_as}
+use Rattle.list_laws.proofs.Flags.{and_parts}
+use Rattle.chain_told.proofs.Doing.{IsReadable}
 
 -- ---- numbers
 
@@ -62,9 +64,6 @@ IsNoCommand (command token service name body) = ⊥
 IsNoCommand (flow level) = ⊥
 IsNoCommand m = Unit {0}
 
-abbrev pub IsReadable : Spoken → Type 0
-IsReadable s = reading (spelling s.message) ≡ Ok s.message
-
 -- ---- of what was taken
 
 -- the message has a line
@@ -73,13 +72,9 @@ record Has (m : MessageValue) (mark : Option ℕ) (said : Option LogLine) : Type
   pub is : said ≡ Some line
   pub of : IsLineOf m mark line
 
-pub both : (a b : Bool) → (a && b) ≡ true → (a ≡ true) × (b ≡ true)
-both true b is = (refl, is)
-both false b is = absurd (true≢false (sym is))
-
 pub hello_is : (service name : List ℕ) → is_hello service name ≡ true → (service ≡ locator) × (name ≡ hello)
 hello_is service name is =
-    let two = both (bytes_eq service locator) (bytes_eq name hello) is in
+    let two = and_parts (bytes_eq service locator) (bytes_eq name hello) is in
     ((bytes_eq-Decides service locator).0 two.0, (bytes_eq-Decides name hello).0 two.1)
 
 hello_has : (m : MessageValue) (mark : Option ℕ) → IsHello (Ok m) → Has m mark (hello_line mark (Ok m))

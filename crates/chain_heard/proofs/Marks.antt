@@ -18,18 +18,16 @@ use Rattle.value_node.specs.Asked.{Asked}
 use Rattle.value_node.specs.OwnMessages.{IsOwn}
 use Rattle.value_node.specs.Deeds.{mark_after}
 use Rattle.value_node.specs.Store.{later_mark}
-use Rattle.chain_told.specs.Told.{AreToldRightly, ComesAt, ComesBehind, IsOwed, IsToldRightly, mark_by, mark_from, mark_of, owed_at, owed_in}
-use Rattle.agent_told.specs.Sent.{bare, owed_by}
+use Rattle.chain_told.specs.Told.{AreToldRightly, ComesAt, ComesBehind, IsOwed, IsToldRightly, mark_from, mark_of, owed_at, owed_in}
+use Rattle.chain_told.specs.Sent.{bare, owed_by}
 use Rattle.chain_through.specs.Through.{IsMarked}
 use Rattle.chain_heard.proofs.Lines.{IsNoCommand, hello_is}
-use Rattle.agent_told.proofs.Lists.{cut_at, cut_past, cut_within, CutAt}
-use Rattle.agent_told.proofs.Sending.{Begins, begins}
+use Rattle.chain_told.proofs.Agents.Lists.{cut_at, cut_past, cut_within, CutAt}
+use Rattle.chain_told.proofs.Agents.Sending.{Begins, begins}
+use Rattle.chain_told.proofs.Agents.Placed.{mark_pushed}
+use Rattle.chain_through.proofs.OwnTold.{IsUnmarked}
 
 -- ---- the mark of the last message
-
-pub mark_pushed : (told : List Spoken) (s : Spoken) (before : Option ℕ) → mark_from before (told ++ s ∷ []) ≡ mark_by s (mark_from before told)
-mark_pushed [] s before = refl
-mark_pushed (first ∷ told) s before = mark_pushed told s (mark_by first before)
 
 abbrev IsNoAsking : Said → Type 0
 IsNoAsking asks = ⊥
@@ -110,9 +108,6 @@ rising images history commands heard right (s ∷ told) before position split ma
     )
 
 -- ---- without a position
-
-abbrev pub IsUnmarked : Spoken → Type 0
-IsUnmarked s = s.mark ≡ None
 
 pub own_unmarked : (own : List Spoken) (commands left : List Asked) → IsOwn commands own left → AllByRecursion IsUnmarked own
 own_unmarked [] commands left own = tt

@@ -14,10 +14,11 @@ use Rattle.value_node.specs.Asked.{Asked}
 use Rattle.value_node.specs.OwnMessages.{IsOwn, OwnStep, a_hello, a_result, an_unknown}
 use Rattle.chain_heard.specs.Heard.{asked_as}
 use Rattle.chain_told.specs.Told.{ends, is_ended}
-use Rattle.chain_heard.proofs.Known.{same_token}
 use Rattle.chain_heard.proofs.Lines.{AreFew, AreLinesOf, IsLineOf, says_event, says_final, says_hello, says_progress, says_unknown}
-use Rattle.agent_told.proofs.Lists.{all_weaker, or_true}
 use Rattle.chain_heard.proofs.Placed.{IsBare, hello_line_is}
+use Rattle.list_laws.proofs.Lists.{equal_itself as same_token}
+use Rattle.list_laws.proofs.AllLists.{all_weaker}
+use Rattle.list_laws.proofs.Flags.{or_true}
 
 -- ---- which commands have their answer
 

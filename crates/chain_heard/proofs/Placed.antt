@@ -15,8 +15,9 @@ use Rattle.target_hub.specs.Ordered.{ComesAfter, IsPlaced, OpensAt, OpensOnce}
 use Rattle.target_hub.specs.declared.input.Input.{Input}
 use Rattle.value_node.specs.OwnMessages.{BeginsWithHello}
 use Rattle.chain_heard.proofs.Lines.{AreLinesOf, IsLineOf, line_mark, says_event, says_final, says_hello, says_progress, says_unknown}
-use Rattle.chain_heard.proofs.Marks.{IsUnmarked, Rising}
-use Rattle.chain_heard.proofs.Known.{same_token}
+use Rattle.chain_heard.proofs.Marks.{Rising}
+use Rattle.list_laws.proofs.Lists.{nothing_there, equal_itself as same_token}
+use Rattle.chain_through.proofs.OwnTold.{IsUnmarked}
 
 -- ---- one line
 
@@ -118,10 +119,6 @@ no_more_hello position (y ∷ ys) rises = ap (λ b. b || list_any is_placed_hell
 
 -- ---- their places
 
-nothing_before : {A : Type 0} → (before after : List A) (x : A) → [] ≡ before ++ x ∷ after → ⊥
-nothing_before [] after x e = cc
-nothing_before (b ∷ before) after x e = cc
-
 pub mark_pushed : (xs : List LogLine) (x : LogLine) (mark : Option ℕ) → mark_of x ≡ Some mark → last_mark (xs ++ x ∷ []) ≡ Some mark
 mark_pushed [] x mark is = is
 mark_pushed (y ∷ xs) x mark is = ap (λ m. later_or m (mark_of y)) (mark_pushed xs x mark is)
@@ -149,7 +146,7 @@ abbrev pub PlacedAfter : List Input → List LogLine → List LogLine → Type 0
 PlacedAfter history prior xs = (before after : List LogLine) (x : LogLine) → xs ≡ before ++ x ∷ after → IsPlaced history (prior ++ before) x
 
 placed_nothing : (history : List Input) (prior : List LogLine) → PlacedAfter history prior []
-placed_nothing history prior before after x e = absurd (nothing_before before after x e)
+placed_nothing history prior before after x e = absurd (nothing_there before after x e)
 
 placed_first : (history : List Input) (prior : List LogLine) (y : LogLine) (ys : List LogLine) → IsPlaced history prior y → PlacedAfter history (prior ++ y ∷ []) ys
     → PlacedAfter history prior (y ∷ ys)

@@ -19,12 +19,17 @@ use Rattle.value_node.specs.Asked.{Asked}
 use Rattle.chain_heard.specs.Heard.{asked_as}
 use Rattle.chain_told.specs.Told as told
 use Rattle.chain_told.specs.Told.{AreEndedBefore, AreToldRightly, ComesInTurn, IsAnswered, IsOpen, IsOwed, IsToldRightly, command_under, ends, is_ended}
-use Rattle.chain_heard.proofs.Known.{Counted, IsKnown, Place, apart, counted_few, known_at, known_number, number_is, same_token, through_same, under}
+use Rattle.chain_heard.proofs.Known.{Counted, IsKnown, Place, counted_few, known_at, known_number, number_is, through_same, under}
 use Rattle.chain_heard.proofs.Lines.{AreFew, AreLinesOf, IsLineOf, IsOfFew, says_event, says_final, says_hello, says_progress, says_unknown}
-use Rattle.agent_told.proofs.Lists.{all_append, all_back, all_front, all_weaker, filter_nothing, or_none, or_true}
+use Rattle.chain_told.proofs.Agents.Lists.{filter_nothing}
 use Rattle.chain_heard.proofs.Marks.{Rising}
 use Rattle.chain_heard.proofs.Numbers.{InParts, in_parts, numbers_from}
-use Rattle.chain_heard.proofs.Elements.{all_at, all_two, all_cuts, contains_at, InOne, in_first, in_second, in_one_of}
+use Rattle.chain_heard.proofs.Elements.{all_cuts, InOne, in_first, in_second, in_one_of}
+use Rattle.list_laws.proofs.Numbers.{other_decimals as apart}
+use Rattle.list_laws.proofs.Lists.{equal_itself as same_token}
+use Rattle.list_laws.proofs.AllLists.{all_append, all_right as all_back, all_left as all_front, all_weaker, all_at, all_both as all_two}
+use Rattle.list_laws.proofs.Flags.{or_false as or_none, or_true}
+use Rattle.list_laws.proofs.Contained.{contains_at}
 
 -- ---- commands before and behind one
 

@@ -1,7 +1,7 @@
 -- What a client heard of the target, and what its log owes to the history by it.
 use Rattle.std.specs.Prelude.{ℕ, ◌≡◌, ◌^◌, ◌<◌, Bool, true, false, List, [], ◌∷◌, ◌++◌, length, map, decimal, filter, Option, None, Ok}
 use Rattle.std.specs.List.{AllByRecursion, Contains, flat_map, list_any}
-use Rattle.agent_told.specs.Sent.{owed_by}
+use Rattle.chain_told.specs.Sent.{owed_by}
 use Rattle.chain_through.specs.Through.{ComeDown}
 use Rattle.chain_told.specs.TellsOn.{comes_as}
 use Rattle.chain_told.specs.Told.{AreToldRightly, owed_in}

@@ -10,11 +10,11 @@ use Rattle.channel_core.specs.QueueLaws.{is_message}
 use Rattle.channel_core.specs.Receiving.{is_over}
 use Rattle.channel_core.specs.ReceivingLaws.{incoming_of}
 use Rattle.channel_core.specs.Wire.{end_of_stream}
-use Rattle.channel_hop.specs.Hop.{HopStands}
-use Rattle.channel_rest.specs.Meeting.{AnswersAll, Side, all_said, as_comes, run_of}
-use Rattle.chain_rest.specs.Stuck.{IsChannel, IsReadable, end_of_side, last_is_live, side_above, side_below, unmarked}
+use Rattle.channel_laws.specs.Hop.{HopStands}
+use Rattle.channel_laws.specs.Meeting.{AnswersAll, Side, all_said, as_comes, run_of}
+use Rattle.chain_quiet.specs.Stuck.{IsChannel, IsReadable, end_of_side, last_is_live, side_above, side_below, unmarked}
 use Rattle.value_node.specs.Runs.{after_all, below, no_calls}
-use Rattle.value_rest.specs.Waiting.{LeavesUnanswered}
+use Rattle.node_answers.specs.Waiting.{LeavesUnanswered}
 
 -- ---- the agent's side
 

@@ -12,9 +12,9 @@ use Rattle.channel_core.specs.ReceivingLaws.{SendsReadable}
 use Rattle.channel_core.specs.Runs.{Run}
 use Rattle.channel_core.specs.Wire.{end_of_stream, hello as hello_word, locator}
 use Rattle.channel_core.specs.declared.held.Outgoing.{Outgoing}
-use Rattle.channel_faults.specs.Faults.{is_ending}
-use Rattle.channel_rest.specs.Meeting.{AnswersAll, IsFree, Side, run_of}
-use Rattle.channel_rest.specs.Numbering.{TakesNumbered}
+use Rattle.channel_laws.specs.Faults.{is_ending}
+use Rattle.channel_laws.specs.Meeting.{AnswersAll, IsFree, Side, run_of}
+use Rattle.channel_laws.specs.Numbering.{TakesNumbered}
 use Rattle.tcf_message.specs.Message.{IsWellFormed, event}
 use Rattle.value_node.specs.ForwardedValue.{ForwardedValue}
 use Rattle.value_node.specs.Runs.{above, below, upper_after}
@@ -108,5 +108,5 @@ pub record IsUnstuck {T : Type 0} (s : Side T) (made : List Made) (talk : Talk) 
   pub all_taken : IsStill (run_of s) → is_closed (run_of s).end.state ≡ false → AreBound made → (said : List Spoken) → AreSpoken said → filter is_message talk.gave ≡ all_said said
       → TakesAllOf (run_of s) made said × AllTakeAll made said
 
-abbrev pub NothingIsStuck : Type 0 → Type 0
-NothingIsStuck T = (s : Side T) (hops : List Hop) (made : List Made) (talk : Talk) → IsWayStill s hops made talk → IsUnstuck s made talk
+abbrev pub StillWaysAreUnstuck : Type 0 → Type 0
+StillWaysAreUnstuck T = (s : Side T) (hops : List Hop) (made : List Made) (talk : Talk) → IsWayStill s hops made talk → IsUnstuck s made talk

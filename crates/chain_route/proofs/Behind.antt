@@ -1,5 +1,5 @@
 -- Where a value-add waits for a connection, nothing is connected behind the hop above it.
-use Rattle.std.proofs.Common.{◌≡◌, ℕ, zero, suc, ◌+◌, ◌-◌, ◌<◌, Bool, true, false, List, [], ◌∷◌, length, Some, None, refl, subst, arith}
+use Rattle.std.proofs.Common.{◌≡◌, ℕ, zero, suc, ◌+◌, ◌-◌, ◌<◌, Bool, false, List, [], ◌∷◌, length, Some, None, refl, subst, arith}
 use Rattle.std.specs.Prelude.{IsSome, slice_get}
 use Rattle.channel_core.specs.Arrivals.{IsFront, bytes_of}
 use Rattle.value_node.specs.Runs.{UpperCall}
@@ -12,6 +12,7 @@ use Rattle.chain_route.proofs.Flows.{HopHolds, Tip, used}
 use Rattle.chain_route.proofs.Reaching.{Awaits, waits_unheard}
 use Rattle.chain_route.proofs.Unheard.{Laws, unheard_unconnected}
 use Rattle.chain_route.proofs.Ways.{Way, way_above}
+use Rattle.list_laws.proofs.Flags.{never_true}
 
 abbrev pub Gave : Made → Made → Type 0
 Gave m other = IsFront (end_below (past_of other)).came (bytes_of (end_above (past_of m)).gave)
@@ -38,10 +39,6 @@ pub record EndsBehind (at : ℕ) (hops : List Hop) (is_reached : Bool) : Type 0 
 some_none : (m : Made) → IsUnconnected m → IsSome (past_of m).connection → ⊥
 some_none m none is = let no : IsSome {T = List UpperCall} None = subst IsSome none is in cc
 
-not_true : (b : Bool) → (b ≡ true → ⊥) → b ≡ false
-not_true true none = absurd (none refl)
-not_true false none = refl
-
 nothing_behind : (at : ℕ) (lower : Tip) (hops : List Hop) (made : List Made) (agent : Tip) (m : Made) → slice_get made at ≡ Some m
     → ((other : Made) → slice_get made (suc at) ≡ Some other → IsUnconnected other) → at + 1 < length hops - 1
     → Way lower hops made agent → EndsBehind at hops agent.is_used
@@ -50,14 +47,14 @@ nothing_behind at lower (h ∷ []) made agent m there next more way = absurd (om
 nothing_behind at lower (h ∷ g ∷ []) made agent m there next more way = absurd (omega (arith, more))
 nothing_behind at lower (h ∷ g ∷ f ∷ hops) [] agent m there next more way = absurd cc
 nothing_behind zero lower (h ∷ g ∷ f ∷ hops) (x ∷ []) agent m there next more way = record {
-  unreached = not_true agent.is_used (λ is. let size = way.reached is in absurd (omega (arith, size)));
+  unreached = never_true agent.is_used (λ is. let size = way.reached is in absurd (omega (arith, size)));
   dead = way.all.1.1;
 }
 nothing_behind zero lower (h ∷ g ∷ f ∷ []) (x ∷ y ∷ []) agent m there next more way =
-    let none : agent.is_used ≡ false = not_true agent.is_used (λ is. some_none y (next y refl) (way.connected.1 is)) in
+    let none : agent.is_used ≡ false = never_true agent.is_used (λ is. some_none y (next y refl) (way.connected.1 is)) in
     record { unreached = none; dead = (way.unreached none, tt) }
 nothing_behind zero lower (h ∷ g ∷ f ∷ e ∷ hops) (x ∷ y ∷ []) agent m there next more way = record {
-  unreached = not_true agent.is_used (λ is. some_none y (next y refl) (way.connected.1 is));
+  unreached = never_true agent.is_used (λ is. some_none y (next y refl) (way.connected.1 is));
   dead = way.all.1.1;
 }
 nothing_behind zero lower (h ∷ g ∷ f ∷ hops) (x ∷ y ∷ z ∷ made) agent m there next more way = absurd (some_none y (next y refl) way.connected.1.0)

@@ -1,18 +1,16 @@
 -- The bytes of what is in flight, and fronts of lists.
 use Rattle.std.proofs.Common.{◌≡◌, ℕ, zero, suc, ◌+◌, ◌-◌, ◌≤◌, ◌==◌, Bool, true, false, cond, nat_le, List, [], ◌∷◌, ◌++◌, length, take, drop, map, Option, refl, sym, ap, ◌∙◌, subst, arith, append_assoc, append-nil, length-append}
 use Rattle.std.specs.List.{AllByRecursion, flat_map}
-use Rattle.std.proofs.lemmas.List.{map-append, take-append-drop}
+use Rattle.std.proofs.lemmas.List.{map-append}
 use Rattle.std.proofs.lemmas.List.Concat.{flat_map-append}
 use Rattle.channel_core.specs.Arrivals.{IsFront, Marked, marked}
 use Rattle.channel_core.specs.declared.held.Outgoing.{Outgoing}
 use Rattle.chain_route.specs.Lane.{arriving, staying}
+use Rattle.list_laws.proofs.Lists.{take_drop}
 
 -- the bytes of a queue, each with what f makes of its message's mark
 abbrev pub bytes_by : (Option ℕ → Option ℕ) → List Outgoing → List Marked
 bytes_by f outs = flat_map (λ o. marked o.bytes (f o.mark)) outs
-
-take_drop : {A : Type 0} → (n : ℕ) (xs : List A) → take n xs ++ drop n xs ≡ xs
-take_drop n xs = take-append-drop n xs
 
 cut_bytes : (f : Option ℕ → Option ℕ) (count : ℕ) (out : Outgoing) (outs : List Outgoing) → bytes_by f (out ∷ outs)
     ≡ (marked (take count out.bytes) (f out.mark) ++ []) ++ (marked (drop count out.bytes) (f out.mark) ++ bytes_by f outs)
@@ -83,12 +81,3 @@ pub take_mapped : {A B : Type 0} → (f : A → B) (n : ℕ) (xs : List A) → t
 take_mapped f zero xs = refl
 take_mapped f (suc n) [] = refl
 take_mapped f (suc n) (x ∷ xs) = ap (λ ys. f x ∷ ys) (take_mapped f n xs)
-
-pub map_twice : {A B C : Type 0} → (g : B → C) (f : A → B) (xs : List A) → map g (map f xs) ≡ map (λ x. g (f x)) xs
-map_twice g f [] = refl
-map_twice g f (x ∷ xs) = ap (λ ys. g (f x) ∷ ys) (map_twice g f xs)
-
-pub all_taken : {A : Type 0} → (P : A → Type 0) (n : ℕ) (xs : List A) → AllByRecursion P xs → AllByRecursion P (take n xs)
-all_taken P zero xs each = tt
-all_taken P (suc n) [] each = tt
-all_taken P (suc n) (x ∷ xs) each = (each.0, all_taken P n xs each.1)

@@ -22,7 +22,8 @@ use Rattle.chain_route.proofs.Losses.{loses_same, losses_anew, losses_set, lost_
 use Rattle.chain_route.proofs.Moving.{call_value}
 use Rattle.chain_route.proofs.Reaching.{Awaits, above_anew, anew, below_anew, connected_anew, turned_anew}
 use Rattle.chain_route.proofs.Unheard.{Laws}
-use Rattle.chain_route.proofs.Ways.{LastDead, Way, set_length, set_mapped}
+use Rattle.chain_route.proofs.Ways.{LastDead, Way, set_mapped}
+use Rattle.list_laws.proofs.Lists.{set_length}
 
 -- ---- Lists, and the hops behind
 

@@ -30,8 +30,8 @@ use Rattle.chain_route.proofs.Idle.{IsQuiet}
 use Rattle.chain_route.proofs.Losses.{loses_same, losses_set, lost_same}
 use Rattle.chain_route.proofs.Moving.{call_value, has_upper}
 use Rattle.chain_route.proofs.Places.{last_is, same_ends}
-use Rattle.chain_route.proofs.Settling.{some_within}
-use Rattle.chain_route.proofs.Ways.{LastDead, Way, above_live, all_dead, connected_set, last_dead, last_set, made_size, not_live, set_length, set_mapped}
+use Rattle.chain_route.proofs.Ways.{LastDead, Way, above_live, all_dead, connected_set, last_dead, last_set, made_size, not_live, set_mapped}
+use Rattle.list_laws.proofs.Lists.{get_within as some_within, set_length}
 
 abbrev pub with_add : ℕ → ValueValue → RouteRun → RouteRun
 with_add at v r = record r { route = record r.route { adds = slice_set r.route.adds at v } }

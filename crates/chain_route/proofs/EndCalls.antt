@@ -9,9 +9,10 @@ use Rattle.channel_core.specs.EndValue.{EndValue}
 use Rattle.channel_core.specs.Laws.{listed}
 use Rattle.channel_core.specs.Runs.{Call, Run, after_call, after_calls, begun, closing, commanding, delivering, draining, ending, putting_out, sending, taking}
 use Rattle.channel_core.specs.declared.held.Outgoing.{Outgoing}
-use Rattle.channel_faults.specs.Faults.{is_ending}
+use Rattle.channel_laws.specs.Faults.{is_ending}
 use Rattle.chain_route.specs.Carrying.{End}
 use Rattle.chain_route.proofs.Flows.{came_more, gave_more, losing}
+use Rattle.list_laws.proofs.Flags.{or_false, or_true}
 
 abbrev pub IsIdle : {T : Type 0} → Call T → Type 0
 IsIdle (delivering piece mark) = ⊥
@@ -26,15 +27,11 @@ IsIdle draining = Unit {0}
 abbrev pub AreIdle : {T : Type 0} → List (Call T) → Type 0
 AreIdle calls = AllByRecursion IsIdle calls
 
-pub all_append : {A : Type 0} → (P : A → Type 0) (xs ys : List A) → AllByRecursion P xs → AllByRecursion P ys → AllByRecursion P (xs ++ ys)
-all_append P [] ys first second = second
-all_append P (x ∷ xs) ys first second = (first.0, all_append P xs ys first.1 second)
-
 pub calls_more : {T : Type 0} → (calls more : List (Call T)) (r : Run T) → after_calls (calls ++ more) r ≡ after_calls more (after_calls calls r)
 calls_more [] more r = refl
 calls_more (call ∷ calls) more r = calls_more calls more (after_call call r)
 
-idle_gave : {T : Type 0} → (call : Call T) (r : Run T) → IsIdle call → (after_call call r).past.given ≡ r.past.given
+pub idle_gave : {T : Type 0} → (call : Call T) (r : Run T) → IsIdle call → (after_call call r).past.given ≡ r.past.given
 idle_gave (delivering piece mark) r idle = absurd idle
 idle_gave ending r idle = absurd idle
 idle_gave taking r idle = refl
@@ -44,11 +41,11 @@ idle_gave putting_out r idle = absurd idle
 idle_gave closing r idle = refl
 idle_gave draining r idle = refl
 
-idle_given : {T : Type 0} → (calls : List (Call T)) (r : Run T) → AreIdle calls → (after_calls calls r).past.given ≡ r.past.given
+pub idle_given : {T : Type 0} → (calls : List (Call T)) (r : Run T) → AreIdle calls → (after_calls calls r).past.given ≡ r.past.given
 idle_given [] r idle = refl
 idle_given (call ∷ calls) r idle = idle_given calls (after_call call r) idle.1 ∙ idle_gave call r idle.0
 
-idle_arrived : {T : Type 0} → (calls : List (Call T)) → AreIdle calls → arrived calls ≡ []
+pub idle_arrived : {T : Type 0} → (calls : List (Call T)) → AreIdle calls → arrived calls ≡ []
 idle_arrived [] idle = refl
 idle_arrived (delivering piece mark ∷ calls) idle = absurd idle.0
 idle_arrived (ending ∷ calls) idle = absurd idle.0
@@ -70,14 +67,6 @@ idle_lost (sending message mark ∷ calls) idle = idle_lost calls idle.1
 idle_lost (putting_out ∷ calls) idle = absurd idle.0
 idle_lost (closing ∷ calls) idle = idle_lost calls idle.1
 idle_lost (draining ∷ calls) idle = idle_lost calls idle.1
-
-or_none : (flag : Bool) → (flag || false) ≡ flag
-or_none true = refl
-or_none false = refl
-
-or_lost : (flag : Bool) → (flag || true) ≡ true
-or_lost true = refl
-or_lost false = refl
 
 lost_more : {T : Type 0} → (calls more : List (Call T)) (flag : Bool) → list_any is_ending more ≡ flag → list_any is_ending (calls ++ more) ≡ (list_any is_ending calls || flag)
 lost_more calls more flag is = list_any-append is_ending calls more ∙ ap (λ b. list_any is_ending calls || b) is
@@ -104,7 +93,7 @@ idle_end e calls more idle =
     (list_any is_ending (calls ++ more)) (list_any is_ending calls)
     (ap (λ x. x.past.given) (calls_more calls more (begun e)) ∙ idle_given more r idle)
     (arrived_more calls more ∙ ap (λ bs. arrived calls ++ bs) (idle_arrived more idle) ∙ append-nil (arrived calls))
-    (lost_more calls more false (idle_lost more idle) ∙ or_none (list_any is_ending calls))
+    (lost_more calls more false (idle_lost more idle) ∙ or_false (list_any is_ending calls))
 
 -- the first message that is queued goes out
 pub put_end : {T : Type 0} → (e : EndValue T) (calls : List (Call T)) (out : Outgoing) (rest : List Outgoing) → (after_calls calls (begun e)).end.queued ≡ out ∷ rest
@@ -116,7 +105,7 @@ put_end {T = T} e calls out rest is =
     (list_any is_ending (calls ++ more)) (list_any is_ending calls)
     (ap (λ x. x.past.given) (calls_more calls more (begun e)) ∙ ap (λ os. r.past.given ++ listed (slice_get os 0)) is)
     (arrived_more calls more ∙ append-nil (arrived calls))
-    (lost_more calls more false refl ∙ or_none (list_any is_ending calls))
+    (lost_more calls more false refl ∙ or_false (list_any is_ending calls))
 
 -- a piece comes
 pub come_end : {T : Type 0} → (e : EndValue T) (calls : List (Call T)) (piece : List ℕ) (mark : Option ℕ) → end_by e (calls ++ delivering piece mark ∷ []) ≡ came_more (marked piece mark) (end_by e calls)
@@ -127,7 +116,7 @@ come_end {T = T} e calls piece mark =
     (list_any is_ending (calls ++ more)) (list_any is_ending calls)
     (ap (λ x. x.past.given) (calls_more calls more (begun e)))
     (arrived_more calls more ∙ ap (λ bs. arrived calls ++ bs) (append-nil (marked piece mark)))
-    (lost_more calls more false refl ∙ or_none (list_any is_ending calls))
+    (lost_more calls more false refl ∙ or_false (list_any is_ending calls))
 
 -- its bytes end
 pub lost_end : {T : Type 0} → (e : EndValue T) (calls : List (Call T)) → end_by e (calls ++ ending ∷ []) ≡ losing (end_by e calls)
@@ -138,4 +127,4 @@ lost_end {T = T} e calls =
     (list_any is_ending (calls ++ more)) true
     (ap (λ x. x.past.given) (calls_more calls more (begun e)))
     (arrived_more calls more ∙ append-nil (arrived calls))
-    (lost_more calls more true refl ∙ or_lost (list_any is_ending calls))
+    (lost_more calls more true refl ∙ or_true (list_any is_ending calls))

@@ -17,7 +17,8 @@ use Rattle.chain_route.proofs.Flows.{HopHolds, Tip, came_more, dead_came, dead_g
 use Rattle.chain_route.proofs.Holding.{Holds, agent_tip, client_tip}
 use Rattle.chain_route.proofs.Places.{HasLast, has_last, last_changed, last_is, last_place}
 use Rattle.chain_route.proofs.Towers.{first_changed}
-use Rattle.chain_route.proofs.Ways.{Way, all_dead, last_dead, last_set, set_length}
+use Rattle.chain_route.proofs.Ways.{Way, all_dead, last_dead, last_set}
+use Rattle.list_laws.proofs.Lists.{set_length}
 
 abbrev run_by : List Hop → List ValueValue → Past → RouteRun
 run_by hops adds p = record { route = record { hops = hops; adds = adds }; past = p }

@@ -9,6 +9,7 @@ use Rattle.chain_route.specs.Hop.{arrived_at, connected, lane_to, no_hop, sent_d
 use Rattle.chain_route.specs.Lane.{arriving, staying}
 use Rattle.chain_route.specs.declared.hop.Hop.{Hop}
 use Rattle.chain_route.proofs.Bytes.{arrives_first, bytes_more, front_more, front_same}
+use Rattle.list_laws.proofs.Flags.{not_both}
 
 abbrev pub fresh_end : End
 fresh_end = record { gave = []; came = []; is_lost = false }
@@ -50,9 +51,6 @@ pub record HopHolds (hop : Hop) (lower upper : Tip) : Type 0 where
   pub lasting : hop.is_live ≡ true → (lower.end.is_lost ≡ false) × (upper.end.is_lost ≡ false)
   pub lost : hop.is_live ≡ false → lower.is_used ≡ true → lower.end.is_lost ≡ true
   pub lost_above : hop.is_live ≡ false → upper.is_used ≡ true → upper.end.is_lost ≡ true
-
-not_both : {b : Bool} → b ≡ true → b ≡ false → ⊥
-not_both is isnt = let no : true ≡ false = sym is ∙ isnt in cc
 
 -- what is given behind what was given
 more_given : (e : End) (outs : List Outgoing) → bytes_of (e.gave ++ outs) ≡ bytes_of e.gave ++ bytes_of outs

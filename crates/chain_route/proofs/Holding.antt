@@ -16,7 +16,8 @@ use Rattle.chain_route.proofs.Flows.{Tip, fresh_end, unused_tip}
 use Rattle.chain_route.proofs.Stepping.{IsOpenAt, delivered_step}
 use Rattle.chain_route.proofs.Losses.{loses_same, losses_set}
 use Rattle.chain_route.proofs.Moving.{Moves, Step}
-use Rattle.chain_route.proofs.Ways.{IsMapped, Way, get_mapped, is_open, set_length, set_mapped, way_moved}
+use Rattle.chain_route.proofs.Ways.{IsMapped, Way, get_mapped, is_open, set_mapped, way_moved}
+use Rattle.list_laws.proofs.Lists.{set_length}
 
 -- the client's end
 abbrev pub client_tip : Past → Tip

@@ -20,7 +20,8 @@ use Rattle.value_node.specs.declared.states.Bind.{Bind}
 use Rattle.value_node.specs.declared.states.Bind.TheVariants.{Unbound, Opening, Bound, Closed}
 use Rattle.value_node.specs.declared.states.Side.{Side}
 use Rattle.value_node.specs.declared.states.Side.TheVariants.{Below, Above}
-use Rattle.chain_route.proofs.EndCalls.{AreIdle, all_append, IsIdle}
+use Rattle.chain_route.proofs.EndCalls.{AreIdle, IsIdle}
+use Rattle.list_laws.proofs.AllLists.{all_append}
 
 if_idle : {T : Type 0} → (flag : Bool) (calls : List _) → AreIdle {T = T} calls → AreIdle {T = T} (cond flag calls [])
 if_idle true calls idle = idle

@@ -1,5 +1,5 @@
 -- A value-add and the hop beside it, each lent from its list: what the way comes to with what they come to.
-use Rattle.std.proofs.Common.{◌≡◌, ℕ, zero, suc, List, [], ◌∷◌, Some, None, sym, ap, ◌∙◌}
+use Rattle.std.proofs.Common.{◌≡◌, ℕ, List, Some, None, sym, ap, ◌∙◌}
 use Rattle.std.specs.Prelude.{Err, Ok, OnOk, Result, slice_get, slice_set}
 use Rattle.value_node.specs.ValueValue.{ValueValue}
 use Rattle.value_node.specs.declared.states.Side.{Side}
@@ -8,15 +8,11 @@ use Rattle.chain_route.specs.Passing.{Pair, carried, emptied, pair, queued_at}
 use Rattle.chain_route.specs.Route.{beside, on_pair, pair_put, with_pair}
 use Rattle.chain_route.specs.RouteValue.{RouteValue}
 use Rattle.chain_route.specs.declared.hop.Hop.{Hop}
+use Rattle.list_laws.proofs.Lists.{set_same}
 
 pub ok_both : {T E P Q R : Type 0} → (r : Result T E) → (P → Q → R) → OnOk r P → OnOk r Q → OnOk r R
 ok_both (Ok x) f p q = f p q
 ok_both (Err e) f p q = tt
-
-set_same : {A : Type 0} → (i : ℕ) (xs : List A) (x : A) → slice_get xs i ≡ Some x → slice_set xs i x ≡ xs
-set_same i [] x there = absurd cc
-set_same zero (y ∷ ys) x there = let is : y ≡ x = cc in ap (λ z. z ∷ ys) (sym is)
-set_same (suc i) (y ∷ ys) x there = ap (λ zs. y ∷ zs) (set_same i ys x there)
 
 abbrev pub route_of : List Hop → List ValueValue → RouteValue
 route_of hops adds = record { hops = hops; adds = adds }

@@ -1,10 +1,11 @@
 -- The next part of what is in flight, and what arrives behind it.
 use Rattle.std.proofs.Common.{◌≡◌, ℕ, zero, suc, ◌+◌, ◌-◌, ◌<◌, ◌≤◌, Bool, true, false, List, [], ◌∷◌, length, take, Option, Some, None, refl, sym, subst, arith, ne_eqb}
 use Rattle.std.specs.Prelude.{nat_le, ◌==◌}
-use Rattle.std.proofs.lemmas.Bool.{leb-true, leb-false, false≢true}
+use Rattle.std.proofs.lemmas.Bool.{leb-true, leb-false}
 use Rattle.std.proofs.lemmas.List.{length-take-le}
 use Rattle.channel_core.specs.declared.held.Outgoing.{Outgoing}
 use Rattle.chain_route.specs.Lane.{arriving, next_part, staying}
+use Rattle.list_laws.proofs.Numbers.{above_zero}
 
 -- what the next part, and what stays behind it, are to so many bytes
 pub record IsNext (left : ℕ) (outs : List Outgoing) (part : Outgoing) (next : List Outgoing) : Type 0 where
@@ -16,10 +17,6 @@ pub record IsNext (left : ℕ) (outs : List Outgoing) (part : Outgoing) (next : 
 abbrev IsNextOf : ℕ → List Outgoing → Option Outgoing × List Outgoing → Type 0
 IsNextOf left outs (None, next) = (arriving left outs ≡ []) × (staying left outs ≡ next)
 IsNextOf left outs (Some part, next) = IsNext left outs part next
-
-above_zero : (n : ℕ) → (n == 0) ≡ false → 0 < n
-above_zero zero is = absurd (false≢true (sym is))
-above_zero (suc n) is = omega arith
 
 by_size : (left : ℕ) (out : Outgoing) (outs : List Outgoing) (fits : Bool) → (left == 0) ≡ false → nat_le (length out.bytes) left ≡ fits → IsNextOf left (out ∷ outs) (next_part left (out ∷ outs))
 by_size left out outs true some fits = rw fits (record { within = leb-true (length out.bytes) left fits; arrives = rw (some, fits) refl; stays = rw (some, fits) refl; fewer = omega arith })

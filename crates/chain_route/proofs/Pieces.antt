@@ -15,6 +15,7 @@ use Rattle.chain_route.specs.Passing.{Pair, all_delivered, came, carried, delive
 use Rattle.chain_route.specs.declared.hop.Hop.{Hop}
 use Rattle.chain_route.proofs.Carried.{none_sent}
 use Rattle.chain_route.proofs.Resting.{Fewer, Goes, again, enough, rests, stays_fewer}
+use Rattle.list_laws.proofs.Numbers.{below_zero}
 
 -- ---- What is carried has nothing queued, and stays
 
@@ -115,9 +116,6 @@ pieces_again : (n : ℕ) (side : Side) (p : Pair) → pieces n side p ≡ again 
 pieces_again zero side p = refl
 pieces_again (suc n) side p = pieces_again n side (delivered side most_bytes p)
 
-below_zero : {n : ℕ} → n < 0 → ⊥
-below_zero less = omega (arith, less)
-
 -- one piece and then all
 pub record Onward (side : Side) (p next : Pair) : Type 0 where
   pub fewer : size_in (lane_to side next.hop) < size_in (lane_to side p.hop)
@@ -153,7 +151,7 @@ pub all_still : (side : Side) (v : ValueValue) (h : Hop) → takes side v h ≡ 
 all_still side v h none =
     let p = pair v h in pieces_again (size_to side p) side p ∙ rests (delivered side most_bytes) (size_to side p) p (piece_still side most_bytes p none)
 
-not_empty : (out : Outgoing) (outs : List Outgoing) → (length (out ∷ outs) == 0) ≡ false
+pub not_empty : (out : Outgoing) (outs : List Outgoing) → (length (out ∷ outs) == 0) ≡ false
 not_empty out outs = ne_eqb (length (out ∷ outs)) 0 (λ same. absurd (omega (arith, same)))
 
 pub all_none : (side : Side) (v : ValueValue) (h : Hop) → (length (lane_to side h) == 0) ≡ true → all_delivered side (pair v h) ≡ pair v h

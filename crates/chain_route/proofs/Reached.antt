@@ -18,7 +18,6 @@ use Rattle.chain_route.specs.declared.hop.Hop.{Hop}
 use Rattle.chain_route.proofs.Each.{EachCarries}
 use Rattle.chain_route.proofs.Adds.{tip_above}
 use Rattle.chain_route.proofs.Connecting.{HasAt, begun_at, joined_at, mapped_at}
-use Rattle.chain_route.proofs.EndCalls.{all_append}
 use Rattle.chain_route.proofs.Ended.{sends_down_holds}
 use Rattle.chain_route.proofs.Flows.{HopHolds, Tip, fresh_end, used}
 use Rattle.chain_route.proofs.Holding.{Holds, agent_tip, client_tip}
@@ -26,9 +25,10 @@ use Rattle.chain_route.proofs.Joining.{carried_holds}
 use Rattle.chain_route.proofs.Losses.{loses_same, losses_set, lost_same}
 use Rattle.chain_route.proofs.Moving.{call_value}
 use Rattle.chain_route.proofs.Reaching.{Awaits, above_anew, anew, below_anew, connected_anew, gone_by, opened_carries, reached_all, waits_in}
-use Rattle.chain_route.proofs.Settling.{some_within}
 use Rattle.chain_route.proofs.Unheard.{Laws}
-use Rattle.chain_route.proofs.Ways.{get_set, made_size, set_length, set_mapped}
+use Rattle.chain_route.proofs.Ways.{made_size, set_mapped}
+use Rattle.list_laws.proofs.AllLists.{all_append}
+use Rattle.list_laws.proofs.Lists.{get_within as some_within, get_set, set_length}
 
 -- ---- Straight from the client: nothing was said on the hop, and the agent wasn't reached
 

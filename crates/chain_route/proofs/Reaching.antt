@@ -23,7 +23,7 @@ use Rattle.chain_route.proofs.Adds.{call_run, facts_of, tip_above, tip_of, with_
 use Rattle.chain_route.proofs.Anew.{AreDeadBehind, dead_above, fresh_made}
 use Rattle.chain_route.proofs.Flows.{HopHolds, Tip, begun_carries, fresh_end, unused_tip, used}
 use Rattle.chain_route.proofs.Unsent.{unsent_above}
-use Rattle.chain_route.proofs.Waits.{both_true}
+use Rattle.list_laws.proofs.Flags.{and_parts as both_true}
 
 -- ---- The value-add connects: below nothing changes, and above it begins anew
 

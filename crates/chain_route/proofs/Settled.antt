@@ -16,7 +16,7 @@ use Rattle.chain_route.specs.Passing.{carried, came, delivered, emptied, emptied
 use Rattle.chain_route.specs.Hop.{lane_to}
 use Rattle.chain_route.specs.Lane.{arriving}
 use Rattle.chain_route.specs.declared.hop.Hop.{Hop}
-use Rattle.chain_route.proofs.Waits.{both_true}
+use Rattle.list_laws.proofs.Flags.{and_parts as both_true}
 
 -- a value-add at a place of a way with so many hops: nothing is queued below it, unless it stands at the first place, nor above
 -- it, unless at the second, and it waits only for the agent, unless it stands at the third

@@ -16,7 +16,7 @@ use Rattle.chain_route.specs.Route.{add_put, beside, connected, connected_after,
 use Rattle.chain_route.specs.RouteValue.{RouteValue}
 use Rattle.chain_route.specs.declared.hop.Hop.{Hop}
 use Rattle.chain_route.proofs.Settled.{Settled, connected_settled, emptied_above, emptied_below, ended_settled, new_settled, same_place, weaker, with_low, with_up, without_low, without_up}
-use Rattle.chain_route.proofs.Ways.{set_length}
+use Rattle.list_laws.proofs.Lists.{get_within, set_length}
 
 -- ---- Lists, changed at a place
 
@@ -41,11 +41,6 @@ none_past : {A : Type 0} → (i : ℕ) (xs : List A) → slice_get xs i ≡ None
 none_past i [] is = omega arith
 none_past zero (x ∷ xs) is = absurd cc
 none_past (suc i) (x ∷ xs) is = let rest = none_past i xs is in omega (arith, rest)
-
-pub some_within : {A : Type 0} → (i : ℕ) (xs : List A) (x : A) → slice_get xs i ≡ Some x → i < length xs
-some_within i [] x is = absurd cc
-some_within zero (y ∷ xs) x is = omega arith
-some_within (suc i) (y ∷ xs) x is = let rest = some_within i xs x is in omega (arith, rest)
 
 -- ---- All value-adds of a way
 
@@ -105,7 +100,7 @@ module _ (low up wait low1 up1 wait1 : Option ℕ) (at : ℕ) (r : RouteValue) (
       by_parts None None is hop_is = none_there others is
       by_parts None (Some h) is hop_is = none_there others is
       by_parts (Some v) None is hop_is =
-          let least = some_within at r.adds v is in
+          let least = get_within at r.adds v is in
           let most = none_past (beside side at) r.hops hop_is in
           let place = place_most side in
           absurd (omega (arith, least, most, place, all.fits))
@@ -174,7 +169,7 @@ last_settled at r last all = record {
     by_place : (i : ℕ) (v : ValueValue) → slice_get r.adds i ≡ Some v → (at ≡ 0 → ⊥) → awaits v.relay ≡ true → (flag : Bool) → (i == at - 1) ≡ flag
         → ((Some (at - 1) ≡ Some i → ⊥) → awaits v.relay ≡ true → i + 2 ≡ length r.hops) → i + 2 ≡ length r.hops
     by_place i v there some is true place waits =
-        let least = some_within i r.adds v there in
+        let least = get_within i r.adds v there in
         let here = eqb-true i (at - 1) place in
         omega (arith, least, here, some, last, all.fits)
     by_place i v there some is false place waits = waits (λ same. eqb-false i (at - 1) place (same_place same)) is
@@ -261,7 +256,7 @@ turns_settled side at r keeps all = by_add (slice_get r.adds at) refl
         (λ i w apart x. weaker (length r.hops) (Some at) (Some at) wait i w x) in
         let r2 = with_carried Below at r1 in
         let r3 = with_carried Above at r2 in
-        let within = some_within at r.adds v is in
+        let within = get_within at r.adds v is in
         let size = carried_size Above r2 ∙ carried_size Below r1 ∙ set_length at r.adds next.1 in
         after_turn next.0 at r3 (omega (arith, size, within)) (above_settled at None wait r2 (below_settled at (Some at) wait r1 settled))
       where

@@ -39,7 +39,8 @@ use Rattle.chain_route.proofs.Losses.{loses_same, lost_same}
 use Rattle.chain_route.proofs.Reaching.{waits_in}
 use Rattle.chain_route.proofs.Settled.{still_free}
 use Rattle.chain_route.proofs.Unheard.{Laws}
-use Rattle.chain_route.proofs.Ways.{IsMapped, get_mapped, get_set}
+use Rattle.chain_route.proofs.Ways.{IsMapped, get_mapped}
+use Rattle.list_laws.proofs.Lists.{get_set}
 
 -- ---- What is carried leaves it waiting
 

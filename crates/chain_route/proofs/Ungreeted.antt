@@ -9,7 +9,7 @@ use Rattle.channel_core.specs.Beginning.{new_end}
 use Rattle.channel_core.specs.Closing.{is_closed}
 use Rattle.channel_core.specs.EndValue.{EndValue}
 use Rattle.channel_core.specs.Greeting.{is_greeting}
-use Rattle.channel_core.specs.Holding.{is_free, is_live, let_out, released, sent_out}
+use Rattle.channel_core.specs.Holding.{is_free, let_out, released, sent_out}
 use Rattle.channel_core.specs.Laws.{listed}
 use Rattle.channel_core.specs.Level.{is_due, level_of, leveled}
 use Rattle.channel_core.specs.Receiving.{came_by, counted, delivered, entered, heard, is_over, item_came, stopped_by}
@@ -24,8 +24,7 @@ use Rattle.channel_core.specs.declared.held.Held.{Held}
 use Rattle.channel_core.specs.declared.held.Incoming.{Incoming}
 use Rattle.channel_core.specs.declared.sending.SendRefusal.{SendRefusal}
 use Rattle.channel_core.specs.declared.states.Cause.{Cause}
-use Rattle.channel_core.specs.declared.states.EndState.{EndState}
-use Rattle.channel_core.specs.declared.states.EndState.TheVariants.{Closed, Live, Opening, Reopening}
+use Rattle.channel_core.specs.declared.states.EndState.TheVariants.{Opening}
 use Rattle.channel_core.specs.declared.taking.Judged.{Judged}
 use Rattle.channel_core.specs.declared.taking.Judged.TheVariants.{Greets, TooEarly}
 use Rattle.channel_core.specs.declared.taking.Taken.{Taken}
@@ -36,12 +35,7 @@ use Rattle.stream_escape.specs.declared.stream.StreamFault.{StreamFault}
 use Rattle.tcf_message.specs.Message.{MessageValue, command, event, final, flow, not_known, progress, reading}
 use Rattle.tcf_message.specs.declared.message.MessageFault.{MessageFault}
 use Rattle.chain_route.proofs.EndCalls.{calls_more}
-
-abbrev IsUngreeted : EndState → Type 0
-IsUngreeted Opening = Unit {0}
-IsUngreeted Live = ⊥
-IsUngreeted Reopening = ⊥
-IsUngreeted (Closed cause) = Unit {0}
+use Rattle.channel_core.proofs.Waiting.{IsUngreeted, not_live, opening_or}
 
 abbrev Waits : {T : Type 0} → EndValue T → Type 0
 Waits e = IsUngreeted e.state
@@ -49,12 +43,6 @@ Waits e = IsUngreeted e.state
 either_waits : {T : Type 0} → (flag : Bool) (one other : EndValue T) → Waits one → Waits other → Waits (cond flag one other)
 either_waits true one other i j = i
 either_waits false one other i j = j
-
-not_live : (state : EndState) → IsUngreeted state → is_live state ≡ false
-not_live Opening is = refl
-not_live Live is = absurd is
-not_live Reopening is = absurd is
-not_live (Closed cause) is = refl
 
 not_free : {T : Type 0} → (e : EndValue T) → Waits e → is_free e ≡ false
 not_free e w = ap (λ b. b && not (int_lt (pos 0) e.told)) (not_live e.state w)
@@ -128,12 +116,6 @@ early_taken number i (answers token done) e opening =
 stop_taken_so : {T : Type 0} → (stop : Option Cause) (e : EndValue T) → Waits e → UnlessGreeted (stop_taken stop e)
 stop_taken_so None e w none = record { none = refl; waits = w }
 stop_taken_so (Some cause) e w none = record { none = refl; waits = tt }
-
-opening_or : (state : EndState) → IsUngreeted state → is_closed state ≡ false → state ≡ Opening
-opening_or Opening is open_yet = refl
-opening_or Live is open_yet = absurd is
-opening_or Reopening is open_yet = absurd is
-opening_or (Closed cause) is open_yet = absurd cc
 
 taken_so : {T : Type 0} → (inbox : List Arrived) (e : EndValue T) → (is_closed e.state ≡ true → inbox ≡ []) → Waits e → UnlessGreeted (taken_from inbox e)
 taken_so [] e emptied w = stop_taken_so e.stop e w

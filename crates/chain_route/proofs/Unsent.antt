@@ -29,8 +29,9 @@ use Rattle.value_node.specs.declared.relay.Relay.{Relay}
 use Rattle.value_node.specs.declared.states.Bind.{Bind}
 use Rattle.value_node.specs.declared.states.Bind.TheVariants.{Bound, Closed, Opening, Unbound}
 use Rattle.value_node.specs.declared.states.Side.TheVariants.{Above, Below}
-use Rattle.chain_route.proofs.EndCalls.{all_append, calls_more}
+use Rattle.chain_route.proofs.EndCalls.{calls_more}
 use Rattle.chain_route.proofs.Ungreeted.{none_taken}
+use Rattle.list_laws.proofs.AllLists.{all_append}
 
 -- ---- Calls that send no message
 

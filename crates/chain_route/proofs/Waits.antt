@@ -36,17 +36,7 @@ use Rattle.chain_route.specs.Carrying.{Made, past_of, value_of}
 use Rattle.chain_route.specs.Passing.{parts_came}
 use Rattle.chain_route.proofs.Adds.{facts_of, with_call}
 use Rattle.chain_route.proofs.Moving.{call_value}
-
-pub both_true : (a b : Bool) → (a && b) ≡ true → (a ≡ true) × (b ≡ true)
-both_true true b is = (refl, is)
-both_true false b is = absurd cc
-
-true_both : (a b : Bool) → a ≡ true → b ≡ true → (a && b) ≡ true
-true_both true b is also = also
-true_both false b is also = absurd cc
-
-true_or_false : {b : Bool} → b ≡ true → b ≡ false → ⊥
-true_or_false is isnt = let no : true ≡ false = sym is ∙ isnt in cc
+use Rattle.list_laws.proofs.Flags.{and_parts, not_both, and_true}
 
 -- ---- How its upper end closes
 
@@ -132,7 +122,7 @@ in_keeps Unbound token service name body mark v unless is = answered_keeps token
 in_keeps Opening token service name body mark v unless is = is
 in_keeps Bound token service name body mark v unless is =
     let next = asked_bound token service name body mark (bound v) in
-    absurd (true_or_false (both_true (is_opening next.bind) (is_free next.upper) is).0 (bound_unopened token service name body mark v))
+    absurd (not_both (and_parts (is_opening next.bind) (is_free next.upper) is).0 (bound_unopened token service name body mark v))
 in_keeps Closed token service name body mark v unless is = is
 
 asked_keeps : (m : Result MessageValue MessageFault) (mark : Option ℕ) (v : Relay) → Waited (asked m mark v) v
@@ -173,7 +163,7 @@ record Waits (what : Option (Taken ForwardedValue)) (bind : Bind) (v : Relay) : 
 
 -- nothing but the end of it changes
 as_before : (what : Option (Taken ForwardedValue)) (bind : Bind) (v : Relay) → closes what ≡ false → awaits (record v { bind = bind }) ≡ true → Waits what bind v
-as_before what bind v unclosed is = let parts = both_true (is_opening bind) (is_free v.upper) is in record { opening = parts.0; free = parts.1; unclosed = unclosed }
+as_before what bind v unclosed is = let parts = and_parts (is_opening bind) (is_free v.upper) is in record { opening = parts.0; free = parts.1; unclosed = unclosed }
 
 queued_free : (m : MessageValue) (mark : Option ℕ) (e : Upper) → is_closed (queued m mark e).state ≡ is_closed e.state
 queued_free m mark e = by_flag (is_closed e.state)
@@ -219,8 +209,8 @@ on_keeps (Some e) v has so is = by_flag (is_closed e.state) refl
     waits = above_waits next.0 v.bind (with_upper next.1 v) is
 
     by_flag : (flag : Bool) → is_closed e.state ≡ flag → awaits v ≡ true
-    by_flag true closed = true_both (is_opening v.bind) (is_free v.upper) waits.opening (ap is_free has ∙ closed)
-    by_flag false opened = absurd (true_or_false waits.free ((so e refl).by_taking opened ∙ waits.unclosed))
+    by_flag true closed = and_true (is_opening v.bind) (is_free v.upper) waits.opening (ap is_free has ∙ closed)
+    by_flag false opened = absurd (not_both waits.free ((so e refl).by_taking opened ∙ waits.unclosed))
 
 above_keeps : (v : Relay) → ((e : Upper) → v.upper ≡ Some e → ClosesSo e) → awaits (turned_above v).1 ≡ true → awaits v ≡ true
 unfolding turned_above

@@ -14,18 +14,9 @@ use Rattle.chain_route.proofs.Moving.{Moves}
 use Rattle.chain_route.proofs.Places.{last_place}
 use Rattle.chain_route.proofs.Stepping.{IsOpenAt}
 use Rattle.chain_route.proofs.Towers.{above_changed, below_changed}
+use Rattle.list_laws.proofs.Lists.{set_length}
 
 -- ---- Lists, changed at a place
-
-pub set_length : {A : Type 0} → (i : ℕ) (xs : List A) (x : A) → length (slice_set xs i x) ≡ length xs
-set_length i [] x = refl
-set_length zero (y ∷ ys) x = refl
-set_length (suc i) (y ∷ ys) x = ap suc (set_length i ys x)
-
-pub get_set : {A : Type 0} → (i : ℕ) (xs : List A) (x y : A) → slice_get xs i ≡ Some y → slice_get (slice_set xs i x) i ≡ Some x
-get_set i [] x y there = absurd cc
-get_set zero (z ∷ xs) x y there = refl
-get_set (suc i) (z ∷ xs) x y there = get_set i xs x y there
 
 pub set_mapped : {A B : Type 0} → (f : A → B) (i : ℕ) (xs : List A) (x : A) → slice_set (map f xs) i (f x) ≡ map f (slice_set xs i x)
 set_mapped f i [] x = refl

@@ -6,7 +6,7 @@ use Rattle.channel_core.specs.Beginning.{new_end}
 use Rattle.channel_core.specs.QueueLaws.{sent_in}
 use Rattle.channel_core.specs.ReceivingLaws.{SendsReadable}
 use Rattle.channel_core.specs.declared.held.Outgoing.{Outgoing}
-use Rattle.channel_faults.specs.Faults.{is_ending}
+use Rattle.channel_laws.specs.Faults.{is_ending}
 use Rattle.value_node.specs.RelayLaws.{IsGivenUp}
 use Rattle.value_node.specs.Runs as value
 use Rattle.value_node.specs.Runs.{UpperCall, above, below, bytes_end, comes, connects, fails, gives, turns as value_turns, upper_after}

@@ -23,12 +23,13 @@ use Rattle.chain_route.specs.declared.hop.Hop.{Hop}
 use Rattle.chain_through.specs.Calling.{AskNothing, Calls, Says, all_asking, asks, entering, greeting}
 use Rattle.chain_told.proofs.Decimals.{decimal_plain}
 use Rattle.chain_through.proofs.Doing.{all_sent}
-use Rattle.chain_through.proofs.Fronts.{front_each, front_flat, front_then}
-use Rattle.chain_through.proofs.Facts.{Laws, above_read, below_read, calls_above, deeds_of, run_of}
+use Rattle.chain_through.proofs.Facts.{Laws, above_read, below_read, calls_above, deeds_of}
 use Rattle.chain_through.proofs.Queues.{GreetsFirst, commanding, entering_formed, greets_first, nothing_asked, queue_commands, queue_messages, queue_plain}
 use Rattle.chain_through.proofs.Refusing.{none_refused, none_sent, refused_in, sends_refusals, sent_with}
 use Rattle.chain_through.proofs.Spelling.{AreSpelled, IsSpelled, front_said, said_so}
 use Rattle.chain_through.proofs.Taking.{IsWritten, all_written, come_as, received_front}
+use Rattle.chain_route.proofs.Bytes.{front_each, front_flat, front_then}
+use Rattle.chain_route.proofs.Adds.{run_of}
 
 -- ---- What can be read
 

@@ -11,7 +11,7 @@ use Rattle.channel_core.specs.RunLaws.{AfterAllCalls as AfterEndCalls, SendsInOr
 use Rattle.channel_core.specs.Runs.{begun}
 use Rattle.channel_core.specs.Sending.{last_token, most_pending, refusal_of}
 use Rattle.channel_core.specs.declared.sending.SendRefusal.TheVariants.{Full, NotOpen, Spent, TooLong}
-use Rattle.channel_faults.specs.Faults.{is_closing}
+use Rattle.channel_laws.specs.Faults.{is_closing}
 use Rattle.value_node.specs.Asked.{Asked}
 use Rattle.value_node.specs.Deeds.{Deed, asked_in, sent_in}
 use Rattle.value_node.specs.ForwardedValue.{ForwardedValue}

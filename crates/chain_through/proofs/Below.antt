@@ -26,15 +26,18 @@ use Rattle.chain_told.specs.Told.{numbered}
 use Rattle.chain_told.specs.TellsOn.{tells}
 use Rattle.chain_through.specs.Calling.{Calls, all_asking, entering, greeting}
 use Rattle.chain_through.proofs.Above.{asked_written, hello_enters, queued_more}
-use Rattle.chain_through.proofs.Fronts.{IsMapped, front_each, front_flat, front_mapped, front_same, front_then}
-use Rattle.chain_through.proofs.Facts.{Laws, below_read, calls_above, deeds_of, facts_of, run_of}
+use Rattle.chain_through.proofs.Fronts.{IsMapped, front_mapped}
+use Rattle.chain_through.proofs.Facts.{Laws, below_read, calls_above, deeds_of, facts_of}
 use Rattle.chain_through.proofs.Hearing.{AreReadable}
 use Rattle.chain_told.proofs.Numbered.{numbered_parts, under}
 use Rattle.chain_through.proofs.Owning.{own_spelled}
 use Rattle.chain_through.proofs.Queues.{entering_formed, queue_messages}
 use Rattle.chain_through.proofs.Spelling.{AreSpelled, IsSpelled, one_said, said_so, same_said}
-use Rattle.chain_through.proofs.Taking.{IsWritten, all_append, all_written, asked_of, calls_fit, come_as, commands_in, commands_read, received_front, taken_split}
+use Rattle.chain_through.proofs.Taking.{IsWritten, all_written, asked_of, calls_fit, come_as, commands_in, commands_read, received_front, taken_split}
 use Rattle.chain_through.proofs.Telling.{tells_spelled, told_said}
+use Rattle.chain_route.proofs.Bytes.{front_each, front_flat, front_same, front_then}
+use Rattle.chain_route.proofs.Adds.{run_of}
+use Rattle.list_laws.proofs.AllLists.{all_append}
 
 -- ---- The commands that it took are the first of those that were sent
 

@@ -1,5 +1,5 @@
 -- The rest of a way, and below it a value-add that is bound: it tells what comes from above, and what it answers from its store.
-use Rattle.std.proofs.Common.{◌≡◌, ℕ, zero, suc, ◌+◌, ◌-◌, ◌^◌, ◌<◌, ◌≤◌, ◌⊎◌, inl, inr, ⊎_elim, true, false, List, [], ◌∷◌, ◌++◌, drop, length, map, take, Option, Some, None, refl, sym, ap, ◌∙◌, subst, arith, append_assoc, append-nil, length-append}
+use Rattle.std.proofs.Common.{◌≡◌, ℕ, ◌+◌, ◌-◌, ◌^◌, ◌<◌, ◌≤◌, ◌⊎◌, inl, inr, ⊎_elim, true, false, List, [], ◌∷◌, ◌++◌, drop, length, map, take, Option, Some, None, refl, sym, ap, ◌∙◌, subst, arith, append_assoc, append-nil, length-append}
 use Rattle.std.specs.Prelude.{IsSome}
 use Rattle.std.specs.List.{AllByRecursion, Contains}
 use Rattle.std.proofs.lemmas.List.{map-append}
@@ -24,28 +24,27 @@ use Rattle.chain_through.specs.Through.{AreBound, GoUp, IsMarked, KnowsTruth, Ta
 use Rattle.chain_through.proofs.Above.{CallsUp, asked_written}
 use Rattle.chain_through.proofs.Below.{SaysBelow, Took, begins_more}
 use Rattle.chain_through.proofs.Doing.{AnswersStorable, content_numbered, each_deed, few_sent, without_content, without_front, without_then}
-use Rattle.chain_through.proofs.Facts.{Laws, deeds_of, run_of}
-use Rattle.chain_told.proofs.Splits.{contains_cases}
+use Rattle.chain_through.proofs.Facts.{Laws, deeds_of}
 use Rattle.chain_through.proofs.Found.{IsNumbered}
-use Rattle.chain_through.proofs.Fronts.{front_flat, front_more, front_same, front_then, front_whole}
+use Rattle.chain_through.proofs.Fronts.{front_whole}
 use Rattle.chain_through.proofs.Hearing.{kept_true, true_in}
 use Rattle.chain_told.proofs.Numbered.{AreParts, length_numbered, numbered_again, numbered_append, numbered_parts, under}
-use Rattle.chain_through.proofs.Owning.{IsPassed, all_answered, bound_further, own_behind, own_passed, own_then}
+use Rattle.chain_through.proofs.Owning.{IsPassed, all_answered, bound_further, own_passed}
 use Rattle.chain_through.proofs.OwnTold.{none_from, owes_none, own_done, own_ended, own_learned, own_told, own_unmarked, unended}
 use Rattle.chain_through.proofs.Renaming.{passed, passed_formed}
-use Rattle.chain_through.proofs.Taking.{all_append}
 use Rattle.chain_through.proofs.Telling.{AnswersMarked, TellsOwnFirst, tells_own_first}
 use Rattle.chain_through.proofs.ToldLists.{told_front, told_more}
 use Rattle.chain_through.proofs.Unknowing.{nothing_stored}
 use Rattle.chain_through.proofs.Queues.{entering_formed}
 use Rattle.chain_through.proofs.Ways.{Way, WayBound, are_bound, takes_all}
+use Rattle.list_laws.proofs.Lists.{take_drop}
+use Rattle.chain_route.proofs.Adds.{run_of}
+use Rattle.list_laws.proofs.Contained.{contains_cases}
+use Rattle.chain_route.proofs.Bytes.{front_flat, front_more, front_same, front_then}
+use Rattle.value_node.proofs.OwnInOrder.{own_behind, own_then}
+use Rattle.list_laws.proofs.AllLists.{all_append}
 
 -- ---- Lists
-
-take_drop : {A : Type 0} → (n : ℕ) (xs : List A) → take n xs ++ drop n xs ≡ xs
-take_drop zero xs = refl
-take_drop (suc n) [] = refl
-take_drop (suc n) (x ∷ xs) = ap (λ l. x ∷ l) (take_drop n xs)
 
 -- a place in one of two lists
 place_in : {A : Type 0} → (xs ys before rest : List A) (s : A) → xs ++ ys ≡ before ++ s ∷ rest

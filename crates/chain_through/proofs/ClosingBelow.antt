@@ -19,7 +19,7 @@ use Rattle.channel_core.specs.declared.states.Cause.TheVariants.{Own}
 use Rattle.channel_core.specs.declared.states.EndState.TheVariants.{Closed as IsClosed}
 use Rattle.channel_core.specs.declared.taking.Taken.{Taken}
 use Rattle.channel_core.specs.declared.taking.Taken.TheVariants as taken
-use Rattle.channel_faults.specs.Faults.{is_closing}
+use Rattle.channel_laws.specs.Faults.{is_closing}
 use Rattle.value_node.specs.Deeds.{deeds_from}
 use Rattle.value_node.specs.ForwardedValue.{ForwardedValue}
 use Rattle.value_node.specs.Own.{own_reply, redirect_failed}
@@ -37,14 +37,13 @@ use Rattle.value_node.specs.declared.states.Side.TheVariants.{Above, Below}
 use Rattle.chain_route.specs.Carrying.{past_after}
 use Rattle.chain_through.proofs.Accepting.{has_upper, none_refused}
 use Rattle.chain_through.proofs.Facts.{Laws}
-use Rattle.chain_through.proofs.Fronts.{front_then}
 use Rattle.chain_through.proofs.OwnClosing.{EndLaws, takes_closing, takes_no_own, uncalled}
-use Rattle.chain_through.proofs.Taking.{calls_more, taken_split}
+use Rattle.chain_through.proofs.Taking.{taken_split}
+use Rattle.chain_route.proofs.Adds.{all_more, lower_calls as calls_below}
+use Rattle.chain_route.proofs.Bytes.{front_then}
+use Rattle.chain_route.proofs.EndCalls.{calls_more}
 
 -- ---- The calls of the lower end
-
-abbrev pub calls_below : Past → List LowerCall
-calls_below p = p.until_bound ++ p.since_bound
 
 abbrev added : Call → Relay → List LowerCall
 added call v = own_by call v ++ passing_by call v
@@ -67,10 +66,6 @@ calls_added (bytes_end side) r none = let call = bytes_end side in split_calls r
 calls_added (turns side) r none = let call = turns side in split_calls r.past.is_bound r.past.until_bound r.past.since_bound (own_by call r.value.relay) (passing_by call r.value.relay) none
 calls_added fails r none = split_calls r.past.is_bound r.past.until_bound r.past.since_bound (own_by fails r.value.relay) (passing_by fails r.value.relay) none
 calls_added (gives side) r none = let call = gives side in split_calls r.past.is_bound r.past.until_bound r.past.since_bound (own_by call r.value.relay) (passing_by call r.value.relay) none
-
-run_more : (calls more : List Call) (r : ValueRun) → after_all (calls ++ more) r ≡ after_all more (after_all calls r)
-run_more [] more r = refl
-run_more (call ∷ calls) more r = run_more calls more (after_call call r)
 
 -- ---- Calls that close nothing
 
@@ -361,7 +356,7 @@ module _ (laws : Laws) (ends : EndLaws) where
   closes_from peer before (call ∷ calls) few so =
       let all : (before ++ call ∷ []) ++ calls ≡ before ++ call ∷ calls = append_assoc before (call ∷ []) calls in
       let next = step_closes peer before (few before (call ∷ calls) refl) call so in
-      let later = subst (λ r. (below r.past).end.state ≡ IsClosed Own → IsEndedAbove r.past) (sym (run_more before (call ∷ []) (no_calls peer))) next in
+      let later = subst (λ r. (below r.past).end.state ≡ IsClosed Own → IsEndedAbove r.past) (sym (all_more before (call ∷ []) (no_calls peer))) next in
       subst (λ cs. (below (past_after peer cs)).end.state ≡ IsClosed Own → IsEndedAbove (past_after peer cs)) all
       (closes_from peer (before ++ call ∷ []) calls (λ first rest is. few first rest (sym all ∙ is)) later)
 
@@ -375,6 +370,6 @@ module _ (laws : Laws) (ends : EndLaws) where
       let r = after_all before (no_calls peer) in
       let all : (before ++ call ∷ []) ++ calls ≡ before ++ call ∷ calls = append_assoc before (call ∷ []) calls in
       let one : IsFront (calls_below r.past) (calls_below (past_after peer (before ++ call ∷ []))) =
-      (added call r.value.relay, ap (λ x. calls_below x.past) (run_more before (call ∷ []) (no_calls peer)) ∙ calls_added call r (laws.runs peer before).unbound) in
+      (added call r.value.relay, ap (λ x. calls_below x.past) (all_more before (call ∷ []) (no_calls peer)) ∙ calls_added call r (laws.runs peer before).unbound) in
       let more = subst (λ cs. IsFront (calls_below (past_after peer (before ++ call ∷ []))) (calls_below (past_after peer cs))) all (calls_front peer (before ++ call ∷ []) calls) in
       front_then (calls_below r.past) (calls_below (past_after peer (before ++ call ∷ []))) (calls_below (past_after peer (before ++ call ∷ calls))) one more

@@ -1,6 +1,6 @@
 -- No end of a way closes by a fault of its other side, and the end of the stream comes down it only where the agent gave it,
 -- or where a value-add lost its upper side: by recursion over the value-adds, from the bottom.
-use Rattle.std.proofs.Common.{◌≡◌, ℕ, zero, suc, take, ◌+◌, ◌-◌, ◌^◌, ◌<◌, ◌≤◌, Bool, true, false, inl, inr, List, [], ◌∷◌, ◌++◌, length, map, None, refl, sym, ap, ◌∙◌, subst, arith, append-nil}
+use Rattle.std.proofs.Common.{◌≡◌, ℕ, ◌+◌, ◌-◌, ◌^◌, ◌<◌, ◌≤◌, Bool, true, false, inl, inr, List, [], ◌∷◌, ◌++◌, length, map, None, refl, sym, ap, ◌∙◌, subst, arith, append-nil}
 use Rattle.std.specs.Prelude.{Contains}
 use Rattle.std.specs.List.{AllByRecursion, filter, flat_map, list_any}
 use Rattle.std.proofs.lemmas.Bool.{or_left, or_right}
@@ -39,10 +39,9 @@ use Rattle.chain_through.specs.Endings.{AddIsSound, ComesToSoundEnds, EndsSoundl
 use Rattle.chain_through.specs.Through.{IsMarked, IsSaidRightly}
 use Rattle.chain_through.proofs.Above.{below_gives, calls_on}
 use Rattle.chain_through.proofs.Below.{Took, took}
-use Rattle.chain_through.proofs.ClosingBelow.{AreFew, IsEndedAbove, calls_below, calls_front, closed_so}
+use Rattle.chain_through.proofs.ClosingBelow.{AreFew, IsEndedAbove, calls_front, closed_so}
 use Rattle.chain_through.proofs.Facts.{Laws, below_read, calls_above, deeds_of, facts_of}
 use Rattle.chain_through.proofs.Found.{found_number}
-use Rattle.chain_through.proofs.Fronts.{front_flat, front_then}
 use Rattle.chain_through.proofs.Given.{IsGiven, given_few, given_so}
 use Rattle.chain_through.proofs.Lost.{ended_lost}
 use Rattle.chain_told.proofs.Numbered.{length_numbered}
@@ -51,6 +50,9 @@ use Rattle.chain_through.proofs.Spelling.{said_so}
 use Rattle.chain_through.proofs.Taking.{come_as}
 use Rattle.chain_through.proofs.Through.{few_above, way, way_down}
 use Rattle.chain_through.proofs.Ways.{calls_few}
+use Rattle.list_laws.proofs.Lists.{take_most, none_last, none_before}
+use Rattle.chain_route.proofs.Adds.{lower_calls as calls_below}
+use Rattle.chain_route.proofs.Bytes.{front_flat, front_then}
 
 -- ---- What is told rightly answers the commands that were sent
 
@@ -67,11 +69,6 @@ owed_answers given count before (progress token body) few owed = awaited_in give
 owed_answers given count before (not_known token) few owed = awaited_in given count before token few owed
 owed_answers given count before (event service name body) few owed = owed
 owed_answers given count before (flow level) few owed = owed
-
-take_most : {A : Type 0} → (count : ℕ) (xs : List A) → length (take count xs) ≤ count
-take_most zero xs = omega arith
-take_most (suc count) [] = omega arith
-take_most (suc count) (x ∷ xs) = let rest = take_most count xs in omega arith
 
 told_answers : (images : List Image) (history : List Input) (commands : List Asked) (spoken told : List Spoken) → AreToldRightly images history (numbered 1 (given_of commands spoken)) told
     → Answering (length (entering spoken) - 1) told
@@ -96,10 +93,6 @@ answers_nothing count (x ∷ before) rest s is = absurd cc
 
 -- ---- An end that gave the end of the stream closed by its own side, where no fault closed it
 
-none_last : {A : Type 0} → (xs : List A) (x : A) → xs ++ x ∷ [] ≡ [] → ⊥
-none_last [] x none = absurd cc
-none_last (y ∷ xs) x none = absurd cc
-
 no_farewell : (queued front : List Outgoing) (spoken : List Spoken) → queued ≡ queue_of spoken true → queued ≡ front ++ [] → filter is_end front ≡ [] → ⊥
 no_farewell queued front spoken queue is none =
     let nothing : filter is_end queued ≡ [] = ap (filter is_end) (is ∙ append-nil front) ∙ none in
@@ -118,10 +111,6 @@ ends_own (IsClosed (Protocol number reason)) queued spoken queue closed ends pro
 ends_own (IsClosed (Stream fault)) queued spoken queue closed ends protocol stream = absurd (stream fault refl)
 
 -- ---- Where no message came no Hello was taken
-
-none_before : {A : Type 0} → (xs ys : List A) → xs ++ ys ≡ [] → xs ≡ []
-none_before [] ys none = refl
-none_before (x ∷ xs) ys none = absurd cc
 
 no_greeting : {T : Type 0} → (entries : List (Taken T)) → flat_map incoming_of entries ≡ [] → list_any is_greeting entries ≡ false
 no_greeting [] none = refl

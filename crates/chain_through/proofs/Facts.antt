@@ -10,11 +10,12 @@ use Rattle.value_node.specs.OwnLaws.{AnswersItself, AsksNothingBelow}
 use Rattle.knowledge.specs.Laws.{ReadIsKnown, RepliesStaySame}
 use Rattle.value_node.specs.Deeds.{Deed, deeds_from}
 use Rattle.value_node.specs.RelayLaws.{AfterAllCalls, AfterAllDeeds, AnswersRightly, EndsAreRuns, ForwardsInOrder, KnowsWhatItHeard, PassesAllOn}
-use Rattle.value_node.specs.Runs.{UpperCall, ValueRun, above, after_all, below, no_calls}
+use Rattle.value_node.specs.Runs.{UpperCall, above, below, no_calls}
 use Rattle.value_node.specs.Value.{value_services}
 use Rattle.chain_route.proofs.Unheard.{readable_by, value_hello}
 use Rattle.chain_route.specs.Carrying.{Made, past_of}
 use Rattle.chain_told.specs.TellsOn.{TellsOn}
+use Rattle.chain_route.proofs.Adds.{run_of}
 
 pub record Laws : Type 0 where
   pub lower_order : AfterEndCalls {T = Unit} QueuesInOrder
@@ -39,9 +40,6 @@ pub record Laws : Type 0 where
   pub reads_known : ReadIsKnown
 
 -- ---- A value-add that was made
-
-abbrev pub run_of : Made → ValueRun
-run_of m = after_all m.calls (no_calls m.peer)
 
 -- what it has done since it was bound
 abbrev pub deeds_of : Made → List Deed

@@ -11,9 +11,10 @@ use Rattle.channel_core.specs.Wire.{end_of_stream}
 use Rattle.channel_core.specs.declared.held.Outgoing.{Outgoing}
 use Rattle.value_node.specs.Asked.{Asked}
 use Rattle.chain_through.specs.Calling.{Calls, all_asking, asking, asks, entering, greeting}
-use Rattle.chain_through.proofs.Fronts.{front_each, front_then}
 use Rattle.chain_through.proofs.Queues.{commanding, queue_commands}
 use Rattle.chain_through.proofs.Spelling.{said_so}
+use Rattle.list_laws.proofs.Lists.{none_before}
+use Rattle.chain_route.proofs.Bytes.{front_each, front_then}
 
 -- ---- No more is said than was given
 
@@ -27,10 +28,6 @@ record IsQueue (spoken : List Spoken) (gave : List Outgoing) : Type 0 where
   is_ended : Bool
   queue : gave ≡ queue_of first is_ended
   front : IsFront first spoken
-
-none_before : {A : Type 0} → (xs ys : List A) → xs ++ ys ≡ [] → xs ≡ []
-none_before [] ys none = refl
-none_before (x ∷ xs) ys none = absurd cc
 
 front_queue : (spoken : List Spoken) (is_ended : Bool) (gave : List Outgoing) → IsFront gave (queue_of spoken is_ended) → IsQueue spoken gave
 front_queue spoken is_ended [] p = record { first = []; is_ended = false; queue = refl; front = (spoken, refl) }

@@ -11,7 +11,7 @@ use Rattle.channel_core.specs.Taking.{next_taken}
 use Rattle.channel_core.specs.declared.sending.SendRefusal.{SendRefusal}
 use Rattle.channel_core.specs.declared.taking.Taken.{Taken}
 use Rattle.channel_core.specs.declared.taking.Taken.TheVariants as taken
-use Rattle.channel_faults.specs.Faults.{is_ending}
+use Rattle.channel_laws.specs.Faults.{is_ending}
 use Rattle.value_node.specs.ForwardedValue.{ForwardedValue}
 use Rattle.value_node.specs.Passing.{Upper}
 use Rattle.value_node.specs.Runs.{Call, Past, UpperCall, ValueRun, after_all, after_call, asked_above, asked_above_in, bound_above, bytes_end, closing_if, closing_in, comes, connects, fails, gives, reconnected, refusing, stored_for, took_above_above, took_below_above, turns, upper_by, upper_from}

@@ -19,10 +19,10 @@ use Rattle.channel_core.specs.declared.states.Cause.TheVariants.{Own}
 use Rattle.channel_core.specs.declared.states.EndState.TheVariants.{Closed as IsClosed}
 use Rattle.channel_core.specs.declared.taking.Taken.{Taken}
 use Rattle.channel_core.specs.declared.taking.Taken.TheVariants.{Closed}
-use Rattle.channel_faults.specs.Faults.{EndsByItsCalls, is_closing}
+use Rattle.channel_laws.specs.Faults.{EndsByItsCalls, is_closing}
 use Rattle.value_node.specs.ForwardedValue.{ForwardedValue}
 use Rattle.chain_through.specs.Endings.{AnsweredIsSound, AskedIsSound}
-use Rattle.chain_through.proofs.Taking.{calls_more}
+use Rattle.chain_route.proofs.EndCalls.{calls_more}
 
 pub record EndLaws : Type 0 where
   pub lower_asked : AskedIsSound Unit

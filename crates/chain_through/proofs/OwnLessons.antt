@@ -1,7 +1,7 @@
 -- A Hello, and an answer to a command of the service Locator, teach nothing to whom nothing is known.
 use Rattle.std.proofs.Common.{◌≡◌, ℕ, Bool, true, false, cond, List, [], ◌∷◌, Option, Some, None, Result, Ok, Err, refl, ap, sym, ◌∙◌, subst}
 use Rattle.std.specs.Prelude.{codes, option_and_then, option_map, slice_get}
-use Rattle.cache_learning.specs.Lessons.{answer_by, event_message, message_by}
+use Rattle.value_store.specs.Lessons.{answer_by, event_message, message_by}
 use Rattle.channel_core.specs.Wire.{hello, locator}
 use Rattle.command_tables.specs.Arguments.{text_part}
 use Rattle.command_tables.specs.Reading.{bad_of, is_unended, reading_by, reading_in, reading_of}

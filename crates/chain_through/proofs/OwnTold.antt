@@ -18,10 +18,10 @@ use Rattle.value_node.specs.Store.{lesson_of}
 use Rattle.chain_told.specs.Told.{AreToldRightly, AreTrueAt, ComesAt, IsAnswered, IsOwed, command_under, ends, is_ended, lesson, lessons, mark_from, mark_of, numbered, owed_in, owed_at}
 use Rattle.chain_told.proofs.Agreeing.{learn_append}
 use Rattle.chain_told.proofs.Decimals.{decimal_one}
-use Rattle.chain_told.proofs.Splits.{contains_cases}
 use Rattle.chain_through.proofs.Found.{found_at}
 use Rattle.chain_told.proofs.Numbered.{numbered_first, under}
 use Rattle.chain_through.proofs.OwnLessons.{hello_teaches, own_teaches}
+use Rattle.list_laws.proofs.Contained.{contains_cases}
 
 -- ---- Parts
 

@@ -19,20 +19,6 @@ use Rattle.chain_through.proofs.Taking.{IsWritten}
 
 -- ---- One list behind another
 
-step_behind : (commands : List Asked) (m : MessageValue) (left more : List Asked) → OwnStep commands m left → OwnStep (commands ++ more) m (left ++ more)
-step_behind commands m left more (a_hello body is same) = a_hello body is (ap (λ cs. cs ++ more) same)
-step_behind commands m left more (a_result c body is at own) = a_result c body is at (ap (λ cs. cs ++ more) own)
-step_behind commands m left more (an_unknown c is own) = an_unknown c is (ap (λ cs. cs ++ more) own)
-
--- further commands are left
-pub own_behind : (commands left more : List Asked) (own : List Spoken) → IsOwn commands own left → IsOwn (commands ++ more) own (left ++ more)
-own_behind commands left more [] is = ap (λ cs. cs ++ more) is
-own_behind commands left more (s ∷ own) is = (is.0, (is.1.0 ++ more, step_behind commands s.message is.1.0 more is.1.1, own_behind is.1.0 left more own is.1.2))
-
-pub own_then : (commands middle left : List Asked) (own later : List Spoken) → IsOwn commands own middle → IsOwn middle later left → IsOwn commands (own ++ later) left
-own_then commands middle left [] later is more = subst (λ cs. IsOwn cs later left) (sym is) more
-own_then commands middle left (s ∷ own) later is more = (is.0, (is.1.0, is.1.1, own_then is.1.0 middle left own later is.1.2 more))
-
 -- ---- It is spelled so
 
 hello_spelled : (body : List ℕ) → IsSpelled (event locator hello body)

@@ -27,6 +27,7 @@ use Rattle.value_node.specs.declared.states.Bind.{Bind}
 use Rattle.value_node.specs.declared.states.Bind.TheVariants.{Bound, Closed, Opening, Unbound}
 use Rattle.value_node.specs.declared.states.Side.TheVariants.{Above, Below}
 use Rattle.chain_through.proofs.Taking.{taken_split}
+use Rattle.chain_route.proofs.Adds.{all_more}
 
 -- ---- What is sent, commands aside, and the answers to commands that were taken
 
@@ -239,17 +240,13 @@ step_refuses (turns side) r runs sends = called_refuses (turns side) r.value.rel
 step_refuses fails r runs sends = called_refuses fails r.value.relay r.past.connection r.value.relay.upper runs.upper sends
 step_refuses (gives side) r runs sends = called_refuses (gives side) r.value.relay r.past.connection r.value.relay.upper runs.upper sends
 
-run_more : (calls more : List Call) (r : ValueRun) → after_all (calls ++ more) r ≡ after_all more (after_all calls r)
-run_more [] more r = refl
-run_more (call ∷ calls) more r = run_more calls more (after_call call r)
-
 refuses_from : AfterAllCalls EndsAreRuns → (peer : List ℕ) (before calls : List Call) → Refuses (after_all before (no_calls peer)).past.connection → Refuses (after_all (before ++ calls) (no_calls peer)).past.connection
 refuses_from runs peer before [] sends = subst (λ cs. Refuses (after_all cs (no_calls peer)).past.connection) (sym (append-nil before)) sends
 refuses_from runs peer before (call ∷ calls) sends =
     let r = after_all before (no_calls peer) in
     let next = step_refuses call r (runs peer before) sends in
     subst (λ cs. Refuses (after_all cs (no_calls peer)).past.connection) (append_assoc before (call ∷ []) calls)
-    (refuses_from runs peer (before ++ call ∷ []) calls (subst (λ x. Refuses x.past.connection) (sym (run_more before (call ∷ []) (no_calls peer))) next))
+    (refuses_from runs peer (before ++ call ∷ []) calls (subst (λ x. Refuses x.past.connection) (sym (all_more before (call ∷ []) (no_calls peer))) next))
 
 pub sends_refusals : AfterAllCalls EndsAreRuns → (peer : List ℕ) (calls : List Call) → flat_map sent_with (unwrap_or (after_all calls (no_calls peer)).past.connection []) ≡ flat_map refused_by (above (after_all calls (no_calls peer)).past).past.taken
 sends_refusals runs peer calls = refuses_from runs peer [] calls refl

@@ -9,7 +9,8 @@ use Rattle.value_node.specs.Asked.{Asked}
 use Rattle.value_node.specs.RelayLaws.{passed_in, token_below}
 use Rattle.chain_through.specs.Through.{IsMarked}
 use Rattle.chain_through.proofs.Spelling.{AreSpelled}
-use Rattle.chain_through.proofs.Taking.{IsWritten, all_append}
+use Rattle.chain_through.proofs.Taking.{IsWritten}
+use Rattle.list_laws.proofs.AllLists.{all_append}
 
 abbrev pub say : MessageValue → Option ℕ → Spoken
 say message mark = record { message = message; mark = mark }

@@ -18,16 +18,17 @@ use Rattle.channel_core.specs.declared.states.Reason.{Reason}
 use Rattle.channel_core.specs.declared.states.Reason.TheVariants.{Early, Grammar, Token}
 use Rattle.channel_core.specs.declared.taking.Taken.{Taken}
 use Rattle.channel_core.specs.declared.taking.Taken.TheVariants as taken
-use Rattle.channel_faults.specs.Faults.{FaultsAreThere, IsAwaited, IsFault, IsUnder}
+use Rattle.channel_laws.specs.Faults.{FaultsAreThere, IsAwaited, IsFault, IsUnder}
 use Rattle.value_node.specs.Asked.{Asked}
 use Rattle.value_node.specs.OwnMessages.{BeginsWithHello}
 use Rattle.chain_told.specs.Told.{ends, is_ended}
 use Rattle.chain_through.specs.Calling as calling
 use Rattle.chain_through.specs.Calling.{Answering, IsAnswering, all_asking, entering, greeting}
 use Rattle.chain_through.specs.Endings.{AnsweredIsSound, AskedIsSound, IsSound}
-use Rattle.chain_through.proofs.Fronts.{front_each}
 use Rattle.chain_through.proofs.Queues.{entering_formed}
 use Rattle.chain_through.proofs.Taking.{come_as}
+use Rattle.list_laws.proofs.Flags.{neither}
+use Rattle.chain_route.proofs.Bytes.{front_each}
 
 -- ---- The message that is the fault
 
@@ -167,10 +168,6 @@ none_ends number (progress token body) none = refl
 none_ends number (not_known token) none = ap (λ b. b || false) none
 none_ends number (event service name body) none = no_event_token number (bytes_eq service locator && bytes_eq name hello)
 none_ends number (flow level) none = refl
-
-neither : (a b : Bool) → (a || b) ≡ false → (a ≡ false) × (b ≡ false)
-neither true b none = absurd cc
-neither false b none = (refl, none)
 
 others_came : IsReadBack → (number : ℕ) (before : List Spoken) → AreSpoken before → is_ended (decimal number) before ≡ false
     → AllByRecursion (λ i. list_any (is_its number) (token_in (said_in i.raw)) ≡ false) (map come_as before)

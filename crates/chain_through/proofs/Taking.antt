@@ -22,16 +22,10 @@ use Rattle.channel_core.specs.declared.taking.Taken.{Taken}
 use Rattle.channel_core.specs.declared.taking.Taken.TheVariants as taken
 use Rattle.value_node.specs.Asked.{Asked}
 use Rattle.value_node.specs.RelayLaws.{asked_by, asked_in}
+use Rattle.list_laws.proofs.AllLists.{all_append}
+use Rattle.chain_route.proofs.EndCalls.{calls_more}
 
 -- ---- Calls, one list after the other
-
-pub all_append : {A : Type 0} → (P : A → Type 0) (xs ys : List A) → AllByRecursion P xs → AllByRecursion P ys → AllByRecursion P (xs ++ ys)
-all_append P [] ys first second = second
-all_append P (x ∷ xs) ys first second = (first.0, all_append P xs ys first.1 second)
-
-pub calls_more : {T : Type 0} → (calls more : List (Call T)) (r : Run T) → after_calls (calls ++ more) r ≡ after_calls more (after_calls calls r)
-calls_more [] more r = refl
-calls_more (call ∷ calls) more r = calls_more calls more (after_call call r)
 
 -- what is taken by them is taken behind what was taken before
 takes_more : {T : Type 0} → (call : Call T) (before : List (Taken T)) (past other : Past T) (e : EndValue T) → past.taken ≡ before ++ other.taken

@@ -24,7 +24,8 @@ use Rattle.chain_told.proofs.Numbered.{numbered_first}
 use Rattle.chain_through.proofs.OwnTold.{AnswersBelow, IsUnmarked, own_unmarked}
 use Rattle.chain_through.proofs.Renaming.{each_marked, passed, passed_marked, passed_more, passed_spelled, renamed, say}
 use Rattle.chain_through.proofs.Spelling.{AreSpelled, said_so}
-use Rattle.chain_through.proofs.Taking.{IsWritten, all_append, come_as}
+use Rattle.chain_through.proofs.Taking.{IsWritten, come_as}
+use Rattle.list_laws.proofs.AllLists.{all_append}
 
 -- ---- As it is sent
 

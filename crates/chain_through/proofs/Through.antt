@@ -20,21 +20,15 @@ use Rattle.chain_through.proofs.Above.{CallsUp, below_gives, calls_on}
 use Rattle.chain_through.proofs.Below.{begins_own, none_since, own_greets, says_below, says_own, says_queued, took}
 use Rattle.chain_through.proofs.Bound.{answered, begins, down_begins, goes_through, is_own, knows_truth, later, own, own_formed, own_since, split, stops_through, told_down}
 use Rattle.chain_through.proofs.Doing.{few_sent}
-use Rattle.chain_through.proofs.Facts.{Laws, below_read, deeds_of, facts_of, run_of}
-use Rattle.chain_through.proofs.Fronts.{front_flat, front_none, front_same, front_then}
+use Rattle.chain_through.proofs.Facts.{Laws, below_read, deeds_of, facts_of}
 use Rattle.chain_told.proofs.Numbered.{length_numbered, numbered_append}
-use Rattle.chain_through.proofs.Owning.{own_behind}
 use Rattle.chain_through.proofs.OwnTold.{own_told}
 use Rattle.chain_through.proofs.Queues.{entering_formed}
 use Rattle.chain_through.proofs.Ways.{Way, WayBound, are_bound, none_came, none_down, through_way, way_none}
-
-pub none_behind : {A : Type 0} → (xs ys : List A) → xs ++ ys ≡ [] → ys ≡ []
-none_behind [] ys none = none
-none_behind (x ∷ xs) ys none = absurd cc
-
-pub none_mapped : {A B : Type 0} → (f : A → B) (xs : List A) → map f xs ≡ [] → xs ≡ []
-none_mapped f [] none = refl
-none_mapped f (x ∷ xs) none = absurd cc
+use Rattle.list_laws.proofs.Lists.{none_behind, none_mapped}
+use Rattle.chain_route.proofs.Adds.{run_of}
+use Rattle.chain_route.proofs.Bytes.{front_flat, front_none, front_same, front_then}
+use Rattle.value_node.proofs.OwnInOrder.{own_behind}
 
 none_without : {A : Type 0} → (kind : A → Bool) (xs : List A) → IsWithoutSome kind xs [] → xs ≡ []
 none_without kind [] w = refl

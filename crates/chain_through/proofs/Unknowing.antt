@@ -1,8 +1,8 @@
 -- Who knows nothing answers nothing from a store.
-use Rattle.std.proofs.Common.{◌≡◌, ℕ, ℤ, ◌+◌, ◌-◌, ◌<◌, ◌≤◌, ◌==◌, ◌&&◌, Bool, true, false, cond, not, List, [], ◌∷◌, length, take, drop, find, slice_get, nat_le, Option, Some, None, option_map, refl, sym, ap, ◌∙◌, arith, length-drop, length-take}
+use Rattle.std.proofs.Common.{◌≡◌, ℕ, ℤ, ◌+◌, ◌<◌, ◌==◌, ◌&&◌, Bool, true, false, cond, not, List, [], ◌∷◌, length, slice_get, nat_le, Option, Some, None, option_map, refl, sym, ap, ◌∙◌, arith}
 use Rattle.std.specs.Prelude.{is_some, option_and_then, unsigned_abs}
 use Rattle.std.specs.List.{list_all}
-use Rattle.std.proofs.lemmas.Bool.{and_parts, eqb-false, leb-true}
+use Rattle.std.proofs.lemmas.Bool.{eqb-false}
 use Rattle.block_store.specs.Blocks.{has_range, part}
 use Rattle.block_store.specs.Store.{covered}
 use Rattle.block_store.specs.declared.block.Block.{Block}
@@ -23,15 +23,14 @@ use Rattle.tcf_values.specs.declared.values.Location.{Location}
 use Rattle.value_node.specs.Store.{IsStoreOf, StoreValue, stored_answer}
 use Rattle.value_store.specs.Learning.{data_of}
 use Rattle.value_store.specs.Rows.{facts_in}
+use Rattle.list_laws.proofs.Lists.{no_some}
+use Rattle.knowledge.proofs.Inside.{length_by}
 
 -- ---- It has no fact
 
 none_by : {A : Type 0} → (found : Option A) → ((x : A) → found ≡ Some x → ⊥) → found ≡ None
 none_by None none = refl
 none_by (Some x) none = absurd (none x refl)
-
-no_some : {A : Type 0} → (x : A) → ◌≡◌ {A = Option A} None (Some x) → ⊥
-no_some x is = cc
 
 knows_none : (messages : List Message) (s : StoreValue) → IsStoreOf messages s → IsPart (learned messages) nothing → AreSame (facts_in s.known) nothing
 knows_none messages s of part = record {
@@ -44,22 +43,6 @@ knows_none messages s of part = record {
 }
 
 -- ---- A range that is covered has a byte
-
-taken : (size first start : ℕ) (bytes : List ℕ) → start ≤ first → first + size ≤ start + length bytes → length (take size (drop (first - start) bytes)) ≡ size
-taken size first start bytes begins ends = omega (arith, length-take size (drop (first - start) bytes), length-drop (first - start) bytes)
-
-part_length : (process addr size : ℕ) (block : Block) → has_range process addr size block ≡ true → length (part addr size block) ≡ size
-part_length process addr size block has =
-    let parts = and_parts _ _ has in
-    taken size addr block.addr block.bytes (leb-true _ _ (and_parts _ _ parts.0).1) (leb-true _ _ parts.1)
-
-length_by : (process addr size : ℕ) (bytes : List ℕ) (block : Block) (blocks : List Block) (b : Bool) → has_range process addr size block ≡ b
-    → (covered process addr size blocks ≡ Some bytes → length bytes ≡ size)
-    → option_map (part addr size) (cond b (Some block) (find (has_range process addr size) blocks)) ≡ Some bytes → length bytes ≡ size
-length_by process addr size bytes block blocks true has rest is =
-    let same : part addr size block ≡ bytes = cc in
-    sym (ap length same) ∙ part_length process addr size block has
-length_by process addr size bytes block blocks false has rest is = rest is
 
 covered_length : (process addr size : ℕ) (blocks : List Block) (bytes : List ℕ) → covered process addr size blocks ≡ Some bytes → length bytes ≡ size
 covered_length process addr size [] bytes is = absurd (no_some bytes is)

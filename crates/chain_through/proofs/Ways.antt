@@ -13,9 +13,9 @@ use Rattle.chain_told.specs.Told.{AreToldRightly, numbered, owed_in}
 use Rattle.chain_through.specs.Calling.{Calls, Says, all_asking, entering, given_of, greeting}
 use Rattle.chain_through.specs.Through.{AllTakeAll, AllTold, AreBound, ComeDown, GoUp, IsMarked, IsSaidBelow, KnowsTruth, TakesAll, TakesAllOf, Through, content, is_storable_content, top_end}
 use Rattle.chain_through.proofs.Doing.{without_same}
-use Rattle.chain_through.proofs.Fronts.{front_flat, front_length, front_then}
 use Rattle.chain_told.proofs.Numbered.{numbered_append}
-use Rattle.chain_through.proofs.Owning.{own_behind}
+use Rattle.chain_route.proofs.Bytes.{front_flat, front_length, front_then}
+use Rattle.value_node.proofs.OwnInOrder.{own_behind}
 
 pub record WayBound (commands : List Asked) (made : List Made) (took behind left top : List Asked) (own said heard : List Spoken) : Type 0 where
   pub all : left ≡ []

@@ -63,8 +63,8 @@ pub fn no_fault_comes_through()
     channel_core::a_closed_end_stays_closed::<()>();
     channel_core::a_closed_end_stays_closed::<Forwarded>();
     channel_core::an_end_closes_only_so::<()>();
-    channel_faults::an_end_closes_by_a_fault_only_so::<()>();
-    channel_faults::an_end_closes_by_a_fault_only_so::<Forwarded>();
+    channel_laws::an_end_closes_by_a_fault_only_so::<()>();
+    channel_laws::an_end_closes_by_a_fault_only_so::<Forwarded>();
     tcf_message::read_back();
     knowledge::the_same_answer_the_same();
     knowledge::what_is_read_is_known();
@@ -88,6 +88,6 @@ pub fn what_is_answered_once_is_sound<T>()
 {
     channel_core::what_was_queued_is_received::<T>();
     channel_core::each_answer_is_that_of_a_sent_command::<T>();
-    channel_faults::an_end_closes_by_a_fault_only_so::<T>();
+    channel_laws::an_end_closes_by_a_fault_only_so::<T>();
     tcf_message::read_back();
 }

@@ -13,9 +13,12 @@ use Rattle.chain_told.specs.Told.{AreEndedBefore, command_under, is_ended, numbe
 use Rattle.chain_told.specs.TellsOn.{Begins}
 use Rattle.chain_told.proofs.Doing.{SentBy, ended_in_heard, sent_append, sent_split, sent_was_asked}
 use Rattle.chain_told.proofs.Numbered.{numbered_append, under}
-use Rattle.chain_told.proofs.Splits.{Places, before, behind, contains_first, found, one, places, split_at}
-use Rattle.chain_told.proofs.Standing.{HasEnded, Stands, all_left, asked_apart, asked_parts, asked_placed, ended_or_sent, sent_apart}
-use Rattle.chain_told.proofs.Tokens.{alike, below_at, differ, same_place, sent_at, under_at, unlike}
+use Rattle.chain_told.proofs.Splits.{Places, before, behind, found, one, places, split_at}
+use Rattle.chain_told.proofs.Standing.{HasEnded, Stands, asked_apart, asked_parts, asked_placed, ended_or_sent, sent_apart}
+use Rattle.chain_told.proofs.Tokens.{below_at, differ, same_place, sent_at, under_at, unlike}
+use Rattle.list_laws.proofs.Contained.{contains_first}
+use Rattle.list_laws.proofs.AllLists.{all_left}
+use Rattle.list_laws.proofs.Lists.{equal_bytes as alike}
 
 -- one of a list that is behind some of it
 pub contains_behind : {A : Type 0} → (xs : List A) (x : A) (ys : List A) → Contains (xs ++ x ∷ ys) x

@@ -1,6 +1,6 @@
 -- Who know the same facts still do when both learn the same; and what is true of what the one knows is so of what the other does.
 use Rattle.std.proofs.Common.{◌≡◌, ◌⊎◌, inl, inr, ⊎_elim, ℕ, true, List, [], ◌∷◌, ◌++◌, Option, Some, None, is_some, refl, sym, ap, ◌∙◌}
-use Rattle.cache_learning.specs.Lessons.{answer_message}
+use Rattle.value_store.specs.Lessons.{answer_message}
 use Rattle.knowledge.specs.Facts.{Facts, IsGrounded, IsPart, byte_is, context_is, is_suspended, nothing, properties_are, register_is, state_is, status_is}
 use Rattle.knowledge.specs.Laws.{IsMonotone}
 use Rattle.knowledge.specs.Learning.{Message, learn, learn_all}

@@ -13,7 +13,7 @@ use Rattle.value_node.specs.Deeds.{Deed, answers, asked_by, asked_in, ends_with,
 use Rattle.value_node.specs.Deeds as deeds
 use Rattle.chain_told.specs.Told.{ends, is_ended, lesson, lessons, mark_by, mark_from, mark_of}
 use Rattle.chain_told.specs.TellsOn.{comes_as}
-use Rattle.chain_told.proofs.Splits.{contains_cases, contains_first}
+use Rattle.list_laws.proofs.Contained.{contains_cases, contains_first}
 
 -- ---- One deed more
 

@@ -1,7 +1,7 @@
 -- The laws of the crates below that the proofs take.
 use Rattle.knowledge.specs.Laws.{IsMonotone, RepliesStaySame}
-use Rattle.stored_lessons.specs.Laws.{StoredAnswersTeachNothingNew}
-use Rattle.stored_truth.specs.Laws.{IsWrittenAt}
+use Rattle.value_store.specs.Laws.{StoredAnswersTeachNothingNew}
+use Rattle.target_truth.specs.StoredLaws.{IsWrittenAt}
 
 pub record Laws : Type 0 where
   pub monotone : IsMonotone

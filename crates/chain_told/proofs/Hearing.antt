@@ -22,7 +22,8 @@ use Rattle.chain_told.proofs.Addressing.{Addressed, addressed, ended_before, end
 use Rattle.chain_told.proofs.Agreeing.{Agree, AreFew, IsSure, agree_few, agree_true, learn_append, true_grounded}
 use Rattle.chain_told.proofs.Doing.{IsReadable, ended_more, heard_append, lessons_more, lessons_told, mark_more, sent_append, still_ended}
 use Rattle.chain_told.proofs.Numbered.{under}
-use Rattle.chain_told.proofs.Standing.{HasEnded, Stands, all_append, have_ended_still}
+use Rattle.chain_told.proofs.Standing.{HasEnded, Stands, have_ended_still}
+use Rattle.list_laws.proofs.AllLists.{all_append}
 
 few_lessons : (commands : List Asked) (message : MessageValue) → AreFew (lesson commands message ++ [])
 few_lessons commands (command token service name body) = tt

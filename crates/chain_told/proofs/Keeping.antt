@@ -1,5 +1,5 @@
 -- An answer makes nothing of what is known unknown, though it may be another thing then.
-use Rattle.std.proofs.Common.{◌≡◌, ℕ, ◌==◌, Bool, true, false, cond, ◌||◌, ◌&&◌, List, [], ◌∷◌, ◌++◌, length, take, drop, Option, Some, None, is_some, refl, ap}
+use Rattle.std.proofs.Common.{◌≡◌, ℕ, ◌==◌, Bool, true, false, cond, ◌&&◌, List, [], ◌∷◌, ◌++◌, length, take, drop, Option, Some, None, is_some, refl}
 use Rattle.std.specs.Prelude.{ℤ, bytes_eq, unsigned_abs}
 use Rattle.std.specs.List.{AllByRecursion}
 use Rattle.tcf_values.specs.Ids.{context_of, register_of}
@@ -12,12 +12,13 @@ use Rattle.tcf_values.specs.declared.ids.RegisterId.{RegisterId}
 use Rattle.tcf_values.specs.declared.values.Location.{Location}
 use Rattle.tcf_values.specs.declared.values.RunState.{RunState}
 use Rattle.tcf_values.specs.declared.values.RunState.TheVariants as run
-use Rattle.cache_learning.specs.Lessons.{answer_by, answer_message}
+use Rattle.value_store.specs.Lessons.{answer_by, answer_message}
 use Rattle.reply_tables.specs.Answers.{answer_read}
 use Rattle.knowledge.specs.Changes.{Change, after, after_all, all_gone, at_register, context_told, context_gone, state_told, state_gone, register_read, register_gone, thread_registers_gone, registers_gone, bytes_read, bytes_gone, range_gone, properties_told, properties_gone, status_told, status_gone, statuses_gone, has_byte, is_still}
 use Rattle.knowledge.specs.Facts.{Facts, is_suspended}
 use Rattle.knowledge.specs.Learning.{learn}
 use Rattle.knowledge.specs.Rows.{answer_changes, are_of_range, context_answered, is_part, memory_answered, memory_read, parts_read, process_for, properties_answered, register_answered, registers_answered, state_answered, state_of_thread, status_answered, whole_read, word_read}
+use Rattle.list_laws.proofs.Flags.{or_left}
 
 -- what is known before is known after, if perhaps otherwise
 pub record Keeps (before now : Facts) : Type 0 where
@@ -70,9 +71,6 @@ register_written : (flag : Bool) (process thread index value : ℕ) (known : ℕ
 register_written true process thread index value known p t i is = written _ value (known p t i) is
 register_written false process thread index value known p t i is = is
 
-still_there : (before told : Bool) → before ≡ true → (before || told) ≡ true
-still_there before told is = ap (λ b. b || told) is
-
 keeps_after : (change : Change) (known : Facts) → IsTelling change → Keeps known (after change known)
 keeps_after all_gone known telling = absurd telling
 keeps_after (context_told id context) known telling =
@@ -87,7 +85,7 @@ keeps_after (register_gone process thread index) known telling = absurd telling
 keeps_after (thread_registers_gone process thread) known telling = absurd telling
 keeps_after registers_gone known telling = absurd telling
 keeps_after (bytes_read process addr bytes) known telling =
-    record { contexts = λ other is. is; states = λ p t is. is; registers = λ p t i is. is; bytes = λ p place byte is. still_there (known.bytes p place byte) (is_still process known && (process == p) && has_byte addr bytes place byte) is; properties = λ other is. is; statuses = λ other is. is }
+    record { contexts = λ other is. is; states = λ p t is. is; registers = λ p t i is. is; bytes = λ p place byte is. or_left (known.bytes p place byte) (is_still process known && (process == p) && has_byte addr bytes place byte) is; properties = λ other is. is; statuses = λ other is. is }
 keeps_after (bytes_gone process) known telling = absurd telling
 keeps_after (range_gone process addr size) known telling = absurd telling
 keeps_after (properties_told id properties) known telling =

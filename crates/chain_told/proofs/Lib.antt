@@ -11,3 +11,4 @@ pub mod Facts
 pub mod Hearing
 pub mod Storing
 pub mod Walking
+pub mod Agents

@@ -1,9 +1,8 @@
 -- Lists that are split at an element, and what they contain.
-use Rattle.std.proofs.Common.{◌≡◌, ℕ, zero, suc, ◌+◌, ◌<◌, ◌⊎◌, inl, inr, ⊎_elim, List, [], ◌∷◌, ◌++◌, length, take, Some, refl, sym, ap, ◌∙◌, arith, length-append}
+use Rattle.std.proofs.Common.{◌≡◌, ℕ, zero, suc, ◌+◌, ◌<◌, List, [], ◌∷◌, ◌++◌, length, take, Some, refl, sym, ap, ◌∙◌, arith, length-append}
 use Rattle.std.specs.Prelude.{slice_get, slice_index_or}
 use Rattle.std.specs.List.{Contains}
 use Rattle.std.proofs.Math.Seq.{take-append_seam}
-use Rattle.std.proofs.lemmas.List.Elements.{Contains-append_cases}
 
 -- the element stands behind these, and before those
 pub record StandsIn {A : Type 0} (xs : List A) (x : A) : Type 0 where
@@ -20,15 +19,9 @@ found_at (suc k) (y ∷ ys) x within is =
 pub found : {A : Type 0} → (xs : List A) (x : A) → Contains xs x → StandsIn xs x
 found xs x there = found_at there.0 xs x there.1 there.2
 
-pub contains_first : {A : Type 0} → (x : A) (xs : List A) → Contains (x ∷ xs) x
-contains_first x xs = (0, omega arith, refl)
-
 single : {A : Type 0} → (k : ℕ) (x y : A) → k < 1 → slice_index_or (x ∷ []) k y ≡ y → x ≡ y
 single zero x y within is = is
 single (suc k) x y within is = absurd (omega arith)
-
-pub contains_cases : {A : Type 0} → (x : A) (xs : List A) (y : A) → Contains (x ∷ xs) y → (x ≡ y) ⊎ Contains xs y
-contains_cases x xs y there = ⊎_elim (λ one. inl (single one.0 x y one.1 one.2)) (λ rest. inr rest) (Contains-append_cases (x ∷ []) xs y there)
 
 -- ---- The element at a place
 

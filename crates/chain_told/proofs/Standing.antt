@@ -13,16 +13,8 @@ use Rattle.chain_told.specs.Told.{AreTrueAt, is_ended, lessons, mark_of, numbere
 use Rattle.chain_told.specs.TellsOn.{Begins, comes_as}
 use Rattle.chain_told.proofs.Agreeing.{Agree, IsSure}
 use Rattle.chain_told.proofs.Doing.{IsReadable, asked_append, sent_split, sent_was_asked, still_ended}
-use Rattle.chain_told.proofs.Splits.{contains_cases, contains_first}
 use Rattle.chain_told.proofs.Tokens.{apart, placed, IsPlaced}
-
-pub all_append : {A : Type 0} → (P : A → Type 0) (xs ys : List A) → AllByRecursion P xs → AllByRecursion P ys → AllByRecursion P (xs ++ ys)
-all_append P [] ys left right = right
-all_append P (x ∷ xs) ys left right = (left.0, all_append P xs ys left.1 right)
-
-pub all_left : {A : Type 0} → (P : A → Type 0) (xs ys : List A) → AllByRecursion P (xs ++ ys) → AllByRecursion P xs
-all_left P [] ys all = tt
-all_left P (x ∷ xs) ys all = (all.0, all_left P xs ys all.1)
+use Rattle.list_laws.proofs.Contained.{contains_cases, contains_first}
 
 -- one from its own store has ended its command
 abbrev pub HasEnded : List Spoken → Deed → Type 0

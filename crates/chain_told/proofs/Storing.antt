@@ -5,13 +5,13 @@ use Rattle.std.specs.Option.{IsSomeAnd}
 use Rattle.std.specs.List.{Contains}
 use Rattle.std.proofs.Math.Bool.{or-false, or-true}
 use Rattle.std.proofs.lemmas.List.Elements.{Contains-append_right, Contains-append_cases}
-use Rattle.cache_learning.specs.Lessons.{answer_message}
+use Rattle.value_store.specs.Lessons.{answer_message}
 use Rattle.channel_core.specs.Arrivals.{Spoken}
 use Rattle.knowledge.specs.Facts.{nothing}
 use Rattle.knowledge.specs.Learning.{Message, learn, learned}
 use Rattle.knowledge.specs.Reply.{answer_known}
 use Rattle.reply_tables.specs.Written.{answer_data}
-use Rattle.stored_lessons.specs.Taken.{AreTaken, IsTaken}
+use Rattle.value_store.specs.Taken.{AreTaken, IsTaken}
 use Rattle.target_contexts.specs.declared.process.Image.{Image}
 use Rattle.target_hub.specs.Fresh.{answer_at, target_at}
 use Rattle.target_hub.specs.History.{IsLegal}
@@ -32,9 +32,12 @@ use Rattle.chain_told.specs.TellsOn.{Begins}
 use Rattle.chain_told.proofs.Agreeing.{Agree, IsSure, agree_answered, agree_true, learn_append}
 use Rattle.chain_told.proofs.Doing.{asked_append, ended_in_heard, ended_more, heard_append, lessons_more, lessons_told, mark_in_heard, mark_more, sent_append, sent_was_asked, still_ended}
 use Rattle.chain_told.proofs.Facts.{Laws}
-use Rattle.chain_told.proofs.Splits.{contains_first, found, get_split}
-use Rattle.chain_told.proofs.Standing.{HasEnded, Stands, all_append, asked_apart, asked_parts, asked_placed, ended_or_sent, have_ended_still}
-use Rattle.chain_told.proofs.Tokens.{alike, same_place, unlike}
+use Rattle.chain_told.proofs.Splits.{found, get_split}
+use Rattle.chain_told.proofs.Standing.{HasEnded, Stands, asked_apart, asked_parts, asked_placed, ended_or_sent, have_ended_still}
+use Rattle.chain_told.proofs.Tokens.{same_place, unlike}
+use Rattle.list_laws.proofs.Contained.{contains_first}
+use Rattle.list_laws.proofs.AllLists.{all_append}
+use Rattle.list_laws.proofs.Lists.{equal_bytes as alike}
 
 -- ---- What is learned is taken of messages
 

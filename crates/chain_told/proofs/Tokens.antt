@@ -10,9 +10,7 @@ use Rattle.chain_told.specs.Told.{command_under, numbered}
 use Rattle.chain_told.proofs.Decimals.{decimal_one}
 use Rattle.chain_told.proofs.Numbered.{length_numbered, numbered_first, numbered_parts, under}
 use Rattle.chain_told.proofs.Splits.{found, same_front}
-
-pub alike : (xs ys : List ℕ) → xs ≡ ys → bytes_eq xs ys ≡ true
-alike xs ys same = (bytes_eq-Decides xs ys).1 same
+use Rattle.list_laws.proofs.Lists.{equal_bytes}
 
 pub unlike : (xs ys : List ℕ) → (xs ≡ ys → ⊥) → bytes_eq xs ys ≡ false
 unlike xs ys apart = by_flag (bytes_eq xs ys) refl
@@ -29,7 +27,7 @@ differ m n small other apart = unlike (decimal m) (decimal n) (λ same. apart (d
 pub below_at : (next : ℕ) (xs : List Asked) (c : Asked) (ys : List Asked) → next + length xs < 10 ^ 64 → token_below next (decimal (next + length xs)) (xs ++ c ∷ ys) ≡ c.token
 below_at next [] c ys small =
     let here : next + 0 ≡ next = omega arith in
-    ap (λ b. cond b c.token (token_below (next + 1) (decimal (next + 0)) ys)) (alike (decimal (next + 0)) (decimal next) (ap (λ k. decimal k) here))
+    ap (λ b. cond b c.token (token_below (next + 1) (decimal (next + 0)) ys)) (equal_bytes (decimal (next + 0)) (decimal next) (ap (λ k. decimal k) here))
 below_at next (d ∷ xs) c ys small =
     let moved : next + suc (length xs) ≡ (next + 1) + length xs = omega arith in
     ap (λ b. cond b d.token (token_below (next + 1) (decimal (next + suc (length xs))) (xs ++ c ∷ ys))) (differ (next + suc (length xs)) next small (omega arith) (λ is. omega arith))
@@ -38,7 +36,7 @@ below_at next (d ∷ xs) c ys small =
 pub sent_at : (next : ℕ) (xs : List Asked) (c : Asked) (ys : List Asked) → next + length xs < 10 ^ 64 → sent_under next (decimal (next + length xs)) (xs ++ c ∷ ys) ≡ Some c
 sent_at next [] c ys small =
     let here : next + 0 ≡ next = omega arith in
-    ap (λ b. cond b (Some c) (sent_under (next + 1) (decimal (next + 0)) ys)) (alike (decimal (next + 0)) (decimal next) (ap (λ k. decimal k) here))
+    ap (λ b. cond b (Some c) (sent_under (next + 1) (decimal (next + 0)) ys)) (equal_bytes (decimal (next + 0)) (decimal next) (ap (λ k. decimal k) here))
 sent_at next (d ∷ xs) c ys small =
     let moved : next + suc (length xs) ≡ (next + 1) + length xs = omega arith in
     ap (λ b. cond b (Some d) (sent_under (next + 1) (decimal (next + suc (length xs))) (xs ++ c ∷ ys))) (differ (next + suc (length xs)) next small (omega arith) (λ is. omega arith))
@@ -48,7 +46,7 @@ pub under_at : (next : ℕ) (xs : List Asked) (c : Asked) (ys : List Asked) → 
     → command_under (decimal (next + length xs)) (numbered next (xs ++ c ∷ ys)) ≡ Some (under (next + length xs) c)
 under_at next [] c ys small =
     let here : next + 0 ≡ next = omega arith in
-    ap (λ b. cond b (Some (under next c)) (command_under (decimal (next + 0)) (numbered (next + 1) ys))) (alike (decimal (next + 0)) (decimal next) (ap (λ k. decimal k) here))
+    ap (λ b. cond b (Some (under next c)) (command_under (decimal (next + 0)) (numbered (next + 1) ys))) (equal_bytes (decimal (next + 0)) (decimal next) (ap (λ k. decimal k) here))
     ∙ ap (λ k. Some (under k c)) (sym here)
 under_at next (d ∷ xs) c ys small =
     let moved : next + suc (length xs) ≡ (next + 1) + length xs = omega arith in

@@ -20,9 +20,11 @@ use Rattle.chain_told.specs.TellsOn.{AreDeeds, Begins, Hears, IsWithoutSome, Tel
 use Rattle.chain_told.proofs.Doing.{IsReadable, heard_append, lessons_more, sent_append}
 use Rattle.chain_told.proofs.Facts.{Laws}
 use Rattle.chain_told.proofs.Hearing.{pass, passes_on}
-use Rattle.chain_told.proofs.Splits.{LastOr, earlier, last, last_or, contains_first}
-use Rattle.chain_told.proofs.Standing.{HasEnded, Stands, all_append}
+use Rattle.chain_told.proofs.Splits.{LastOr, earlier, last, last_or}
+use Rattle.chain_told.proofs.Standing.{HasEnded, Stands}
 use Rattle.chain_told.proofs.Storing.{answer}
+use Rattle.list_laws.proofs.Contained.{contains_first}
+use Rattle.list_laws.proofs.AllLists.{all_append}
 
 -- each of these messages is told rightly behind those before it
 abbrev pub AllRightly : List Image → List Input → List Asked → List Spoken → List Spoken → Type 0

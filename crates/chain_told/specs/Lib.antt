@@ -1,2 +1,3 @@
 pub mod Told
 pub mod TellsOn
+pub mod Sent

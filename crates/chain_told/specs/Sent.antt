@@ -37,10 +37,10 @@ owed_by images k history = map bare (filter is_owed (sent images k history))
 
 -- ---- the laws, of a channel that executes the first of these commands
 
-abbrev pub IsToldRightly : Type 0
-IsToldRightly = (images : List Image) (history : List Input) (k : ℕ) (commands : List Asked) → IsLegal images history → length commands < 10 ^ 64
+abbrev pub TargetTellsRightly : Type 0
+TargetTellsRightly = (images : List Image) (history : List Input) (k : ℕ) (commands : List Asked) → IsLegal images history → length commands < 10 ^ 64
     → IsPrefixOf (executed_on k history) (map read_as commands) → AreToldRightly images history (numbered 1 commands) (said_to commands images k history)
 
-abbrev pub IsOwed : Type 0
-IsOwed = (images : List Image) (history : List Input) (k : ℕ) (commands : List Asked) → IsLegal images history → length commands < 10 ^ 64
+abbrev pub TargetTellsWhatIsOwed : Type 0
+TargetTellsWhatIsOwed = (images : List Image) (history : List Input) (k : ℕ) (commands : List Asked) → IsLegal images history → length commands < 10 ^ 64
     → IsPrefixOf (executed_on k history) (map read_as commands) → owed_in (numbered 1 commands) (said_to commands images k history) ≡ owed_by images k history

@@ -2,7 +2,7 @@
 use Rattle.std.specs.Prelude.{ℕ, ◌≡◌, ◌≤◌, ◌+◌, Bool, true, false, not, if◌then◌else◌, List, [], ◌∷◌, ◌++◌, bytes_eq, decimal, length, map, Option, Some, None, option_and_then}
 use Rattle.std.specs.Option.{IsSomeAnd}
 use Rattle.std.specs.List.{Contains, flat_map, list_any}
-use Rattle.cache_learning.specs.Lessons.{event_message}
+use Rattle.value_store.specs.Lessons.{event_message}
 use Rattle.channel_core.specs.Arrivals.{Spoken}
 use Rattle.channel_core.specs.Wire.{Said, answers, asks, goes_on, greets, said_by, tells}
 use Rattle.knowledge.specs.Facts.{Facts, IsPart, nothing}

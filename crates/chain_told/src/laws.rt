@@ -1,9 +1,10 @@
 //! The law of what a value-add tells.
+ghost use Rattle.chain_told.specs.Sent.{TargetTellsWhatIsOwed, TargetTellsRightly};
 ghost use Rattle.chain_told.specs.TellsOn.{TellsOn};
 
 use knowledge::{learning_is_monotone, the_same_answer_the_same};
-use stored_lessons::a_stored_answer_teaches_nothing_new;
-use stored_truth::a_stored_answer_is_what_the_target_answers;
+use target_truth::a_stored_answer_is_what_the_target_answers;
+use value_store::a_stored_answer_teaches_nothing_new;
 
 /// The law that a value-add, whatever it hears and is asked since it was bound, tells on what it was told.
 ///
@@ -17,4 +18,18 @@ pub fn a_value_add_tells_on()
     the_same_answer_the_same();
     a_stored_answer_teaches_nothing_new();
     a_stored_answer_is_what_the_target_answers();
+}
+
+/// The law of what a legal history tells a channel, to one who sends the commands that it executes there.
+///
+/// `right`: each message is that of a command which has no answer yet, is placed, teaches what is true of the target, and is what
+/// that answers to a storable command, behind the answers to all commands before it.
+///
+/// `owed`: but for answers to storable commands it is what the history owes.
+pub fn what_the_target_tells_is_right()
+    ensures right { TargetTellsRightly }
+    ensures owed { TargetTellsWhatIsOwed }
+{
+    target_truth::what_is_told_is_true();
+    target_hub::asking_changes_nothing();
 }

@@ -3,4 +3,4 @@
 
 pub mod laws;
 
-pub use laws::a_value_add_tells_on;
+pub use laws::{a_value_add_tells_on, what_the_target_tells_is_right};

@@ -20,10 +20,12 @@ use Rattle.agent_node.specs.Strangers.{HasNoStranger, NoStrangersAfterAnyCalls}
 use Rattle.agent_node.specs.declared.channel.Channel.{Channel}
 use Rattle.chain_world.specs.Chain.{agent_emptied, emptied, parts_delivered, queue_of}
 use Rattle.chain_world.specs.Standing.{past_at, unmarked}
-use Rattle.chain_world.proofs.Calls.{calls_more, putting}
+use Rattle.chain_world.proofs.Calls.{putting}
 use Rattle.chain_world.proofs.Emptying.{IsQueue, emptied_by, put, puts}
-use Rattle.chain_world.proofs.Queued.{changed_first as changed_is, place_found}
+use Rattle.chain_world.proofs.Queued.{changed_first as changed_is}
 use Rattle.chain_world.proofs.Pasts.{at_all, at_number, at_one, at_open, number_leaves, numbers_mapped, on_number_keeps, on_open_keeps, open_leaves, over_by, same_elsewhere, with_twice}
+use Rattle.chain_route.proofs.EndCalls.{calls_more}
+use Rattle.agent_node.proofs.Places.{place_found}
 
 -- ---- Calls of one channel
 

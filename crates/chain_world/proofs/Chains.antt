@@ -1,5 +1,5 @@
 -- The steps of a chain that the agent has no part in.
-use Rattle.std.proofs.Common.{◌≡◌, ℕ, zero, suc, Bool, true, false, ◌&&◌, ◌||◌, cond, nat_lt, List, [], ◌∷◌, ◌++◌, Option, Some, None, refl, sym, ap, ◌∙◌, subst, append-nil}
+use Rattle.std.proofs.Common.{◌≡◌, ℕ, zero, suc, Bool, true, false, ◌||◌, cond, nat_lt, List, [], ◌∷◌, ◌++◌, Option, Some, None, refl, sym, ap, ◌∙◌, subst, append-nil}
 use Rattle.std.specs.Prelude.{is_some, option_map}
 use Rattle.std.specs.List.{AllByRecursion, list_any}
 use Rattle.agent_node.specs.Runs.{Past}
@@ -7,7 +7,7 @@ use Rattle.cached_lines.specs.declared.what.CachedWhat.{CachedWhat}
 use Rattle.channel_core.specs.Arrivals.{arrived, bytes_of}
 use Rattle.channel_core.specs.EndValue.{EndValue}
 use Rattle.channel_core.specs.declared.held.Outgoing.{Outgoing}
-use Rattle.channel_faults.specs.Faults.{is_ending}
+use Rattle.channel_laws.specs.Faults.{is_ending}
 use Rattle.client_node.specs.Client.{client_services, new_client, waiting_on}
 use Rattle.client_node.specs.ClientValue.{ClientValue}
 use Rattle.client_node.specs.Ends.{IsEndAfter, end_calls, given_out}
@@ -27,18 +27,14 @@ use Rattle.chain_world.specs.Standing.{MayBeCalled}
 use Rattle.chain_world.specs.World.{all_to_add}
 use Rattle.chain_world.proofs.Agents.{Laws}
 use Rattle.chain_world.proofs.Bytes.{bytes_more}
-use Rattle.chain_world.proofs.Calls.{or_none}
 use Rattle.chain_world.proofs.Clients.{IsFreshIn, IsLater, IsQuiet, coming, coming_arrived, coming_endless, coming_given, coming_run, empties, giving, opened_kept, quiet_arrived, quiet_endless, quiet_given}
 use Rattle.chain_world.proofs.Fitting.{Agrees, Fits, IsWay, MayCall, MayGo, Place, is_more, is_way_holds, way_on}
-use Rattle.chain_world.proofs.Lists.{all_append}
 use Rattle.chain_world.proofs.Pairs.{in_pieces}
 use Rattle.chain_world.proofs.Routes.{none_sent}
 use Rattle.chain_world.proofs.Talks.{talked_same, talks_same}
 use Rattle.chain_world.proofs.Unawaited.{delivered_unawaited, hop_unawaited}
-
-pub and_first : (a b : Bool) → (a && b) ≡ true → a ≡ true
-and_first true b is = refl
-and_first false b is = is
+use Rattle.list_laws.proofs.Flags.{and_first, or_false as or_none}
+use Rattle.list_laws.proofs.AllLists.{all_append}
 
 -- ---- A call of the client that brings and ends nothing and gives nothing out
 

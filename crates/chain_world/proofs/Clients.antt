@@ -14,7 +14,7 @@ use Rattle.channel_core.specs.declared.states.Cause.TheVariants.{Own}
 use Rattle.channel_core.specs.declared.held.Outgoing.{Outgoing}
 use Rattle.channel_core.specs.declared.taking.Taken.{Taken}
 use Rattle.channel_core.specs.declared.taking.Taken.TheVariants as taken
-use Rattle.channel_faults.specs.Faults.{is_ending}
+use Rattle.channel_laws.specs.Faults.{is_ending}
 use Rattle.client_node.specs.Client.{closed_for, noted, refused_for, sent_or_refused, took, turned_by, with_channel, without_first}
 use Rattle.client_node.specs.Lines.{event_line, final_line, hello_line, progress_line, why_of}
 use Rattle.tcf_text.specs.declared.log.RefusedWhy.{RefusedWhy}
@@ -24,7 +24,9 @@ use Rattle.client_node.specs.Runs.{Call, asks, bytes_end, called, closes, comes,
 use Rattle.tcf_message.specs.Message.{reading}
 use Rattle.tcf_text.specs.declared.log.LogLine.{LogLine}
 use Rattle.chain_world.specs.Chain.{client_emptied, parts_came, queue_of}
-use Rattle.chain_world.proofs.Calls.{AreIdle, idle_arrived, idle_endless}
+use Rattle.chain_world.proofs.Calls.{idle_endless}
+use Rattle.client_node.proofs.Calls.{client as client_of}
+use Rattle.chain_route.proofs.EndCalls.{AreIdle, idle_arrived}
 
 pub run_more : (calls more : List Call) (c : ClientValue) → run (calls ++ more) c ≡ run more (run calls c)
 run_more [] more c = refl
@@ -118,9 +120,6 @@ giving queue = map (λ o. gives) queue
 pub giving_named : (queue : List Outgoing) → AllByRecursion HasNames (giving queue)
 giving_named [] = tt
 giving_named (o ∷ queue) = (tt, giving_named queue)
-
-abbrev client_of : Option (EndValue ℕ) → List LogLine → Bool → ClientValue
-client_of channel log spent = record { channel = channel; log = log; is_spent = spent }
 
 -- all that calls do here
 pub record Empties (c : ClientValue) (queue : List Outgoing) : Type 0 where

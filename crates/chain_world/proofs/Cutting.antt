@@ -5,7 +5,7 @@ use Rattle.std.specs.List.{AllByRecursion, Contains, list_any}
 use Rattle.agent_node.specs.Runs.{Past, with_calls}
 use Rattle.channel_core.specs.Arrivals.{arrived, bytes_of}
 use Rattle.channel_core.specs.Runs.{ending}
-use Rattle.channel_faults.specs.Faults.{is_ending}
+use Rattle.channel_laws.specs.Faults.{is_ending}
 use Rattle.client_node.specs.Client.{new_client}
 use Rattle.client_node.specs.ClientValue.{ClientValue}
 use Rattle.client_node.specs.Ends.{end_calls, given_out}
@@ -17,13 +17,13 @@ use Rattle.chain_route.specs.Runs.{Past as WayPast, RouteRun, Talk, after_call, 
 use Rattle.chain_world.specs.ChainValue.{ChainValue}
 use Rattle.chain_world.specs.Standing.{cuts_at, past_at}
 use Rattle.chain_world.proofs.Agents.{Laws}
-use Rattle.chain_world.proofs.Calls.{or_yes}
 use Rattle.chain_world.proofs.Chains.{joined_where_live}
 use Rattle.chain_world.proofs.Clients.{loses_so, opened_kept}
 use Rattle.chain_world.proofs.Fitting.{Agrees, Fits, IsWay, MayCall, Place, is_more, way_on}
-use Rattle.chain_world.proofs.Lists.{all_append}
 use Rattle.chain_world.proofs.Talks.{IsCameSame, Talking, TalkingOn, none_same, talked_kept, talks_cut}
 use Rattle.chain_world.proofs.Unawaited.{cut_unawaited}
+use Rattle.list_laws.proofs.Flags.{or_true as or_yes}
+use Rattle.list_laws.proofs.AllLists.{all_append}
 
 -- ---- The agent's channel
 

@@ -5,7 +5,8 @@ use Rattle.channel_core.specs.declared.held.Outgoing.{Outgoing}
 use Rattle.agent_node.specs.Channels.{End, with_end}
 use Rattle.agent_node.specs.declared.channel.Channel.{Channel}
 use Rattle.chain_world.specs.Chain.{emptied}
-use Rattle.chain_world.proofs.Queued.{first_same, first_twice, found, found_changed, in_first, mapped}
+use Rattle.chain_world.proofs.Queued.{first_same, first_twice, found_changed, in_first, mapped}
+use Rattle.agent_node.proofs.Places.{found}
 
 unchanged : (k : ℕ) (f : End → End) (cs : List Channel) → ((c : Channel) → found k cs ≡ Some c → f c.end ≡ c.end) → in_first k f cs ≡ cs
 unchanged k f [] leaves = refl

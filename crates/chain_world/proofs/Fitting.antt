@@ -4,7 +4,7 @@ use Rattle.std.specs.Prelude.{IfSome, is_some}
 use Rattle.std.specs.List.{AllByRecursion, list_any}
 use Rattle.agent_node.specs.Runs.{Past, run_of}
 use Rattle.channel_core.specs.Arrivals.{arrived, bytes_of}
-use Rattle.channel_faults.specs.Faults.{is_ending}
+use Rattle.channel_laws.specs.Faults.{is_ending}
 use Rattle.client_node.specs.Client.{new_client}
 use Rattle.client_node.specs.ClientValue.{ClientValue}
 use Rattle.client_node.specs.Ends.{HasNames, end_calls, given_out}
@@ -13,11 +13,12 @@ use Rattle.chain_route.specs.Runs.{Call, Past as WayPast, RouteRun, Talk, after_
 use Rattle.tcf_schedules.specs.Plan.{Plan}
 use Rattle.chain_world.specs.ChainValue.{ChainValue}
 use Rattle.chain_world.specs.Standing.{AllStand, ChainStands, MayBeCalled, MayHappen, Talked, Talks, TalksOn, past_at}
-use Rattle.chain_world.proofs.Calls.{arrived_more, endings_more}
+use Rattle.chain_world.proofs.Calls.{endings_more}
 use Rattle.chain_world.proofs.Clients.{end_calls_more, given_more, run_more}
-use Rattle.chain_world.proofs.Lists.{all_append}
 use Rattle.chain_world.proofs.Talks.{Talking, TalkingOn}
 use Rattle.chain_world.proofs.Ways.{WayHolds, way_holds}
+use Rattle.chain_route.proofs.EndCalls.{arrived_more}
+use Rattle.list_laws.proofs.AllLists.{all_append}
 
 -- the place of a chain, and the steps of the schedule
 pub record Place : Type 0 where

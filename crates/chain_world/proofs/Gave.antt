@@ -25,9 +25,12 @@ use Rattle.chain_world.specs.Chain.{Both, agent_emptied, all_down, all_dropped, 
 use Rattle.chain_world.specs.ChainValue.{ChainValue}
 use Rattle.chain_world.specs.World.{add_turned, after_number, all_carried, all_to_add, carried, connected_at, new_chains, on_chain, on_some, opened_at, opened_from, opening, reached_at, reached_by, reached_from, reached_if, reached_with, with_agent, with_both, with_chain, with_input, with_route, with_some}
 use Rattle.chain_world.specs.WorldValue.{WorldValue}
-use Rattle.chain_world.proofs.Lists.{all_at, all_map, all_set, get_set, set_twice}
+use Rattle.chain_world.proofs.Lists.{all_at, all_set, set_twice}
 use Rattle.chain_world.proofs.Pieces.{client_none}
-use Rattle.chain_world.proofs.Queued.{agent_has_none, changed_first, found, found_changed, found_here, found_later, first_here, first_later, in_first, mapped, place_found}
+use Rattle.chain_world.proofs.Queued.{agent_has_none, changed_first, found_changed, found_here, found_later, first_here, first_later, in_first, mapped}
+use Rattle.list_laws.proofs.AllLists.{all_weaker as all_map}
+use Rattle.list_laws.proofs.Lists.{get_set}
+use Rattle.agent_node.proofs.Places.{found, place_found}
 
 -- ---- A channel of the agent has nothing queued
 

@@ -14,9 +14,9 @@ use Rattle.chain_world.specs.ChainValue.{ChainValue}
 use Rattle.chain_world.specs.Standing.{AllDiffer, past_at}
 use Rattle.chain_world.proofs.Agents.{Laws, Reached, after_more}
 use Rattle.chain_world.proofs.Fitting.{Agrees, Fits, IsWay, MayGo, Place, way_on}
-use Rattle.chain_world.proofs.Numbers.{here}
 use Rattle.chain_world.proofs.Pasts.{Keeps, grows_none, grows_then}
 use Rattle.chain_world.proofs.Talks.{IsCameSame, Talking, TalkingOn, came_grown, same_above, talked_kept, talks_kept}
+use Rattle.list_laws.proofs.Contained.{contains_first as here}
 
 -- ---- The agent goes on
 

@@ -13,7 +13,7 @@ use Rattle.chain_world.specs.Chain.{Both, all_down, all_taken_down, all_up, aske
 use Rattle.chain_world.specs.ChainValue.{ChainValue}
 use Rattle.chain_world.specs.World.{IsNotRepeated, IsSingle, add_rounded, add_turned, adds_in, adds_rounded, after_number, agent_taken, agent_turned, all_carried, all_round_down, all_to_add, carried, connected_at, delivered_at, on_chain, on_some, opened_from, opening, played, reached_by, reached_from, reached_if, repeated, round_all, round_at, round_from, round_of, rounded_down, rounded_up, rounds, tick_of, ticked_in, turn_of_add, turn_of_agent, turned_at, turned_down_at, turned_up_at, waiting_at_add, waiting_in_chain, with_agent, with_both, with_chain, with_input, with_route, with_some}
 use Rattle.chain_world.specs.WorldValue.{WorldValue}
-use Rattle.chain_world.proofs.Lists.{set_length}
+use Rattle.list_laws.proofs.Lists.{set_length}
 
 pub single_isnt_repeated : (plan : Plan) → IsSingle plan → IsNotRepeated plan
 single_isnt_repeated (opens chain) is = tt

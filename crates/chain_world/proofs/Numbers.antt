@@ -6,14 +6,10 @@ use Rattle.std.proofs.lemmas.List.Elements.{All-contains, All-from_recursion, Co
 use Rattle.chain_world.specs.Chain.{channels_of}
 use Rattle.chain_world.specs.ChainValue.{ChainValue}
 use Rattle.chain_world.specs.Standing.{AllDiffer}
+use Rattle.list_laws.proofs.Contained.{contains_first, contains_cases, none_in}
+use Rattle.list_laws.proofs.AllLists.{all_contained}
 
 -- ---- What a list contains
-
-pub none_in : {A : Type 0} → (x : A) → Contains [] x → ⊥
-none_in x c = let below = c.1 in absurd (omega (arith, below))
-
-pub here : {A : Type 0} → (x : A) (xs : List A) → Contains (x ∷ xs) x
-here x xs = Contains-append_left (x ∷ []) xs x (Contains-push [] x)
 
 pub later : {A : Type 0} → (x : A) (xs : List A) (y : A) → Contains xs y → Contains (x ∷ xs) y
 later x xs y c = Contains-append_right (x ∷ []) xs y c
@@ -23,17 +19,6 @@ one_only x y c = elim (Contains-push_cases [] x y c) as (λ _. x ≡ y) [
   | inl none ↦ absurd (none_in y none)
   | inr same ↦ same
 ]
-
-pub first_or : {A : Type 0} → (x : A) (xs : List A) (y : A) → Contains (x ∷ xs) y → (x ≡ y) ⊎ Contains xs y
-first_or x xs y c = elim (Contains-append_cases (x ∷ []) xs y c) as (λ _. (x ≡ y) ⊎ Contains xs y) [
-  | inl one ↦ inl (one_only x y one)
-  | inr rest ↦ inr rest
-]
-
--- what holds of each that it contains holds of each
-pub all_each : {A : Type 0} → (P : A → Type 0) (xs : List A) → ((x : A) → Contains xs x → P x) → AllByRecursion P xs
-all_each P [] each = tt
-all_each P (x ∷ xs) each = (each x (here x xs), all_each P xs (λ y c. each y (later x xs y c)))
 
 pub each_all : {A : Type 0} → (P : A → Type 0) (xs : List A) → AllByRecursion P xs → (x : A) → Contains xs x → P x
 each_all P xs all x c = All-contains P xs x (All-from_recursion P xs all) c
@@ -55,7 +40,7 @@ differ_parts (x ∷ xs) ys differ =
     record {
       first = (λ c. differ.0 (Contains-append_left xs ys x c), rest.first);
       second = rest.second;
-      apart = λ k one other. elim (first_or x xs k one) as (λ _. ⊥) [
+      apart = λ k one other. elim (contains_cases x xs k one) as (λ _. ⊥) [
         | inl same ↦ differ.0 (Contains-append_right xs ys x (subst (Contains ys) (sym same) other))
         | inr more ↦ rest.apart k more other
       ];
@@ -66,7 +51,7 @@ differ_join [] ys first second apart = second
 differ_join (x ∷ xs) ys first second apart = (
   λ c. elim (Contains-append_cases xs ys x c) as (λ _. ⊥) [
     | inl one ↦ first.0 one
-    | inr other ↦ apart x (here x xs) other
+    | inr other ↦ apart x (contains_first x xs) other
   ],
   differ_join xs ys first.1 second (λ k one other. apart k (later x xs k one) other),
 )
@@ -146,10 +131,10 @@ module _ (k : ℕ) where
   below_apart ks below has = let less : k < k = each_all (λ j. j < k) ks below k has in absurd (omega (arith, less))
 
   first_below : (x : ChainValue) (chains : List ChainValue) → AllByRecursion (λ j. j < k) (all_channels (x ∷ chains)) → AllByRecursion (λ j. j < k) (channels_of x)
-  first_below x chains below = all_each (λ j. j < k) (channels_of x) (λ j has. each_all (λ j. j < k) (all_channels (x ∷ chains)) below j (Contains-append_left (channels_of x) (all_channels chains) j has))
+  first_below x chains below = all_contained (λ j. j < k) (channels_of x) (λ j has. each_all (λ j. j < k) (all_channels (x ∷ chains)) below j (Contains-append_left (channels_of x) (all_channels chains) j has))
 
   rest_below : (x : ChainValue) (chains : List ChainValue) → AllByRecursion (λ j. j < k) (all_channels (x ∷ chains)) → AllByRecursion (λ j. j < k) (all_channels chains)
-  rest_below x chains below = all_each (λ j. j < k) (all_channels chains) (λ j has. each_all (λ j. j < k) (all_channels (x ∷ chains)) below j (Contains-append_right (channels_of x) (all_channels chains) j has))
+  rest_below x chains below = all_contained (λ j. j < k) (all_channels chains) (λ j has. each_all (λ j. j < k) (all_channels (x ∷ chains)) below j (Contains-append_right (channels_of x) (all_channels chains) j has))
 
   more_differ : (ks : List ℕ) → AllByRecursion (λ j. j < k) ks → AllDiffer ks → AllDiffer (ks ++ k ∷ [])
   more_differ ks below differ =
@@ -179,7 +164,7 @@ module _ (k : ℕ) where
   pub set_below : (chains : List ChainValue) (at : ℕ) (c next : ChainValue) → slice_get chains at ≡ Some c → HasMore c next → AllByRecursion (λ j. j < k) (all_channels chains)
       → AllByRecursion (λ j. j < k + 1) (all_channels (slice_set chains at next))
   set_below chains at c next is more below =
-      all_each (λ j. j < k + 1) (all_channels (slice_set chains at next))
+      all_contained (λ j. j < k + 1) (all_channels (slice_set chains at next))
       (λ j has. elim (set_cases chains at c next j is more has) as (λ _. j < k + 1) [
         | inl old ↦ up (each_all (λ i. i < k) (all_channels chains) below j old)
         | inr new ↦ equal new

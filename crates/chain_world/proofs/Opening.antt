@@ -23,7 +23,7 @@ use Rattle.chain_world.specs.WorldValue.{WorldValue}
 use Rattle.chain_world.proofs.Agents.{Laws, Reached, reached_more}
 use Rattle.chain_world.proofs.Chains.{client_agrees, inside_agrees, inside_fits, up_fits}
 use Rattle.chain_world.proofs.Fitting.{Agrees, AllFit, Fits, IsWay, is_way_holds, place_of, way_on}
-use Rattle.chain_world.proofs.Lists.{all_append, all_map, get_set, set_twice}
+use Rattle.chain_world.proofs.Lists.{set_twice}
 use Rattle.chain_world.proofs.Numbers.{HasMore, all_channels, at_contains, each_all, set_below, set_contains, set_differ, set_new}
 use Rattle.chain_world.proofs.Pasts.{Keeps, apart_flag, at_more, at_new, keeps_same}
 use Rattle.chain_world.proofs.Places.{StandsAt, set_stands, stands_at}
@@ -32,6 +32,8 @@ use Rattle.chain_world.proofs.Talks.{IsCameSame, Talking, came_grown, talked_sam
 use Rattle.chain_world.proofs.Unawaited.{joined_unawaited, turned_unawaited}
 use Rattle.chain_world.proofs.Ways.{connected_last, joined_waits, turned_joined, turned_waits}
 use Rattle.chain_world.proofs.Worlds.{Standing, carried_stands, chain_stands}
+use Rattle.list_laws.proofs.AllLists.{all_append, all_weaker as all_map}
+use Rattle.list_laws.proofs.Lists.{get_set}
 
 -- ---- The agent opens the next number, or refuses it
 

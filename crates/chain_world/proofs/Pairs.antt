@@ -10,7 +10,8 @@ use Rattle.chain_route.specs.Route.{all_delivered_at, beside, delivered_at, on_p
 use Rattle.chain_route.specs.RouteValue.{RouteValue}
 use Rattle.chain_route.specs.declared.hop.Hop.{Hop}
 use Rattle.chain_route.proofs.Resting.{again}
-use Rattle.chain_world.proofs.Lists.{get_set, set_same, set_twice}
+use Rattle.chain_world.proofs.Lists.{set_twice}
+use Rattle.list_laws.proofs.Lists.{get_set, set_same}
 
 abbrev with_lists : List ValueValue → List Hop → RouteValue → RouteValue
 with_lists adds hops r = record r { adds = adds; hops = hops }

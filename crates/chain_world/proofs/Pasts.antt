@@ -14,8 +14,8 @@ use Rattle.agent_node.specs.Agent.{done_by, going_tells, is_full, read_as}
 use Rattle.agent_node.specs.AgentValue.{AgentValue}
 use Rattle.agent_node.specs.Runs.{Past, answer_calls, answer_of, answered_by, asked_by, event_call, hearing, next_of, on_number, on_one, on_open, progress_call, run_of, ticked_by, took_by, turned_by, unless_over, with_calls}
 use Rattle.chain_world.specs.Standing.{past_at}
-use Rattle.chain_world.proofs.Calls.{AreIdle}
-use Rattle.chain_world.proofs.Lists.{all_append}
+use Rattle.chain_route.proofs.EndCalls.{AreIdle}
+use Rattle.list_laws.proofs.AllLists.{all_append}
 
 pub apart_flag : (m n : ℕ) → (m ≡ n → ⊥) → (m == n) ≡ false
 apart_flag m n apart = by_flag (m == n) refl

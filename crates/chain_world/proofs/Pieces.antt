@@ -1,5 +1,5 @@
 -- All that is in flight arrives: as many pieces as there are bytes and messages are enough, and more change nothing.
-use Rattle.std.proofs.Common.{◌≡◌, ℕ, zero, suc, ◌<◌, ◌≤◌, ◌==◌, Bool, true, false, cond, List, [], ◌∷◌, length, Option, Some, None, refl, sym, ap, ◌∙◌, subst, arith, inl, inr, ◌⊎◌, ne_eqb}
+use Rattle.std.proofs.Common.{◌≡◌, ℕ, zero, suc, ◌<◌, ◌≤◌, ◌==◌, Bool, true, false, cond, List, [], ◌∷◌, length, Option, Some, None, refl, sym, ap, ◌∙◌, subst, arith, inl, inr, ◌⊎◌}
 use Rattle.std.proofs.lemmas.Bool.{false≢true}
 use Rattle.channel_core.specs.EndValue.{EndValue}
 use Rattle.channel_core.specs.declared.held.Outgoing.{Outgoing}
@@ -15,6 +15,8 @@ use Rattle.chain_world.specs.Chain.{Both, agent_emptied, all_down, all_dropped, 
 use Rattle.chain_world.specs.ChainValue.{ChainValue}
 use Rattle.chain_world.proofs.Queued.{agent_emptied_twice, agent_has_none, dropped_behind, dropped_twice}
 use Rattle.chain_world.proofs.Routes.{down_kept, down_stays, none_arrives_down, none_arrives_up, none_sent, none_sent_down, up_kept, up_stays}
+use Rattle.list_laws.proofs.Numbers.{below_zero}
+use Rattle.chain_route.proofs.Pieces.{not_empty}
 
 -- ---- What is carried has nothing queued, and stays
 
@@ -92,9 +94,6 @@ pieces_again : (n : ℕ) (chain : ChainValue) → pieces_down n chain ≡ again 
 pieces_again zero chain = refl
 pieces_again (suc n) chain = pieces_again n (delivered_down most_bytes chain)
 
-below_zero : {n : ℕ} → n < 0 → ⊥
-below_zero less = omega (arith, less)
-
 -- one piece and then all
 pub record GoesDown (chain next : ChainValue) : Type 0 where
   pub fewer : size_in (flight_down next.route) < size_in (flight_down chain.route)
@@ -128,9 +127,6 @@ all_down_on chain next is takes some = subst (GoesDown chain) (sym is) (down_on 
 -- none where nothing may arrive, or nothing is in flight
 pub all_down_still : (chain : ChainValue) → takes_down chain ≡ false → all_down chain ≡ chain
 all_down_still chain none = pieces_again (down_size chain) chain ∙ rests (delivered_down most_bytes) (down_size chain) chain (down_still most_bytes chain none)
-
-not_empty : (out : Outgoing) (outs : List Outgoing) → (length (out ∷ outs) == 0) ≡ false
-not_empty out outs = ne_eqb (length (out ∷ outs)) 0 (λ same. absurd (omega (arith, same)))
 
 pub all_down_none : (chain : ChainValue) → (length (flight_down chain.route) == 0) ≡ true → all_down chain ≡ chain
 all_down_none chain none = by_flight (flight_down chain.route) refl

@@ -1,5 +1,5 @@
 -- What holds of a world holds after every schedule.
-use Rattle.std.proofs.Common.{◌≡◌, ℕ, zero, suc, ◌+◌, ◌-◌, ◌==◌, ◌||◌, ◌&&◌, Bool, true, false, cond, nat_lt, List, [], ◌∷◌, length, Option, Some, None, refl, sym, ap, ◌∙◌, subst, inl, eq-eqb}
+use Rattle.std.proofs.Common.{◌≡◌, ℕ, zero, suc, ◌+◌, ◌-◌, ◌==◌, ◌&&◌, Bool, true, false, cond, nat_lt, List, [], ◌∷◌, length, Option, Some, None, refl, sym, ap, ◌∙◌, subst, inl, eq-eqb}
 use Rattle.std.specs.Prelude.{IfSome, slice_get}
 use Rattle.std.specs.List.{AllByRecursion, list_any}
 use Rattle.agent_node.specs.Agent.{ticked}
@@ -26,11 +26,12 @@ use Rattle.chain_world.proofs.Clients.{IsFreshIn}
 use Rattle.chain_world.proofs.Fitting.{AllFit, Fits, GaveOut, place_of}
 use Rattle.chain_world.proofs.Gave.{AgentGave, ClientGave, GaveAll, IsGiving, IsGivingUp, NoneAt, add_gives, all_up_gives, asked_gives, closed_gives, cut_gives, first_gave, input_gives, on_chain_gives, opened_gives, over_gives, sent_gives, taken_gives, to_add_gives, turned_gives, under_gives, with_agent_gives}
 use Rattle.chain_world.proofs.Keeping.{IsMove}
-use Rattle.chain_world.proofs.Lists.{all_map}
 use Rattle.chain_world.proofs.Numbers.{all_channels}
 use Rattle.chain_world.proofs.Opening.{add_stands, opened_stands}
 use Rattle.chain_world.proofs.Steps.{all_up_move, cut_move, over_move}
 use Rattle.chain_world.proofs.Worlds.{Standing, carried_stands, on_chain_stands, stands_so, tick_stands, turn_stands, with_agent_stands}
+use Rattle.list_laws.proofs.Flags.{or_left, or_right}
+use Rattle.list_laws.proofs.AllLists.{all_weaker as all_map}
 
 -- ---- A step of a schedule
 
@@ -39,23 +40,16 @@ pub record IsAmong (plans : List Plan) (plan : Plan) : Type 0 where
   pub closing : (at : ℕ) → closes_at at plan ≡ true → list_any (closes_at at) plans ≡ true
   pub cutting : (at hop : ℕ) → cuts_at at hop plan ≡ true → list_any (cuts_at at hop) plans ≡ true
 
-or_first : (a b : Bool) → a ≡ true → (a || b) ≡ true
-or_first a b is = ap (λ c. c || b) is
-
-or_later : (a b : Bool) → b ≡ true → (a || b) ≡ true
-or_later true b is = refl
-or_later false b is = is
-
 among_first : (plan : Plan) (plans : List Plan) → IsAmong (plan ∷ plans) plan
 among_first plan plans = record {
-  closing = λ at is. or_first (closes_at at plan) (list_any (closes_at at) plans) is;
-  cutting = λ at hop is. or_first (cuts_at at hop plan) (list_any (cuts_at at hop) plans) is;
+  closing = λ at is. or_left (closes_at at plan) (list_any (closes_at at) plans) is;
+  cutting = λ at hop is. or_left (cuts_at at hop plan) (list_any (cuts_at at hop) plans) is;
 }
 
 among_later : (first : Plan) (plans : List Plan) (plan : Plan) → IsAmong plans plan → IsAmong (first ∷ plans) plan
 among_later first plans plan a = record {
-  closing = λ at is. or_later (closes_at at first) (list_any (closes_at at) plans) (a.closing at is);
-  cutting = λ at hop is. or_later (cuts_at at hop first) (list_any (cuts_at at hop) plans) (a.cutting at hop is);
+  closing = λ at is. or_right (closes_at at first) (list_any (closes_at at) plans) (a.closing at is);
+  cutting = λ at hop is. or_right (cuts_at at hop first) (list_any (cuts_at at hop) plans) (a.cutting at hop is);
 }
 
 pub all_among : (plans : List Plan) → AllByRecursion (IsAmong plans) plans

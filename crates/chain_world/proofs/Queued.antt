@@ -1,7 +1,6 @@
 -- What an agent has queued for a channel goes out, one message after the other.
-use Rattle.std.proofs.Common.{◌≡◌, ℕ, suc, ◌+◌, ◌<◌, ◌≤◌, ◌==◌, Bool, true, false, not, cond, nat_lt, List, [], ◌∷◌, length, Option, Some, None, refl, sym, ap, ◌∙◌, arith, get_or, subst, one-add, ltb-true, ltb-false, lt-ltb, le-ltb}
-use Rattle.std.specs.Prelude.{drop, is_some, slice_get}
-use Rattle.std.specs.List.{position_or_len}
+use Rattle.std.proofs.Common.{◌≡◌, ℕ, suc, ◌+◌, ◌<◌, ◌==◌, Bool, true, false, not, cond, nat_lt, List, [], ◌∷◌, length, Option, Some, None, refl, sym, ap, ◌∙◌, arith, get_or, subst, one-add, lt-ltb}
+use Rattle.std.specs.Prelude.{drop, is_some}
 use Rattle.std.proofs.lemmas.Bool.{false≢true}
 use Rattle.std.proofs.lemmas.List.{drop_more}
 use Rattle.std.proofs.lemmas.Option.{none-some, same_Some}
@@ -9,55 +8,17 @@ use Rattle.channel_core.specs.EndValue.{unless_spent}
 use Rattle.channel_core.specs.declared.held.Outgoing.{Outgoing}
 use Rattle.agent_node.specs.AgentValue.{AgentValue}
 use Rattle.agent_node.specs.Agent.{after_giving, channel_of, first_of, given}
-use Rattle.agent_node.specs.Channels.{End, changed, changed_at, channel_at, end_in, place_of, put_at, with_end}
+use Rattle.agent_node.specs.Channels.{End, changed, changed_at, channel_at, end_in, place_of, with_end}
 use Rattle.agent_node.specs.declared.channel.Channel.{Channel}
 use Rattle.chain_world.specs.Chain.{agent_emptied, all_dropped, emptied, queue_of}
+use Rattle.list_laws.proofs.Numbers.{lt_more}
+use Rattle.agent_node.proofs.Places.{found, first_place, within, place_found, changed_behind}
 
 -- ---- The first channel of a number, by cases on the list
-
-abbrev pub found : ℕ → List Channel → Option Channel
-found k [] = None
-found k (c ∷ cs) = cond (c.number == k) (Some c) (found k cs)
 
 abbrev pub in_first : ℕ → (End → End) → List Channel → List Channel
 in_first k change [] = []
 in_first k change (c ∷ cs) = cond (c.number == k) (with_end (change c.end) c ∷ cs) (c ∷ in_first k change cs)
-
-pub lt_more : (p n : ℕ) → nat_lt (suc p) (suc n) ≡ nat_lt p n
-lt_more p n = by_flag (nat_lt p n) refl
-  where
-    by_flag : (flag : Bool) → nat_lt p n ≡ flag → nat_lt (suc p) (suc n) ≡ nat_lt p n
-    by_flag true is = let less : p < n = ltb-true p n is in lt-ltb (suc p) (suc n) (omega arith) ∙ sym is
-    by_flag false is = let more : n ≤ p = ltb-false p n is in le-ltb (suc p) (suc n) (omega arith) ∙ sym is
-
-abbrev first_place : ℕ → List Channel → ℕ
-first_place k cs = position_or_len (λ c. c.number == k) cs
-
-abbrev within : Bool → ℕ → Option ℕ
-within flag place = cond flag (Some place) None
-
-behind : (flag : Bool) (place : ℕ) (c : Channel) (cs : List Channel) → channel_at (within flag (suc place)) (c ∷ cs) ≡ channel_at (within flag place) cs
-behind true place c cs = refl
-behind false place c cs = refl
-
-pub place_found : (k : ℕ) (cs : List Channel) → channel_at (place_of k cs) cs ≡ found k cs
-place_found k [] = refl
-place_found k (c ∷ cs) = by_flag (c.number == k) (place_found k cs)
-  where
-    by_flag : (flag : Bool) → channel_at (place_of k cs) cs ≡ found k cs
-        → channel_at (within (nat_lt (cond (not flag) (1 + first_place k cs) 0) (suc (length cs))) (cond (not flag) (1 + first_place k cs) 0)) (c ∷ cs) ≡ cond flag (Some c) (found k cs)
-    by_flag true rest = let first : nat_lt 0 (suc (length cs)) ≡ true = lt-ltb 0 (suc (length cs)) (omega arith) in rw first refl
-    by_flag false rest =
-        rw one-add
-        (ap (λ b. channel_at (within b (suc (first_place k cs))) (c ∷ cs)) (lt_more (first_place k cs) (length cs)) ∙ behind (nat_lt (first_place k cs) (length cs)) (first_place k cs) c cs ∙ rest)
-
-put_behind : (place : ℕ) (change : End → End) (c : Channel) (cs : List Channel) (there : Option Channel) → put_at (suc place) change (c ∷ cs) there ≡ c ∷ put_at place change cs there
-put_behind place change c cs None = refl
-put_behind place change c cs (Some x) = refl
-
-changed_behind : (flag : Bool) (place : ℕ) (change : End → End) (c : Channel) (cs : List Channel) → changed_at (within flag (suc place)) change (c ∷ cs) ≡ c ∷ changed_at (within flag place) change cs
-changed_behind true place change c cs = put_behind place change c cs (slice_get cs place)
-changed_behind false place change c cs = refl
 
 pub changed_first : (k : ℕ) (change : End → End) (cs : List Channel) → changed k change cs ≡ in_first k change cs
 changed_first k change [] = refl

@@ -12,9 +12,9 @@ use Rattle.chain_world.specs.Chain.{channels_of, numbered}
 use Rattle.chain_world.specs.ChainValue.{ChainValue}
 use Rattle.chain_world.specs.Standing.{Talked, past_at}
 use Rattle.chain_world.proofs.Fitting.{Agrees, Fits, IsWay, Place, way_on}
-use Rattle.chain_world.proofs.Lists.{all_append}
 use Rattle.chain_world.proofs.Talks.{IsCameSame, Talking, TalkingOn, talked_kept}
 use Rattle.chain_world.proofs.Unawaited.{reached_unawaited}
+use Rattle.list_laws.proofs.AllLists.{all_append}
 
 -- a chain whose way waits for a channel of the agent
 pub record Waits (p : Place) (pasts : List Past) (adds : ℕ) (chain : ChainValue) : Type 0 where

@@ -1,14 +1,12 @@
 -- What is done so many times: of the times that are left, one is done.
-use Rattle.std.proofs.Common.{◌≡◌, ℕ, suc, ◌+◌, ◌-◌, ◌<◌, length, ap, ◌∙◌, arith}
+use Rattle.std.proofs.Common.{◌≡◌, ℕ, ◌+◌, ◌-◌, ◌<◌, length, ap, ◌∙◌, arith}
 use Rattle.value_node.specs.declared.states.Side.{Side}
 use Rattle.value_node.specs.declared.states.Side.TheVariants.{Below, Above}
 use Rattle.chain_world.specs.Chain.{turned_down, turns_down}
 use Rattle.chain_world.specs.ChainValue.{ChainValue}
 use Rattle.chain_world.specs.World.{add_rounded, adds_rounded, repeated, round_all, round_at, rounded_down, rounds, turn_of_add, turn_of_agent}
 use Rattle.chain_world.specs.WorldValue.{WorldValue}
-
-one_left : (count counter : ℕ) → counter < count → count - counter ≡ suc (count - (counter + 1))
-one_left count counter more = omega (arith, more)
+use Rattle.list_laws.proofs.Numbers.{one_left}
 
 pub once_more : (f : WorldValue → WorldValue) (count counter : ℕ) (w : WorldValue) → counter < count → repeated (count - counter) f w ≡ repeated (count - (counter + 1)) f (f w)
 once_more f count counter w more = ap (λ n. repeated n f w) (one_left count counter more)

@@ -7,7 +7,8 @@ use Rattle.chain_route.specs.Lane.{staying}
 use Rattle.chain_route.specs.Route.{arrived_down, arrived_up, down_of, flight_down, flight_up, hop_put, last_of, on_hop, sent_down, sent_up, up_of}
 use Rattle.chain_route.specs.RouteValue.{RouteValue}
 use Rattle.chain_route.specs.declared.hop.Hop.{Hop}
-use Rattle.chain_world.proofs.Lists.{get_set, set_length, set_same, set_twice}
+use Rattle.chain_world.proofs.Lists.{set_twice}
+use Rattle.list_laws.proofs.Lists.{get_set, set_length, set_same}
 
 abbrev pub with_hops : List Hop → RouteValue → RouteValue
 with_hops hops r = record r { hops = hops }

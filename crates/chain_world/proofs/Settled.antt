@@ -28,8 +28,9 @@ use Rattle.value_node.specs.declared.states.Side.TheVariants.{Below, Above}
 use Rattle.value_node.specs.declared.states.ValueTurn.{ValueTurn}
 use Rattle.value_node.specs.declared.states.ValueTurn.TheVariants.{Nothing, Connect}
 use Rattle.chain_route.specs.Passing.{emptied, parts_came}
-use Rattle.chain_world.proofs.Opened.{delivered_open, ended_open, open_takes, refused_open}
+use Rattle.chain_world.proofs.Opened.{ended_open, open_takes, refused_open}
 use Rattle.chain_world.proofs.Waiting.{awaits_emptied}
+use Rattle.channel_core.proofs.ClosingSo.{delivered_open}
 
 abbrev pub IsSettled : Relay → Type 0
 IsSettled v = awaits v ≡ false

@@ -16,8 +16,10 @@ use Rattle.chain_route.specs.Passing.{Pair, carried, came, delivered, pair, take
 use Rattle.chain_route.specs.Route.{add_put, beside, connected, connected_after, cut, ended_below, hop_put, is_live, joined, last_of, live_of, made_at, on_add, on_hop, on_pair, pair_put, peer_of, reached, refused, turn_put, turned, upper_below, with_carried, with_upper}
 use Rattle.chain_route.specs.RouteValue.{RouteValue}
 use Rattle.chain_route.specs.declared.hop.Hop.{Hop}
-use Rattle.chain_world.proofs.Lists.{all_append, all_at, all_set, all_taken, set_length, take_most}
+use Rattle.chain_world.proofs.Lists.{all_at, all_set}
 use Rattle.chain_world.proofs.Waiting.{IsReadyAdd, connected_ready, emptied_ready, ended_ready, parts_ready, turns_so}
+use Rattle.list_laws.proofs.AllLists.{all_append, all_take as all_taken}
+use Rattle.list_laws.proofs.Lists.{set_length, take_most}
 
 abbrev pub AreReady : List ValueValue → Type 0
 AreReady adds = AllByRecursion IsReadyAdd adds

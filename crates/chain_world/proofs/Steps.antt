@@ -26,10 +26,11 @@ use Rattle.chain_world.proofs.Chains.{delivers_fits}
 use Rattle.chain_world.proofs.Cutting.{cut_fits}
 use Rattle.chain_world.proofs.Fitting.{Fits, Place}
 use Rattle.chain_world.proofs.Keeping.{Goes, IsMove, IsSameTo, Moved, agent_fits, earlier_channel, fits_after, goes_none, goes_of, goes_then, is_reached, moved_then, own_channel, reached_goes, still}
-use Rattle.chain_world.proofs.Numbers.{differ_parts, first_or, here, later, none_in}
+use Rattle.chain_world.proofs.Numbers.{differ_parts, later}
 use Rattle.chain_world.proofs.Pasts.{at_one, keeps_same}
 use Rattle.chain_world.proofs.Talks.{HasQueued, IsCameSame, Talking, came_cut, came_put, talks_dropped, talks_put, talks_taken}
 use Rattle.chain_world.proofs.Unawaited.{cut_last, hop_unawaited}
+use Rattle.list_laws.proofs.Contained.{contains_cases as first_or, contains_first as here, none_in}
 
 -- ---- What a channel queued is given out
 

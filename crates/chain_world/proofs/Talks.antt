@@ -9,16 +9,20 @@ use Rattle.channel_core.specs.Runs.{Call as EndCall, Run, after_call, after_call
 use Rattle.channel_core.specs.Wire.{end_of_stream}
 use Rattle.channel_core.specs.declared.held.Outgoing.{Outgoing}
 use Rattle.channel_core.specs.declared.states.Cause.TheVariants.{Ended}
-use Rattle.channel_faults.specs.Faults.{is_ending}
+use Rattle.channel_laws.specs.Faults.{is_ending}
 use Rattle.agent_node.specs.Runs.{Past, run_of, with_calls}
 use Rattle.chain_route.specs.Runs.{Past as WayPast, Talk, gets, gives}
 use Rattle.target_hub.specs.Sent.{agent_services}
 use Rattle.chain_world.specs.Standing.{Loses, Talked, came_to, given_to, is_taking, past_at, unmarked}
 use Rattle.chain_world.proofs.Agents.{Laws, delivering_all, delivering_arrived, run_more}
-use Rattle.chain_world.proofs.Bytes.{front_more, front_same, unmarked_more}
-use Rattle.chain_world.proofs.Calls.{AreIdle, all_put, arrived_more, endings_more, idle_arrived, idle_endless, idle_given, or_none, or_yes, putting, putting_arrived, putting_endless}
-use Rattle.chain_world.proofs.Numbers.{here, later}
+use Rattle.chain_world.proofs.Bytes.{unmarked_more}
+use Rattle.chain_world.proofs.Calls.{all_put, endings_more, idle_endless, putting, putting_arrived, putting_endless}
+use Rattle.chain_world.proofs.Numbers.{later}
 use Rattle.chain_world.proofs.Pasts.{Grows, Keeps}
+use Rattle.chain_route.proofs.Bytes.{front_more, front_same}
+use Rattle.chain_route.proofs.EndCalls.{AreIdle, arrived_more, idle_arrived, idle_given}
+use Rattle.list_laws.proofs.Flags.{or_false as or_none, or_true as or_yes}
+use Rattle.list_laws.proofs.Contained.{contains_first as here}
 
 -- ---- What is said of a channel, also while the agent has something queued for it
 

@@ -15,9 +15,9 @@ use Rattle.chain_route.specs.Route.{add_put, beside, connected, connected_after,
 use Rattle.chain_route.specs.RouteValue.{RouteValue}
 use Rattle.chain_route.specs.Runs.{Past, RouteRun, awaits_of, cut_past, is_waiting, reached_past}
 use Rattle.chain_route.specs.declared.hop.Hop.{Hop}
-use Rattle.chain_world.proofs.Lists.{set_length}
 use Rattle.chain_world.proofs.Settled.{IsSettledAdd, connected_settled, emptied_settled, ended_settled, parts_settled, turn_settles}
 use Rattle.chain_world.proofs.Steady.{after_turn, joined_steady, reached_steady, turn_steady}
+use Rattle.list_laws.proofs.Lists.{set_length}
 
 -- ---- The value-add at a place
 

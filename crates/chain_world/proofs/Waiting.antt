@@ -30,6 +30,7 @@ use Rattle.value_node.specs.declared.states.ValueTurn.{ValueTurn}
 use Rattle.value_node.specs.declared.states.ValueTurn.TheVariants.{Nothing, Took, Connect}
 use Rattle.chain_route.specs.Passing.{emptied, emptied_on, parts_came, without_queue}
 use Rattle.chain_world.proofs.Shut.{IsShut, ShutBy, delivered_shut, ended_shut, from_shut, refused_shut, shut_takes}
+use Rattle.chain_route.proofs.Settled.{still_free}
 
 -- ---- A value-add that isn't bound
 
@@ -239,13 +240,9 @@ connected_ready value ready = by_flag (awaits value.relay) refl
 
 -- ---- One that waits goes on waiting while what it queued goes out
 
-free_emptied : (upper : Option Upper) → is_free (option_map without_queue upper) ≡ is_free upper
-free_emptied None = refl
-free_emptied (Some e) = refl
-
 awaits_on : (side : Side) (v : Relay) → awaits (emptied_on side v) ≡ awaits v
 awaits_on Below v = refl
-awaits_on Above v = ap (λ b. is_opening v.bind && b) (free_emptied v.upper)
+awaits_on Above v = ap (λ b. is_opening v.bind && b) (still_free v.upper)
 
 pub awaits_emptied : (side : Side) (value : ValueValue) → awaits (emptied side value).relay ≡ awaits value.relay
 awaits_emptied side value = by_flag value.is_spent

@@ -15,9 +15,10 @@ use Rattle.chain_route.specs.Route.{beside, connected, connected_after, is_live,
 use Rattle.chain_route.specs.RouteValue.{RouteValue}
 use Rattle.chain_route.specs.Runs.{Call, Past, RouteRun, after_all, after_call, arrives_down, arrives_up, awaits_of, cuts, delivers, is_waiting, joined_by, joins, no_calls, reached_past, reaches, sends_down, sends_up, turns}
 use Rattle.chain_route.specs.declared.hop.Hop.{Hop}
-use Rattle.chain_world.proofs.Lists.{all_at, get_beyond, get_set, get_within}
+use Rattle.chain_world.proofs.Lists.{all_at, get_beyond}
 use Rattle.chain_world.proofs.Steady.{HasPlaces, IsQuiet, after_turn, cut_quiet, delivered_keeps, down_live, hop_quiet, pair_quiet, places_connected, places_steady, places_turned, reached_steady, turn_steady, up_live}
 use Rattle.chain_world.proofs.Waiting.{IsReadyAdd, awaits_emptied, turns_so}
+use Rattle.list_laws.proofs.Lists.{get_set, get_within}
 
 -- ---- After any calls
 

@@ -8,7 +8,7 @@ use Rattle.channel_core.specs.Arrivals.{IsFront, Marked, arrived, bytes_of}
 use Rattle.channel_core.specs.Closing.{is_closed}
 use Rattle.channel_core.specs.Wire.{end_of_stream}
 use Rattle.channel_core.specs.declared.held.Outgoing.{Outgoing}
-use Rattle.channel_faults.specs.Faults.{is_ending}
+use Rattle.channel_laws.specs.Faults.{is_ending}
 use Rattle.client_node.specs.Client.{new_client}
 use Rattle.client_node.specs.Ends.{HasNames, end_calls, given_out}
 use Rattle.client_node.specs.Runs.{Call as ClientCall, bytes_end, closes, run}

@@ -22,6 +22,7 @@ use Rattle.channel_core.specs.declared.states.Cause.{Cause}
 use Rattle.channel_core.specs.declared.states.EndState.TheVariants.{Live}
 use Rattle.channel_core.proofs.Keeping.{Keeps, KeepsAny, KeepsOut, IsTidy, delivered_keeps, ended_keeps, closed_keeps, taken_keeps, released_keeps, either_keeps, greeted_open}
 use Rattle.channel_core.proofs.Free.{HoldsNone}
+use Rattle.list_laws.proofs.Lists.{take_front}
 
 -- ---- What is held is a command
 
@@ -134,7 +135,7 @@ any_split all given e pending s = split_same all given e (record e { pending = p
 
 -- ---- A new command
 
-none_waits : {T : Type 0} → (waiting : List (Issued T)) → map (λ i. i.command) waiting ≡ [] → waiting ≡ []
+pub none_waits : {T : Type 0} → (waiting : List (Issued T)) → map (λ i. i.command) waiting ≡ [] → waiting ≡ []
 none_waits [] is = refl
 none_waits (i ∷ waiting) is = absurd cc
 
@@ -218,10 +219,6 @@ split_called draining r tidy free s =
     either_keeps (IsSplit r.past.accepted r.past.given) (is_closed e.state) _ e (split_same r.past.accepted r.past.given e _ refl refl s) s
 
 -- ---- The law
-
-take_front : {A : Type 0} → (xs ys : List A) (n : ℕ) → n ≡ length xs → take n (xs ++ ys) ≡ xs
-take_front [] ys n is = rw is refl
-take_front (x ∷ xs) ys n is = rw is (ap (λ zs. x ∷ zs) (take_front xs ys (length xs) refl))
 
 -- the front is that of the law
 pub sent_is : {T : Type 0} → (r : Run T) → (s : AreSplit r) → sent_of r ≡ s.sent

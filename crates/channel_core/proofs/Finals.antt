@@ -31,6 +31,7 @@ use Rattle.channel_core.specs.declared.taking.Taken.TheVariants.{Hello, Command,
 use Rattle.channel_core.proofs.Keeping.{Keeps, KeepsAny, KeepsOut, IsTidy, delivered_keeps, ended_keeps, closed_keeps, taken_keeps, released_keeps, either_keeps, greeted_open, open_by_inbox, answered_keeps}
 use Rattle.channel_core.proofs.Tidy.{accepted_open, leveled_open}
 use Rattle.channel_core.proofs.Rows.{names, unnamed, named_is, not_named, IsRising, rising_of, rising_filter, removed, found_named, placed, filter_two}
+use Rattle.list_laws.proofs.Flags.{or_false}
 
 -- ---- What is pending stays
 
@@ -124,11 +125,11 @@ record IsAsked {T : Type 0} (said : Said) (e : EndValue T) (place : ℕ) (done :
   said_is : said ≡ answers token done
   sent_is : sent_place token e ≡ Some place
 
-no_progress : (sent : Option ℕ) (place : ℕ) (done : Bool) → progress_judged sent ≡ Answers place done → ⊥
+pub no_progress : (sent : Option ℕ) (place : ℕ) (done : Bool) → progress_judged sent ≡ Answers place done → ⊥
 no_progress None place done is = cc
 no_progress (Some other) place done is = cc
 
-is_answer : (sent : Option ℕ) (other done : Bool) (place : ℕ) → answer_judged other sent ≡ Answers place done → (sent ≡ Some place) × (other ≡ done)
+pub is_answer : (sent : Option ℕ) (other done : Bool) (place : ℕ) → answer_judged other sent ≡ Answers place done → (sent ≡ Some place) × (other ≡ done)
 is_answer None other done place is = absurd cc
 is_answer (Some here) other done place is = (let same : here ≡ place = cc in ap Some same, cc)
 
@@ -262,19 +263,15 @@ counted_same taken all gone e next i stays c = record {
 
 -- ---- An entry without an answer
 
-or_none : (flag : Bool) → (flag || false) ≡ flag
-or_none true = refl
-or_none false = refl
-
 -- one more entry
 answered_more : {T : Type 0} → (taken : List (Taken T)) (t : Taken T) (n : ℕ) → is_answered (taken ++ t ∷ []) n ≡ (is_answered taken n || list_any (λ text. bytes_eq text (decimal n)) (answered_in t))
 answered_more taken t n =
     list_any-append (λ x. list_any (λ text. bytes_eq text (decimal n)) (answered_in x)) taken (t ∷ [])
-    ∙ ap (λ b. is_answered taken n || b) (or_none (list_any (λ text. bytes_eq text (decimal n)) (answered_in t)))
+    ∙ ap (λ b. is_answered taken n || b) (or_false (list_any (λ text. bytes_eq text (decimal n)) (answered_in t)))
 
 same_answered : {T : Type 0} → (taken : List (Taken T)) (t : Taken T) (n : ℕ) → answered_in t ≡ [] → is_answered (taken ++ t ∷ []) n ≡ is_answered taken n
 same_answered taken t n none =
-    answered_more taken t n ∙ ap (λ texts. is_answered taken n || list_any (λ text. bytes_eq text (decimal n)) texts) none ∙ or_none (is_answered taken n)
+    answered_more taken t n ∙ ap (λ texts. is_answered taken n || list_any (λ text. bytes_eq text (decimal n)) texts) none ∙ or_false (is_answered taken n)
 
 counted_other : {T : Type 0} → (taken : List (Taken T)) (t : Taken T) (all : List (Issued T)) (gone : List T) (e : EndValue T) → answered_in t ≡ [] → IsCounted taken all gone e → IsCounted (taken ++ t ∷ []) all gone e
 counted_other taken t all gone e none c = record {
@@ -319,7 +316,7 @@ counted_final {T = T} taken all gone tag incoming e next f c =
     let texts : answered_in (Final tag incoming) ≡ f.token ∷ [] = ap token_in f.said_is in
     let more : (n : ℕ) → is_answered (taken ++ Final tag incoming ∷ []) n ≡ (is_answered taken n || bytes_eq f.token (decimal n)) = λ n.
     answered_more taken (Final tag incoming) n ∙ ap (λ ts. is_answered taken n || list_any (λ text. bytes_eq text (decimal n)) ts) texts
-    ∙ ap (λ b. is_answered taken n || b) (or_none (bytes_eq f.token (decimal n))) in
+    ∙ ap (λ b. is_answered taken n || b) (or_false (bytes_eq f.token (decimal n))) in
     let most = c.most in
     let last = f.last_is in
     record {

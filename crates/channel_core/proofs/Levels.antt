@@ -20,6 +20,7 @@ use Rattle.channel_core.specs.declared.states.EndState.TheVariants.{Live}
 use Rattle.channel_core.proofs.Keeping.{Keeps, KeepsAny, KeepsOut, IsTidy, delivered_keeps, ended_keeps, closed_keeps, taken_keeps, released_keeps, either_keeps, greeted_open}
 use Rattle.channel_core.proofs.Tidy.{accepted_open}
 use Rattle.channel_core.proofs.Commands.{AreCommands, commands_push, none_more, one_more, taken_out, unheld_none, farewell_none}
+use Rattle.list_laws.proofs.Lists.{last_push}
 
 -- ---- The level of an inbox
 
@@ -63,10 +64,6 @@ level_filled loud n = by_over (nat_lt 200 n) refl
     by_over false e = by_low (nat_lt n 100) refl
 
 -- ---- The last level that was told
-
-last_push : {A : Type 0} → (o : Option A) (xs : List A) (x : A) → last_or o (xs ++ x ∷ []) ≡ Some x
-last_push o [] x = refl
-last_push o (y ∷ xs) x = last_push (Some y) xs x
 
 pub record IsLeveled {T : Type 0} (given : List Outgoing) (e : EndValue T) : Type 0 where
   pub told : TellsLoud (last_or None (filter is_flow (given ++ e.queued))) e.is_loud
@@ -120,7 +117,7 @@ level_keeps given e told commands =
 
 -- ---- Every call
 
-command_none : (h : Held) → first_byte h.outgoing.bytes ≡ 67 → filter is_flow (h.outgoing ∷ []) ≡ []
+pub command_none : (h : Held) → first_byte h.outgoing.bytes ≡ 67 → filter is_flow (h.outgoing ∷ []) ≡ []
 command_none h letter = let isnt : is_flow h.outgoing ≡ false = ap (λ n. n == 70) letter in rw isnt refl
 
 level_out : {T : Type 0} → (given : List Outgoing) → KeepsOut {T = T} (IsLeveled given)

@@ -16,6 +16,7 @@ use Rattle.channel_core.proofs.Keeping.{IsTidy}
 use Rattle.channel_core.proofs.Commands.{AreSplit, sent_is}
 use Rattle.channel_core.proofs.Rows.{names, named_is, found_named, placed}
 use Rattle.channel_core.proofs.Finals.{IsFinished, TookAs, took, IsCountedRun}
+use Rattle.list_laws.proofs.Flags.{not_true}
 
 -- an accepted command with this row, which passes
 record IsIssued {T : Type 0} (all : List (Issued T)) (test : ℕ × T → Bool) (row : ℕ × T) : Type 0 where
@@ -54,10 +55,6 @@ held_at (first ∷ rest) i (suc place) within is =
 
 held_of : {T : Type 0} → (waiting : List (Issued T)) (i : Issued T) → Contains waiting i → is_held i.command.token (map (λ x. x.command) waiting) ≡ true
 held_of waiting i c = held_at waiting i c.0 c.1 c.2
-
-not_true : (flag : Bool) → not flag ≡ true → flag ≡ false
-not_true true is = absurd cc
-not_true false is = refl
 
 own_by : {T : Type 0} → (r : Run T) (tag : T) (incoming : Incoming) (next : EndValue T) → AreSplit r → IsCountedRun r → IsFinished r.end tag incoming next → IsOwnAnswer r tag incoming
 own_by {T = T} r tag incoming next s c f =

@@ -317,7 +317,7 @@ receives_calls {T = T} c spoken is_ended (call ∷ calls) count more r tidy i =
 
 -- ---- What was received
 
-none_left : (left : List ℕ) (mark : Option ℕ) (behind : List Marked) → left ≢ [] → [] ≡ marked left mark ++ behind → ⊥
+pub none_left : (left : List ℕ) (mark : Option ℕ) (behind : List Marked) → left ≢ [] → [] ≡ marked left mark ++ behind → ⊥
 none_left [] mark behind some is = some refl
 none_left (x ∷ left) mark behind some is = absurd cc
 

@@ -18,9 +18,6 @@ unnamed token row = not (names token row)
 pub named_is : (token : List ℕ) (n : ℕ) → bytes_eq token (decimal n) ≡ true → token ≡ decimal n
 named_is token n is = (bytes_eq-Decides token (decimal n)).0 is
 
-pub is_named : (n : ℕ) → bytes_eq (decimal n) (decimal n) ≡ true
-is_named n = (bytes_eq-Decides (decimal n) (decimal n)).1 refl
-
 -- no two numbers of 64 bits have the same digits
 pub decimal_one : (m n : ℕ) → m ≤ last_token → n ≤ last_token → decimal m ≡ decimal n → m ≡ n
 decimal_one m n low high is =

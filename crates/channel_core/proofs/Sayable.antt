@@ -38,7 +38,7 @@ spoken_of (o ∷ queue) each =
 
 -- ---- A level
 
-level_fits : (n : ℕ) → IsLevel (level_of n)
+pub level_fits : (n : ℕ) → IsLevel (level_of n)
 level_fits n = by_over (nat_lt 200 n) refl
   where
     below : (k m : ℕ) → k + m + 1 ≡ 100 → IsLevel (negsuc k)

@@ -113,7 +113,7 @@ any_saying given e pending i = saying_same given e (record e { pending = pending
 -- ---- Every call
 
 -- service, name and data that aren't refused are within the limit
-fitting : {T : Type 0} → (size : ℕ) (e : EndValue T) → refusal_of size e ≡ None → nat_lt most_body size ≡ false
+pub fitting : {T : Type 0} → (size : ℕ) (e : EndValue T) → refusal_of size e ≡ None → nat_lt most_body size ≡ false
 fitting size e none = by_flags (is_closed e.state) (nat_lt most_body size) (nat_le most_pending (length e.pending)) (e.last == last_token) none
   where
     by_flags : (a b c d : Bool) → cond a (Some NotOpen) (cond b (Some TooLong) (cond c (Some Full) (cond d (Some Spent) None))) ≡ None → b ≡ false

@@ -40,7 +40,7 @@ use Rattle.channel_core.proofs.Commands.{farewell_none, none_more, taken_out, un
 use Rattle.channel_core.proofs.Keeping.{IsTidy, either_keeps}
 use Rattle.channel_core.proofs.Running.{Stands, stands_after, stands_at_first}
 
-abbrev IsUngreeted : EndState → Type 0
+abbrev pub IsUngreeted : EndState → Type 0
 IsUngreeted Opening = Unit {0}
 IsUngreeted Live = ⊥
 IsUngreeted Reopening = ⊥
@@ -59,7 +59,7 @@ waits_more given more e next state queued none w = record {
 waits_same : {T : Type 0} → (given : List Outgoing) (e next : EndValue T) → next.state ≡ e.state → next.queued ≡ e.queued → Waits given e → Waits given next
 waits_same given e next state queued w = waits_more given [] e next state (queued ∙ sym (append-nil e.queued)) refl w
 
-not_live : (state : EndState) → IsUngreeted state → is_live state ≡ false
+pub not_live : (state : EndState) → IsUngreeted state → is_live state ≡ false
 not_live Opening is = refl
 not_live Live is = absurd is
 not_live Reopening is = absurd is
@@ -141,7 +141,7 @@ waits_stop : {T : Type 0} → (given : List Outgoing) (stop : Option Cause) (e :
 waits_stop given None e w none = w
 waits_stop given (Some cause) e w none = waits_closed given cause e w
 
-opening_or : (state : EndState) → IsUngreeted state → is_closed state ≡ false → state ≡ Opening
+pub opening_or : (state : EndState) → IsUngreeted state → is_closed state ≡ false → state ≡ Opening
 opening_or Opening is open_yet = refl
 opening_or Live is open_yet = absurd is
 opening_or Reopening is open_yet = absurd is

@@ -10,9 +10,9 @@ use Rattle.channel_core.specs.Runs.{Issued}
 use Rattle.channel_core.specs.Wire.{end_of_stream}
 use Rattle.channel_core.specs.declared.held.Outgoing.{Outgoing}
 use Rattle.channel_core.specs.declared.states.EndState.TheVariants.{Live, Opening, Reopening}
-use Rattle.channel_rest.specs.Meeting.{IsLasting, Side, all_heard, answers_among, as_comes, hello_behind, run_of}
-use Rattle.channel_rest.specs.Numbering.{tokens_among}
-use Rattle.channel_rest.specs.Rest.{lacks_answer, lacks_hello}
+use Rattle.channel_laws.specs.Meeting.{IsLasting, Side, all_heard, answers_among, as_comes, hello_behind, run_of}
+use Rattle.channel_laws.specs.Numbering.{tokens_among}
+use Rattle.channel_laws.specs.Rest.{lacks_answer, lacks_hello}
 
 -- What one end gave, which is all that it queued, is in order what came to the other one, while that is open, and then what is in
 -- flight.
@@ -76,6 +76,6 @@ pub record HopStands {T U : Type 0} (is_marked others_are : Bool) (s : Side T) (
   pub both_open : is_closed (run_of s).end.state ≡ false → is_closed (run_of other).end.state ≡ false → BothOpen is_marked others_are s other
 
 -- Whatever was called of two ends that sent only what can be read, and whose bytes haven't ended without the end of the stream.
-abbrev pub HopsStand : Type 0 → Type 0 → Type 0
-HopsStand T U = (is_marked others_are : Bool) (s : Side T) (other : Side U) (falling rising : List Marked) → IsLasting s → IsLasting other
+abbrev pub LiveHopsStand : Type 0 → Type 0 → Type 0
+LiveHopsStand T U = (is_marked others_are : Bool) (s : Side T) (other : Side U) (falling rising : List Marked) → IsLasting s → IsLasting other
     → Carries is_marked s other falling → Carries others_are other s rising → HopStands is_marked others_are s other falling rising

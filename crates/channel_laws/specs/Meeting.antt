@@ -15,8 +15,8 @@ use Rattle.channel_core.specs.Wire.{Said, answers, asks, goes_on, greets, hello 
 use Rattle.channel_core.specs.declared.held.Incoming.{Incoming}
 use Rattle.channel_core.specs.declared.held.Outgoing.{Outgoing}
 use Rattle.channel_core.specs.declared.states.EndState.TheVariants.{Live}
-use Rattle.channel_faults.specs.Faults.{is_ending}
-use Rattle.channel_rest.specs.Rest.{AreAnswered, is_hello, lacks_answer, lacks_hello}
+use Rattle.channel_laws.specs.Faults.{is_ending}
+use Rattle.channel_laws.specs.Rest.{AreAnswered, is_hello, lacks_answer, lacks_hello}
 
 -- an end, by its Hello and its calls
 pub record Side (T : Type 0) : Type 0 where

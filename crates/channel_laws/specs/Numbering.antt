@@ -10,7 +10,7 @@ use Rattle.channel_core.specs.Sending.{last_token}
 use Rattle.channel_core.specs.Wire.{hello as hello_word, locator}
 use Rattle.channel_core.specs.declared.held.Incoming.{Incoming}
 use Rattle.tcf_message.specs.Message.{IsWellFormed, event}
-use Rattle.channel_rest.specs.Meeting.{Side, as_comes, run_of}
+use Rattle.channel_laws.specs.Meeting.{Side, as_comes, run_of}
 
 abbrev pub token_asked : Result MessageValue MessageFault → List (List ℕ)
 token_asked (Ok (command token service name body)) = token ∷ []

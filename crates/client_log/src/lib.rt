@@ -6,6 +6,3 @@ mod log;
 mod texts;
 
 pub use log::ClientLog;
-
-#[cfg(test)]
-mod tests;

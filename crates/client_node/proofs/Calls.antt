@@ -25,10 +25,10 @@ use Rattle.client_node.specs.ClientValue.{ClientValue}
 use Rattle.client_node.specs.Lines.{end_of, event_line, final_line, hello_line, progress_line, why_of}
 use Rattle.client_node.specs.Runs.{Call, FitsMessage, IsAnswerTo, OnceAfterAnyCalls, asks, bytes_end, called, closes, comes, gives, opens, run, sends, turns}
 use Rattle.client_node.proofs.Ends.{IsEnded, IsOpen, commanded_open, delivered_ended, delivered_open, ended_ended, ended_open, given_ended, given_open, nothing_taken, queued_open, refused_then}
-use Rattle.client_node.proofs.Lists.{last_push}
 use Rattle.client_node.proofs.Pending.{is_there, rises_without}
 use Rattle.client_node.proofs.Standing.{IsAnswer, IsPlain, Over, Standing, answered_push, behind_all, closing, in_order, once_of, over_push, plain_push, sent_push, standing_at_first}
 use Rattle.client_node.proofs.Taken.{Closes, Finishes, Leaves, Outcome, next_gives}
+use Rattle.list_laws.proofs.Lists.{last_push}
 
 -- ---- what holds of a client
 
@@ -48,7 +48,7 @@ Stands (Some e) log = StandsWith e log
 abbrev pub Holds : ClientValue → Type 0
 Holds c = Stands c.channel c.log
 
-abbrev client : Option (EndValue ℕ) → List LogLine → Bool → ClientValue
+abbrev pub client : Option (EndValue ℕ) → List LogLine → Bool → ClientValue
 client channel log spent = record { channel = channel; log = log; is_spent = spent }
 
 -- ---- one more line
@@ -161,7 +161,7 @@ event_kept last rows e log spent mark (Ok (event service name body)) open_end ol
     let x : LogLine = lines.Event mark service name body in under_way last rows open_end (more last rows log x old (quiet log x refl refl refl tt) tt)
 event_kept last rows e log spent mark m open_end old = under_way last rows open_end old
 
-command_open : (last : ℕ) (rows : List (ℕ × ℕ)) (e : EndValue ℕ) (m : Result MessageValue MessageFault) → IsOpen last rows e → IsOpen last rows (not_recognised m e)
+pub command_open : (last : ℕ) (rows : List (ℕ × ℕ)) (e : EndValue ℕ) (m : Result MessageValue MessageFault) → IsOpen last rows e → IsOpen last rows (not_recognised m e)
 command_open last rows e (Ok (command token service name body)) open_end = queued_open last rows (not_known token) None e open_end
 command_open last rows e m open_end = open_end
 

@@ -22,7 +22,7 @@ use Rattle.channel_core.specs.declared.sending.SendRefusal.TheVariants.{NotOpen}
 use Rattle.channel_core.specs.declared.states.EndState.{EndState}
 use Rattle.channel_core.specs.declared.states.EndState.TheVariants.{Closed, Live, Opening, Reopening}
 use Rattle.client_node.specs.Client.{without_first}
-use Rattle.client_node.proofs.Lists.{all_push}
+use Rattle.list_laws.proofs.AllLists.{all_push}
 
 -- a message that enters an inbox
 abbrev pub IsMessage : Result MessageValue MessageFault → Type 0

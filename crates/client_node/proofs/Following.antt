@@ -34,6 +34,8 @@ use Rattle.client_node.specs.ClientValue.{ClientValue}
 use Rattle.client_node.specs.Ends.{CommandsNames, EndIsRunAfterAnyCalls, HasNames, IsEndAfter, SendsUnknown, after_taking, after_turn, answering, answers_to, calls_from, calls_on, draining_all, end_after, end_calls, end_calls_by, given_by, given_out, issued_as, sent_by, unknown_to}
 use Rattle.client_node.specs.Lines.{event_line, final_line, hello_line, progress_line, why_of}
 use Rattle.client_node.specs.Runs.{Call, Past, asks, bytes_end, called, closes, comes, commands_in, gives, no_past, opens, past_of, remembered, run, sends, taken_by, turns, unless_refused}
+use Rattle.list_laws.proofs.AllLists.{all_append}
+use Rattle.client_node.proofs.Calls.{client}
 
 -- ---- what calls of an end add to its past
 
@@ -55,9 +57,6 @@ adds_none before after messages commands given =
 record Steps (before : EndRun ℕ) (calls : List (EndCall ℕ)) (channel : Option (EndValue ℕ)) (messages : List (Taken ℕ)) (commands : List Accepted) (given : List Outgoing) : Type 0 where
   pub channel_is : Some (after_calls calls before).end ≡ channel
   pub adds : Adds before (after_calls calls before) messages commands given
-
-abbrev client : Option (EndValue ℕ) → List LogLine → Bool → ClientValue
-client channel log spent = record { channel = channel; log = log; is_spent = spent }
 
 -- ---- sending
 
@@ -108,7 +107,7 @@ own_closed : (flag : Bool) (e : EndValue ℕ) → is_closed e.state ≡ flag →
 own_closed true e is = is
 own_closed false e is = refl
 
-own_pending : (flag : Bool) (e : EndValue ℕ) → (if flag then e else end_closed_for Own e).pending ≡ e.pending
+pub own_pending : (flag : Bool) (e : EndValue ℕ) → (if flag then e else end_closed_for Own e).pending ≡ e.pending
 own_pending true e = refl
 own_pending false e = refl
 
@@ -316,10 +315,6 @@ turning_are P (Some (taken.Command incoming)) rows drains answers = answers inco
 turning_are P (Some (taken.Progress number incoming)) rows drains answers = tt
 turning_are P (Some (taken.Final number incoming)) rows drains answers = tt
 turning_are P (Some (taken.Closed cause)) rows drains answers = draining_are P rows drains
-
-all_append : {A : Type 0} → (P : A → Type 0) (xs ys : List A) → AllByRecursion P xs → AllByRecursion P ys → AllByRecursion P (xs ++ ys)
-all_append P [] ys first second = second
-all_append P (x ∷ xs) ys first second = (first.0, all_append P xs ys first.1 second)
 
 -- where the calls of each call that meets Q meet P, so do those of a list of such calls
 module _ (P : EndCall ℕ → Type 0) (Q : Call → Type 0) (by : (call : Call) (e : EndValue ℕ) → Q call → AllByRecursion P (calls_on call e)) where

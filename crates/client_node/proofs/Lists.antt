@@ -1,18 +1,15 @@
 -- Laws of lists that grow at their end, and of what stands in them.
 use Rattle.std.proofs.Common.{◌≡◌, ℕ, zero, suc, ◌+◌, ◌<◌, List, [], ◌∷◌, ◌++◌, length, refl, ap, sym, ◌∙◌, inl, inr, ◌⊎◌, Bool, true, false, ◌||◌, arith}
-use Rattle.std.specs.Prelude.{Option, Some, remove, slice_get}
-use Rattle.std.specs.List.{AllByRecursion, Contains, flat_map, last_or, list_any, range_with_len}
+use Rattle.std.specs.Prelude.{Some, remove, slice_get}
+use Rattle.std.specs.List.{Contains, flat_map, list_any, range_with_len}
 use Rattle.std.proofs.lemmas.List.{append-nil}
 use Rattle.std.proofs.lemmas.List.Concat.{flat_map-append}
 use Rattle.std.proofs.lemmas.List.Elements.{Contains-append_cases, Contains-append_left, Contains-append_right}
 use Rattle.std.proofs.lemmas.List.Folds.{list_any-append}
 use Rattle.tcf_text.specs.Each.{Each}
+use Rattle.list_laws.proofs.Lists.{nothing_there}
 
 -- ---- each element, with those before it
-
-nothing_before : {A : Type 0} → (before after : List A) (y : A) → [] ≡ before ++ y ∷ after → ⊥
-nothing_before [] after y e = cc
-nothing_before (b ∷ before) after y e = cc
 
 -- where a list with one more element is split, the split is at that element or before it
 split_last : {A : Type 0} → (xs before after : List A) (x y : A) → xs ++ x ∷ [] ≡ before ++ y ∷ after
@@ -20,7 +17,7 @@ split_last : {A : Type 0} → (xs before after : List A) (x y : A) → xs ++ x �
 split_last [] [] after x y e = inl (refl, cc)
 split_last {A} [] (b ∷ before) after x y e =
     let none : List A = [] in
-    let tail : none ≡ before ++ y ∷ after = cc in absurd (nothing_before before after y tail)
+    let tail : none ≡ before ++ y ∷ after = cc in absurd (nothing_there before after y tail)
 split_last (z ∷ xs) [] after x y e = let head : z ≡ y = cc in inr (xs, cc)
 split_last {A} (z ∷ xs) (b ∷ before) after x y e =
     let tail : xs ++ x ∷ [] ≡ before ++ y ∷ after = cc in
@@ -34,13 +31,9 @@ each_push {A} P xs x all here before after y e =
     [ inl p ↦ rw (p.0, p.1) here | inr p ↦ all before p.0 y p.1 ]
 
 pub each_nothing : {A : Type 0} → (P : List A → A → Type 0) → Each P []
-each_nothing P before after y e = absurd (nothing_before before after y e)
+each_nothing P before after y e = absurd (nothing_there before after y e)
 
 -- ---- one more element
-
-pub last_push : {A : Type 0} → (o : Option A) (xs : List A) (x : A) → last_or o (xs ++ x ∷ []) ≡ Some x
-last_push o [] x = refl
-last_push o (y ∷ xs) x = last_push (Some y) xs x
 
 pub flat_push : {A B : Type 0} → (f : A → List B) (xs : List A) (x : A) → flat_map f (xs ++ x ∷ []) ≡ flat_map f xs ++ f x
 flat_push f xs x = flat_map-append f xs (x ∷ []) ∙ ap (λ ys. flat_map f xs ++ ys) (append-nil (f x))
@@ -57,10 +50,6 @@ any_push p xs x off = rw (list_any-append p xs (x ∷ []), off) (or_false (list_
     or_false true = refl
     or_false false = refl
 
-pub all_push : {A : Type 0} → (P : A → Type 0) (xs : List A) (x : A) → AllByRecursion P xs → P x → AllByRecursion P (xs ++ x ∷ [])
-all_push P [] x all here = (here, tt)
-all_push P (y ∷ xs) x all here = (all.0, all_push P xs x all.1 here)
-
 pub range_push : (first count : ℕ) → range_with_len first count ++ (first + count) ∷ [] ≡ range_with_len first (count + 1)
 range_push first zero = let e : first + 0 ≡ first = omega arith in ap (λ n. n ∷ []) e
 range_push first (suc count) =
@@ -74,18 +63,8 @@ pub at_front : {A : Type 0} → (x y : A) (xs : List A) → Contains (x ∷ xs) 
 at_front x y xs (zero, within, is) = inl is
 at_front x y xs (suc k, within, is) = let less : k < length xs = omega arith in inr (k, less, is)
 
-pub in_front : {A : Type 0} → (x : A) (xs : List A) → Contains (x ∷ xs) x
-in_front x xs = let within : 0 < length (x ∷ xs) = omega arith in (zero, within, refl)
-
 pub in_tail : {A : Type 0} → (x y : A) (xs : List A) → Contains xs y → Contains (x ∷ xs) y
 in_tail x y xs h = Contains-append_right (x ∷ []) xs y h
-
-pub none_in : {A : Type 0} → (y : A) → Contains [] y → ⊥
-none_in y (k, within, is) = omega arith
-
--- an element that stands between two others is there
-pub among : {A : Type 0} → (front back : List A) (x : A) → Contains (front ++ x ∷ back) x
-among front back x = Contains-append_right front (x ∷ back) x (in_front x back)
 
 -- all but one element
 pub without_kept : {A : Type 0} → (front back : List A) (x y : A) → Contains (front ++ back) y → Contains (front ++ x ∷ back) y

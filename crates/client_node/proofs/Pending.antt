@@ -2,7 +2,8 @@
 use Rattle.std.proofs.Common.{◌≡◌, ℕ, ◌+◌, ◌<◌, ◌≤◌, List, [], ◌∷◌, ◌++◌, map, refl, sym, subst, inl, inr, ◌⊎◌, arith}
 use Rattle.std.specs.List.{Contains}
 use Rattle.std.proofs.lemmas.List.{map-append}
-use Rattle.client_node.proofs.Lists.{among, at_front, none_in, without_cases, without_kept}
+use Rattle.client_node.proofs.Lists.{at_front, without_cases, without_kept}
+use Rattle.list_laws.proofs.Contained.{contains_at as among, none_in}
 
 -- tokens are numbers, and rise from low on up to high
 abbrev pub Rises : ℕ → List (ℕ × ℕ) → ℕ → Type 0

@@ -10,8 +10,10 @@ use Rattle.tcf_text.specs.Once.{AllAnswered, AnswersPending, CanStandAfterEnd, C
 use Rattle.tcf_text.specs.declared.log.EndWhy.{EndWhy}
 use Rattle.tcf_text.specs.declared.log.LogLine.{LogLine}
 use Rattle.tcf_text.specs.declared.log.LogLine.TheVariants.{Closed, Ended, Sent}
-use Rattle.client_node.proofs.Lists.{any_push, each_nothing, each_push, flat_push, flat_same, last_push, none_in, range_push}
+use Rattle.client_node.proofs.Lists.{any_push, each_nothing, each_push, flat_push, flat_same, range_push}
 use Rattle.client_node.proofs.Pending.{Rises, apart, below, is_there, numbers_cases, numbers_kept, numbers_of, rises_push}
+use Rattle.list_laws.proofs.Lists.{last_push}
+use Rattle.list_laws.proofs.Contained.{none_in}
 
 pub record Lawful (log : List LogLine) : Type 0 where
   pub answers : Each AnswersPending log

@@ -1,5 +1,5 @@
 -- What is taken from an end that isn't closed, and what is left of it.
-use Rattle.std.proofs.Common.{◌≡◌, ℕ, zero, suc, Bool, true, false, List, [], ◌∷◌, ◌++◌, Option, Some, None, Result, Ok, Err, refl, ap, sym, subst, ◌∙◌}
+use Rattle.std.proofs.Common.{◌≡◌, ℕ, Bool, true, false, List, [], ◌∷◌, ◌++◌, Option, Some, None, Result, Ok, Err, refl, ap, sym, subst, ◌∙◌}
 use Rattle.std.specs.Prelude.{bytes_eq, decimal, if◌then◌else◌, option_map, remove, slice_get, slice_index_or}
 use Rattle.std.specs.List.{AllByRecursion}
 use Rattle.std.proofs.lemmas.List.Quantifiers.{position-Some}
@@ -25,6 +25,7 @@ use Rattle.client_node.specs.Runs.{FitsMessage, IsAnswerTo, IsHello, IsOtherEven
 use Rattle.client_node.proofs.Ends.{IsEnded, IsMessage, IsOpen, IsReadable, answered_open, greeted_open, leveled_open}
 use Rattle.client_node.proofs.Lists.{at_place}
 use Rattle.client_node.proofs.Pending.{Rises, same_at}
+use Rattle.list_laws.proofs.Lists.{get_at}
 
 -- progress of the command of this number, which is pending
 pub record GoesOn (last : ℕ) (rows : List (ℕ × ℕ)) (number : ℕ) (e : EndValue ℕ) : Type 0 where
@@ -65,11 +66,6 @@ abbrev Gives : ℕ → List (ℕ × ℕ) → Option (Taken ℕ) × EndValue ℕ 
 Gives last rows p = Outcome last rows p.0 p.1
 
 -- ---- the command that a token names
-
-get_at : {A : Type 0} → (xs : List A) (place : ℕ) (x : A) → slice_get xs place ≡ Some x → slice_index_or xs place x ≡ x
-get_at [] place x is = refl
-get_at (y ∷ xs) zero x is = cc
-get_at (y ∷ xs) (suc place) x is = get_at xs place x is
 
 unheld : (flag : Bool) (place found : ℕ) → (if flag then None else Some place) ≡ Some found → place ≡ found
 unheld true place found is = cc

@@ -30,9 +30,10 @@ use Rattle.client_node.specs.Client.{closed_for, closed_lines, new_client, noted
 use Rattle.client_node.specs.ClientValue.{ClientValue}
 use Rattle.client_node.specs.Lines.{end_of, event_line, final_line, hello_line, progress_line, why_of}
 use Rattle.client_node.specs.Runs.{Call, FitsMessage, LogTellsPast, Past, asks, bytes_end, called, closes, comes, commands_in, gives, line_of, no_past, opens, past_of, remembered, run, sends, taken_by, taken_on, tells, turns, unless_refused}
-use Rattle.client_node.proofs.Calls.{Holds, Stands, call_kept, new_holds, over, under_way}
+use Rattle.client_node.proofs.Calls.{Holds, Stands, call_kept, new_holds, over, under_way, client}
 use Rattle.client_node.proofs.Ends.{nothing_taken}
 use Rattle.client_node.proofs.Taken.{Outcome, next_gives}
+use Rattle.list_laws.proofs.AllLists.{all_append}
 
 -- ---- lines that come to a log
 
@@ -141,9 +142,6 @@ turned_adds (Some what) e c =
 
 -- ---- any call
 
-abbrev client : Option (EndValue ℕ) → List LogLine → Bool → ClientValue
-client channel log spent = record { channel = channel; log = log; is_spent = spent }
-
 abbrev AddsFor : Call → ClientValue → Type 0
 AddsFor call c = Adds c.log (called call c).log (filter_map line_of (taken_by call c.channel)) (commands_in call c.channel)
 
@@ -193,10 +191,6 @@ call_fits turns c old = turn_fits c.channel c.log old
 call_fits call c old = tt
 
 -- ---- any calls
-
-all_append : {A : Type 0} → (P : A → Type 0) (xs ys : List A) → AllByRecursion P xs → AllByRecursion P ys → AllByRecursion P (xs ++ ys)
-all_append P [] ys first second = second
-all_append P (x ∷ xs) ys first second = (first.0, all_append P xs ys first.1 second)
 
 record Remembers (p : Past) : Type 0 where
   pub holds : Holds p.client

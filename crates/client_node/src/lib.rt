@@ -10,6 +10,3 @@ pub use laws::{
     a_clients_end_is_a_run, each_command_is_answered_once, the_cache_keeps_what_the_log_says,
     the_log_tells_what_was_taken,
 };
-
-#[cfg(test)]
-mod tests;

@@ -30,6 +30,7 @@ use Rattle.client_serving.specs.declared.end.ClientEnd.{ClientEnd}
 use Rattle.client_serving.specs.declared.end.ClientEnd.TheVariants.{Done, Ended, Turns}
 use Rattle.client_serving.proofs.Standing.{IsOpenEnd, IsShut, Leaves, Outcome, delivered_open, delivered_shut, emptied_open, emptied_shut, ended_open, ended_shut, next_gives, own_open, queued_open}
 use Rattle.client_serving.proofs.Lining.{AfterLines, IsOpenOn, IsShutOn, closed_open, closed_shut, goes_on, is_over, lines_open, none_pending}
+use Rattle.list_laws.proofs.Flags.{and_first}
 
 -- ---- how the channel and the lines stand, by the end
 
@@ -66,12 +67,8 @@ none_left : (left : List ScriptLine) → nothing_left left ≡ true → left ≡
 none_left [] is = refl
 none_left (line ∷ later) is = cc
 
-first_of : (a b : Bool) → (a && b) ≡ true → a ≡ true
-first_of true b is = refl
-first_of false b is = cc
-
 through : (s : ServingValue) → AfterLines s.client.channel s.left → is_done s ≡ true → IsThrough s.left (client_closed s.client).channel
-through s (goes_on p) is = record { shut = closed_open s.client.channel s.client p; none = none_left s.left (first_of (nothing_left s.left) (pending_on s.client.channel == 0) is) }
+through s (goes_on p) is = record { shut = closed_open s.client.channel s.client p; none = none_left s.left (and_first (nothing_left s.left) (pending_on s.client.channel == 0) is) }
 through s (is_over p none) is = record { shut = closed_shut causes.Own s.client.channel s.client p; none = none }
 
 shut_is_done : (s : ServingValue) → IsShutOn causes.Own s.client.channel → s.left ≡ [] → is_done s ≡ true

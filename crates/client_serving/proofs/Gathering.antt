@@ -1,5 +1,5 @@
 -- What a client has queued goes out, one message after the other; messages are taken one after the other.
-use Rattle.std.proofs.Common.{◌≡◌, ℕ, suc, ◌+◌, ◌-◌, ◌<◌, Bool, true, false, List, [], ◌∷◌, ◌++◌, length, Option, Some, None, refl, sym, ap, ◌∙◌, arith, subst, append-nil, append_assoc}
+use Rattle.std.proofs.Common.{◌≡◌, ℕ, ◌+◌, ◌-◌, ◌<◌, Bool, true, false, List, [], ◌∷◌, ◌++◌, length, Option, Some, None, refl, sym, ap, ◌∙◌, arith, subst, append-nil, append_assoc}
 use Rattle.std.proofs.lemmas.Option.{none-some, same_Some}
 use Rattle.channel_core.specs.EndValue.{EndValue}
 use Rattle.channel_core.specs.declared.held.Outgoing.{Outgoing}
@@ -9,6 +9,7 @@ use Rattle.serving_wires.specs.Outbox.{queued}
 use Rattle.serving_wires.specs.OutboxValue.{OutboxValue}
 use Rattle.client_serving.specs.Serving.{bytes_of, client_emptied, gathered, one_taken, queue_of, taken_so_many}
 use Rattle.client_serving.specs.ServingValue.{ServingValue}
+use Rattle.list_laws.proofs.Numbers.{one_left}
 
 -- ---- bytes are queued in an outbox, one part after the other
 
@@ -33,7 +34,7 @@ pub record GoesOn (c next : ClientValue) (out : Outgoing) : Type 0 where
   pub same : client_emptied next ≡ client_emptied c
   pub fewer : length (queue_of next.channel) < length (queue_of c.channel)
 
-abbrev with_end : Bool → List Outgoing → EndValue ℕ → ClientValue → ClientValue
+abbrev pub with_end : Bool → List Outgoing → EndValue ℕ → ClientValue → ClientValue
 with_end spent queue e c = record c { channel = Some (record e { is_spent = spent; queued = queue }) }
 
 goes_by : (spent : Bool) (queue : List Outgoing) (e : EndValue ℕ) (c : ClientValue) (out : Outgoing)
@@ -78,9 +79,6 @@ gathered_at_last first c next before o gives is clients queues =
     ap (λ (x : ClientValue). (x, o)) (d.same ∙ clients) ∙ ap (λ (y : OutboxValue). (client_emptied first, y)) rest
 
 -- ---- of the messages that are to be taken, one is
-
-one_left : (count counter : ℕ) → counter < count → count - counter ≡ suc (count - (counter + 1))
-one_left count counter more = omega (arith, more)
 
 pub one_more_taken : (count counter : ℕ) (s : ServingValue) → counter < count → taken_so_many (count - counter) s ≡ taken_so_many (count - (counter + 1)) (one_taken s)
 one_more_taken count counter s more = ap (λ n. taken_so_many n s) (one_left count counter more)

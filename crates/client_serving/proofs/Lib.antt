@@ -3,7 +3,7 @@ mod Lining
 mod Ending
 mod Saying
 mod Apart
-mod Gathering
+pub mod Gathering
 mod Served
 mod Placing
 mod Running

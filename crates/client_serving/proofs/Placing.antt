@@ -1,7 +1,9 @@
 -- Each element of a list, by those before it, as the list grows.
-use Rattle.std.proofs.Common.{◌≡◌, ◌⊎◌, Bool, true, false, ◌||◌, List, [], ◌∷◌, ◌++◌, refl, ap, ◌∙◌, inl, inr, append-nil}
+use Rattle.std.proofs.Common.{◌≡◌, ◌⊎◌, Bool, false, List, [], ◌∷◌, ◌++◌, refl, ap, ◌∙◌, inl, inr, append-nil}
 use Rattle.std.specs.List.{list_any}
 use Rattle.std.proofs.lemmas.List.Folds.{list_any-append}
+use Rattle.list_laws.proofs.Flags.{or_neither}
+use Rattle.list_laws.proofs.Lists.{nothing_there}
 
 -- each element of a list, with the elements before it, is as P says; and each of those behind the first ones
 abbrev pub Each : {A : Type 0} → (List A → A → Type 0) → List A → Type 0
@@ -10,12 +12,8 @@ Each {A} P xs = (before after : List A) (x : A) → xs ≡ before ++ x ∷ after
 abbrev pub EachBehind : {A : Type 0} → (List A → A → Type 0) → List A → List A → Type 0
 EachBehind {A} P first xs = (before after : List A) (x : A) → xs ≡ before ++ x ∷ after → P (first ++ before) x
 
-nothing_before : {A : Type 0} → (before after : List A) (y : A) → [] ≡ before ++ y ∷ after → ⊥
-nothing_before [] after y e = cc
-nothing_before (b ∷ before) after y e = cc
-
 pub each_none : {A : Type 0} → (P : List A → A → Type 0) → Each P []
-each_none P before after y e = absurd (nothing_before before after y e)
+each_none P before after y e = absurd (nothing_there before after y e)
 
 -- where two lists are split, the split is in the first or in the second
 split_both : {A : Type 0} → (xs ys before after : List A) (y : A) → xs ++ ys ≡ before ++ y ∷ after
@@ -38,7 +36,7 @@ one_behind : {A : Type 0} → (P : List A → A → Type 0) (xs : List A) (x : A
 one_behind P xs x here [] after y e = let same : x ≡ y = cc in rw (append-nil xs, ← same) here
 one_behind {A} P xs x here (b ∷ before) after y e =
     let none : List A = [] in
-    let tail : none ≡ before ++ y ∷ after = cc in absurd (nothing_before before after y tail)
+    let tail : none ≡ before ++ y ∷ after = cc in absurd (nothing_there before after y tail)
 
 -- one more element
 pub each_more : {A : Type 0} → (P : List A → A → Type 0) (xs : List A) (x : A) → Each P xs → P xs x → Each P (xs ++ x ∷ [])
@@ -49,13 +47,5 @@ each_one P x here = one_behind P [] x here
 
 -- ---- a test that nothing passes
 
-or_none : (a b : Bool) → a ≡ false → b ≡ false → (a || b) ≡ false
-or_none true b first second = cc
-or_none false b first second = second
-
 pub none_of_both : {A : Type 0} → (p : A → Bool) (xs ys : List A) → list_any p xs ≡ false → list_any p ys ≡ false → list_any p (xs ++ ys) ≡ false
-none_of_both p xs ys first second = list_any-append p xs ys ∙ or_none (list_any p xs) (list_any p ys) first second
-
-pub no_front : {A : Type 0} → (xs ys : List A) → xs ++ ys ≡ [] → xs ≡ []
-no_front [] ys e = refl
-no_front (x ∷ xs) ys e = cc
+none_of_both p xs ys first second = list_any-append p xs ys ∙ or_neither (list_any p xs) (list_any p ys) first second

@@ -20,11 +20,10 @@ use Rattle.serving_wires.specs.Following.{is_on}
 use Rattle.client_serving.specs.Run.{GoesOnTo, IsQuiet}
 use Rattle.client_serving.specs.Serving.{after_events, begun, served_by}
 use Rattle.serving_wires.specs.WireLaws.{WireLaws}
-use Rattle.client_serving.proofs.Placing.{EachBehind, each_both, no_front, none_of_both}
+use Rattle.client_serving.proofs.Placing.{EachBehind, each_both, none_of_both}
 use Rattle.client_serving.proofs.Running.{Made, Runs, events_both, no_more_event, own_channel}
-
-same_number : (m n : ℕ) → m ≡ n → (m == n) ≡ true
-same_number m n is = elim (eqb_tells m n) as (λ _. (m == n) ≡ true) [ inl p ↦ p.0 | inr p ↦ absurd (p.1 is) ]
+use Rattle.list_laws.proofs.Numbers.{same_number}
+use Rattle.list_laws.proofs.Lists.{none_before as no_front}
 
 -- what is put can be: an event has come, or the script has ended the run
 abbrev pub CanPut : ℕ → List ScriptLine → List WireCall → Type 0

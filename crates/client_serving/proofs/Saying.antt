@@ -15,6 +15,7 @@ use Rattle.client_serving.specs.declared.end.ClientEnd.TheVariants.{Done, Ended,
 use Rattle.client_serving.proofs.Standing.{IsOpenEnd}
 use Rattle.client_serving.proofs.Lining.{none_pending}
 use Rattle.client_serving.proofs.Ending.{Stands, StandsAt, by_channel, by_stop, event_stands, gathered_stands, open_cause, shut_cause, went_on_stands}
+use Rattle.list_laws.proofs.Flags.{or_false}
 
 new_is_open : (body : List ℕ) (mark : Option ℕ) → IsOpenEnd (new_end body mark)
 new_is_open body mark = record { pending = refl; staying = refl; stop = tt }
@@ -22,10 +23,6 @@ new_is_open body mark = record { pending = refl; staying = refl; stop = tt }
 begun_stands : (channel : ℕ) (script : List ScriptLine) → Stands (begun channel script) false
 begun_stands channel script =
     gathered_stands (went_on (opened_with channel script)) false (went_on_stands (opened_with channel script) (new_is_open client_services None))
-
-or_false : (b : Bool) → (b || false) ≡ b
-or_false true = refl
-or_false false = refl
 
 or_both : (a b c : Bool) → ((a || b) || c) ≡ (a || (b || c))
 or_both true b c = refl

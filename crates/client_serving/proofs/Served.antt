@@ -24,6 +24,7 @@ use Rattle.client_serving.specs.ServingValue.{ServingValue}
 use Rattle.client_serving.specs.declared.end.ClientEnd.{ClientEnd}
 use Rattle.client_serving.specs.declared.end.ClientEnd.TheVariants.{Done}
 use Rattle.client_serving.proofs.Apart.{gathered_from, outbox_stays, went_on_apart}
+use Rattle.client_serving.proofs.Gathering.{with_end}
 
 -- ---- one more call of a client
 
@@ -133,9 +134,6 @@ record GivesFirst (c : ClientValue) (out : Outgoing) (outs : List Outgoing) : Ty
   first : given c ≡ Some out
   rest : queue_of (after_giving c).channel ≡ outs
   same : client_emptied (after_giving c) ≡ client_emptied c
-
-abbrev with_end : Bool → List Outgoing → EndValue ℕ → ClientValue → ClientValue
-with_end spent queue e c = record c { channel = Some (record e { is_spent = spent; queued = queue }) }
 
 first_by : (spent : Bool) (queue : List Outgoing) (e : EndValue ℕ) (c : ClientValue) (out : Outgoing) (outs : List Outgoing) → queue_of (with_end spent queue e c).channel ≡ out ∷ outs
     → GivesFirst (with_end spent queue e c) out outs

@@ -12,6 +12,3 @@ pub use client_node::ClientNode;
 pub use end::{ClientEnd, ClientRun};
 pub use laws::{an_end_is_what_it_says, what_is_served_is_a_client};
 pub use run::run_client;
-
-#[cfg(test)]
-mod tests;

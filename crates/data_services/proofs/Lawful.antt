@@ -1,5 +1,5 @@
 -- Why the laws hold: a command by its fault, and one part after the other.
-use Rattle.std.proofs.Common.{◌≡◌, ◌≢◌, ℕ, ℤ, pos, negsuc, ◌+◌, ◌≤◌, ◌<◌, nat_eq, nat_lt, unsigned_abs, Bool, true, false, not, ◌||◌, cond, is_none, List, [], ◌∷◌, ◌++◌, length, get_or, slice_set, take, drop, Option, Some, None, option_map, option_and_then, refl, sym, ◌∙◌, ap, arith, eqb-true}
+use Rattle.std.proofs.Common.{◌≡◌, ◌≢◌, ℕ, ℤ, pos, negsuc, ◌+◌, ◌≤◌, ◌<◌, nat_eq, nat_lt, unsigned_abs, Bool, true, false, not, cond, is_none, List, [], ◌∷◌, ◌++◌, length, get_or, slice_set, take, drop, Option, Some, None, option_map, option_and_then, refl, sym, ◌∙◌, ap, arith, eqb-true}
 use Rattle.std.specs.List.{list_any}
 use Rattle.std.specs.Int.{w32, from_le_bytes}
 use Rattle.std.proofs.lemmas.Bool.{eq-eqb, ltb-false, ltb-true, ne_eqb}
@@ -32,6 +32,7 @@ use Rattle.tcf_values.specs.declared.faults.Fault.{Fault}
 use Rattle.tcf_values.specs.declared.faults.Fault.TheVariants.{BadAddress, BadContext, IsRunning, BadSize}
 use Rattle.data_services.specs.declared.parts.Part.{Part}
 use Rattle.data_services.proofs.PartSteps.{changed_process}
+use Rattle.list_laws.proofs.Flags.{not_false, neither}
 
 -- ---- failures
 
@@ -91,10 +92,6 @@ stays_register : ChangesOne → (register : Option RegisterId) (word number : �
 stays_register law None word number targets other = refl
 stays_register law (Some register) word number targets other = stays_but law (with_word register.index word) register.process number targets other
 
-neither : (a b : Bool) → a || b ≡ false → (a ≡ false) × (b ≡ false)
-neither true b e = cc
-neither false b e = (refl, e)
-
 stays_parts : ChangesOne → (parts : List Part) (bytes : List ℕ) (number : ℕ) (targets : TargetsValue) → list_any (λ part. nat_eq part.register.process number) parts ≡ false → Stays number targets (with_parts parts bytes targets)
 stays_parts law [] bytes number targets other = refl
 stays_parts law (part ∷ parts) bytes number targets other =
@@ -119,10 +116,6 @@ others_stay law _ targets number other = refl
 passed : (check : Bool) (fault : Fault) (rest : Option Fault) → cond check (Some fault) rest ≡ None → (check ≡ false) × (rest ≡ None)
 passed true fault rest e = cc
 passed false fault rest e = (refl, e)
-
-not_not : (b : Bool) → not b ≡ false → b ≡ true
-not_not true e = refl
-not_not false e = cc
 
 no_fault : (fault : Option Fault) (given : Effect) → (effect_by fault given).answer ≡ Nothing → fault ≡ None
 unfolding failed
@@ -167,7 +160,7 @@ memory_set_is_got law id addr word size mode bytes targets process there whole a
     let left : data_after (MemSet id addr word size mode bytes) targets ≡ after = ap (λ (f : Option Fault). targets_by f after targets) fault in
     let named : process_named id after.processes ≡ Some (change process) = named_after law change (number_named id) targets process there in
     let within : unsigned_abs addr ≤ length process.memory = omega (arith, inside addr size sized.0 placed.0, whole) in
-    let count : length bytes ≡ unsigned_abs size = eqb-true (length bytes) (unsigned_abs size) (not_not _ filled.0) in
+    let count : length bytes ≡ unsigned_abs size = eqb-true (length bytes) (unsigned_abs size) (not_false _ filled.0) in
     ap (λ (t : TargetsValue). data_effect (MemGet id addr word size mode) t) left
     ∙ ap (λ (p : Option Process). got addr size p (is_no_size size) (is_outside addr size)) named
     ∙ ap (λ (b : Bool). got addr size (Some (change process)) b (is_outside addr size)) sized.0
@@ -223,7 +216,7 @@ register_set_is_got law id bytes targets register process named nonzero there ha
     ap (λ (r : Option RegisterId). option_and_then (process_with after.processes) r) named
     ∙ thread_by law change register.process targets process (nat_eq register.thread 1) was in
     let stands : runs process.state ≡ false = sym (ap is_running there) ∙ still.0 in
-    let four : length bytes ≡ 4 = eqb-true (length bytes) 4 (not_not _ filled.0) in
+    let four : length bytes ≡ 4 = eqb-true (length bytes) 4 (not_false _ filled.0) in
     ap (λ (t : TargetsValue). data_effect (RegGet id) t) left
     ∙ ap (λ (r : Option RegisterId). read r (holder_of id after.processes)) named
     ∙ ap (λ (p : Option Process). read (Some register) p) now

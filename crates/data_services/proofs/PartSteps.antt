@@ -42,14 +42,14 @@ names_found rows parts i part split pc off = ap (λ (ps : List Part). names_off 
 
 -- ---- a change of one process
 
-live_at : (number : ℕ) (rows : List (ℕ × Process)) (process : Process) (place : ℕ) → place_of number rows ≡ Some place → (row : Option (ℕ × Process)) → slice_get rows place ≡ row → option_map (λ (r : ℕ × Process). r.1) row ≡ Some process → IsLive number rows
+pub live_at : (number : ℕ) (rows : List (ℕ × Process)) (process : Process) (place : ℕ) → place_of number rows ≡ Some place → (row : Option (ℕ × Process)) → slice_get rows place ≡ row → option_map (λ (r : ℕ × Process). r.1) row ≡ Some process → IsLive number rows
 live_at number rows process place found None read there = cc
 live_at number rows process place found (Some row) read there =
     let facts = position-Some (λ (r : ℕ × Process). nat_eq r.0 number) rows place row found in
     let same : get_or rows place row ≡ row = get_or_from_slice_get rows place row row read in
     (place, row, facts.0, same, ap (λ (r : ℕ × Process). r.0) (sym same) ∙ eqb-true (get_or rows place row).0 number facts.1)
 
-live_by : (number : ℕ) (rows : List (ℕ × Process)) (process : Process) (place : Option ℕ) → place_of number rows ≡ place → process_at rows place ≡ Some process → IsLive number rows
+pub live_by : (number : ℕ) (rows : List (ℕ × Process)) (process : Process) (place : Option ℕ) → place_of number rows ≡ place → process_at rows place ≡ Some process → IsLive number rows
 live_by number rows process None found there = cc
 live_by number rows process (Some place) found there =
     live_at number rows process place found (slice_get rows place) refl there
@@ -58,7 +58,7 @@ live_by number rows process (Some place) found there =
 pub live_found : (number : ℕ) (rows : List (ℕ × Process)) (process : Process) → process_of number rows ≡ Some process → IsLive number rows
 live_found number rows process there = live_by number rows process (place_of number rows) refl there
 
-changed_by : ChangesOne → (change : Process → Process) (n number : ℕ) (targets : TargetsValue) (found : Option Process) → process_of n targets.processes ≡ found → (same : Bool) → nat_eq n number ≡ same →
+pub changed_by : ChangesOne → (change : Process → Process) (n number : ℕ) (targets : TargetsValue) (found : Option Process) → process_of n targets.processes ≡ found → (same : Bool) → nat_eq n number ≡ same →
     process_of number (with_change_at change n found targets).processes ≡ cond same (option_map change (process_of number targets.processes)) (process_of number targets.processes)
 changed_by law change n number targets None there true e =
     let missing : process_of number targets.processes ≡ None = ap (λ (m : ℕ). process_of m targets.processes) (sym (eqb-true n number e)) ∙ there in

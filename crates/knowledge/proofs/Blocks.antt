@@ -12,20 +12,13 @@ use Rattle.knowledge.specs.Facts.{Facts}
 use Rattle.knowledge.specs.KnowledgeValue.{blocks_after, blocks_after_all, has_block_byte}
 use Rattle.knowledge.specs.Laws.{AreKnown, BlocksAreLearned, ReadIsKnown}
 use Rattle.knowledge.specs.Learning.{changes_of}
+use Rattle.list_laws.proofs.Flags.{or_left, or_right}
 
 -- the block is of the process, and has the byte
 abbrev pub holds : ℕ → ℕ → ℕ → Block → Bool
 holds process place byte block = nat_eq block.process process && has_byte block.addr block.bytes place byte
 
 -- ---- one of several
-
-or_left : (a b : Bool) → a ≡ true → (a || b) ≡ true
-or_left true b is = refl
-or_left false b is = cc
-
-pub or_right : (a b : Bool) → b ≡ true → (a || b) ≡ true
-or_right true b is = refl
-or_right false b is = is
 
 pub or_cases : (a b : Bool) {C : Type 0} → (a || b) ≡ true → (a ≡ true → C) → (b ≡ true → C) → C
 or_cases true b is one two = one refl

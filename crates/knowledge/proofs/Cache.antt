@@ -10,7 +10,7 @@ use Rattle.knowledge.specs.Learning.{Message, bad_event_taken, changes_of, learn
 use Rattle.knowledge.proofs.Blocks.{known_after_all}
 use Rattle.knowledge.proofs.Same.{after_all_same, blocks_all_same, same_then}
 
-learn_all-append : (messages : List Message) (message : Message) (known : Facts) → learn_all (messages ++ message ∷ []) known ≡ learn message (learn_all messages known)
+pub learn_all-append : (messages : List Message) (message : Message) (known : Facts) → learn_all (messages ++ message ∷ []) known ≡ learn message (learn_all messages known)
 learn_all-append [] message known = refl
 learn_all-append (first ∷ messages) message known = learn_all-append messages message (learn first known)
 

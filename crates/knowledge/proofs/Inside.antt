@@ -1,5 +1,5 @@
 -- The bytes that messages teach lie in memory, so a range that a cache covers does.
-use Rattle.std.proofs.Common.{◌≡◌, ℕ, ℤ, pos, negsuc, ◌+◌, ◌-◌, ◌<◌, ◌≤◌, zero, suc, Bool, true, false, cond, ◌&&◌, ◌||◌, nat_eq, List, [], ◌∷◌, ◌++◌, length, take, drop, find, slice_get, Option, Some, None, option_map, refl, sym, ap, ◌∙◌, arith, length-drop, length-take}
+use Rattle.std.proofs.Common.{◌≡◌, ℕ, ℤ, pos, negsuc, ◌+◌, ◌-◌, ◌<◌, ◌≤◌, zero, suc, Bool, true, false, cond, ◌&&◌, ◌||◌, nat_eq, List, [], ◌∷◌, ◌++◌, length, take, drop, find, slice_get, Option, Some, None, option_map, refl, sym, ap, ◌∙◌, arith}
 use Rattle.std.specs.Prelude.{nat_lt, unsigned_abs}
 use Rattle.std.specs.List.{AllByRecursion}
 use Rattle.std.proofs.lemmas.Bool.{and_parts, both_ways, eqb-true, leb-true, ltb-false, not-true, or_parts}
@@ -25,6 +25,7 @@ use Rattle.knowledge.specs.Learning.{Message, answer_taken, bad_event_taken, cha
 use Rattle.knowledge.specs.Rows.{added_context, answer_changes, are_of_range, changed_context, changed_register, context_answered, event_changes, is_outside, is_part, memory_answered, memory_changes, memory_read, moved_for, parts_read, process_for, properties_answered, register_answered, registers_answered, removed_context, removed_properties, state_answered, state_changes, state_of_thread, status_answered, told_properties, whole_read, word_read}
 use Rattle.knowledge.proofs.Blocks.{byte_there, or_cases, read_is_known}
 use Rattle.knowledge.proofs.Monotone.{IsPlain, memory_plain, plain-append, plain_each, register_plain, stale_plain}
+use Rattle.list_laws.proofs.Lists.{taken}
 
 -- what is read of memory lies in it
 abbrev Fits : Change → Type 0
@@ -207,15 +208,12 @@ inside_learned (message ∷ messages) known inside =
 
 -- ---- a range that is covered
 
-taken : (size first start : ℕ) (bytes : List ℕ) → start ≤ first → first + size ≤ start + length bytes → length (take size (drop (first - start) bytes)) ≡ size
-taken size first start bytes begins ends = omega (arith, length-take size (drop (first - start) bytes), length-drop (first - start) bytes)
-
-part_length : (process addr size : ℕ) (block : Block) → has_range process addr size block ≡ true → length (part addr size block) ≡ size
+pub part_length : (process addr size : ℕ) (block : Block) → has_range process addr size block ≡ true → length (part addr size block) ≡ size
 part_length process addr size block has =
     let parts = and_parts _ _ has in
     taken size addr block.addr block.bytes (leb-true _ _ (and_parts _ _ parts.0).1) (leb-true _ _ parts.1)
 
-length_by : (process addr size : ℕ) (bytes : List ℕ) (block : Block) (blocks : List Block) (b : Bool) → has_range process addr size block ≡ b
+pub length_by : (process addr size : ℕ) (bytes : List ℕ) (block : Block) (blocks : List Block) (b : Bool) → has_range process addr size block ≡ b
     → (covered process addr size blocks ≡ Some bytes → length bytes ≡ size)
     → option_map (part addr size) (cond b (Some block) (find (has_range process addr size) blocks)) ≡ Some bytes → length bytes ≡ size
 length_by process addr size bytes block blocks true has rest is =

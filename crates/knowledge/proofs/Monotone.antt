@@ -1,5 +1,5 @@
 -- Who knows a part of what another knows still does when both take a message.
-use Rattle.std.proofs.Common.{◌≡◌, ℕ, Bool, true, false, cond, ◌&&◌, ◌||◌, List, [], ◌∷◌, ◌++◌, Option, Some, None, nat_eq, length, take, drop, refl, sym, ap, ◌∙◌, subst}
+use Rattle.std.proofs.Common.{◌≡◌, ℕ, Bool, true, false, cond, ◌&&◌, List, [], ◌∷◌, ◌++◌, Option, Some, None, nat_eq, length, take, drop, refl, sym, ap, ◌∙◌, subst}
 use Rattle.std.specs.Prelude.{ℤ, bytes_eq, unsigned_abs}
 use Rattle.std.specs.Int.{w32, from_le_bytes}
 use Rattle.std.specs.List.{AllByRecursion}
@@ -27,6 +27,7 @@ use Rattle.knowledge.specs.Learning.{Message, event_taken, bad_event_taken, answ
 use Rattle.knowledge.specs.Rows.{added_context, answer_changes, are_of_range, changed_context, changed_range, changed_register, context_answered, event_changes, is_outside, is_part, memory_answered, memory_changes, memory_read, moved_for, parts_read, process_for, properties_answered, register_answered, registers_answered, removed_context, removed_properties, stale_for, state_answered, state_changes, state_of_thread, status_answered, told_properties, whole_read, word_read}
 use Rattle.knowledge.specs.declared.state.StateFact.{StateFact}
 use Rattle.knowledge.proofs.Same.{after_all-append}
+use Rattle.list_laws.proofs.Flags.{or_then}
 
 -- a part, kind by kind
 pub record IsWithin (some more : Facts) : Type 0 where
@@ -140,11 +141,6 @@ still_by : (s r : Option StateFact) → ((x : StateFact) → s ≡ Some x → r 
 still_by None r part is = absurd (both_ways false refl is)
 still_by (Some x) r part is = ap is_suspended (part x refl) ∙ is
 
-or_then : (a b c d : Bool) → (a ≡ true → c ≡ true) → (b ≡ true → d ≡ true) → (a || b) ≡ true → (c || d) ≡ true
-or_then true b c d one two is = ap (λ e. e || d) (one refl)
-or_then false b true d one two is = refl
-or_then false b false d one two is = two is
-
 and_then : (a b c : Bool) → (a ≡ true → c ≡ true) → (a && b) ≡ true → (c && b) ≡ true
 and_then true b c one is = ap (λ e. e && b) (one refl) ∙ is
 and_then false b c one is = absurd (both_ways false refl is)
@@ -167,7 +163,7 @@ unread_by process thread index value some more none within true p t i x true her
 unread_by process thread index value some more none within true p t i x false here is = within.registers p t i x is
 unread_by process thread index value some more none within false p t i x b here is = within.registers p t i x is
 
-cond_at : (c : Bool) (f g : ℕ → ℕ → ℕ → Option ℕ) (p t i : ℕ) → cond c f g p t i ≡ cond c (f p t i) (g p t i)
+pub cond_at : (c : Bool) (f g : ℕ → ℕ → ℕ → Option ℕ) (p t i : ℕ) → cond c f g p t i ≡ cond c (f p t i) (g p t i)
 cond_at true f g p t i = refl
 cond_at false f g p t i = refl
 

@@ -13,20 +13,21 @@ use Rattle.knowledge.specs.KnowledgeValue.{IsCacheOf, KnowledgeValue, has_block_
 use Rattle.knowledge.specs.Learning.{Message}
 use Rattle.knowledge.specs.Reply.{bytes_or_none, memory_used, part_known, parts_bytes}
 use Rattle.knowledge.specs.declared.span.Asked.{Asked}
-use Rattle.knowledge.proofs.Blocks.{any_take, holds, or_cases, or_right}
+use Rattle.knowledge.proofs.Blocks.{any_take, holds, or_cases}
+use Rattle.list_laws.proofs.Flags.{or_right}
 
 -- ---- a block that is used
 
-any_drop : (p : Block → Bool) (n : ℕ) (blocks : List Block) → list_any p (drop n blocks) ≡ true → list_any p blocks ≡ true
+pub any_drop : (p : Block → Bool) (n : ℕ) (blocks : List Block) → list_any p (drop n blocks) ≡ true → list_any p blocks ≡ true
 any_drop p zero blocks is = is
 any_drop p (suc n) [] is = is
 any_drop p (suc n) (block ∷ blocks) is = or_right (p block) (list_any p blocks) (any_drop p n blocks is)
 
-any_joined : (p : Block → Bool) (xs ys blocks : List Block) → (list_any p xs ≡ true → list_any p blocks ≡ true) → (list_any p ys ≡ true → list_any p blocks ≡ true)
+pub any_joined : (p : Block → Bool) (xs ys blocks : List Block) → (list_any p xs ≡ true → list_any p blocks ≡ true) → (list_any p ys ≡ true → list_any p blocks ≡ true)
     → list_any p (xs ++ ys) ≡ true → list_any p blocks ≡ true
 any_joined p xs ys blocks one two is = or_cases (list_any p xs) (list_any p ys) (sym (list_any-append p xs ys) ∙ is) one two
 
-any_moved : (p : Block → Bool) (place : Option ℕ) (blocks : List Block) → list_any p (moved_first place blocks) ≡ true → list_any p blocks ≡ true
+pub any_moved : (p : Block → Bool) (place : Option ℕ) (blocks : List Block) → list_any p (moved_first place blocks) ≡ true → list_any p blocks ≡ true
 any_moved p None blocks is = is
 any_moved p (Some at) blocks is =
     any_joined p (take 1 (drop at blocks)) (remove blocks at) blocks

@@ -39,6 +39,3 @@ pub fn good_word(text: &[u8]) -> Option<&[u8]>
 {
     if is_word(text) { Some(text) } else { None }
 }
-
-#[cfg(test)]
-mod tests;

@@ -8,8 +8,6 @@ mod drawn;
 mod generating;
 pub mod laws;
 mod summary;
-#[cfg(test)]
-mod tests;
 
 pub use generating::generate;
 pub use summary::write_summary;

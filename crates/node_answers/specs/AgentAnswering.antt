@@ -6,8 +6,8 @@ use Rattle.channel_core.specs.Arrivals.{Spoken}
 use Rattle.channel_core.specs.QueueLaws.{is_commanding}
 use Rattle.channel_core.specs.ReceivingLaws.{SendsReadable}
 use Rattle.channel_core.specs.Wire.{hello, locator}
-use Rattle.channel_rest.specs.Meeting.{AnswersAll}
-use Rattle.channel_rest.specs.Numbering.{TakesNumbered}
+use Rattle.channel_laws.specs.Meeting.{AnswersAll}
+use Rattle.channel_laws.specs.Numbering.{TakesNumbered}
 use Rattle.target_contexts.specs.declared.process.Image.{Image}
 use Rattle.target_hub.specs.Sent.{agent_services}
 use Rattle.tcf_message.specs.Message.{IsWellFormed, event}

@@ -1,8 +1,8 @@
 -- What a value-add has answered of what it was asked from below.
 use Rattle.std.specs.Prelude.{◌≡◌, List}
 use Rattle.channel_core.specs.Arrivals.{Spoken}
-use Rattle.channel_rest.specs.Meeting.{AnswersAll, IsFree}
-use Rattle.channel_rest.specs.Numbering.{TakesNumbered}
+use Rattle.channel_laws.specs.Meeting.{AnswersAll, IsFree}
+use Rattle.channel_laws.specs.Numbering.{TakesNumbered}
 use Rattle.value_node.specs.Runs.{ValueRun, above, below}
 use Rattle.value_node.specs.declared.states.Bind.TheVariants.{Unbound, Bound}
 

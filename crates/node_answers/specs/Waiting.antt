@@ -7,8 +7,8 @@ use Rattle.channel_core.specs.QueueLaws.{is_message}
 use Rattle.channel_core.specs.ReceivingLaws.{incoming_of}
 use Rattle.channel_core.specs.Runs.{Run}
 use Rattle.channel_core.specs.declared.states.EndState.TheVariants.{Reopening}
-use Rattle.channel_rest.specs.Meeting.{all_said, answers_among, lacks_hello_behind, redirects_among}
-use Rattle.channel_rest.specs.Numbering.{TakesNumbered, tokens_among}
+use Rattle.channel_laws.specs.Meeting.{all_said, answers_among, lacks_hello_behind, redirects_among}
+use Rattle.channel_laws.specs.Numbering.{TakesNumbered, tokens_among}
 use Rattle.value_node.specs.Passing.{Upper}
 use Rattle.value_node.specs.Runs.{ValueRun, below}
 use Rattle.value_node.specs.declared.relay.Relay.{Relay}

@@ -6,16 +6,11 @@ use Rattle.std.proofs.lemmas.Bool.{and_parts, and_from}
 use Rattle.std.proofs.lemmas.List.{take_at, drop_at}
 use Rattle.std.proofs.lemmas.Str.{IsCharBoundary-after_ascii, IsCharBoundary-before_ascii, IsUtf8-append, IsUtf8-drop, IsUtf8-from_ascii, IsUtf8-from_is_utf8, IsUtf8-take, is_utf8-from_IsUtf8}
 use Rattle.json_args.specs.Parts.{joined}
+use Rattle.list_laws.proofs.Flags.{same_flag}
 
 abbrev pub all_utf8 : List (List ℕ) → Bool
 all_utf8 [] = true
 all_utf8 (part ∷ parts) = is_utf8 part && all_utf8 parts
-
-same_flag : (a b : Bool) → (a ≡ true → b ≡ true) → (b ≡ true → a ≡ true) → a ≡ b
-same_flag true true there back = refl
-same_flag true false there back = sym (there refl)
-same_flag false true there back = back refl
-same_flag false false there back = refl
 
 -- the first of two that isn't
 pub split_false : (a b : Bool) → (a && b) ≡ false → (a ≡ false) ⊎ ((a ≡ true) × (b ≡ false))

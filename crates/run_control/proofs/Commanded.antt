@@ -1,5 +1,5 @@
 -- What each command leaves is sound where the target was.
-use Rattle.std.proofs.Common.{◌≡◌, ℕ, zero, suc, ℤ, pos, Bool, true, false, cond, not, List, [], ◌∷◌, ◌++◌, Option, Some, None, is_none, option_map, refl, sym, ◌∙◌, ap, subst, inl, inr}
+use Rattle.std.proofs.Common.{◌≡◌, ℕ, zero, suc, ℤ, pos, Bool, true, false, cond, List, [], ◌∷◌, ◌++◌, Option, Some, None, is_none, option_map, refl, sym, ◌∙◌, ap, subst, inl, inr}
 use Rattle.std.specs.Option.{option_map_or}
 use Rattle.std.specs.Prelude.{unsigned_abs}
 use Rattle.tcf_values.specs.Faults.{first_fault}
@@ -29,6 +29,7 @@ use Rattle.run_control.specs.Steering.{is_no_count, is_no_mode, left_by, most_st
 use Rattle.run_control.specs.Tracing.{Trace, last_of, next_by, next_of, run_from, trace_after, trace_fate, trace_fault, trace_of, traced_at, up_to_hit}
 use Rattle.run_control.proofs.Changed.{changed_process, orderly_change, same_or_other}
 use Rattle.run_control.proofs.Soundness.{FateSound, fate_sound, sound_change, sound_end, sound_settled}
+use Rattle.list_laws.proofs.Flags.{not_false}
 
 -- ---- what the checks say
 
@@ -60,10 +61,6 @@ trace_stands id count rows free =
 runs_needs : (state : ThreadState) → runs state ≡ false → needs_debugger state ≡ true
 runs_needs (Running left) stands = absurd cc
 runs_needs (Suspended reason hits) stands = refl
-
-not_false : (b : Bool) → not b ≡ false → b ≡ true
-not_false true is = refl
-not_false false is = absurd cc
 
 -- a thread that doesn't run has an attached process
 stands_attached : (rows : List (ℕ × Process)) (named : Option ℕ) (n : ℕ) (p : Process) → AreSound rows → is_running (process_at_number named rows) ≡ false → named ≡ Some n → process_of n rows ≡ Some p → p.attached ≡ true

@@ -42,11 +42,11 @@ pub record Laws : Type 0 where
 
 -- ---- what a thread hits
 
-fewer : {A : Type 0} (test : Bool) (x : A) (xs : List A) (most : ℕ) → length xs ≤ most → length (cond test (x ∷ xs) xs) ≤ most + 1
+pub fewer : {A : Type 0} (test : Bool) (x : A) (xs : List A) (most : ℕ) → length xs ≤ most → length (cond test (x ∷ xs) xs) ≤ most + 1
 fewer true x xs most few = omega arith
 fewer false x xs most few = omega arith
 
-filter_fewer : {A : Type 0} (p : A → Bool) (xs : List A) → length (filter p xs) ≤ length xs
+pub filter_fewer : {A : Type 0} (p : A → Bool) (xs : List A) → length (filter p xs) ≤ length xs
 filter_fewer p [] = omega arith
 filter_fewer p (x ∷ xs) = omega (arith, fewer (p x) x (filter p xs) (length xs) (filter_fewer p xs))
 

@@ -307,6 +307,3 @@ fn j_immediate(word: u32) -> i32
     let rest = (field(word, 12, 8) << 12) + (field(word, 20, 1) << 11) + (field(word, 21, 10) << 1);
     (sign << 20) + rest as i32
 }
-
-#[cfg(test)]
-mod tests;

@@ -296,6 +296,3 @@ fn environment_call(cpu: &Cpu) -> Outcome
         Outcome::Exception
     }
 }
-
-#[cfg(test)]
-mod tests;

@@ -142,6 +142,3 @@ fn padded(alloc: Global, front: &[u8], size: usize) -> Result<Vec<u8>, AllocErro
     bytes.resize(size, 0)?;
     Ok(bytes)
 }
-
-#[cfg(test)]
-mod tests;

@@ -12,8 +12,8 @@ use Rattle.serving_wires.specs.Following.{Follows, IsFlushed, IsSplit, Spares}
 use Rattle.serving_wires.specs.Outbox.{Flushes, Puts, Shuts, is_due, lost as put_lost, none as put_none, nothing_left, taken as put_taken}
 use Rattle.serving_wires.specs.OutboxValue.{OutboxValue}
 use Rattle.serving_wires.specs.Serving.{IsCarried, is_put}
-use Rattle.serving_wires.proofs.Putting.{empty_by}
 use Rattle.serving_wires.proofs.Spared.{short_both, spared, stays_short}
+use Rattle.list_laws.proofs.Lists.{empty_by}
 
 -- ---- what is left behind a put was offered
 

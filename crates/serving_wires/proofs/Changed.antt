@@ -1,8 +1,8 @@
 -- What a change of a roster makes of its rows.
-use Rattle.std.proofs.Common.{◌≡◌, ◌≢◌, ℕ, zero, suc, ◌≤◌, ◌==◌, Bool, true, false, ◌||◌, List, [], ◌∷◌, ◌++◌, length, drop, None, Some, refl, sym, ap, ◌∙◌, subst, arith, append-nil, append_assoc, ne_eqb, eq-eqb}
+use Rattle.std.proofs.Common.{◌≡◌, ◌≢◌, ℕ, zero, suc, ◌≤◌, ◌==◌, Bool, true, false, ◌||◌, List, [], ◌∷◌, ◌++◌, length, drop, None, Some, refl, sym, ap, ◌∙◌, subst, arith, append-nil, append_assoc}
 use Rattle.std.specs.Prelude.{IsTrue, is_some, remove}
 use Rattle.std.specs.List.{list_any}
-use Rattle.std.proofs.lemmas.Bool.{false≢true, or_parts}
+use Rattle.std.proofs.lemmas.Bool.{or_parts}
 use Rattle.std.proofs.lemmas.List.{drop_all, take_all}
 use Rattle.std.proofs.lemmas.List.Folds.{list_any-append}
 use Rattle.std.proofs.lemmas.Option.{none-some, same_Some}
@@ -11,6 +11,7 @@ use Rattle.serving_wires.specs.Rows.{with_item_at}
 use Rattle.serving_wires.specs.Slots.{are_kept, row_of, rows_of}
 use Rattle.serving_wires.specs.declared.roster.Place.{Place}
 use Rattle.serving_wires.proofs.Found.{IsAside, all_kept, as_many, differs_from, first_kept, fresh_aside, kept_aside, key_of, removed_first, removed_later, rows_aside, with_first, with_later}
+use Rattle.list_laws.proofs.Numbers.{other_number}
 
 -- a write at a key changes the row of its place, and no other
 pub written : {T : Type 0} (slots new : Slab T) (places : List Place) (at key : ℕ) (item : T) → Updates slots new key (Some item) → IsTrue (are_kept slots places)
@@ -59,9 +60,6 @@ pushed slots new places place item u fresh kept =
     rows_both new places (place ∷ []) ∙ ap (λ rows. rows ++ (row_of place.channel (get new place.key) ++ [])) (rows_aside slots new place.key (Some item) places u (fresh_aside slots places place.key kept fresh))
     ∙ ap (λ o. rows_of slots places ++ (row_of place.channel o ++ [])) u.changed
 
-off_number : (m n : ℕ) → (m == n) ≡ false → (n == m) ≡ false
-off_number m n off = ne_eqb n m (λ same. false≢true (sym off ∙ eq-eqb m n (sym same)))
-
 kept_push : {T : Type 0} (new : Slab T) (places : List Place) (place : Place) → is_some (get new place.key) ≡ true → IsAside place.key places → IsTrue (are_kept new places)
     → IsTrue (are_kept new (places ++ place ∷ []))
 kept_push new [] place there aside kept = all_kept new place [] (record { there = there; own = refl; rest = refl })
@@ -72,7 +70,7 @@ kept_push new (first ∷ places) place there aside kept =
     (record {
       there = f.there;
       own = list_any-append (λ other. other.key == first.key) places (place ∷ [])
-          ∙ ap (λ (b : Bool). b || ((place.key == first.key) || false)) f.own ∙ ap (λ (b : Bool). b || false) (off_number first.key place.key parts.0);
+          ∙ ap (λ (b : Bool). b || ((place.key == first.key) || false)) f.own ∙ ap (λ (b : Bool). b || false) (other_number first.key place.key parts.0);
       rest = kept_push new places place there parts.1 f.rest;
     })
 

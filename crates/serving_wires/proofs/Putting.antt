@@ -1,5 +1,5 @@
 -- What an outbox has queued is put.
-use Rattle.std.proofs.Common.{◌≡◌, ℕ, ◌<◌, ◌≤◌, ◌==◌, Bool, true, false, List, [], ◌∷◌, length, drop, Option, refl, sym, ap, ◌∙◌, subst, arith, eqb-true}
+use Rattle.std.proofs.Common.{◌≡◌, ℕ, ◌<◌, ◌≤◌, ◌==◌, Bool, true, false, List, [], ◌∷◌, length, drop, Option, refl, sym, ap, ◌∙◌, subst, arith}
 use Rattle.std.specs.Prelude.{Result, Ok, Err, OnOk, OnErr, if◌then◌else◌}
 use Rattle.tcf_wires.specs.declared.call.WireCall.{WireCall}
 use Rattle.tcf_wires.specs.declared.call.WireCall.TheVariants.{Offered, Shut}
@@ -9,10 +9,7 @@ use Rattle.serving_wires.specs.Calls.{Makes, with_calls}
 use Rattle.serving_wires.specs.Outbox.{Flushes, IsGivenUp, Puts, Shuts, before_put, before_shut, is_due, lost, none, taken}
 use Rattle.serving_wires.specs.OutboxValue.{OutboxValue}
 use Rattle.serving_wires.proofs.Making.{makes_both, makes_none, makes_nothing, makes_one}
-
-pub empty_by : (xs : List ℕ) → (length xs == 0) ≡ true → xs ≡ []
-empty_by [] is = refl
-empty_by (x ∷ xs) is = absurd (omega (arith, eqb-true (length (x ∷ xs)) 0 is))
+use Rattle.list_laws.proofs.Lists.{empty_by}
 
 some_by : (xs : List ℕ) → (length xs == 0) ≡ false → 0 < length xs
 some_by [] is = cc

@@ -1,5 +1,5 @@
 -- What is kept of a channel, by cases on the rows.
-use Rattle.std.proofs.Common.{◌≡◌, ℕ, suc, ◌+◌, ◌<◌, ◌≤◌, ◌==◌, ◌⊎◌, inl, inr, Bool, true, false, ◌||◌, not, cond, nat_lt, List, [], ◌∷◌, ◌++◌, length, Option, Some, None, refl, sym, ap, ◌∙◌, arith, ne_eqb, one-add, lt-ltb, le-ltb, ltb-true, ltb-false}
+use Rattle.std.proofs.Common.{◌≡◌, ℕ, suc, ◌+◌, ◌<◌, ◌≤◌, ◌==◌, ◌⊎◌, inl, inr, Bool, true, false, ◌||◌, not, cond, nat_lt, List, [], ◌∷◌, ◌++◌, length, Option, Some, None, refl, sym, ap, ◌∙◌, arith, ne_eqb, one-add, lt-ltb}
 use Rattle.std.specs.Prelude.{map, option_map, position, slice_get}
 use Rattle.std.specs.List.{AllByRecursion, list_any, position_or_len}
 use Rattle.std.proofs.lemmas.Bool.{or_parts}
@@ -7,6 +7,7 @@ use Rattle.std.proofs.lemmas.Option.{none-some, same_Some}
 use Rattle.serving_wires.specs.Row.{Row}
 use Rattle.serving_wires.specs.Rows.{item_at, place_of, with_item, with_item_at}
 use Rattle.serving_wires.specs.Changes.{changed_at, changed_by, changed_on, item_in, item_on}
+use Rattle.list_laws.proofs.Numbers.{lt_more}
 
 abbrev pub found : {T : Type 0} → ℕ → List (Row T) → Option T
 found channel [] = None
@@ -99,13 +100,6 @@ below_push high channel [] last below = (last, tt)
 below_push high channel (k ∷ ks) last (first, rest) = (first, below_push high channel ks last rest)
 
 -- ---- so does the place of a channel
-
-pub lt_more : (p n : ℕ) → nat_lt (suc p) (suc n) ≡ nat_lt p n
-lt_more p n = by_flag (nat_lt p n) refl
-  where
-    by_flag : (flag : Bool) → nat_lt p n ≡ flag → nat_lt (suc p) (suc n) ≡ nat_lt p n
-    by_flag true is = let less : p < n = ltb-true p n is in lt-ltb (suc p) (suc n) (omega arith) ∙ sym is
-    by_flag false is = let more : n ≤ p = ltb-false p n is in le-ltb (suc p) (suc n) (omega arith) ∙ sym is
 
 abbrev pub within : Bool → ℕ → Option ℕ
 within flag place = cond flag (Some place) None

@@ -19,6 +19,3 @@ pub use laws::{
 };
 pub use outbox::{END_OF_STREAM, Outbox};
 pub use roster::Roster;
-
-#[cfg(test)]
-mod tests;

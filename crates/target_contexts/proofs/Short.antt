@@ -1,5 +1,5 @@
 -- The names, the reasons and the hits of the processes stay short.
-use Rattle.std.proofs.Common.{◌≡◌, ◌≤◌, ℕ, zero, suc, Bool, true, false, cond, nat_le, bytes_eq, List, [], ◌∷◌, ◌++◌, length, take, drop, slice_get, slice_set, Option, Some, None, option_map, IfSome, refl, subst, lit≤, leb-true}
+use Rattle.std.proofs.Common.{◌≡◌, ◌≤◌, ℕ, zero, suc, Bool, true, false, cond, nat_le, bytes_eq, List, [], ◌∷◌, length, take, drop, slice_get, slice_set, Option, Some, None, option_map, IfSome, refl, subst, lit≤, leb-true}
 use Rattle.std.specs.List.{AllByRecursion}
 use Rattle.std.proofs.lemmas.Bool.{and_parts}
 use Rattle.target_contexts.specs.Changes.{with_change_at}
@@ -10,25 +10,12 @@ use Rattle.target_contexts.specs.Starting.{first_state, new_process, suspended_t
 use Rattle.target_contexts.specs.TargetsValue.{TargetsValue}
 use Rattle.target_contexts.specs.declared.process.Image.{Image}
 use Rattle.target_contexts.specs.declared.process.Process.{Process}
+use Rattle.list_laws.proofs.AllLists.{all_take, all_append, all_drop}
 
 abbrev IsRow : ℕ × Process → Type 0
 IsRow row = IsShort row.1
 
 -- ---- lists
-
-all_append : {A : Type 0} → (P : A → Type 0) (xs ys : List A) → AllByRecursion P xs → AllByRecursion P ys → AllByRecursion P (xs ++ ys)
-all_append P [] ys left right = right
-all_append P (x ∷ xs) ys left right = (left.0, all_append P xs ys left.1 right)
-
-all_take : {A : Type 0} → (P : A → Type 0) (n : ℕ) (xs : List A) → AllByRecursion P xs → AllByRecursion P (take n xs)
-all_take P zero xs all = tt
-all_take P (suc n) [] all = tt
-all_take P (suc n) (x ∷ xs) all = (all.0, all_take P n xs all.1)
-
-all_drop : {A : Type 0} → (P : A → Type 0) (n : ℕ) (xs : List A) → AllByRecursion P xs → AllByRecursion P (drop n xs)
-all_drop P zero xs all = all
-all_drop P (suc n) [] all = tt
-all_drop P (suc n) (x ∷ xs) all = all_drop P n xs all.1
 
 all_set : {A : Type 0} → (P : A → Type 0) (xs : List A) (i : ℕ) (y : A) → P y → AllByRecursion P xs → AllByRecursion P (slice_set xs i y)
 all_set P [] i y holds all = tt

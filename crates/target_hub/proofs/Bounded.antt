@@ -21,7 +21,7 @@ abbrev after : List Image → List Input → Target
 after images inputs = inputs_after inputs (new_target images)
 
 -- the front of a legal list is legal
-front_legal : (images : List Image) (front rest : List Input) → IsLegal images (front ++ rest) → IsLegal images front
+pub front_legal : (images : List Image) (front rest : List Input) → IsLegal images (front ++ rest) → IsLegal images front
 front_legal images front rest legal before input more split =
     legal before input (more ++ rest) (ap (λ (inputs : List Input). inputs ++ rest) split ∙ append_assoc before (input ∷ more) rest)
 
@@ -36,7 +36,7 @@ input_short laws (Executed channel reading service name) target bounded = laws.c
 input_short laws (Ticked thread) target bounded = laws.ticks thread target bounded
 input_short laws (Closed channel) target bounded = bounded.processes
 
-inputs_append : (xs ys : List Input) (target : Target) → inputs_after (xs ++ ys) target ≡ inputs_after ys (inputs_after xs target)
+pub inputs_append : (xs ys : List Input) (target : Target) → inputs_after (xs ++ ys) target ≡ inputs_after ys (inputs_after xs target)
 inputs_append [] ys target = refl
 inputs_append (x ∷ xs) ys target = inputs_append xs ys (input_after x target)
 

@@ -1,5 +1,5 @@
 -- The events of each command can be written.
-use Rattle.std.proofs.Common.{◌≡◌, ℕ, ℤ, pos, negsuc, ◌^◌, Bool, true, false, cond, ◌||◌, List, [], ◌∷◌, ◌++◌, Option, Some, None, refl, slice_get, ◌+◌, ◌≤◌, arith, lit<}
+use Rattle.std.proofs.Common.{◌≡◌, ℕ, ℤ, pos, negsuc, ◌^◌, Bool, true, false, cond, List, [], ◌∷◌, ◌++◌, Option, Some, None, refl, slice_get, ◌+◌, ◌≤◌, arith, lit<}
 use Rattle.std.proofs.lemmas.Bool.{ltb-false}
 use Rattle.std.specs.Prelude.{int_lt, unsigned_abs}
 use Rattle.std.specs.List.{AllByRecursion}
@@ -41,8 +41,10 @@ use Rattle.target_hub.specs.BreakpointsRows as bp_rows
 use Rattle.target_hub.specs.Execution.{effect_in, exec_effect}
 use Rattle.target_hub.specs.Limits.{AreEvents, AreReadable}
 use Rattle.target_hub.specs.declared.target.Target.{Target}
-use Rattle.target_hub.proofs.Lists.{all_append, all_filter, all_map, all_mapped}
+use Rattle.target_hub.proofs.Lists.{all_mapped}
 use Rattle.target_hub.proofs.Told.{added_fit, changed_fit, end_fits, status_fits, statuses_fit, suspended_fit, trace_fits}
+use Rattle.list_laws.proofs.Flags.{second_false}
+use Rattle.list_laws.proofs.AllLists.{all_append, all_filter, all_map}
 
 -- ---- a command that fails tells nothing
 
@@ -119,10 +121,6 @@ run_told command bps targets = by_fault (run_fault command targets) _ (λ _. run
 
 -- ---- Memory and Registers: a range that is set lies in memory
 
-or_right : (a b : Bool) → (a || b) ≡ false → b ≡ false
-or_right true b neither = absurd cc
-or_right false b neither = neither
-
 -- four checks, of which the second and the last pass
 four_pass : (a b c d : Bool) (e f g h : Fault) → first_fault ((a, e) ∷ (b, f) ∷ (c, g) ∷ (d, h) ∷ []) ≡ None → (b ≡ false) × (d ≡ false)
 four_pass true b c d e f g h none = absurd cc
@@ -135,8 +133,8 @@ range_whole : (addr size : ℤ) → is_no_size size ≡ false → is_outside add
 range_whole (negsuc a) size sized inside = absurd cc
 range_whole (pos a) (negsuc n) sized inside = absurd cc
 range_whole (pos a) (pos n) sized inside =
-    let few : n ≤ 65536 = ltb-false 65536 n (or_right (int_lt (pos n) (pos 0)) (int_lt (pos 65536) (pos n)) sized) in
-    let low : a + n ≤ 65536 = ltb-false 65536 (a + n) (or_right (int_lt (pos a) (pos 0)) (int_lt (pos 65536) (pos (a + n))) inside) in
+    let few : n ≤ 65536 = ltb-false 65536 n (second_false (int_lt (pos n) (pos 0)) (int_lt (pos 65536) (pos n)) sized) in
+    let low : a + n ≤ 65536 = ltb-false 65536 (a + n) (second_false (int_lt (pos a) (pos 0)) (int_lt (pos 65536) (pos (a + n))) inside) in
     ((omega arith), (omega arith))
 
 if_told : (test : Bool) (event : EventData) → IsEvent event → AreEvents (cond test (event ∷ []) [])

@@ -33,6 +33,7 @@ use Rattle.target_hub.specs.declared.input.Input.TheVariants.{Opened, Executed, 
 use Rattle.target_hub.specs.declared.target.Target.{Target}
 use Rattle.target_hub.proofs.Kept.{after_readable, others_readable}
 use Rattle.target_hub.proofs.Owned.{going_owns, gone_owns, list_append, silent_owns}
+use Rattle.target_hub.proofs.Bounded.{inputs_append}
 
 -- the laws of the crates below
 pub record Laws : Type 0 where
@@ -198,10 +199,6 @@ kept_after laws before (Ticked thread) target allowed kept = same_kept before (T
 kept_after laws before (Closed channel) target allowed kept = going_kept laws before channel target.breakpoints kept
 
 -- ---- whole lists of inputs
-
-inputs_append : (xs ys : List Input) (target : Target) → inputs_after (xs ++ ys) target ≡ inputs_after ys (inputs_after xs target)
-inputs_append [] ys target = refl
-inputs_append (x ∷ xs) ys target = inputs_append xs ys (input_after x target)
 
 pub record Stands (before : List Input) (target : Target) : Type 0 where
   pub fine : AreFine target.contexts

@@ -10,7 +10,8 @@ use Rattle.breakpoints.specs.Rows.{is_among, others, rows_for}
 use Rattle.breakpoints.specs.declared.breakpoints.BpDone.{BpDone}
 use Rattle.breakpoints.specs.declared.breakpoints.BpDone.TheVariants.{Failed, Changed}
 use Rattle.target_hub.specs.Limits.{AreReadable, IsKnown}
-use Rattle.target_hub.proofs.Lists.{all_append, all_filter, all_mapped}
+use Rattle.target_hub.proofs.Lists.{all_mapped}
+use Rattle.list_laws.proofs.AllLists.{all_append, all_filter}
 
 abbrev pub IsKept : ℕ × BpProps → Type 0
 IsKept row = is_bp row.1 ≡ true

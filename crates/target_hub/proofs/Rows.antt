@@ -46,7 +46,7 @@ use Rattle.target_hub.proofs.Told.{instances_fit, process_within, thread_within}
 
 -- ---- a command that fails is answered by a report
 
-code_small : (fault : Fault) → code_of fault < 2 ^ 64
+pub code_small : (fault : Fault) → code_of fault < 2 ^ 64
 code_small faults.Other = lit< tt
 code_small faults.AlreadyStopped = lit< tt
 code_small faults.AlreadyRunning = lit< tt

@@ -1,5 +1,5 @@
 -- What the target tells of its processes and breakpoints is small.
-use Rattle.std.proofs.Common.{◌≡◌, ◌≤◌, ◌+◌, ℕ, ℤ, Bool, true, false, cond, ◌&&◌, nat_le, List, [], ◌∷◌, ◌++◌, filter, length, map, Option, Some, None, IfSome, refl, arith, lit≤, leb-true, length-append}
+use Rattle.std.proofs.Common.{◌≡◌, ◌≤◌, ℕ, ℤ, Bool, true, false, cond, ◌&&◌, nat_le, List, [], ◌∷◌, ◌++◌, filter, length, map, Option, Some, None, IfSome, refl, arith, lit≤, leb-true, length-append}
 use Rattle.std.specs.List.{AllByRecursion, list_all}
 use Rattle.std.specs.Prelude.{codes, decimal}
 use Rattle.std.proofs.lemmas.Bool.{and_parts}
@@ -28,7 +28,9 @@ use Rattle.target_contexts.specs.declared.process.Process.{Process}
 use Rattle.target_contexts.specs.declared.process.ThreadState.{ThreadState}
 use Rattle.target_contexts.specs.declared.process.ThreadState.TheVariants.{Running, Suspended}
 use Rattle.target_hub.specs.Limits.{AreReadable}
-use Rattle.target_hub.proofs.Lists.{all_append, all_map, all_mapped}
+use Rattle.target_hub.proofs.Lists.{all_mapped}
+use Rattle.run_control.proofs.Short.{filter_fewer}
+use Rattle.list_laws.proofs.AllLists.{all_append, all_map}
 
 abbrev pub AreSmall : List EventData → Type 0
 AreSmall told = AllByRecursion IsSmallEvent told
@@ -41,14 +43,6 @@ pub record AreBounded (bps : List (ℕ × BpProps)) (targets : TargetsValue) : T
   pub listed : length bps ≤ 256
 
 -- ---- lists
-
-fewer : {A : Type 0} (test : Bool) (x : A) (xs : List A) (most : ℕ) → length xs ≤ most → length (cond test (x ∷ xs) xs) ≤ most + 1
-fewer true x xs most few = omega arith
-fewer false x xs most few = omega arith
-
-pub filter_fewer : {A : Type 0} (p : A → Bool) (xs : List A) → length (filter p xs) ≤ length xs
-filter_fewer p [] = omega arith
-filter_fewer p (x ∷ xs) = omega (arith, fewer (p x) x (filter p xs) (length xs) (filter_fewer p xs))
 
 pub test_small : (test : Bool) (one other : List EventData) → AreSmall one → AreSmall other → AreSmall (cond test one other)
 test_small true one other small also = small

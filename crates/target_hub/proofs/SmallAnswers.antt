@@ -49,9 +49,9 @@ use Rattle.target_hub.specs.BreakpointsRows.{ask_answer, ask_fault, breakpoints_
 use Rattle.target_hub.specs.Execution.{effect_in, exec_effect}
 use Rattle.target_hub.specs.LocatorRows.{locator_answer}
 use Rattle.target_hub.specs.declared.target.Target.{Target}
-use Rattle.target_hub.proofs.Lists.{all_map}
 use Rattle.target_hub.proofs.Rows.{IfReadable, found_readable}
 use Rattle.target_hub.proofs.Small.{AreBounded, attached_few, found_short, ids_words, instances_small, process_small, process_word, thread_small, thread_word}
+use Rattle.list_laws.proofs.AllLists.{all_map}
 
 -- ---- a command that fails is answered by a report
 

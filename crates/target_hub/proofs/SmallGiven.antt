@@ -52,8 +52,10 @@ use Rattle.target_hub.specs.BreakpointsRows as bp_rows
 use Rattle.target_hub.specs.Limits.{AreReadable}
 use Rattle.target_hub.specs.declared.target.Target.{Target}
 use Rattle.target_hub.proofs.Given.{AreProps, added_readable, changed_readable}
-use Rattle.target_hub.proofs.Lists.{all_append, all_filter, all_mapped}
-use Rattle.target_hub.proofs.Small.{AreBounded, AreSmall, added_small, attached_few, changed_small, end_small, filter_fewer, found_short, ids_words, process_word, executed_small, resumed_small, status_small, statuses_small, stop_all_small, suspended_small, test_small, three_small}
+use Rattle.target_hub.proofs.Lists.{all_mapped}
+use Rattle.target_hub.proofs.Small.{AreBounded, AreSmall, added_small, attached_few, changed_small, end_small, found_short, ids_words, process_word, executed_small, resumed_small, status_small, statuses_small, stop_all_small, suspended_small, test_small, three_small}
+use Rattle.list_laws.proofs.AllLists.{all_append, all_filter}
+use Rattle.run_control.proofs.Short.{filter_fewer}
 
 -- ---- a command that fails tells nothing
 

@@ -36,13 +36,10 @@ use Rattle.run_control.specs.Tracing.{halt_by, last_hits, last_of, states_of, st
 use Rattle.target_hub.specs.Limits.{AreEvents}
 use Rattle.target_hub.specs.Passing.{tick_told}
 use Rattle.target_hub.specs.declared.target.Target.{Target}
-use Rattle.target_hub.proofs.Lists.{all_map}
+use Rattle.list_laws.proofs.Flags.{and_first}
+use Rattle.list_laws.proofs.AllLists.{all_map}
 
 -- ---- statuses: an address lies below 65,536
-
-first_of : (a b : Bool) → (a && b) ≡ true → a ≡ true
-first_of true b both = refl
-first_of false b both = absurd cc
 
 second_of : (a b : Bool) → (a && b) ≡ true → b ≡ true
 second_of true b both = both
@@ -50,7 +47,7 @@ second_of false b both = absurd cc
 
 below : (numeral : Bool) (n : ℕ) → (numeral && is_address n) ≡ true → n < 2 ^ 32
 below numeral n both =
-    let small : n < 65536 = ltb-true n 65536 (first_of _ _ (second_of numeral _ both)) in
+    let small : n < 65536 = ltb-true n 65536 (and_first _ _ (second_of numeral _ both)) in
     omega arith
 
 address_small : (b : Bool) (n : ℕ) → (b ≡ true → n < 2 ^ 32) → IsPlace (place_at (cond b (Some n) None))
@@ -89,7 +86,7 @@ statuses_fit attached rows = all_map IsEvent (λ row. status_event attached row.
 pub process_within : (number : ℕ) (process : Process) → IsContext (process_data number process)
 process_within number process = (lit< tt, lit< tt)
 
-powers_within : (number : ℕ) (process : Process) (attached : Bool) → IsContext (thread_data number (record process { attached = attached }))
+pub powers_within : (number : ℕ) (process : Process) (attached : Bool) → IsContext (thread_data number (record process { attached = attached }))
 powers_within number process true = (lit< tt, lit< tt)
 powers_within number process false = (lit< tt, lit< tt)
 
@@ -114,11 +111,11 @@ suspended_fit number (Some process) = stop_fits number process.cpu.pc process.st
 
 -- ---- the end of a process: its code is a number of 32 bits
 
-signed_by : (small : Bool) (n : ℕ) → ltb n (2 ^ 31) ≡ small → IsWhole (cond small (pos n) (negsuc (2 ^ 32 - suc n)))
+pub signed_by : (small : Bool) (n : ℕ) → ltb n (2 ^ 31) ≡ small → IsWhole (cond small (pos n) (negsuc (2 ^ 32 - suc n)))
 signed_by true n is = let low : n < 2 ^ 31 = ltb-true n (2 ^ 31) is in omega arith
 signed_by false n is = omega arith
 
-signed_fits : (n : ℕ) → IsWhole (signed n)
+pub signed_fits : (n : ℕ) → IsWhole (signed n)
 signed_fits n = signed_by (ltb n (2 ^ 31)) n refl
 
 abbrev pub StepFits : Step → Type 0
@@ -133,11 +130,11 @@ by_test false one other fits also = also
 jump_fits : (target : ℕ) (cpu : Cpu) (memory : List ℕ) → StepFits (jump_step target cpu memory)
 jump_fits target cpu memory = by_test (target % 4 == 0) (goes_on (record cpu { pc = target }) memory) excepts tt tt
 
-load_fits : (rd : ℕ) (value : Option ℕ) (cpu : Cpu) (memory : List ℕ) → StepFits (load_step rd value cpu memory)
+pub load_fits : (rd : ℕ) (value : Option ℕ) (cpu : Cpu) (memory : List ℕ) → StepFits (load_step rd value cpu memory)
 load_fits rd None cpu memory = tt
 load_fits rd (Some value) cpu memory = tt
 
-store_fits : (stored : Option (List ℕ)) (cpu : Cpu) → StepFits (store_step stored cpu)
+pub store_fits : (stored : Option (List ℕ)) (cpu : Cpu) → StepFits (store_step stored cpu)
 store_fits None cpu = tt
 store_fits (Some memory) cpu = tt
 

@@ -31,7 +31,7 @@ use Rattle.target_hub.specs.declared.target.Target.{Target}
 
 -- ---- a command that only asks
 
-same_by : (fault : Option Fault) (targets : TargetsValue) → targets_by fault targets targets ≡ targets
+pub same_by : (fault : Option Fault) (targets : TargetsValue) → targets_by fault targets targets ≡ targets
 same_by None targets = refl
 same_by (Some fault) targets = refl
 

@@ -1,4 +1,4 @@
-//! Tests that show of the crates of the target what no clause says.
+//! Tests that show of the crates of the target what no clause says. Most cases are rows of the program `service_rows`.
 #![tactic(auto)]
 
 #[cfg(test)]
@@ -10,4 +10,4 @@ mod points;
 #[cfg(test)]
 mod processes;
 #[cfg(test)]
-mod steering;
+mod processor;

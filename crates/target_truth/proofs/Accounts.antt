@@ -23,14 +23,12 @@ use Rattle.tcf_values.specs.Ids.{ContextRoundTrip, context_of}
 use Rattle.tcf_values.specs.declared.ids.ContextId.{ContextId}
 use Rattle.tcf_values.specs.declared.ids.ContextId.TheVariants as contexts
 use Rattle.tcf_values.specs.declared.values.ContextData.{ContextData}
+use Rattle.list_laws.proofs.Numbers.{number_itself}
 
 -- ---- tests that hold
 
-itself : (number : ℕ) → (number == number) ≡ true
-itself number = eq-eqb number number refl
-
 its_thread : (number : ℕ) → ((number == number) && true) ≡ true
-its_thread number = and_from (number == number) true (itself number) refl
+its_thread number = and_from (number == number) true (number_itself number) refl
 
 -- two texts that are read as one ID are one
 pub same_text : ContextRoundTrip → (a b : List ℕ) (id : ContextId) → context_of a ≡ Some id → context_of b ≡ Some id → bytes_eq a b ≡ true
@@ -58,7 +56,7 @@ gone_accounts ids number was is tid pid thread process = record {
   thread = λ id x named knows. inr (or_left (bytes_eq tid id) _ (same_text ids tid id (contexts.Thread number 1) thread named));
   state = λ x knows. inr (or_left ((number == number) && true) _ (its_thread number));
   register = λ index x few knows. inr (or_left ((number == number) && true) _ (its_thread number));
-  byte = λ addr x knows. inr (or_left (number == number) _ (itself number));
+  byte = λ addr x knows. inr (or_left (number == number) _ (number_itself number));
 }
 
 -- ---- a process that stays
@@ -83,7 +81,7 @@ switched_accounts ids number old new given thread name = record {
   thread = λ id x named knows. inr (or_left (bytes_eq given.id id) _ (same_text ids given.id id (contexts.Thread number 1) thread named));
   state = λ x knows. inr (or_left ((number == number) && true) _ (its_thread number));
   register = λ index x few knows. inr (or_left ((number == number) && true) _ (its_thread number));
-  byte = λ addr x knows. inr (or_left (number == number) _ (itself number));
+  byte = λ addr x knows. inr (or_left (number == number) _ (number_itself number));
 }
 
 -- whose thread stops or goes on
@@ -97,7 +95,7 @@ moved_accounts number old new state rest name attached = record {
   thread = λ id x named knows. inl (kept_thread number old new x attached knows);
   state = λ x knows. inr (or_left ((number == number) && true) _ (its_thread number));
   register = λ index x few knows. inr (or_left ((number == number) && true) _ (its_thread number));
-  byte = λ addr x knows. inr (or_left (number == number) _ (itself number));
+  byte = λ addr x knows. inr (or_left (number == number) _ (number_itself number));
 }
 
 -- whose thread ran, and runs on
@@ -150,7 +148,7 @@ register_accounts number at thread old cpu one same = record {
   state = λ x knows. inl knows;
   register = λ index x few knows.
       elim (cases_Bool (at == index)) [
-        | inl e ↦ inr (or_left ((number == number) && (thread == 1) && (at == index)) _ (and_from _ _ (and_from _ _ (itself number) (eq-eqb thread 1 one)) e))
+        | inl e ↦ inr (or_left ((number == number) && (thread == 1) && (at == index)) _ (and_from _ _ (and_from _ _ (number_itself number) (eq-eqb thread 1 one)) e))
         | inr e ↦ inl (number_by (runs old.state) (number_in index old.cpu) (number_in index cpu) x (same index few (λ is. eqb-false at index e (sym is))) knows)
       ];
   byte = λ addr x knows. inl knows;

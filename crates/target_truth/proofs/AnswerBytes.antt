@@ -7,10 +7,10 @@ use Rattle.data_services.specs.Parts.{bytes_in, bytes_of, number_in, parts_named
 use Rattle.target_contexts.specs.Live.{process_of}
 use Rattle.target_contexts.specs.declared.process.Process.{Process}
 use Rattle.command_tables.specs.Canonical.{AreBytes}
-use Rattle.target_truth.proofs.Lists.{all_append, all_drop, all_take}
 use Rattle.tcf_values.specs.Ids.{register_of}
 use Rattle.tcf_values.specs.declared.ids.RegisterId.{RegisterId}
 use Rattle.tcf_values.specs.declared.values.Location.{Location}
+use Rattle.list_laws.proofs.AllLists.{all_append, all_drop, all_take}
 
 pub part_bytes : (first count : ℕ) (bytes : List ℕ) → AreBytes bytes → AreBytes (part_of first count bytes)
 part_bytes first count bytes all = all_take (λ byte. byte < 256) count (drop first bytes) (all_drop (λ byte. byte < 256) first bytes all)

@@ -1,5 +1,5 @@
 -- An answer that is within the limits of what is read, and tells what is so. It is read as itself, or not at all.
-use Rattle.std.proofs.Common.{◌≡◌, ◌<◌, ◌^◌, ℕ, List, [], Option, Some, None, refl, sym, subst, inl, inr, lit<}
+use Rattle.std.proofs.Common.{◌≡◌, ℕ, List, [], Option, Some, None, refl, sym, subst, inl, inr}
 use Rattle.std.specs.List.{AllByRecursion}
 use Rattle.reply_tables.specs.Answers.{answer_read}
 use Rattle.reply_tables.specs.Limits.{IsAnswerTo}
@@ -21,6 +21,7 @@ use Rattle.tcf_values.specs.declared.effect.Effect.{Effect}
 use Rattle.tcf_values.specs.declared.errors.ErrorReport.{ErrorReport}
 use Rattle.tcf_values.specs.declared.faults.Fault.{Fault}
 use Rattle.tcf_values.specs.declared.faults.Fault.TheVariants as faults
+use Rattle.target_hub.proofs.Rows.{code_small}
 
 pub record IsTrueAnswer (target : Target) (command : Command) (answer : Answer) : Type 0 where
   pub limits : IsAnswerTo command answer
@@ -53,18 +54,6 @@ failed_silent (MemGet id addr word size mode) report = refl
 failed_silent (RegGet id) report = refl
 failed_silent (RegGetm list) report = refl
 failed_silent _ report = refl
-
-code_small : (fault : Fault) → code_of fault < 2 ^ 64
-code_small faults.Other = lit< tt
-code_small faults.AlreadyStopped = lit< tt
-code_small faults.AlreadyRunning = lit< tt
-code_small faults.AlreadyAttached = lit< tt
-code_small faults.IsRunning = lit< tt
-code_small faults.BadSize = lit< tt
-code_small faults.BadContext = lit< tt
-code_small faults.BadAddress = lit< tt
-code_small faults.BadNumber = lit< tt
-code_small faults.Unsupported = lit< tt
 
 pub answer_by_fault : (target : Target) (command : Command) (fault : Option Fault) (given : Effect) → (fault ≡ None → IsTrueAnswer target command given.answer)
     → IsTrueAnswer target command (effect_by fault given).answer

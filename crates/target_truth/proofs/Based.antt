@@ -20,6 +20,8 @@ use Rattle.tcf_values.specs.declared.values.BpProps.{BpProps}
 use Rattle.tcf_values.specs.declared.values.Range.{Range}
 use Rattle.tcf_values.specs.declared.values.RunState.{RunState}
 use Rattle.tcf_values.specs.declared.values.RunState.TheVariants as run
+use Rattle.knowledge.proofs.Monotone.{cond_at}
+use Rattle.knowledge.proofs.Same.{after_all-append}
 
 -- ---- one place written, or dropped
 
@@ -66,10 +68,6 @@ read_by process thread index value known true is based p t i x true same told =
     sym (ap (λ k. is_suspended (known.states k thread)) one ∙ ap (λ k. is_suspended (known.states p k)) two) ∙ is
 read_by process thread index value known true is based p t i x false same told = based.grounded p t i x told
 read_by process thread index value known false is based p t i x b same told = based.grounded p t i x told
-
-pub cond_at : (c : Bool) (f g : ℕ → ℕ → ℕ → Option ℕ) (p t i : ℕ) → cond c f g p t i ≡ cond c (f p t i) (g p t i)
-cond_at true f g p t i = refl
-cond_at false f g p t i = refl
 
 -- bytes that count only where the thread is known as suspended
 bytes_by : (process : ℕ) (known : Facts) (q : ℕ) (old has same : Bool) → (process == q) ≡ same → (old ≡ true → is_still q known ≡ true)
@@ -133,12 +131,8 @@ mild_keeps : (changes : List Change) → AllByRecursion IsMild changes → Keeps
 mild_keeps [] mild known based = based
 mild_keeps (change ∷ changes) mild known based = mild_keeps changes mild.1 (after change known) (change_based change known (mild_calm change known mild.0) based)
 
-after_append : (xs ys : List Change) (known : Facts) → after_all (xs ++ ys) known ≡ after_all ys (after_all xs known)
-after_append [] ys known = refl
-after_append (x ∷ xs) ys known = after_append xs ys (after x known)
-
 keeps_append : (xs ys : List Change) → Keeps xs → Keeps ys → Keeps (xs ++ ys)
-keeps_append xs ys one two known based = subst IsBased (sym (after_append xs ys known)) (two (after_all xs known) (one known based))
+keeps_append xs ys one two known based = subst IsBased (sym (after_all-append xs ys known)) (two (after_all xs known) (one known based))
 
 keeps_each : {A : Type 0} (changes : A → List Change) → ((item : A) → Keeps (changes item)) → (items : List A) → Keeps (of_each changes items)
 keeps_each changes each [] = λ known based. based

@@ -11,8 +11,8 @@ use Rattle.target_contexts.specs.declared.process.Process.{Process}
 use Rattle.target_hub.specs.declared.target.Target.{Target}
 use Rattle.target_truth.specs.Holds.{process_in}
 use Rattle.target_truth.proofs.First.{Stays, StaysAttached}
-use Rattle.target_truth.proofs.Live.{live_found}
 use Rattle.target_truth.proofs.Silent.{attached_same}
+use Rattle.data_services.proofs.PartSteps.{live_found}
 
 -- ---- a change
 

@@ -1,5 +1,5 @@
 -- The changes that events of breakpoints tell touch just the breakpoints that are named.
-use Rattle.std.proofs.Common.{◌≡◌, ℕ, ◌||◌, Bool, true, false, true≢false, List, [], ◌∷◌, map, Some, refl, sym, ap}
+use Rattle.std.proofs.Common.{◌≡◌, ℕ, true, false, true≢false, List, [], ◌∷◌, map, Some, refl, sym}
 use Rattle.std.specs.Prelude.{bytes_eq}
 use Rattle.std.specs.List.{AllByRecursion, list_any}
 use Rattle.breakpoints.specs.Rows.{is_among, props_of}
@@ -12,6 +12,7 @@ use Rattle.target_truth.proofs.Changes.{IsSo, is_bytes, touches}
 use Rattle.target_truth.proofs.Texts.{turned}
 use Rattle.tcf_values.specs.declared.values.BpProps.{BpProps}
 use Rattle.tcf_values.specs.declared.values.BpStatus.{BpStatus}
+use Rattle.list_laws.proofs.Flags.{or_then}
 
 -- what is told is so
 pub told_so : (now : Target) (list : List BpProps) → AllByRecursion (λ props. props_of props.id now.breakpoints ≡ Some props) list
@@ -33,34 +34,28 @@ removed_none (id ∷ ids) = removed_none ids
 
 -- ---- those that are named are touched
 
--- one or the other, where each of the two is implied
-one_of : (a b c d : Bool) → (a ≡ true → c ≡ true) → (b ≡ true → d ≡ true) → (a || b) ≡ true → (c || d) ≡ true
-one_of true b c d one two is = ap (λ e. e || d) (one refl)
-one_of false b true d one two is = refl
-one_of false b false d one two is = two is
-
 pub told_touched : (list : List BpProps) (id : List ℕ) (x : BpProps) → is_among (map (λ props. props.id) list) id ≡ true
     → IsTouched (of_each told_properties list) (properties_are id x)
 told_touched [] id x among = absurd (true≢false (sym among))
 told_touched (props ∷ list) id x among =
-    one_of (bytes_eq id props.id) (is_among (map (λ p. p.id) list) id) (bytes_eq props.id id) (list_any (touches (properties_are id x)) (of_each told_properties list))
+    or_then (bytes_eq id props.id) (is_among (map (λ p. p.id) list) id) (bytes_eq props.id id) (list_any (touches (properties_are id x)) (of_each told_properties list))
     (turned id props.id) (told_touched list id x) among
 
 pub told_touched_status : (list : List BpProps) (id : List ℕ) (x : BpStatus) → is_among (map (λ props. props.id) list) id ≡ true
     → IsTouched (of_each told_properties list) (status_is id x)
 told_touched_status [] id x among = absurd (true≢false (sym among))
 told_touched_status (props ∷ list) id x among =
-    one_of (bytes_eq id props.id) (is_among (map (λ p. p.id) list) id) (bytes_eq props.id id) (list_any (touches (status_is id x)) (of_each told_properties list))
+    or_then (bytes_eq id props.id) (is_among (map (λ p. p.id) list) id) (bytes_eq props.id id) (list_any (touches (status_is id x)) (of_each told_properties list))
     (turned id props.id) (told_touched_status list id x) among
 
 pub removed_touched : (ids : List (List ℕ)) (id : List ℕ) (x : BpProps) → is_among ids id ≡ true → IsTouched (of_each removed_properties ids) (properties_are id x)
 removed_touched [] id x among = absurd (true≢false (sym among))
 removed_touched (other ∷ ids) id x among =
-    one_of (bytes_eq id other) (is_among ids id) (bytes_eq other id) (list_any (touches (properties_are id x)) (of_each removed_properties ids))
+    or_then (bytes_eq id other) (is_among ids id) (bytes_eq other id) (list_any (touches (properties_are id x)) (of_each removed_properties ids))
     (turned id other) (removed_touched ids id x) among
 
 pub removed_touched_status : (ids : List (List ℕ)) (id : List ℕ) (x : BpStatus) → is_among ids id ≡ true → IsTouched (of_each removed_properties ids) (status_is id x)
 removed_touched_status [] id x among = absurd (true≢false (sym among))
 removed_touched_status (other ∷ ids) id x among =
-    one_of (bytes_eq id other) (is_among ids id) (bytes_eq other id) (list_any (touches (status_is id x)) (of_each removed_properties ids))
+    or_then (bytes_eq id other) (is_among ids id) (bytes_eq other id) (list_any (touches (status_is id x)) (of_each removed_properties ids))
     (turned id other) (removed_touched_status ids id x) among

@@ -1,38 +1,18 @@
 -- The code with which the machine ends is within the limits of what is read: it is a signed number of 32 bits.
-use Rattle.std.proofs.Common.{◌≡◌, ℕ, pos, negsuc, ◌<◌, ◌^◌, ◌-◌, ◌%◌, ◌==◌, ltb, Bool, true, false, cond, List, Option, Some, None, refl, suc, arith}
-use Rattle.std.proofs.lemmas.Bool.{cond_both, ltb-true}
-use Rattle.json_args.specs.Kinds.{IsWhole}
+use Rattle.std.proofs.Common.{ℕ, ◌-◌, ◌%◌, ◌==◌, List, Option, Some, None}
+use Rattle.std.proofs.lemmas.Bool.{cond_both}
 use Rattle.rv32i_core.specs.Bytes.{is_inside, word_at}
 use Rattle.rv32i_core.specs.Integers.{signed, sum, unsigned}
 use Rattle.rv32i_core.specs.Listing.{instruction_of}
-use Rattle.rv32i_core.specs.Machine.{Step, goes_on, ends, excepts, decoded_step, effect, is_taken, jump_step, load_step, loaded, machine, next_step, store_step, stored}
+use Rattle.rv32i_core.specs.Machine.{goes_on, ends, excepts, decoded_step, effect, is_taken, jump_step, loaded, machine, next_step, stored}
 use Rattle.rv32i_core.specs.Registers.{following, register_of, with_register}
 use Rattle.rv32i_core.specs.declared.instructions.Instruction.{Instruction}
 use Rattle.rv32i_core.specs.declared.instructions.Instruction.TheVariants.{Lui, Auipc, Jal, Jalr, Load, ImmOp, Branch, Store, Op, Fence, Ecall, Ebreak}
 use Rattle.rv32i_core.specs.declared.registers.Cpu.{Cpu}
-
-signed_by : (small : Bool) (n : ℕ) → ltb n (2 ^ 31) ≡ small → IsWhole (cond small (pos n) (negsuc (2 ^ 32 - suc n)))
-signed_by true n is = let low : n < 2 ^ 31 = ltb-true n (2 ^ 31) is in omega arith
-signed_by false n is = omega arith
-
-signed_fits : (n : ℕ) → IsWhole (signed n)
-signed_fits n = signed_by (ltb n (2 ^ 31)) n refl
-
-abbrev pub StepFits : Step → Type 0
-StepFits (goes_on cpu memory) = Unit {0}
-StepFits (ends code) = IsWhole code
-StepFits excepts = Unit {0}
+use Rattle.target_hub.proofs.Told.{signed_fits, StepFits, load_fits, store_fits}
 
 jump_fits : (target : ℕ) (cpu : Cpu) (memory : List ℕ) → StepFits (jump_step target cpu memory)
 jump_fits target cpu memory = cond_both (target % 4 == 0) (goes_on (record cpu { pc = target }) memory) excepts StepFits (λ is. tt) (λ isnt. tt)
-
-load_fits : (rd : ℕ) (value : Option ℕ) (cpu : Cpu) (memory : List ℕ) → StepFits (load_step rd value cpu memory)
-load_fits rd None cpu memory = tt
-load_fits rd (Some value) cpu memory = tt
-
-store_fits : (stored : Option (List ℕ)) (cpu : Cpu) → StepFits (store_step stored cpu)
-store_fits None cpu = tt
-store_fits (Some memory) cpu = tt
 
 effect_fits : (instruction : Instruction) (cpu : Cpu) (memory : List ℕ) → StepFits (effect instruction cpu memory)
 effect_fits (ImmOp kind rd rs1 imm) cpu memory = tt

@@ -1,5 +1,5 @@
 -- What the commands of Memory and Registers leave is fit.
-use Rattle.std.proofs.Common.{◌≡◌, ℕ, zero, suc, ℤ, pos, negsuc, ◌+◌, ◌≤◌, ◌==◌, nat_lt, unsigned_abs, Bool, true, false, not, ◌||◌, cond, is_none, List, [], ◌∷◌, ◌++◌, length, take, drop, Option, Some, None, refl, ◌∙◌, arith, length-append, length-take, length-drop}
+use Rattle.std.proofs.Common.{◌≡◌, ℕ, zero, suc, ℤ, pos, negsuc, ◌+◌, ◌≤◌, ◌==◌, nat_lt, unsigned_abs, Bool, true, false, not, cond, is_none, List, [], ◌∷◌, ◌++◌, length, take, drop, Option, Some, None, refl, ◌∙◌, arith, length-append, length-take, length-drop}
 use Rattle.std.proofs.lemmas.Bool.{eqb-true, ltb-false}
 use Rattle.command_tables.specs.Canonical.{AreBytes, IsReadable}
 use Rattle.data_services.specs.Bytes.{with_part, word_bytes, word_of}
@@ -25,6 +25,7 @@ use Rattle.tcf_values.specs.declared.command.Command.{Command}
 use Rattle.tcf_values.specs.declared.command.Command.TheVariants.{MemSet, RegSet, RegSetm}
 use Rattle.tcf_values.specs.declared.faults.Fault.TheVariants.{BadAddress, BadContext, BadSize}
 use Rattle.tcf_values.specs.declared.ids.RegisterId.{RegisterId}
+use Rattle.list_laws.proofs.Flags.{not_false, neither}
 
 -- ---- bytes
 
@@ -70,14 +71,6 @@ checked false true whole outside none = absurd cc
 checked false false true outside none = absurd cc
 checked false false false true none = absurd cc
 checked false false false false none = (refl, refl, refl)
-
-not_not : (b : Bool) → not b ≡ false → b ≡ true
-not_not true is = refl
-not_not false is = absurd cc
-
-neither : (a b : Bool) → a || b ≡ false → (a ≡ false) × (b ≡ false)
-neither true b is = absurd cc
-neither false b is = (refl, is)
 
 -- a range that isn't outside ends within memory
 range_within : (addr size : ℤ) → is_no_size size ≡ false → is_outside addr size ≡ false → unsigned_abs addr + unsigned_abs size ≤ 65536
@@ -137,7 +130,7 @@ parts_fit (part ∷ parts) bytes targets are fit =
 data_left_fit : (command : Command) (targets : TargetsValue) → IsFit targets → IsReadable command → data_fault command targets ≡ None → IsFit (data_left command targets)
 data_left_fit (MemSet id addr word size mode bytes) targets fit readable none =
     let passed = checked (is_none (process_named id targets.processes)) (is_no_size size) (not (length bytes == unsigned_abs size)) (is_outside addr size) none in
-    let same : length bytes ≡ unsigned_abs size = eqb-true (length bytes) (unsigned_abs size) (not_not (length bytes == unsigned_abs size) passed.1) in
+    let same : length bytes ≡ unsigned_abs size = eqb-true (length bytes) (unsigned_abs size) (not_false (length bytes == unsigned_abs size) passed.1) in
     let within : unsigned_abs addr + unsigned_abs size ≤ 65536 = range_within addr size passed.0 passed.2 in
     named_fit (with_memory (unsigned_abs addr) bytes) (number_named id) targets fit
     (λ process is. memory_whole (unsigned_abs addr) bytes process (omega arith) readable.4 is)

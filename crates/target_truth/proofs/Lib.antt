@@ -54,3 +54,4 @@ pub mod Messages
 pub mod Positions
 pub mod Lives
 pub mod Truth
+pub mod Stored

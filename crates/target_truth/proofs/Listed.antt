@@ -7,9 +7,11 @@ use Rattle.std.specs.Bool.{beq}
 use Rattle.std.specs.List.{AllByRecursion, IsDistinct}
 use Rattle.breakpoints.specs.Changes.{clashes, has_no_place, has_twice, is_overfull, is_switched, row_with_flag, row_with_props, switched, with_flag, with_flags, with_props}
 use Rattle.breakpoints.specs.Rows.{ids_of, is_among, is_there, props_of, rows_for}
-use Rattle.target_truth.proofs.Lists.{all_mapped, all_picked}
-use Rattle.target_truth.proofs.Texts.{are_same, differ_turned, same_text}
+use Rattle.target_truth.proofs.Lists.{all_picked}
+use Rattle.target_truth.proofs.Texts.{differ_turned}
 use Rattle.tcf_values.specs.declared.values.BpProps.{BpProps}
+use Rattle.list_laws.proofs.AllLists.{all_mapped}
+use Rattle.list_laws.proofs.Lists.{equal_by as are_same, equal_itself as same_text}
 
 abbrev pub Row : Type 0
 Row = ℕ × BpProps

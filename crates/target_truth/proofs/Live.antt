@@ -1,30 +1,15 @@
 -- A process that is found is live: its number lies between 0 and the next one.
-use Rattle.std.proofs.Common.{◌≡◌, ℕ, zero, suc, ◌<◌, nat_eq, List, [], ◌∷◌, length, get_or, slice_get, Option, Some, None, option_map, refl, sym, ◌∙◌, ap, eqb-true, arith}
-use Rattle.std.proofs.lemmas.List.Quantifiers.{position-Some}
-use Rattle.std.proofs.lemmas.Option.{get_or_from_slice_get}
-use Rattle.target_contexts.specs.Live.{IsLive, IsOrderly, Rise, numbers_of, place_of, process_at, process_of}
+use Rattle.std.proofs.Common.{◌≡◌, ℕ, zero, suc, ◌<◌, List, [], ◌∷◌, length, get_or, Option, Some, None, refl, ap, arith}
+use Rattle.target_contexts.specs.Live.{IsLive, IsOrderly, Rise, numbers_of, process_of}
 use Rattle.target_contexts.specs.declared.process.Process.{Process}
 use Rattle.target_hub.specs.declared.target.Target.{Target}
 use Rattle.target_truth.specs.Holds.{process_in}
 use Rattle.target_truth.proofs.Whole.{IsGood}
 use Rattle.tcf_values.specs.Spelling.{IsNumber}
+use Rattle.data_services.proofs.PartSteps.{live_found}
+use Rattle.target_contexts.proofs.Found.{below}
 
 -- ---- a process that is found is live
-
-live_at : (number : ℕ) (rows : List (ℕ × Process)) (process : Process) (place : ℕ) → place_of number rows ≡ Some place
-    → (row : Option (ℕ × Process)) → slice_get rows place ≡ row → option_map (λ (r : ℕ × Process). r.1) row ≡ Some process → IsLive number rows
-live_at number rows process place found None read there = cc
-live_at number rows process place found (Some row) read there =
-    let facts = position-Some (λ (r : ℕ × Process). nat_eq r.0 number) rows place row found in
-    let same : get_or rows place row ≡ row = get_or_from_slice_get rows place row row read in
-    (place, row, facts.0, same, ap (λ (r : ℕ × Process). r.0) (sym same) ∙ eqb-true (get_or rows place row).0 number facts.1)
-
-live_by : (number : ℕ) (rows : List (ℕ × Process)) (process : Process) (place : Option ℕ) → place_of number rows ≡ place → process_at rows place ≡ Some process → IsLive number rows
-live_by number rows process None found there = cc
-live_by number rows process (Some place) found there = live_at number rows process place found (slice_get rows place) refl there
-
-pub live_found : (number : ℕ) (rows : List (ℕ × Process)) (process : Process) → process_of number rows ≡ Some process → IsLive number rows
-live_found number rows process there = live_by number rows process (place_of number rows) refl there
 
 -- what isn't live isn't found
 none_by : (number : ℕ) (rows : List (ℕ × Process)) (found : Option Process) → process_of number rows ≡ found → (IsLive number rows → ⊥) → process_of number rows ≡ None
@@ -35,10 +20,6 @@ pub none_found : (number : ℕ) (rows : List (ℕ × Process)) → (IsLive numbe
 none_found number rows gone = none_by number rows (process_of number rows) refl gone
 
 -- ---- its number lies between 0 and the next
-
-pub below : (rows : List (ℕ × Process)) (low next : ℕ) → Rise low (numbers_of rows) next → low < next
-below [] low next rising = rising
-below (row ∷ rows) low next rising = omega (arith, rising.0, below rows row.0 next rising.1)
 
 between : (rows : List (ℕ × Process)) (low next place : ℕ) (row : ℕ × Process) → Rise low (numbers_of rows) next → place < length rows → get_or rows place row ≡ row
     → (low < row.0) × (row.0 < next)

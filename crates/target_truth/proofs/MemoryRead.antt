@@ -14,9 +14,9 @@ use Rattle.target_contexts.specs.declared.process.ThreadState.TheVariants.{Runni
 use Rattle.target_hub.specs.declared.target.Target.{Target}
 use Rattle.target_truth.specs.Holds.{process_in, state_fact}
 use Rattle.target_truth.proofs.Changes.{IsSo}
-use Rattle.target_truth.proofs.Lists.{all_if}
 use Rattle.target_truth.proofs.KeptBytes.{get_drop}
 use Rattle.target_truth.proofs.Seen.{byte_seen, seen, state_seen}
+use Rattle.list_laws.proofs.AllLists.{all_if}
 
 taken : (count : ℕ) (xs : List ℕ) (k byte : ℕ) → is_byte byte (slice_get (take count xs) k) ≡ true → is_byte byte (slice_get xs k) ≡ true
 taken zero xs k byte is = absurd (true≢false (sym is))

@@ -117,7 +117,7 @@ lead_append monotone before now [] [] lead all = lead
 lead_append monotone before now [] (message ∷ more) lead all = (moves_after monotone before now message lead all.0, all.1)
 lead_append monotone before now (message ∷ some) more lead all = (lead.0, all_append now some more lead.1 all)
 
-abbrev as_read : Reading → List ℕ → List ℕ → ReadCommand
+abbrev pub as_read : Reading → List ℕ → List ℕ → ReadCommand
 as_read reading service name = record { reading = reading; service = service; name = name }
 
 progress_so : (target : Target) (position : ℕ) (addresses : List ℕ) (commands : List ReadCommand) (more : List Told) → AllByRecursion (Moves target target) (taught commands more)

@@ -7,7 +7,9 @@ use Rattle.std.proofs.lemmas.Option.{none-some}
 use Rattle.std.proofs.lemmas.Slice.Eq.{bytes_eq-Decides}
 use Rattle.knowledge.specs.Changes.{Change, after, after_all, all_gone, at_register, context_told, context_gone, state_told, state_gone, register_read, register_gone, thread_registers_gone, registers_gone, bytes_read, bytes_gone, range_gone, properties_told, properties_gone, status_told, status_gone, statuses_gone, has_byte, is_still, is_within}
 use Rattle.knowledge.specs.Facts.{Fact, Facts, IsPart, Knows, context_is, state_is, register_is, byte_is, properties_are, status_is, is_suspended}
-use Rattle.target_truth.proofs.Based.{cond_at, dropped, hidden, still_in}
+use Rattle.target_truth.proofs.Based.{dropped, hidden, still_in}
+use Rattle.list_laws.proofs.Flags.{or_cases}
+use Rattle.knowledge.proofs.Monotone.{cond_at}
 
 -- what a change tells is among the facts
 abbrev pub IsAmong : Facts → Change → Type 0
@@ -81,10 +83,6 @@ read_from p t i value q u j x known more true so is =
     ]
 read_from p t i value q u j x known more false so is = inr is
 
-or_else : (a b : Bool) → (a || b) ≡ true → (a ≡ true) ⊎ (b ≡ true)
-or_else true b is = inl refl
-or_else false b is = inr is
-
 -- ---- one change
 
 pub comes_from : (more known : Facts) (change : Change) (fact : Fact) → IsAmong more change
@@ -120,7 +118,7 @@ comes_from more known (thread_registers_gone p t) (register_is q u j x) so still
     inr (dropped ((p == q) && (t == u)) (known.registers q u) j x knows)
 comes_from more known registers_gone (register_is q u j x) so still knows = absurd (none-some x knows)
 comes_from more known (bytes_read p addr bytes) (byte_is q place x) so still knows =
-    elim (or_else (known.bytes q place x) (is_still p known && (p == q) && has_byte addr bytes place x) knows) [
+    elim (or_cases (known.bytes q place x) (is_still p known && (p == q) && has_byte addr bytes place x) knows) [
       | inl e ↦ inr (e, refl)
       | inr e ↦
           let parts = and_parts _ _ e in

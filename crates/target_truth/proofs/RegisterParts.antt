@@ -1,35 +1,15 @@
 -- Bytes that are put over parts of registers: what there is of each process then.
-use Rattle.std.proofs.Common.{◌≡◌, ℕ, nat_eq, Bool, true, false, cond, List, [], ◌∷◌, take, drop, Option, Some, None, option_map, refl, sym, ◌∙◌, ap, eqb-true}
-use Rattle.std.proofs.lemmas.Bool.{eqb-false}
+use Rattle.std.proofs.Common.{◌≡◌, ℕ, nat_eq, Bool, true, false, cond, List, [], ◌∷◌, take, drop, Option, Some, None, option_map, refl, sym, ◌∙◌, ap}
 use Rattle.data_services.specs.Parts.{cpu_after, parts_named, with_bytes, with_parts, with_register_bytes}
 use Rattle.target_contexts.specs.Changes.{with_change, with_change_at}
 use Rattle.target_contexts.specs.Laws.{AgreeBut, ChangesOne}
-use Rattle.target_contexts.specs.Live.{numbers_of, process_of, with_process}
+use Rattle.target_contexts.specs.Live.{numbers_of, process_of}
 use Rattle.target_contexts.specs.TargetsValue.{TargetsValue}
 use Rattle.target_contexts.specs.declared.process.Process.{Process}
 use Rattle.target_truth.proofs.Becoming.{Becomes}
-use Rattle.target_truth.proofs.Live.{live_found}
+use Rattle.data_services.proofs.PartSteps.{changed_process, live_found}
 
 -- ---- a change of one process
-
-changed_by : ChangesOne → (change : Process → Process) (n number : ℕ) (targets : TargetsValue) (found : Option Process) → process_of n targets.processes ≡ found → (same : Bool) → nat_eq n number ≡ same →
-    process_of number (with_change_at change n found targets).processes ≡ cond same (option_map change (process_of number targets.processes)) (process_of number targets.processes)
-changed_by law change n number targets None there true e =
-    let missing : process_of number targets.processes ≡ None = ap (λ (m : ℕ). process_of m targets.processes) (sym (eqb-true n number e)) ∙ there in
-    missing ∙ sym (ap (option_map change) missing)
-changed_by law change n number targets None there false e = refl
-changed_by law change n number targets (Some process) there true e =
-    let same : n ≡ number = eqb-true n number e in
-    let rows : List (ℕ × Process) = with_process n (change process) targets.processes in
-    ap (λ (m : ℕ). process_of m rows) (sym same)
-    ∙ (law targets.processes n (change process) (live_found n targets.processes process there)).0
-    ∙ sym (ap (option_map change) (ap (λ (m : ℕ). process_of m targets.processes) (sym same) ∙ there))
-changed_by law change n number targets (Some process) there false e =
-    (law targets.processes n (change process) (live_found n targets.processes process there)).1 number (λ same. eqb-false n number e (sym same))
-
-changed_process : ChangesOne → (change : Process → Process) (n number : ℕ) (targets : TargetsValue) →
-    process_of number (with_change change n targets).processes ≡ cond (nat_eq n number) (option_map change (process_of number targets.processes)) (process_of number targets.processes)
-changed_process law change n number targets = changed_by law change n number targets (process_of n targets.processes) refl (nat_eq n number) refl
 
 numbers_by : ChangesOne → (change : Process → Process) (n : ℕ) (targets : TargetsValue) (found : Option Process) → process_of n targets.processes ≡ found
     → numbers_of (with_change_at change n found targets).processes ≡ numbers_of targets.processes

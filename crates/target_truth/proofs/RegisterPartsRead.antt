@@ -13,11 +13,11 @@ use Rattle.target_hub.specs.declared.target.Target.{Target}
 use Rattle.target_truth.proofs.Changes.{IsSo}
 use Rattle.target_truth.proofs.Faults.{both_passed, check_passed}
 use Rattle.target_truth.proofs.Holders.{IsHeld, held_found}
-use Rattle.target_truth.proofs.Lists.{all_append, all_if}
 use Rattle.target_truth.proofs.RegistersRead.{whole_so, word_four}
 use Rattle.target_truth.proofs.Whole.{IsGood, Laws}
 use Rattle.tcf_values.specs.declared.ids.RegisterId.{RegisterId}
 use Rattle.tcf_values.specs.declared.values.Location.{Location}
+use Rattle.list_laws.proofs.AllLists.{all_append, all_if}
 
 -- a part lies within the four bytes
 within : (offset size : ℤ) → (int_lt offset (pos 0) || int_lt size (pos 1) || int_lt (pos 4) (offset +ℤ size)) ≡ false → unsigned_abs offset + unsigned_abs size ≤ 4

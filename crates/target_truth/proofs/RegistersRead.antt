@@ -16,11 +16,11 @@ use Rattle.target_contexts.specs.declared.process.Process.{Process}
 use Rattle.target_hub.specs.declared.target.Target.{Target}
 use Rattle.target_truth.proofs.Changes.{IsSo}
 use Rattle.target_truth.proofs.Holders.{IsHeld}
-use Rattle.target_truth.proofs.Lists.{all_if}
 use Rattle.target_truth.proofs.Seen.{number_seen}
 use Rattle.target_truth.proofs.Whole.{IsCpu}
 use Rattle.tcf_values.specs.Ids.{register_of}
 use Rattle.tcf_values.specs.declared.ids.RegisterId.{RegisterId}
+use Rattle.list_laws.proofs.AllLists.{all_if}
 
 at_index : (xs : List ℕ) (i : ℕ) → AllByRecursion (λ number. number < 2 ^ 32) xs → slice_index xs i < 2 ^ 32
 at_index [] i all = omega arith

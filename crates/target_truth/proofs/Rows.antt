@@ -1,5 +1,5 @@
 -- Each command: its events tell what it changes, and its answer is so of the target that it leaves.
-use Rattle.std.proofs.Common.{◌≡◌, ℕ, Option, Some, None, refl, sym, subst}
+use Rattle.std.proofs.Common.{ℕ, Option, Some, None, refl, sym, subst}
 use Rattle.command_tables.specs.Canonical.{IsReadable}
 use Rattle.data_services.specs.Commands.{data_fault}
 use Rattle.knowledge.specs.Learning.{Message}
@@ -26,6 +26,7 @@ use Rattle.tcf_values.specs.declared.answer.Answer.{Answer}
 use Rattle.tcf_values.specs.declared.command.Command.{Command}
 use Rattle.tcf_values.specs.declared.command.Command.TheVariants.{Sync, GetPeers, Redirect, GetContext, GetChildren, GetState, Resume, Suspend, Terminate, BpSet, BpAdd, BpChange, BpEnable, BpDisable, BpRemove, BpIds, BpProperties, BpGetStatus, BpCapabilities, MemGet, MemSet, RegGet, RegSet, RegGetm, RegSetm, ProcContext, ProcChildren, ProcStart, ProcAttach, ProcDetach, ProcTerminate, TraceRun}
 use Rattle.tcf_values.specs.declared.faults.Fault.{Fault}
+use Rattle.target_hub.proofs.Unchanged.{same_by}
 
 -- ---- events
 
@@ -75,14 +76,10 @@ events_tell laws channel (TraceRun id count) target good readable = trace laws c
 
 -- ---- answers
 
-unchanged : (fault : Option Fault) (targets : TargetsValue) → targets_by fault targets targets ≡ targets
-unchanged None targets = refl
-unchanged (Some fault) targets = refl
-
 -- of a command that asks, of the same target
 asked : (fault : Option Fault) (target : Target) (message : Message) → Moves target target message
     → Moves (with_contexts (targets_by fault target.contexts target.contexts) target) (with_contexts (targets_by fault target.contexts target.contexts) target) message
-asked fault target message moves = subst (λ (contexts : TargetsValue). Moves (with_contexts contexts target) (with_contexts contexts target) message) (sym (unchanged fault target.contexts)) moves
+asked fault target message moves = subst (λ (contexts : TargetsValue). Moves (with_contexts contexts target) (with_contexts contexts target) message) (sym (same_by fault target.contexts)) moves
 
 pub answers_so : Laws → (channel : ℕ) (command : Command) (target : Target) → IsGood target → IsReadable command
     → Moves (exec_after channel command target) (exec_after channel command target) (reply channel command target)

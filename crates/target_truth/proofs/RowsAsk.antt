@@ -40,7 +40,7 @@ use Rattle.target_truth.proofs.RegistersRead.{whole_so, word_whole}
 use Rattle.target_truth.proofs.Seen.{number_seen, state_seen}
 use Rattle.target_truth.proofs.Faults.{check_passed}
 use Rattle.target_truth.proofs.Whole.{IsGood, Laws}
-use Rattle.target_truth.proofs.ContextLimits.{process_fits, thread_fits}
+use Rattle.target_truth.proofs.ContextLimits.{thread_fits}
 use Rattle.target_truth.proofs.StatusLimits.{instances_fit}
 use Rattle.tcf_values.specs.Ids.{context_of, register_of}
 use Rattle.tcf_values.specs.declared.answer.Answer.TheVariants as answers
@@ -52,6 +52,7 @@ use Rattle.tcf_values.specs.declared.ids.RegisterId.{RegisterId}
 use Rattle.tcf_values.specs.declared.values.BpProps.{BpProps}
 use Rattle.tcf_values.specs.declared.values.ContextData.{ContextData}
 use Rattle.tcf_values.specs.declared.values.Location.{Location}
+use Rattle.target_hub.proofs.Told.{process_within as process_fits}
 
 -- the answer to a command of a channel, as it is taken
 abbrev pub reply : ℕ → Command → Target → Message

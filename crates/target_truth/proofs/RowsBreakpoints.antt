@@ -18,7 +18,7 @@ use Rattle.target_hub.specs.declared.target.Target.{Target}
 use Rattle.target_truth.proofs.Differs.{status_kept}
 use Rattle.target_truth.proofs.First.{AreThere, OthersStay, changed as leads_changed, put, taken_out}
 use Rattle.target_truth.proofs.Listed.{Row, added_there, changed_there, stays_before, stays_beside, stays_unswitched, stays_without, switched_there}
-use Rattle.target_truth.proofs.Lists.{all_append, all_picked}
+use Rattle.target_truth.proofs.Lists.{all_picked}
 use Rattle.target_truth.proofs.RowsRun.{Tells}
 use Rattle.target_truth.proofs.Seen.{seen}
 use Rattle.target_truth.proofs.Statuses.{each_status_told}
@@ -26,6 +26,8 @@ use Rattle.target_truth.proofs.Tells.{IsTold, Tell}
 use Rattle.target_truth.proofs.Whole.{IsGood}
 use Rattle.tcf_values.specs.declared.command.Command.TheVariants as commands
 use Rattle.tcf_values.specs.declared.values.BpProps.{BpProps}
+use Rattle.target_hub.proofs.Given.{AreProps}
+use Rattle.list_laws.proofs.AllLists.{all_append}
 
 -- ---- a target with another list
 
@@ -34,9 +36,6 @@ listing target rows = record target { breakpoints = rows }
 
 abbrev attached_of : Target → List ℕ
 attached_of target = attached_in target.contexts.processes
-
-abbrev AreFit : List BpProps → Type 0
-AreFit list = AllByRecursion (λ props. is_bp props ≡ true) list
 
 -- where each breakpoint stays, all that was true is true
 all_stay : (target : Target) (rows : List Row) → OthersStay [] target.breakpoints rows → IsPart (seen target) (seen (listing target rows))
@@ -50,7 +49,7 @@ all_stay target rows stay (status_is id status) knows =
 
 -- ---- what is told of breakpoints that are there
 
-added_told : (before now : Target) (list : List BpProps) → now.contexts ≡ before.contexts → AreFit list → AreThere list now.breakpoints
+added_told : (before now : Target) (list : List BpProps) → now.contexts ≡ before.contexts → AreProps list → AreThere list now.breakpoints
     → OthersStay (map (λ props. props.id) list) before.breakpoints now.breakpoints → AllByRecursion (IsTold before now) (added_events list)
 added_told before now [] same fit there stay = tt
 added_told before now (props ∷ list) same fit there stay = (record { limits = fit; typed = tt; leads = put before now (props ∷ list) same there stay }, tt)
@@ -61,7 +60,7 @@ all_same ids rows id props other found = found
 
 -- ---- some are taken out, and then others are added
 
-put_told : (target : Target) (rows : List Row) (removed : List (List ℕ)) (added : List BpProps) → OthersStay removed target.breakpoints rows → AreFit added → AreThere added rows
+put_told : (target : Target) (rows : List Row) (removed : List (List ℕ)) (added : List BpProps) → OthersStay removed target.breakpoints rows → AreProps added → AreThere added rows
     → Tell target (listing target rows) (effect_of (attached_of target) (Changed removed added [])).events
 put_told target rows [] [] stay fit there = all_stay target rows stay
 put_told target rows [] (props ∷ list) stay fit there =
@@ -79,7 +78,7 @@ put_told target rows (id ∷ ids) added stay fit there =
 
 -- ---- some are changed
 
-changes_told : (target : Target) (rows : List Row) (list : List BpProps) → OthersStay (map (λ props. props.id) list) target.breakpoints rows → AreFit list → AreThere list rows
+changes_told : (target : Target) (rows : List Row) (list : List BpProps) → OthersStay (map (λ props. props.id) list) target.breakpoints rows → AreProps list → AreThere list rows
     → Tell target (listing target rows) (effect_of (attached_of target) (Changed [] [] list)).events
 changes_told target rows [] stay fit there = all_stay target rows stay
 changes_told target rows (props ∷ list) stay fit there =
@@ -132,7 +131,7 @@ change channel props target good readable =
     (readable, tt) (changed_there props rows (not-false (is_there props.id rows) there), tt))
 
 -- the switched ones are as they were but for the flag
-switched_fit : (enabled : Bool) (ids : List (List ℕ)) (rows : List Row) → AreReadable rows → AreFit (switched enabled ids rows)
+switched_fit : (enabled : Bool) (ids : List (List ℕ)) (rows : List Row) → AreReadable rows → AreProps (switched enabled ids rows)
 switched_fit enabled ids rows fit =
     all_picked (λ (props : BpProps). is_bp props ≡ true) (λ (row : Row). is_bp row.1 ≡ true) (λ (row : Row). with_flag enabled row.1) (is_switched enabled ids) rows (λ row is. is) fit
 

@@ -21,17 +21,19 @@ use Rattle.target_hub.specs.Execution.{exec_after, exec_effect}
 use Rattle.target_hub.specs.declared.target.Target.{Target}
 use Rattle.target_truth.specs.Holds.{process_in}
 use Rattle.target_truth.proofs.Becoming.{change_stays, changed, rests, stays, stays_attached, with_contexts}
-use Rattle.target_truth.proofs.Live.{below, number_found, next_unused, none_found}
+use Rattle.target_truth.proofs.Live.{number_found, next_unused, none_found}
 use Rattle.target_truth.proofs.First.{came, switched}
 use Rattle.target_truth.proofs.Statuses.{statuses_told}
 use Rattle.target_truth.proofs.Tells.{IsTold, Tell}
 use Rattle.target_truth.proofs.Faults.{by_fault, check_passed}
 use Rattle.target_truth.proofs.Telling.{end_told, ended, if_there, resumed_told, stopped_told}
-use Rattle.target_truth.proofs.ContextLimits.{process_fits, thread_fits}
+use Rattle.target_truth.proofs.ContextLimits.{thread_fits}
 use Rattle.target_truth.proofs.Whole.{IsGood, Laws}
 use Rattle.tcf_values.specs.Spelling.{IsNumber}
 use Rattle.tcf_values.specs.declared.command.Command.{Command}
 use Rattle.tcf_values.specs.declared.command.Command.TheVariants as commands
+use Rattle.target_contexts.proofs.Found.{below}
+use Rattle.target_hub.proofs.Told.{process_within as process_fits}
 
 -- the events of a command of a channel tell what it changes
 abbrev pub Tells : ℕ → Command → Target → Type 0

@@ -21,7 +21,6 @@ use Rattle.target_hub.specs.Passing.{tick_told, ticked}
 use Rattle.target_hub.specs.declared.target.Target.{Target}
 use Rattle.target_truth.specs.Holds.{process_in}
 use Rattle.target_truth.proofs.Becoming.{changed, with_contexts}
-use Rattle.target_truth.proofs.Lists.{all_if}
 use Rattle.target_truth.proofs.Machine.{IsStep, machine_whole}
 use Rattle.target_truth.proofs.RowsRun.{Tells}
 use Rattle.target_truth.proofs.Settling.{Executes, settles, stops_settle}
@@ -35,6 +34,7 @@ use Rattle.tcf_values.specs.declared.command.Command.TheVariants as commands
 use Rattle.tcf_values.specs.declared.event.EventData.{EventData}
 use Rattle.tcf_values.specs.declared.ids.ContextId.{ContextId}
 use Rattle.tcf_values.specs.declared.values.BpProps.{BpProps}
+use Rattle.list_laws.proofs.AllLists.{all_if}
 
 -- ---- the states that a process comes to
 

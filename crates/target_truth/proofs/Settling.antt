@@ -22,8 +22,9 @@ use Rattle.target_truth.proofs.Live.{number_found}
 use Rattle.target_truth.proofs.Silent.{ran_on}
 use Rattle.target_truth.proofs.Telling.{Ended, end_told, ended, stopped_told}
 use Rattle.target_truth.proofs.Tells.{Tell}
-use Rattle.target_truth.proofs.ExitCodes.{StepFits, machine_fits}
+use Rattle.target_truth.proofs.ExitCodes.{machine_fits}
 use Rattle.target_truth.proofs.Whole.{IsGood, Laws}
+use Rattle.target_hub.proofs.Told.{StepFits}
 
 -- ---- a process that executed: it is still the one that was started, and its pc is a number of 32 bits
 

@@ -6,8 +6,8 @@ use Rattle.std.specs.Str.Parse.{digits_value}
 use Rattle.breakpoints.specs.Address.{address_in, is_address, is_numeral, is_prefixed}
 use Rattle.breakpoints.specs.Status.{instance_of, instances_of, place_at, place_of}
 use Rattle.json_values.specs.Statuses.{IsInstance, IsPlace}
-use Rattle.target_truth.proofs.Lists.{all_map}
 use Rattle.tcf_values.specs.declared.values.BpProps.{BpProps}
+use Rattle.list_laws.proofs.AllLists.{all_map}
 
 below : (numeral : Bool) (n : ℕ) → (numeral && is_address n) ≡ true → n < 2 ^ 32
 below numeral n both =

@@ -4,7 +4,6 @@ use Rattle.std.specs.Prelude.{unsigned_abs}
 use Rattle.std.specs.List.{AllByRecursion}
 use Rattle.knowledge.specs.Changes.{Change, bytes_read, state_gone}
 use Rattle.knowledge.specs.Rows.{answer_changes, are_of_range, context_answered, is_part, memory_answered, memory_read, parts_read, process_for, properties_answered, register_answered, registers_answered, state_answered, state_changes, state_of_thread, status_answered, whole_read, word_read}
-use Rattle.target_truth.proofs.Lists.{all_append, all_if}
 use Rattle.tcf_values.specs.Ids.{context_of, register_of}
 use Rattle.tcf_values.specs.declared.answer.Answer.{Answer}
 use Rattle.tcf_values.specs.declared.command.Command.{Command}
@@ -15,6 +14,7 @@ use Rattle.tcf_values.specs.declared.ids.RegisterId.{RegisterId}
 use Rattle.tcf_values.specs.declared.values.Location.{Location}
 use Rattle.tcf_values.specs.declared.values.RunState.{RunState}
 use Rattle.tcf_values.specs.declared.values.RunState.TheVariants as run
+use Rattle.list_laws.proofs.AllLists.{all_append, all_if}
 
 -- no state drops
 abbrev pub IsSteady : Change → Type 0

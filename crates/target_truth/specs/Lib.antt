@@ -2,3 +2,4 @@ pub mod Holds
 pub mod Taught
 pub mod Typed
 pub mod Laws
+pub mod StoredLaws

@@ -3,4 +3,4 @@
 
 pub mod laws;
 
-pub use laws::what_is_told_is_true;
+pub use laws::{a_stored_answer_is_what_the_target_answers, what_is_told_is_true};

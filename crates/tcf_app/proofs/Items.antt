@@ -13,6 +13,7 @@ use Rattle.tcf_app.specs.declared.exit.BadPlace.{BadPlace}
 use Rattle.tcf_app.specs.declared.exit.StreamWhat.{StreamWhat}
 use Rattle.tcf_app.specs.Show.{Shown, bad_at, what_of, eos_line, onto, shown_message, shown_items}
 use Rattle.tcf_app.specs.Pieces.{frame_length, frames_length}
+use Rattle.stream_escape.proofs.Cuts.{capped_twice}
 
 -- these lines, and this bad place
 abbrev pub shown_as : List ℕ → Option BadPlace → Shown
@@ -32,9 +33,6 @@ onto_joined line text (Some bad) later = refl
 
 -- ---- Places count as far as they can
 
-pub capped_more : (m n : ℕ) → capped (capped m + n) ≡ capped (m + n)
-capped_more m n = omega arith
-
 pub bad_at_capped : (place : ℕ) (what : StreamWhat) → bad_at (capped place) what ≡ bad_at place what
 bad_at_capped place what =
     let same : capped (capped place) ≡ capped place = omega arith in
@@ -51,7 +49,7 @@ shown_capped place (End ∷ items) behind = ap (λ s. onto eos_line s) (shown_ca
 shown_capped place (Message bytes ∷ items) behind =
     let n = length (framed bytes) in
     message_capped place (reading bytes) (shown_items (capped place + n) items behind) (shown_items (place + n) items behind)
-    (sym (shown_capped (capped place + n) items behind) ∙ ap (λ m. shown_items m items behind) (capped_more place n) ∙ shown_capped (place + n) items behind)
+    (sym (shown_capped (capped place + n) items behind) ∙ ap (λ m. shown_items m items behind) (capped_twice place n) ∙ shown_capped (place + n) items behind)
 
 -- ---- Items behind items
 
@@ -137,7 +135,7 @@ kept_place place next end rest more item is behind so_far =
     so_far
     ∙ ap (λ r. capped (place + frames_length r)) is
     ∙ ap capped (sym (add_assoc place (frame_length item) (frames_length more)))
-    ∙ sym (capped_more (place + frame_length item) (frames_length more))
+    ∙ sym (capped_twice (place + frame_length item) (frames_length more))
     ∙ ap (λ n. capped (n + frames_length more)) (sym behind)
 
 -- no item is left

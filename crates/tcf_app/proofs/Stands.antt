@@ -16,9 +16,10 @@ use Rattle.tcf_app.specs.declared.exit.BadPlace.{BadPlace}
 use Rattle.tcf_app.specs.declared.exit.StreamWhat.TheVariants.{Unended}
 use Rattle.tcf_app.specs.Show.{Shown, bad_at, what_for, onto, shown_items, unended, IsShown, whole, broken}
 use Rattle.tcf_app.specs.Pieces.{frames_length, bad_behind, ShowsPiece}
-use Rattle.tcf_app.proofs.Items.{shown_as, joined, capped_more, bad_at_capped, shown_capped, shown_append, shown_behind}
+use Rattle.tcf_app.proofs.Items.{shown_as, joined, bad_at_capped, shown_capped, shown_append, shown_behind}
 use Rattle.tcf_app.proofs.Frames.{frames_append}
 use Rattle.tcf_app.proofs.Endings.{added_nothing, added_twice}
+use Rattle.stream_escape.proofs.Cuts.{capped_twice as capped_more}
 
 -- what the items before have on the stream was read, all of them are good, and exactly their lines were told
 pub record Standing (file rest : List ℕ) (unescape : UnescapeValue) (place : ℕ) (before told : Option (List ℕ)) : Type 0 where

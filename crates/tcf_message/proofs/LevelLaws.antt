@@ -9,7 +9,7 @@ use Rattle.std.proofs.lemmas.Option.{cond_some}
 use Rattle.std.proofs.lemmas.Fmt.{decimal_digit, decimal_step, decimal_by_steps, decimal_nonempty, length-decimal-le}
 use Rattle.tcf_message.specs.Message.{is_zero, HasNoZero, IsLevel, is_first, is_digit, number_of, below_zero, from_zero, level_of}
 use Rattle.tcf_message.specs.Fault.{IsDecimalToken}
-use Rattle.tcf_message.proofs.FieldLaws.{or_from_false}
+use Rattle.list_laws.proofs.Flags.{or_neither as or_from_false}
 
 -- ---- Numbers
 

@@ -9,9 +9,10 @@ use Rattle.tcf_message.specs.declared.message.MessageFault.{MessageFault}
 use Rattle.tcf_message.specs.declared.message.MessageFault.TheVariants.{Empty, Unended, Kind, Token, Level, Trailing, Body}
 use Rattle.tcf_message.specs.Message.{most_body, most_token, MessageValue, command, final, progress, not_known, event, flow, value_of, ◌•◌, spelling, HasNoZero, IsWellFormed, HasFields, Says, Gives, body_length, field_at, limited, command_of, final_of, progress_of, not_known_of, event_of, flow_of, by_letter, by_kind, level_of, reading}
 use Rattle.tcf_message.specs.Fault.{IsAmong, Front, start, kind, command_token, command_service, event_service, IsFront, followed, EndsInField, IsFault, IsReadBack, IsOneSpelling, AreFaults, IsOneAnswer, IsAnswered}
-use Rattle.tcf_message.proofs.FieldLaws.{bind_ok, bind_err, ok_is, err_is, or_from_false, field_takes, field_again, field_faults, field_none, token_none, token_again, token_bad, IsWrongLength}
+use Rattle.tcf_message.proofs.FieldLaws.{bind_ok, bind_err, ok_is, err_is, field_takes, field_again, field_faults, field_none, token_none, token_again, token_bad, IsWrongLength}
 use Rattle.tcf_message.proofs.LevelLaws.{no_level}
 use Rattle.tcf_message.proofs.MessageLaws.{limited_again, limited_bad, ended_bad, command_takes, command_again, command_faults, final_takes, final_again, final_faults, progress_takes, progress_again, progress_faults, not_known_takes, not_known_again, not_known_faults, event_takes, event_again, event_faults, flow_takes, flow_again, flow_faults}
+use Rattle.list_laws.proofs.Flags.{or_neither as or_from_false}
 
 -- ---- By the letter
 

@@ -14,12 +14,13 @@ use Rattle.tcf_schedules.specs.Line.{LineHead, image, chain, LineStep, LineValue
 use Rattle.tcf_schedules.specs.Reading.{value_of, ReadsTheText}
 use Rattle.tcf_schedules.specs.Schedule.{lines_of, is_skipped, ScheduleValue, nothing, has_step, is_image, is_chain, plan_in, with_plan, after_head, after_value, after_said, after_line, at_line, going_on, after_lines, schedule_of, is_repeat, IsReason, IsFirstBad, WantsMemory, kept_lines, ReadsWhatIsSaid, RefusesTheFirst}
 use Rattle.tcf_schedules.proofs.Lines.{lines_cut}
-use Rattle.tcf_schedules.proofs.Schedules.{goes_on, one_line, nil_cons, skipping, kept_skipping, kept_more, taking}
+use Rattle.tcf_schedules.proofs.Schedules.{goes_on, one_line, skipping, kept_skipping, kept_more, taking}
+use Rattle.list_laws.proofs.Lists.{nil_cons}
 
 -- ---- A file of some lines
 
 -- some lines, each with its end
-file_of : List (List ℕ) → List ℕ
+pub file_of : List (List ℕ) → List ℕ
 file_of [] = []
 file_of (line ∷ lines) = line ++ 10 ∷ file_of lines
 
@@ -50,7 +51,7 @@ front_are (line ∷ front) lines are = (are.0, front_are front lines are.1)
 
 -- ---- Where the lines stop
 
-abbrev bad_at : ℕ → TextFault → BadLine
+abbrev pub bad_at : ℕ → TextFault → BadLine
 bad_at number what = record { line = number; what = what }
 
 ok_err : (s : ScheduleValue) (bad : BadLine) → ◌≡◌ {A = Result ScheduleValue BadLine} (Ok s) (Err bad) → ⊥

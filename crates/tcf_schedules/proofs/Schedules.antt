@@ -16,6 +16,7 @@ use Rattle.tcf_schedules.specs.Reading.{value_of, ReadsTheText}
 use Rattle.tcf_schedules.specs.Schedule.{lines_of, is_skipped, ScheduleValue, nothing, image_of, head_of, plan_in, has_step, is_image, is_chain, and_image, and_chain, and_plan, with_plan, after_head, after_value, after_said, after_line, at_line, going_on, after_lines, schedule_of, kept_lines, images_in, chains_in, AreDistinct, Accepts, ReadsWhatIsSaid}
 use Rattle.tcf_schedules.proofs.Names.{IsNew, distinct_push, distinct_front, new_of, none_of}
 use Rattle.tcf_schedules.proofs.Steps.{steps_are}
+use Rattle.list_laws.proofs.Lists.{nil_cons, cons_parts}
 
 -- ---- Outcomes
 
@@ -27,12 +28,6 @@ fault_ok what s e = cc
 
 line_same : (s t : ScheduleValue) → ◌≡◌ {A = Result ScheduleValue TextFault} (Ok s) (Ok t) → s ≡ t
 line_same s t e = cc
-
-pub nil_cons : {A : Type 0} (x : A) (xs : List A) → [] ≡ x ∷ xs → ⊥
-nil_cons x xs e = cc
-
-cons_parts : {A : Type 0} (x y : A) (xs ys : List A) → x ∷ xs ≡ y ∷ ys → (x ≡ y) × (xs ≡ ys)
-cons_parts x y xs ys e = (cc, cc)
 
 -- a test that has to succeed
 guarded : (b : Bool) (r : Result ScheduleValue TextFault) (what : TextFault) (t : ScheduleValue) → cond b r (Err what) ≡ Ok t → (b ≡ true) × (r ≡ Ok t)

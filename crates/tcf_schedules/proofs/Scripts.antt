@@ -22,9 +22,11 @@ use Rattle.tcf_schedules.specs.Reading.{command_of}
 use Rattle.tcf_schedules.specs.Refusal.{BadLine}
 use Rattle.tcf_schedules.specs.Schedule.{lines_of, is_skipped, kept_lines}
 use Rattle.tcf_schedules.specs.Script.{ScriptLineValue, sends, waits, asks, closes, IsScriptLine, wait_word, script_spelling, SaysInScript, script_sending, script_behind, script_value_of, script_line, added_by, before, from_line, script_from, script_of, SaysScript, IsFirstBadOfScript, ScriptWantsMemory, IsFit, ReadsTheScriptLine, ReadsTheScript, RefusesTheScript, ScriptsAreFit}
-use Rattle.tcf_schedules.proofs.Schedules.{nil_cons, kept_skipping, kept_more}
-use Rattle.tcf_schedules.proofs.Steps.{word_no_zero, cons_parts}
+use Rattle.tcf_schedules.proofs.Schedules.{kept_skipping, kept_more}
+use Rattle.tcf_schedules.proofs.Steps.{word_no_zero}
 use Rattle.tcf_schedules.proofs.Values.{Serving, GoodServing, serving_text, serving_exact, cached_exact}
+use Rattle.tcf_schedules.proofs.FirstBad.{bad_at}
+use Rattle.list_laws.proofs.Lists.{nil_cons, cons_parts}
 
 -- ---- What one line says
 
@@ -191,9 +193,6 @@ pub reads_the_script : ReadsTheScriptLine → ReadsTheScript
 reads_the_script law file script = (lines_say law 1 (lines_of file) script, lines_read law 1 (lines_of file) script)
 
 -- ---- The first bad line
-
-abbrev bad_at : ℕ → TextFault → BadLine
-bad_at number what = record { line = number; what = what }
 
 ok_err : (s : List ScriptLine) (bad : BadLine) → ◌≡◌ {A = Result (List ScriptLine) BadLine} (Ok s) (Err bad) → ⊥
 ok_err s bad e = cc

@@ -13,6 +13,7 @@ use Rattle.tcf_schedules.specs.Plan.{Plan, opens as plan_opens, send as plan_sen
 use Rattle.tcf_schedules.specs.Words.{data_of}
 use Rattle.tcf_schedules.specs.Line.{PlainStep, opens, sends, delivers, turns, ticks, closes, cuts, asks, LineStep, once, rounds, times, IsPlainStep, IsLineStep}
 use Rattle.tcf_schedules.specs.Schedule.{chain_of, hop_of, node_of, hop_in, node_in, plain_plan, plan_in}
+use Rattle.list_laws.proofs.Lists.{nil_cons, cons_parts}
 
 -- ---- Places
 
@@ -83,12 +84,6 @@ step_is chains (times count x) plan good e =
     let m = map_found (plan_times count) (plain_plan chains x) plan e in
     let is = plain_is chains x m.0 good.2 m.1 in
     subst (IsStep chains) m.2 (good.0, good.1, is.1, is.0)
-
-nil_cons : {A : Type 0} (x : A) (xs : List A) → [] ≡ x ∷ xs → ⊥
-nil_cons x xs e = cc
-
-pub cons_parts : {A : Type 0} (x y : A) (xs ys : List A) → x ∷ xs ≡ y ∷ ys → (x ≡ y) × (xs ≡ ys)
-cons_parts x y xs ys e = (cc, cc)
 
 -- the steps of some lines
 pub steps_are : (chains : List ChainHead) (xs : List LineStep) (plans : List Plan) → AllByRecursion IsLineStep xs → map (plan_in chains) xs ≡ map Some plans

@@ -9,8 +9,6 @@ mod place;
 mod reading;
 pub mod schedule;
 pub mod script;
-#[cfg(test)]
-mod tests;
 mod words;
 
 pub use reading::read_schedule;

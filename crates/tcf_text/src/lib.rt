@@ -4,8 +4,6 @@
 pub mod log;
 pub mod message;
 mod show;
-#[cfg(test)]
-mod tests;
 
 pub use log::{EndWhy, LogLine, RefusedWhy};
 pub use message::show_line;

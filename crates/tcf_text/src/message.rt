@@ -102,6 +102,3 @@ pub fn show_line(message: &Message<'_>, out: &mut Octets) -> Result<(), AllocErr
     show_message(message, out)?;
     out.push(b'\n')
 }
-
-#[cfg(test)]
-mod tests;

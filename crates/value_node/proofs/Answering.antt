@@ -21,27 +21,28 @@ use Rattle.value_node.specs.declared.states.Bind.{Bind}
 use Rattle.value_node.specs.declared.states.Bind.TheVariants.{Unbound, Opening, Bound, Closed}
 use Rattle.value_node.proofs.Holding.{Holds, Laws, holds_first}
 use Rattle.value_node.proofs.HoldsCalled.{holds_called}
-use Rattle.value_node.proofs.HoldsConnected.{and_parts}
 use Rattle.value_node.proofs.HoldsEnds.{lower_facts}
 use Rattle.value_node.proofs.HoldsStands.{stands_kept}
 use Rattle.value_node.proofs.OwnAnswers.{Answers, IsLeft, call_answers, spelled}
-use Rattle.value_node.proofs.OwnInOrder.{none_before, none_first, own_last, own_more}
+use Rattle.value_node.proofs.OwnInOrder.{own_last, own_more}
 use Rattle.value_node.proofs.OwnReplies.{Names}
 use Rattle.value_node.proofs.OwnSilence.{IsPast, stands_past}
 use Rattle.value_node.proofs.OwnStays.{redirect_stays}
 use Rattle.value_node.proofs.Pasts.{after_both, sent_both, taken_in, taken_more}
 use Rattle.value_node.proofs.Steps.{called_whole, end_ran, relay_called, whole}
+use Rattle.list_laws.proofs.Flags.{and_parts}
+use Rattle.list_laws.proofs.Lists.{none_last as none_before, none_before as none_first}
 
 -- ---- what is asked, and what is sent
 
-abbrev first_end : Lower
+abbrev pub first_end : Lower
 first_end = new_end value_services None
 
 -- the commands that these calls of the lower end take
 abbrev pub asked_of : List LowerCall → List Asked
 asked_of calls = flat_map asked_by (lower_after calls).past.taken
 
-asked_more : (calls more : List LowerCall) (lower : Lower) → lower ≡ (lower_after calls).end → asked_of (calls ++ more) ≡ asked_of calls ++ flat_map asked_by (taken_in more lower)
+pub asked_more : (calls more : List LowerCall) (lower : Lower) → lower ≡ (lower_after calls).end → asked_of (calls ++ more) ≡ asked_of calls ++ flat_map asked_by (taken_in more lower)
 asked_more calls more lower same =
     ap (λ (r : Run Unit). flat_map asked_by r.past.taken) (after_both calls more (lower_after []))
     ∙ ap (flat_map asked_by) (taken_more more (lower_after calls))

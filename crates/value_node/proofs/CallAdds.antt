@@ -84,14 +84,14 @@ Added next end c accepted = ((accepted ≡ issued_as (end.last + 1) c ∷ []) ×
 abbrev pub Adds : Bind → Bind → Upper → List Asked → List (Issued ForwardedValue) → Type 0
 Adds bind next end forwarded accepted = ((forwarded ≡ []) × (accepted ≡ [])) ⊎ ((c : Asked) × (forwarded ≡ c ∷ []) × (bind ≡ Bound) × Added next end c accepted)
 
-not_spent : (a b c d : Bool) → cond a (Some NotOpen) (cond b (Some TooLong) (cond c (Some Full) (cond d (Some Spent) None))) ≡ None → d ≡ false
+pub not_spent : (a b c d : Bool) → cond a (Some NotOpen) (cond b (Some TooLong) (cond c (Some Full) (cond d (Some Spent) None))) ≡ None → d ≡ false
 not_spent true b c d none = absurd cc
 not_spent false true c d none = absurd cc
 not_spent false false true d none = absurd cc
 not_spent false false false true none = absurd cc
 not_spent false false false false none = refl
 
-below_last : (last : ℕ) → (last == last_token) ≡ false → last ≢ last_token
+pub below_last : (last : ℕ) → (last == last_token) ≡ false → last ≢ last_token
 below_last last other = elim (eqb_tells last last_token) as (λ _. last ≢ last_token) [ inl is ↦ absurd (true≢false (sym is.0 ∙ other)) | inr is ↦ is.1 ]
 
 abbrev pub asked_as : List ℕ → List ℕ → List ℕ → List ℕ → Option ℕ → Asked

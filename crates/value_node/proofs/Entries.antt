@@ -28,8 +28,8 @@ use Rattle.stream_escape.specs.declared.stream.Item.TheVariants as items
 use Rattle.stream_escape.specs.declared.stream.StreamFault.{StreamFault}
 use Rattle.tcf_message.specs.Message.{MessageValue, command, event, final, flow, not_known, progress, reading}
 use Rattle.tcf_message.specs.declared.message.MessageFault.{MessageFault}
-use Rattle.value_node.proofs.Lists.{all_append}
 use Rattle.value_node.proofs.Taken.{IsEvent, IsTold}
+use Rattle.list_laws.proofs.AllLists.{all_append}
 
 abbrev pub IsRead : Result MessageValue MessageFault → Type 0
 IsRead (Err fault) = ⊥

@@ -1,5 +1,5 @@
 -- A connection that is made keeps what holds of a value-add and its past.
-use Rattle.std.proofs.Common.{◌≡◌, ℕ, Bool, true, false, ◌&&◌, List, [], Option, Some, None, refl, ap, sym, ◌∙◌, subst, arith}
+use Rattle.std.proofs.Common.{◌≡◌, ℕ, Bool, true, false, List, [], Option, Some, None, refl, ap, sym, ◌∙◌, subst, arith}
 use Rattle.std.specs.Prelude.{IsSome, if◌then◌else◌, option_map, option_to_list, unwrap_or}
 use Rattle.std.specs.List.{AllByRecursion, list_any}
 use Rattle.channel_core.specs.Closing.{is_closed}
@@ -13,12 +13,9 @@ use Rattle.value_node.specs.declared.relay.Relay.{Relay}
 use Rattle.value_node.specs.declared.states.Bind.{Bind}
 use Rattle.value_node.specs.declared.states.Bind.TheVariants.{Unbound, Opening, Bound, Closed}
 use Rattle.value_node.proofs.Holding.{Holds}
-use Rattle.value_node.proofs.Lists.{all_append}
 use Rattle.value_node.proofs.Steps.{relay_called}
-
-pub and_parts : (a b : Bool) → (a && b) ≡ true → (a ≡ true) × (b ≡ true)
-and_parts true b on = (refl, on)
-and_parts false b on = absurd cc
+use Rattle.list_laws.proofs.Flags.{and_parts}
+use Rattle.list_laws.proofs.AllLists.{all_append}
 
 -- an Opening one isn't bound
 opening_parts : (bind : Bind) (v : Relay) (p : Past) → is_opening bind ≡ true → StandsWell bind v p → (is_closed v.lower.state ≡ false) × IsSome v.redirect × (p.is_bound ≡ false)

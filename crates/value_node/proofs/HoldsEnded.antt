@@ -33,11 +33,11 @@ use Rattle.value_node.specs.declared.states.Bind.TheVariants.{Unbound, Opening, 
 use Rattle.value_node.specs.declared.states.Side.TheVariants.{Above}
 use Rattle.value_node.proofs.Holding.{Holds, Laws, above_more, below_more, holds_first}
 use Rattle.value_node.proofs.HoldsCalled.{IsHeld, always_held, holds_called}
-use Rattle.value_node.proofs.HoldsConnected.{and_parts}
 use Rattle.value_node.proofs.HoldsHello.{turn_or_not}
 use Rattle.value_node.proofs.Pasts.{taken_in, taken_more}
 use Rattle.value_node.proofs.Steps.{called_whole, relay, relay_called, whole}
 use Rattle.value_node.proofs.TakenAbove.{others_take}
+use Rattle.list_laws.proofs.Flags.{and_parts}
 
 -- ---- an end that took an ending is closed
 

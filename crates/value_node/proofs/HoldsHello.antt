@@ -32,12 +32,13 @@ use Rattle.value_node.specs.declared.states.Side.TheVariants.{Below, Above}
 use Rattle.value_node.specs.declared.states.ValueTurn.TheVariants.{Nothing}
 use Rattle.value_node.proofs.Holding.{Holds, Laws, WaitsOrIsClosed, above_more}
 use Rattle.value_node.proofs.HoldsEnds.{KeepsClosed, upper_facts, upper_is}
-use Rattle.value_node.proofs.HoldsWaiting.{neither, only_waits}
+use Rattle.value_node.proofs.HoldsWaiting.{only_waits}
 use Rattle.value_node.proofs.Pasts.{taken_in, taken_more}
 use Rattle.value_node.proofs.Steps.{relay, relay_called}
 use Rattle.value_node.proofs.Taken.{IsFirstAny, next_first}
 use Rattle.value_node.proofs.StoreStays.{others_keep, redirect_store}
 use Rattle.value_node.proofs.TakenAbove.{others_take}
+use Rattle.list_laws.proofs.Flags.{neither}
 
 -- ---- what is taken before the Hello
 

@@ -28,7 +28,6 @@ use Rattle.value_node.proofs.Holding.{Holds, IsNamed, Laws, above_accepted}
 use Rattle.value_node.proofs.HoldsEnds.{lower_facts}
 use Rattle.value_node.proofs.HoldsHeard.{hears_is}
 use Rattle.value_node.proofs.HoldsHello.{not_binding, others_idle, others_pass, turn_or_not}
-use Rattle.value_node.proofs.Lists.{all_append, all_right, all_then}
 use Rattle.value_node.proofs.OwnSilence.{IsPast, below_sends, own_silent, stands_open, stands_past}
 use Rattle.value_node.proofs.PassedOn.{pass_sends, passed_on}
 use Rattle.value_node.proofs.Pasts.{accepted_in, after_both, sent_both}
@@ -37,6 +36,7 @@ use Rattle.value_node.proofs.Steps.{end_ran, ran}
 use Rattle.value_node.proofs.Taken.{Gives, GivesAny, Stands, next_gives}
 use Rattle.value_node.proofs.TakenAbove.{above_taken, entries_from}
 use Rattle.value_node.proofs.TokensBelow.{IsIssued, accepted_rows, asked_tokens, pending_rows, upper_rows}
+use Rattle.list_laws.proofs.AllLists.{all_append, all_right, all_then}
 
 -- ---- all is passed on
 

@@ -36,9 +36,12 @@ use Rattle.value_node.proofs.DeedLists.{AreRight, IsRight, all_heard, right_both
 use Rattle.value_node.proofs.Holding.{Holds, IsNamed, Laws, issued_from, issued_length}
 use Rattle.value_node.proofs.HoldsEnds.{upper_is}
 use Rattle.value_node.proofs.HoldsPassed.{end_rows}
-use Rattle.value_node.proofs.Lists.{all_right, all_stands}
+use Rattle.value_node.proofs.Lists.{all_stands}
 use Rattle.value_node.proofs.Taken.{Gives, GivesAny, IsAnswerTo, IsCommand, IsEvent, IsProgressOf, IsTold, Stands, next_gives}
 use Rattle.value_node.proofs.TokensBelow.{IsIssued}
+use Rattle.list_laws.proofs.Flags.{not_false, not_true}
+use Rattle.list_laws.proofs.Lists.{none_mapped}
+use Rattle.list_laws.proofs.AllLists.{all_right}
 
 -- ---- the answers that were heard are those that were taken
 
@@ -109,18 +112,6 @@ module _ {A : Type 0} (keep : A → Bool) where
   kept_off test (y ∷ xs) zero x none there on =
       let same : y ≡ x = cc in subst (λ z. keep z ≡ false) same (first_off test y xs (keep y) refl none (ap test same ∙ on))
   kept_off test (y ∷ xs) (suc place) x none there on = kept_off test xs place x (rest_off test y xs (keep y) none) there on
-
-not_true : (b : Bool) → not b ≡ true → b ≡ false
-not_true true is = absurd cc
-not_true false is = refl
-
-not_false : (b : Bool) → not b ≡ false → b ≡ true
-not_false true is = refl
-not_false false is = absurd cc
-
-none_mapped : {A B : Type 0} → (f : A → B) (xs : List A) → map f xs ≡ [] → xs ≡ []
-none_mapped f [] is = refl
-none_mapped f (x ∷ xs) is = absurd cc
 
 -- the row of a command that was accepted
 abbrev row_under : ℕ → Asked → Option (ℕ × ForwardedValue)

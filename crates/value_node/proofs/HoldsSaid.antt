@@ -16,10 +16,10 @@ use Rattle.value_node.specs.declared.relay.Relay.{Relay}
 use Rattle.value_node.proofs.Holding.{Holds, Laws}
 use Rattle.value_node.proofs.DeedLists.{right_at}
 use Rattle.value_node.proofs.HoldsCalled.{IsHeld, always_held}
-use Rattle.value_node.proofs.Lists.{all_left}
 use Rattle.value_node.proofs.NoCommandBelow.{IsOther}
 use Rattle.value_node.proofs.Pasts.{sent_both}
 use Rattle.value_node.proofs.Steps.{end_ran}
+use Rattle.list_laws.proofs.AllLists.{all_left}
 
 pub none_commands : (calls : List LowerCall) → AllByRecursion IsOther calls → list_any is_commanding calls ≡ false
 none_commands [] all = refl

@@ -30,9 +30,9 @@ use Rattle.value_node.specs.declared.states.Side.TheVariants.{Below, Above}
 use Rattle.value_node.specs.declared.states.ValueTurn.TheVariants.{Nothing}
 use Rattle.value_node.proofs.Asking.{asked_bound_is, store_asked}
 use Rattle.value_node.proofs.Holding.{Holds, Laws}
-use Rattle.value_node.proofs.HoldsConnected.{and_parts}
 use Rattle.value_node.proofs.HoldsEnds.{KeepsClosed, lower_facts, upper_facts}
 use Rattle.value_node.proofs.Steps.{relay, relay_called}
+use Rattle.list_laws.proofs.Flags.{or_false, or_true, and_parts}
 
 -- ---- an end of which something is sent, or which is closed
 
@@ -70,14 +70,6 @@ own_closed e = by_flag (is_closed e.state) refl
 own_free : (upper : Option Upper) → is_free (option_map closed_own upper) ≡ true
 own_free None = refl
 own_free (Some e) = own_closed e
-
-or_false : (b : Bool) → (b || false) ≡ b
-or_false true = refl
-or_false false = refl
-
-or_true : (b : Bool) → (b || true) ≡ true
-or_true true = refl
-or_true false = refl
 
 -- ---- a later value-add and a later past stand well
 

@@ -1,5 +1,5 @@
 -- An end that took no Hello waits for it or is closed, and took no message.
-use Rattle.std.proofs.Common.{◌≡◌, ℕ, ◌+◌, Bool, true, false, ◌||◌, ◌&&◌, cond, List, [], ◌∷◌, ◌++◌, length, Option, Some, None, Result, Ok, Err, refl, ap, sym, ◌∙◌}
+use Rattle.std.proofs.Common.{◌≡◌, ℕ, ◌+◌, Bool, true, false, ◌&&◌, cond, List, [], ◌∷◌, ◌++◌, length, Option, Some, None, Result, Ok, Err, refl, ap, sym, ◌∙◌}
 use Rattle.std.specs.List.{flat_map, list_any}
 use Rattle.std.proofs.lemmas.List.Concat.{flat_map-append}
 use Rattle.std.proofs.lemmas.List.Folds.{list_any-append}
@@ -33,6 +33,7 @@ use Rattle.channel_core.specs.declared.states.EndState.{EndState}
 use Rattle.channel_core.specs.declared.states.EndState.TheVariants.{Closed, Live, Opening, Reopening}
 use Rattle.channel_core.specs.declared.taking.Taken.{Taken}
 use Rattle.value_node.proofs.Holding.{WaitsOrIsClosed}
+use Rattle.list_laws.proofs.Flags.{neither}
 
 -- where the one waits or is closed the other does or is
 abbrev Stays : {T : Type 0} → EndValue T → EndValue T → Type 0
@@ -136,10 +137,6 @@ pub record Unheard {T : Type 0} (r : Run T) : Type 0 where
 
 abbrev pub OnlyWaits : {T : Type 0} → Run T → Type 0
 OnlyWaits r = list_any is_greeting r.past.taken ≡ false → Unheard r
-
-pub neither : (a b : Bool) → (a || b) ≡ false → (a ≡ false) × (b ≡ false)
-neither true b off = absurd cc
-neither false b off = (refl, off)
 
 take_stays : {T : Type 0} → (r : Run T) → TakesNothingClosed r → OnlyWaits r → OnlyWaits (after_call taking r)
 take_stays r none so =

@@ -1,24 +1,21 @@
 -- What a store knows after a message that was heard.
-use Rattle.std.proofs.Common.{◌≡◌, ℕ, zero, suc, Bool, true, false, List, [], ◌∷◌, ◌++◌, take, drop, position, Option, Some, None, Result, Ok, refl, ap, sym, ◌∙◌, subst}
+use Rattle.std.proofs.Common.{◌≡◌, ℕ, true, false, List, [], ◌∷◌, ◌++◌, position, Option, Some, None, Result, Ok, refl, ap, sym, ◌∙◌, subst}
 use Rattle.std.specs.Prelude.{decimal, option_and_then}
 use Rattle.std.specs.Cmp.Lexicographic.{slice_cmp}
 use Rattle.std.specs.FinMap as finite
 use Rattle.std.specs.Ordering.{nat_cmp}
-use Rattle.std.specs.List.{list_any, remove}
 use Rattle.std.proofs.lemmas.List.{append-nil}
-use Rattle.std.proofs.lemmas.List.Folds.{list_any-append}
 use Rattle.block_store.specs.Blocks.{has_range}
-use Rattle.block_store.specs.Store.{moved_first}
 use Rattle.block_store.specs.declared.block.Block.{Block}
-use Rattle.cache_learning.specs.Lessons.{event_message}
+use Rattle.value_store.specs.Lessons.{event_message}
 use Rattle.channel_core.specs.Wire.{Said, answers as answers_said, asks, goes_on, greets, said_in, said_of, tells}
 use Rattle.channel_core.specs.declared.held.Incoming.{Incoming}
 use Rattle.knowledge.specs.Facts.{AreSame, Facts, nothing}
 use Rattle.knowledge.specs.KnowledgeValue.{has_block_byte}
 use Rattle.knowledge.specs.Laws.{AreKnown, BlocksAreLearned, BlocksStaySame, FactsStaySame, OthersStayUnanswered}
-use Rattle.knowledge.specs.Learning.{Message, learn, learn_all, learned}
+use Rattle.knowledge.specs.Learning.{Message, learn, learned}
 use Rattle.knowledge.specs.Reply.{memory_used, range_in}
-use Rattle.knowledge.proofs.Blocks.{any_take, holds, or_cases, or_right}
+use Rattle.knowledge.proofs.Blocks.{holds}
 use Rattle.tcf_message.specs.Message.{MessageValue, command, event, final, not_known, progress, reading}
 use Rattle.tcf_message.specs.declared.message.MessageFault.{MessageFault}
 use Rattle.tcf_values.specs.declared.command.Command.{Command}
@@ -29,6 +26,8 @@ use Rattle.value_node.specs.Deeds.{Deed, answers, command_asked, forwards, hears
 use Rattle.value_node.specs.Store.{IsStoreOf, StoreValue, event_heard, final_heard, hello_heard, later_mark, lesson_of, no_store, progress_heard, taught, used_by}
 use Rattle.value_node.proofs.DeedLists.{lessons_both, mark_both}
 use Rattle.value_node.proofs.Taken.{IsAnswerTo, IsCommand, IsEvent, IsProgressOf}
+use Rattle.knowledge.proofs.Cache.{learn_all-append}
+use Rattle.knowledge.proofs.Replies.{any_moved}
 
 -- the laws of what is known that this stands on
 pub record Lessons : Type 0 where
@@ -38,10 +37,6 @@ pub record Lessons : Type 0 where
   pub unanswered : OthersStayUnanswered
 
 -- ---- one more message
-
-learned_more : (messages : List Message) (message : Message) (known : Facts) → learn_all (messages ++ message ∷ []) known ≡ learn message (learn_all messages known)
-learned_more [] message known = refl
-learned_more (first ∷ messages) message known = learned_more messages message (learn first known)
 
 same_then : (known other last : Facts) → AreSame known other → AreSame other last → AreSame known last
 same_then known other last one two = record {
@@ -55,7 +50,7 @@ same_then known other last one two = record {
 pub taught_more : Lessons → (messages : List Message) (message : Message) (s : StoreValue) → IsStoreOf messages s → IsStoreOf (messages ++ message ∷ []) (taught message s)
 taught_more laws messages message s is =
     let before : Facts = learned messages in
-    let more : learned (messages ++ message ∷ []) ≡ learn message before = learned_more messages message nothing in
+    let more : learned (messages ++ message ∷ []) ≡ learn message before = learn_all-append messages message nothing in
     record {
       facts = subst (λ known. AreSame (facts_in (taught message s).known) known) (sym more)
           (same_then (facts_in (taught message s).known) (learn message (facts_in s.known)) (learn message before) (rows_learned message s.known) (laws.facts message (facts_in s.known) before is.facts));
@@ -64,22 +59,6 @@ taught_more laws messages message s is =
     }
 
 -- ---- a block that is used
-
-any_drop : (p : Block → Bool) (n : ℕ) (blocks : List Block) → list_any p (drop n blocks) ≡ true → list_any p blocks ≡ true
-any_drop p zero blocks is = is
-any_drop p (suc n) [] is = is
-any_drop p (suc n) (block ∷ blocks) is = or_right (p block) (list_any p blocks) (any_drop p n blocks is)
-
-any_joined : (p : Block → Bool) (xs ys blocks : List Block) → (list_any p xs ≡ true → list_any p blocks ≡ true) → (list_any p ys ≡ true → list_any p blocks ≡ true)
-    → list_any p (xs ++ ys) ≡ true → list_any p blocks ≡ true
-any_joined p xs ys blocks one two is = or_cases (list_any p xs) (list_any p ys) (sym (list_any-append p xs ys) ∙ is) one two
-
-any_moved : (p : Block → Bool) (place : Option ℕ) (blocks : List Block) → list_any p (moved_first place blocks) ≡ true → list_any p blocks ≡ true
-any_moved p None blocks is = is
-any_moved p (Some at) blocks is =
-    any_joined p (take 1 (drop at blocks)) (remove blocks at) blocks
-    (λ first. any_drop p at blocks (any_take p 1 (drop at blocks) first))
-    (any_joined p (take at blocks) (drop (suc at) blocks) blocks (any_take p at blocks) (any_drop p (suc at) blocks)) is
 
 -- the blocks have no byte that they hadn't
 used_bytes : (asking : Command) (known : Facts) (blocks : List Block) (process place byte : ℕ) → has_block_byte (memory_used (range_in asking known) blocks) process place byte ≡ true

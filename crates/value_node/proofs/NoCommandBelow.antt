@@ -21,7 +21,8 @@ use Rattle.value_node.specs.declared.relay.Relay.{Relay}
 use Rattle.value_node.specs.declared.states.Bind.{Bind}
 use Rattle.value_node.specs.declared.states.Bind.TheVariants.{Unbound, Opening, Bound, Closed}
 use Rattle.value_node.specs.declared.states.Side.TheVariants.{Below, Above}
-use Rattle.value_node.proofs.Lists.{all_append, all_if, all_left, all_only, all_right}
+use Rattle.value_node.proofs.Lists.{all_if, all_only}
+use Rattle.list_laws.proofs.AllLists.{all_append, all_left, all_right}
 
 abbrev pub IsOther : LowerCall → Type 0
 IsOther call = is_commanding call ≡ false

@@ -37,6 +37,8 @@ use Rattle.value_node.proofs.OwnReplies.{IsReplyTo, Names, reply_is}
 use Rattle.value_node.proofs.Pasts.{taken_in}
 use Rattle.value_node.proofs.Steps.{relay, relay_called}
 use Rattle.value_node.proofs.TakenBelow.{behind_takes}
+use Rattle.list_laws.proofs.Flags.{and_first}
+use Rattle.list_laws.proofs.Lists.{same_some}
 
 -- ---- what is said
 
@@ -83,12 +85,8 @@ IsAfter Opening body = ⊥
 IsAfter Bound body = body ≡ redirect_done
 IsAfter Closed body = ⊥
 
-first_of_and : (a b : Bool) → (a && b) ≡ true → a ≡ true
-first_of_and true b on = refl
-first_of_and false b on = absurd cc
-
 of_locator : (service name : List ℕ) → is_redirect service name ≡ true → service ≡ locator
-of_locator service name is = (bytes_eq-Decides service locator).0 (first_of_and (bytes_eq service locator) (bytes_eq name redirect_name) is)
+of_locator service name is = (bytes_eq-Decides service locator).0 (and_first (bytes_eq service locator) (bytes_eq name redirect_name) is)
 
 none_left : (bind : Bind) (body : List ℕ) → IsAfter bind body → IsLeft bind None []
 none_left Unbound body after = (refl, refl)
@@ -108,14 +106,11 @@ after_binds Bound token body c left after same are asks on = record {
 }
 after_binds Closed token body c left after same are asks on = absurd cc
 
-same_token : (token other : List ℕ) → ◌≡◌ {A = Option (List ℕ)} (Some token) (Some other) → token ≡ other
-same_token token other same = cc
-
 redirect_answers : (redirect : Option (List ℕ)) (body : List ℕ) (bind : Bind) (v : Relay) (left : List Asked) → is_closed v.lower.state ≡ false → IsLeft Opening redirect left → IsAfter bind body
     → Answers left (flat_map asked_by (taken_in (answering redirect body) v.lower)) (sent_in (answering redirect body) v.lower) bind (redirect_answered redirect body v).redirect
 redirect_answers None body bind v left unclosed is after = let clash : ◌≡◌ {A = Option (List ℕ)} None (Some is.0.token) = is.2 in absurd cc
 redirect_answers (Some token) body bind v left unclosed is after =
-    let same : token ≡ is.0.token = same_token token is.0.token is.2 in
+    let same : token ≡ is.0.token = same_some token is.0.token is.2 in
     record {
       said_now = plain (final token body) ∷ [];
       sent_are = said_once (an_answer token body) v.lower unclosed;

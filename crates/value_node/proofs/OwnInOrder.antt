@@ -1,21 +1,21 @@
 -- Messages that answer commands, one list behind another.
-use Rattle.std.proofs.Common.{◌≡◌, List, [], ◌∷◌, ◌++◌, refl, ap, sym, ◌∙◌, subst}
+use Rattle.std.proofs.Common.{◌≡◌, List, [], ◌∷◌, ◌++◌, ap, sym, ◌∙◌, subst}
 use Rattle.channel_core.specs.Arrivals.{Spoken}
 use Rattle.tcf_message.specs.Message.{MessageValue}
 use Rattle.value_node.specs.Asked.{Asked}
 use Rattle.value_node.specs.OwnMessages.{IsOwn, OwnStep, a_hello, a_result, an_unknown}
 
 -- further commands are left
-step_behind : (commands : List Asked) (m : MessageValue) (left more : List Asked) → OwnStep commands m left → OwnStep (commands ++ more) m (left ++ more)
+pub step_behind : (commands : List Asked) (m : MessageValue) (left more : List Asked) → OwnStep commands m left → OwnStep (commands ++ more) m (left ++ more)
 step_behind commands m left more (a_hello body is same) = a_hello body is (ap (λ cs. cs ++ more) same)
 step_behind commands m left more (a_result c body is at own) = a_result c body is at (ap (λ cs. cs ++ more) own)
 step_behind commands m left more (an_unknown c is own) = an_unknown c is (ap (λ cs. cs ++ more) own)
 
-own_behind : (commands left more : List Asked) (own : List Spoken) → IsOwn commands own left → IsOwn (commands ++ more) own (left ++ more)
+pub own_behind : (commands left more : List Asked) (own : List Spoken) → IsOwn commands own left → IsOwn (commands ++ more) own (left ++ more)
 own_behind commands left more [] is = ap (λ cs. cs ++ more) is
 own_behind commands left more (s ∷ own) is = (is.0, (is.1.0 ++ more, step_behind commands s.message is.1.0 more is.1.1, own_behind is.1.0 left more own is.1.2))
 
-own_then : (commands middle left : List Asked) (own later : List Spoken) → IsOwn commands own middle → IsOwn middle later left → IsOwn commands (own ++ later) left
+pub own_then : (commands middle left : List Asked) (own later : List Spoken) → IsOwn commands own middle → IsOwn middle later left → IsOwn commands (own ++ later) left
 own_then commands middle left [] later is more = subst (λ cs. IsOwn cs later left) (sym is) more
 own_then commands middle left (s ∷ own) later is more = (is.0, (is.1.0, is.1.1, own_then is.1.0 middle left own later is.1.2 more))
 
@@ -36,11 +36,3 @@ step_last commands m next left (an_unknown c is own) rest = record { answered = 
 pub own_last : (commands left : List Asked) (own : List Spoken) → IsOwn commands own left → AreLast commands left
 own_last commands left [] is = record { answered = []; whole = is }
 own_last commands left (s ∷ own) is = step_last commands s.message is.1.0 left is.1.1 (own_last is.1.0 left own is.1.2)
-
-pub none_before : {A : Type 0} → (xs : List A) (x : A) → xs ++ x ∷ [] ≡ [] → ⊥
-none_before [] x is = absurd cc
-none_before (y ∷ xs) x is = absurd cc
-
-pub none_first : {A : Type 0} → (xs ys : List A) → xs ++ ys ≡ [] → xs ≡ []
-none_first [] ys is = refl
-none_first (x ∷ xs) ys is = absurd cc

@@ -27,11 +27,11 @@ use Rattle.value_node.specs.declared.relay.Relay.{Relay}
 use Rattle.value_node.specs.declared.states.Bind.{Bind}
 use Rattle.value_node.specs.declared.states.Bind.TheVariants.{Unbound, Opening, Bound, Closed}
 use Rattle.value_node.specs.declared.states.Side.TheVariants.{Above}
-use Rattle.value_node.proofs.Lists.{all_right}
 use Rattle.value_node.proofs.Steps.{ran}
 use Rattle.value_node.proofs.Taken.{Gives, GivesAny, IsAnswerTo, IsCommand, IsProgressOf, IsTold, next_gives, told_of}
 use Rattle.value_node.proofs.TakenAbove.{entries_from}
 use Rattle.value_node.proofs.TokensBelow.{IsIssued, tagged_at}
+use Rattle.list_laws.proofs.AllLists.{all_right}
 
 -- what is passed on of these, where these commands were sent above before
 abbrev pub passed_on : List Asked → List (Taken ForwardedValue) → List Outgoing

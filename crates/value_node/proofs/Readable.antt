@@ -21,10 +21,11 @@ use Rattle.value_node.specs.declared.relay.Relay.{Relay}
 use Rattle.value_node.specs.declared.states.Bind.{Bind}
 use Rattle.value_node.specs.declared.states.Bind.TheVariants.{Unbound, Opening, Bound, Closed}
 use Rattle.value_node.specs.declared.states.Side.TheVariants.{Below, Above}
-use Rattle.value_node.proofs.Lists.{all_append, all_if, all_left, all_only, all_right, all_stands}
+use Rattle.value_node.proofs.Lists.{all_if, all_only, all_stands}
 use Rattle.value_node.proofs.OwnReadable.{own_by_reads, well_read}
 use Rattle.value_node.proofs.Sendable.{Sizes}
 use Rattle.value_node.proofs.Taken.{GivesAny, next_gives}
+use Rattle.list_laws.proofs.AllLists.{all_append, all_left, all_right}
 
 abbrev pub AreTokens : List (ℕ × ForwardedValue) → Type 0
 AreTokens rows = AllByRecursion (λ row. IsToken row.1.token) rows

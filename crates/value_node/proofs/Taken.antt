@@ -20,6 +20,7 @@ use Rattle.channel_core.specs.declared.taking.Judged.{Judged}
 use Rattle.channel_core.specs.declared.taking.Judged.TheVariants as judges
 use Rattle.channel_core.specs.declared.taking.Taken.{Taken}
 use Rattle.channel_core.specs.declared.taking.Taken.TheVariants as taken
+use Rattle.list_laws.proofs.Lists.{get_at}
 
 -- ---- kinds of messages
 
@@ -90,11 +91,6 @@ GivesAny pending (None, next) = Unit {0}
 GivesAny pending (Some what, next) = Gives pending what next
 
 -- ---- the command that a token names
-
-get_at : {A : Type 0} → (xs : List A) (place : ℕ) (x : A) → slice_get xs place ≡ Some x → slice_index_or xs place x ≡ x
-get_at [] place x is = refl
-get_at (y ∷ xs) zero x is = cc
-get_at (y ∷ xs) (suc place) x is = get_at xs place x is
 
 unheld : (flag : Bool) (place found : ℕ) → (if flag then None else Some place) ≡ Some found → place ≡ found
 unheld true place found is = cc

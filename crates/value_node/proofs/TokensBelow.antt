@@ -2,9 +2,6 @@
 use Rattle.std.proofs.Common.{◌≡◌, ◌≤◌, ◌<◌, ℕ, suc, ◌+◌, ◌-◌, ◌^◌, Bool, true, false, not, cond, List, [], ◌∷◌, ◌++◌, length, map, Option, Some, None, Result, Ok, refl, ap, sym, ◌∙◌, subst, arith, eqb-true}
 use Rattle.std.specs.Prelude.{◌==◌, IfSome, bytes_eq, decimal, if◌then◌else◌, option_and_then, option_map, unwrap_or}
 use Rattle.std.specs.List.{AllByRecursion, find, flat_map}
-use Rattle.std.proofs.lemmas.Bool.{eqb-false}
-use Rattle.std.proofs.lemmas.Fmt.{decimal_injective}
-use Rattle.std.proofs.lemmas.Slice.Eq.{bytes_eq-Decides}
 use Rattle.channel_core.specs.Beginning.{tag_of}
 use Rattle.channel_core.specs.Runs.{Issued, Run}
 use Rattle.channel_core.specs.RunLaws.{CountsAnswers, is_answered, row_of}
@@ -23,8 +20,9 @@ use Rattle.value_node.specs.RelayLaws.{asked_by, asked_in, token_below}
 use Rattle.value_node.specs.Runs.{UpperCall, upper_after}
 use Rattle.value_node.specs.declared.states.Bind.{Bind}
 use Rattle.value_node.proofs.Holding.{AreAccepted, issued_from, issued_length}
-use Rattle.value_node.proofs.Lists.{all_append, all_filter, all_left, all_right, all_then}
 use Rattle.value_node.proofs.OwnReadable.{well_read}
+use Rattle.list_laws.proofs.Numbers.{other_decimals, decimal_itself, number_itself}
+use Rattle.list_laws.proofs.AllLists.{all_append, all_filter, all_left, all_right, all_then}
 
 -- the command that was sent under this number, as it is read
 abbrev pub command_under : ℕ → ℕ → List Asked → Option Command
@@ -42,31 +40,21 @@ pub record IsIssued (first count : ℕ) (commands : List Asked) (row : ℕ × Fo
 abbrev under_if : Bool → Asked → Option Asked → Option Command
 under_if flag c rest = option_and_then command_asked (if flag then Some c else rest)
 
-own_token : (first : ℕ) → bytes_eq (decimal first) (decimal first) ≡ true
-own_token first = (bytes_eq-Decides (decimal first) (decimal first)).1 refl
-
 named_here : (first : ℕ) (c : Asked) (commands : List Asked) → token_below first (decimal first) (c ∷ commands) ≡ c.token
-named_here first c commands = ap (λ b. if b then c.token else token_below (first + 1) (decimal first) commands) (own_token first)
+named_here first c commands = ap (λ b. if b then c.token else token_below (first + 1) (decimal first) commands) (decimal_itself first)
 
 learned_here : (first : ℕ) (c : Asked) (commands : List Asked) → command_under first first (c ∷ commands) ≡ command_asked c
-learned_here first c commands = ap (λ b. under_if b c (sent_under (first + 1) (decimal first) commands)) (own_token first)
+learned_here first c commands = ap (λ b. under_if b c (sent_under (first + 1) (decimal first) commands)) (decimal_itself first)
 
 more_differs : (m n : ℕ) → n + 1 ≤ m → m ≡ n → ⊥
 more_differs m n more same = omega arith
-
-apart : (m n : ℕ) → m < 2 ^ 64 → n < 2 ^ 64 → (m ≡ n → ⊥) → bytes_eq (decimal m) (decimal n) ≡ false
-apart m n few less differ = by_flag (bytes_eq (decimal m) (decimal n)) refl
-  where
-    by_flag : (flag : Bool) → bytes_eq (decimal m) (decimal n) ≡ flag → flag ≡ false
-    by_flag true is = absurd (differ (decimal_injective m n few less ((bytes_eq-Decides (decimal m) (decimal n)).0 is)))
-    by_flag false is = refl
 
 later : (first count : ℕ) (c : Asked) (commands : List Asked) (row : ℕ × ForwardedValue) → (first + 1) + count ≤ 2 ^ 64 → IsIssued (first + 1) count commands row
     → IsIssued first (suc count) (c ∷ commands) row
 later first count c commands row few i =
     let low : first + 1 ≤ row.0 = i.low in
     let high : row.0 < (first + 1) + count = i.high in
-    let other : bytes_eq (decimal row.0) (decimal first) ≡ false = apart row.0 first (omega arith) (omega arith) (more_differs row.0 first low) in
+    let other : bytes_eq (decimal row.0) (decimal first) ≡ false = other_decimals row.0 first (omega arith) (omega arith) (more_differs row.0 first low) in
     record {
       token = i.token;
       low = omega arith;
@@ -134,18 +122,11 @@ pub record IsTagged (P : ℕ × ForwardedValue → Type 0) (rows : List (ℕ × 
   pub same : row.0 ≡ number
   pub holds : P row
 
-same_number : (n : ℕ) → (n == n) ≡ true
-same_number n = by_flag (n == n) refl
-  where
-    by_flag : (flag : Bool) → (n == n) ≡ flag → flag ≡ true
-    by_flag true is = refl
-    by_flag false is = absurd (eqb-false n n is refl)
-
 pub tagged_at : (P : ℕ × ForwardedValue → Type 0) (front behind : List (ℕ × ForwardedValue)) (number : ℕ) (tag : ForwardedValue)
     → AllByRecursion P (front ++ (number, tag) ∷ behind) → IsTagged P (front ++ (number, tag) ∷ behind) number
 tagged_at P [] behind number tag all = record {
   row = (number, tag);
-  tag_is = ap (λ b. option_map (λ r. r.1) (cond b (Some (number, tag)) (find (λ r. r.0 == number) behind))) (same_number number);
+  tag_is = ap (λ b. option_map (λ r. r.1) (cond b (Some (number, tag)) (find (λ r. r.0 == number) behind))) (number_itself number);
   same = refl;
   holds = all.0;
 }

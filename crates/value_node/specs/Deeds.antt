@@ -2,7 +2,7 @@
 -- passes that on.
 use Rattle.std.specs.Prelude.{ℕ, ◌+◌, Bool, false, if◌then◌else◌, List, [], ◌∷◌, ◌++◌, bytes_eq, decimal, Option, Some, None, option_and_then, Result, Ok}
 use Rattle.std.specs.List.{flat_map, list_any}
-use Rattle.cache_learning.specs.Lessons.{event_message}
+use Rattle.value_store.specs.Lessons.{event_message}
 use Rattle.channel_core.specs.ReceivingLaws.{incoming_of}
 use Rattle.channel_core.specs.Taking.{next_taken}
 use Rattle.channel_core.specs.Wire.{Said, answers as answers_said, asks, goes_on, greets, said_in, tells}

@@ -1,6 +1,6 @@
 -- What a value-add learns from what comes from above.
 use Rattle.std.specs.Prelude.{ℕ, Option, None, Result, Ok}
-use Rattle.cache_learning.specs.Lessons.{event_message}
+use Rattle.value_store.specs.Lessons.{event_message}
 use Rattle.tcf_message.specs.Message.{MessageValue, event, final, not_known, progress}
 use Rattle.tcf_message.specs.declared.message.MessageFault.{MessageFault}
 use Rattle.tcf_values.specs.declared.command.Command.{Command}

@@ -17,6 +17,3 @@ pub use laws::{
 };
 pub use states::{Bind, Side, ValueTurn};
 pub use value::ValueNode;
-
-#[cfg(test)]
-mod tests;

@@ -24,7 +24,7 @@ use Rattle.value_serving.specs.Sending.{begun, begun_by, left_for, ordered}
 use Rattle.value_serving.specs.declared.add.Add.{Add}
 use Rattle.value_serving.proofs.Leading.{breaks_at_once, breaks_bound, breaks_then, goes_bound, goes_then}
 
-abbrev Rows : Type 0
+abbrev pub Rows : Type 0
 Rows = List (Row OutboxValue)
 
 abbrev pub question : Add → Process Add

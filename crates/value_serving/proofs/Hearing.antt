@@ -5,7 +5,6 @@ use Rattle.tcf_wires.specs.declared.event.WireEvent.{WireEvent}
 use Rattle.tcf_wires.specs.declared.event.WireEvent.TheVariants as events
 use Rattle.serving_wires.proofs.Making.{makes_none}
 use Rattle.serving_wires.specs.Calls.{Makes}
-use Rattle.serving_wires.specs.OutboxValue.{OutboxValue}
 use Rattle.serving_wires.specs.Row.{Row}
 use Rattle.serving_wires.specs.Rows.{item_at, with_item_at}
 use Rattle.serving_wires.specs.declared.intake.Came.{Came}
@@ -21,9 +20,7 @@ use Rattle.value_serving.specs.Sending.{begun, closed_if, opened_by, ordered}
 use Rattle.value_serving.specs.Serving.{handled, heard_at, heard_on, is_over_at, kept_unless, opened, unless_over, wire_of}
 use Rattle.value_serving.specs.declared.add.Add.{Add}
 use Rattle.value_serving.proofs.Leading.{broken_bound, broken_bound_behind, broken_both, goes_both, made_behind, made_both, stays_here}
-
-abbrev Rows : Type 0
-Rows = List (Row OutboxValue)
+use Rattle.value_serving.proofs.Connecting.{Rows}
 
 abbrev Adds : Type 0
 Adds = List (Row Add)

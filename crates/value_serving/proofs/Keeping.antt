@@ -1,5 +1,5 @@
 -- One wire, by all that was ever queued for it and by the calls so far.
-use Rattle.std.proofs.Common.{◌≡◌, ℕ, ◌+◌, ◌<◌, ◌==◌, Bool, true, false, ◌&&◌, not, cond, List, [], ◌∷◌, ◌++◌, length, refl, sym, ap, ◌∙◌, subst, arith, append-nil, eq-eqb, eqb-true}
+use Rattle.std.proofs.Common.{◌≡◌, ℕ, ◌+◌, ◌<◌, ◌==◌, Bool, true, false, ◌&&◌, not, cond, List, [], ◌∷◌, ◌++◌, length, refl, sym, ap, ◌∙◌, subst, arith, append-nil, eq-eqb}
 use Rattle.std.specs.Prelude.{if◌then◌else◌}
 use Rattle.std.proofs.lemmas.Bool.{and_parts, false≢true}
 use Rattle.tcf_wires.specs.Told.{taken_on}
@@ -17,6 +17,7 @@ use Rattle.value_serving.specs.Sending.{outbox_after, queued_unless_closed}
 use Rattle.value_serving.specs.Serve.{CarriesWire}
 use Rattle.value_serving.specs.Standing.{Sent, sent_after, unused_wire}
 use Rattle.serving_wires.specs.WireLaws.{WireLaws}
+use Rattle.list_laws.proofs.Lists.{empty_by}
 
 -- its outbox, if nothing were ever put
 abbrev pub all_of : ℕ → Sent → OutboxValue
@@ -65,14 +66,10 @@ pub record IsOver (o : OutboxValue) : Type 0 where
   pub closed : o.is_closed ≡ true
   pub nothing : o.queued ≡ []
 
-no_bytes : (bytes : List ℕ) → (length bytes == 0) ≡ true → bytes ≡ []
-no_bytes [] is = refl
-no_bytes (x ∷ xs) is = absurd (omega (arith, eqb-true (length (x ∷ xs)) 0 is))
-
 over_if_shut : (all now : OutboxValue) (calls : List WireCall) → now.is_shut ≡ true → Follows all now calls → IsOver now
 over_if_shut all now calls is f =
     let parts = and_parts now.is_closed (nothing_left now) (f.over is) in
-    record { closed = parts.0; nothing = no_bytes now.queued parts.1 }
+    record { closed = parts.0; nothing = empty_by now.queued parts.1 }
 
 pub keeps_over : (channel : ℕ) (s : Sent) (now : OutboxValue) (calls : List WireCall) → now.is_shut ≡ true → Keeps channel s now calls → IsOver now
 keeps_over channel s now calls is (follows stays f) = over_if_shut (all_of channel s) now calls is f

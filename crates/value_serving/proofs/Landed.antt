@@ -37,12 +37,10 @@ use Rattle.value_serving.proofs.Settled.{front}
 use Rattle.serving_wires.proofs.Standing.{Stand, stand_more, stand_push}
 use Rattle.value_serving.proofs.Keeping.{keeps_new}
 use Rattle.value_serving.proofs.Standing.{by_wires, stand_ordered, wires_keep}
+use Rattle.value_serving.proofs.Connecting.{Rows}
 
 abbrev pub Sents : Type 0
 Sents = List (Row Sent)
-
-abbrev pub Rows : Type 0
-Rows = List (Row OutboxValue)
 
 -- The outboxes by what was ever queued; no call is on a channel that hasn't a wire.
 pub record Holds (unused : ℕ) (calls : List WireCall) (sent : Sents) (rows : Rows) : Type 0 where

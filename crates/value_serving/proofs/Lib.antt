@@ -3,14 +3,14 @@ mod Leading
 mod Standing
 mod Settled
 mod Placed
-mod Landed
+pub mod Landed
 mod Running
 mod Finishing
 mod Taking
 mod Ending
 mod Emptying
 mod Searching
-mod Connecting
+pub mod Connecting
 mod Rounds
 mod Results
 mod Hearing

@@ -9,10 +9,6 @@ pub on_ok_both : {A E : Type 0} (result : Result A E) (P Q R : Type 0) → (P �
 on_ok_both (Ok value) P Q R f p q = f p q
 on_ok_both (Err error) P Q R f p q = tt
 
-pub on_err : {A E : Type 0} (result : Result A E) (P : Type 0) → P → OnErr result P
-on_err (Ok value) P p = tt
-on_err (Err error) P p = p
-
 pub on_err_same : {A E : Type 0} (result : Result A E) (P R : Type 0) → (P → R) → OnErr result P → OnErr result R
 on_err_same (Ok value) P R f p = tt
 on_err_same (Err error) P R f p = f p

@@ -6,8 +6,6 @@ use Rattle.tcf_wires.specs.declared.call.WireCall.{WireCall}
 use Rattle.serving_wires.proofs.Making.{makes_both, makes_none, makes_so}
 use Rattle.serving_wires.specs.Calls.{Makes}
 use Rattle.serving_wires.specs.Intake.{left_for, next_for}
-use Rattle.serving_wires.specs.OutboxValue.{OutboxValue}
-use Rattle.serving_wires.specs.Row.{Row}
 use Rattle.serving_wires.specs.declared.intake.Came.{Came}
 use Rattle.serving_wires.specs.declared.intake.Came.TheVariants.{Piece, End}
 use Rattle.value_node.specs.ValueValue.{ValueValue}
@@ -20,9 +18,7 @@ use Rattle.value_serving.specs.Passing.{after_giving, after_turn, answered, coun
 use Rattle.value_serving.specs.Process.{Answer, Process, asks, done, tells, and_then}
 use Rattle.value_serving.specs.declared.add.Add.{Add}
 use Rattle.value_serving.proofs.Leading.{breaks_bound, breaks_then, goes_bound, goes_then}
-
-abbrev Rows : Type 0
-Rows = List (Row OutboxValue)
+use Rattle.value_serving.proofs.Connecting.{Rows}
 
 -- ---- what is given waits no more
 

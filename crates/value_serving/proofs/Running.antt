@@ -14,7 +14,6 @@ use Rattle.tcf_wires.specs.declared.event.WireRefusal.{WireRefusal}
 use Rattle.tcf_wires.specs.declared.event.WireRefusal.TheVariants as refusals
 use Rattle.serving_wires.specs.Calls.{channels_put, events_in, put_on}
 use Rattle.serving_wires.specs.Following.{is_on}
-use Rattle.serving_wires.specs.OutboxValue.{OutboxValue}
 use Rattle.serving_wires.specs.Row.{Row}
 use Rattle.serving_wires.specs.Serving.{AreFronts, EachBehind, fails, reaches_out, ListensFirst, breaks, is_stop, listens, stops}
 use Rattle.serving_wires.proofs.Placing.{each_more, each_none, each_one}
@@ -33,7 +32,7 @@ use Rattle.value_serving.specs.declared.add.Add.{Add}
 use Rattle.serving_wires.specs.declared.end.ServeEnd.TheVariants.{NoMemory, WireFault}
 use Rattle.serving_wires.proofs.Spared.{none_of_both, same_events}
 use Rattle.serving_wires.proofs.Flushed.{AllFlushed, AreServed, filter_flushed, flush_keeps}
-use Rattle.value_serving.proofs.Landed.{Holds, event_keeps, goes_keeps, holds_fronts}
+use Rattle.value_serving.proofs.Landed.{Holds, event_keeps, goes_keeps, holds_fronts, Sents}
 use Rattle.value_serving.proofs.Placed.{ArePuts, puts_heard, puts_placed, state_stays}
 use Rattle.serving_wires.proofs.Rows.{item_found}
 use Rattle.serving_wires.proofs.Turns.{listened, gave, events_then, one_longer}
@@ -42,12 +41,7 @@ use Rattle.serving_wires.specs.Ends.{no_listening}
 use Rattle.value_serving.proofs.Settled.{carried}
 use Rattle.serving_wires.proofs.Standing.{Stand, filter_keeps, none}
 use Rattle.value_serving.proofs.Standing.{by_wires, wires_keep}
-
-abbrev pub Sents : Type 0
-Sents = List (Row Sent)
-
-abbrev pub Rows : Type 0
-Rows = List (Row OutboxValue)
+use Rattle.value_serving.proofs.Connecting.{Rows}
 
 -- ---- the state between the turns
 

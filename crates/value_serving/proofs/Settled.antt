@@ -3,7 +3,6 @@ use Rattle.std.proofs.Common.{◌≡◌, ℕ, List, None}
 use Rattle.tcf_wires.specs.Told.{taken_on}
 use Rattle.tcf_wires.specs.declared.call.WireCall.{WireCall}
 use Rattle.serving_wires.specs.Following.{Spares}
-use Rattle.serving_wires.specs.OutboxValue.{OutboxValue}
 use Rattle.serving_wires.specs.Row.{Row}
 use Rattle.serving_wires.specs.Flushing.{its_own}
 use Rattle.value_serving.specs.Serve.{CarriesWire}
@@ -15,12 +14,10 @@ use Rattle.serving_wires.proofs.Rows.{found}
 use Rattle.serving_wires.proofs.Fronts.{IsFront}
 use Rattle.serving_wires.proofs.Standing.{Meets, Stand, both, meets, neither, shut}
 use Rattle.value_serving.proofs.Standing.{by_wires}
+use Rattle.value_serving.proofs.Connecting.{Rows}
 
 abbrev Sents : Type 0
 Sents = List (Row Sent)
-
-abbrev Rows : Type 0
-Rows = List (Row OutboxValue)
 
 -- ---- each wire
 

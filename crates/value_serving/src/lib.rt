@@ -9,6 +9,3 @@ mod serving;
 
 pub use serve::serve_value;
 pub use serving_wires::ServeEnd;
-
-#[cfg(test)]
-mod tests;

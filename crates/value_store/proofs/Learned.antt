@@ -15,6 +15,7 @@ use Rattle.value_store.specs.StoreValue.{StoreValue}
 use Rattle.value_store.proofs.Cached.{cache_same, context_at, properties_at, register_at, state_at, status_at}
 use Rattle.value_store.proofs.Changing.{all_properties_none, contexts_none, registers_none, states_none, statuses_none}
 use Rattle.value_store.proofs.Keyed.{get_at, is_among, not_left, not_right, nothing_under, same_keyed}
+use Rattle.knowledge.proofs.Same.{same_then}
 
 -- ---- what the rows say after a message
 
@@ -71,15 +72,6 @@ rows_learned message rows = record {
 }
 
 -- ---- a cache that has learned it
-
-same_then : {known other last : Facts} → AreSame known other → AreSame other last → AreSame known last
-same_then one two = record {
-  contexts = λ id. one.contexts id ∙ two.contexts id;
-  states = λ process thread. one.states process thread ∙ two.states process thread;
-  registers = λ process thread index. one.registers process thread index ∙ two.registers process thread index;
-  properties = λ id. one.properties id ∙ two.properties id;
-  statuses = λ id. one.statuses id ∙ two.statuses id;
-}
 
 states_alike : {known other : Facts} → AreSame known other → (q : List ℕ) → state_under known q ≡ state_under other q
 states_alike same [] = refl

@@ -3,3 +3,4 @@ pub mod Cached
 pub mod Changing
 pub mod Learned
 pub mod Answered
+pub mod Lessons

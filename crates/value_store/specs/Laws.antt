@@ -3,7 +3,7 @@ use Rattle.std.specs.Prelude.{ℕ, ◌≡◌, true, List, Some, is_some}
 use Rattle.cache_learning.specs.Lessons.{answer_message}
 use Rattle.knowledge.specs.Facts.{Facts, IsGrounded, IsPart}
 use Rattle.knowledge.specs.Learning.{Message, learn, learned}
-use Rattle.stored_lessons.specs.Taken.{AreTaken}
+use Rattle.value_store.specs.Taken.{AreTaken}
 use Rattle.tcf_values.specs.declared.command.Command.{Command}
 use Rattle.value_store.specs.Learning.{IsStoreOf, stored_answer}
 use Rattle.value_store.specs.StoreValue.{StoreValue}

@@ -1,13 +1,8 @@
-//! What no clause says of the crates of values and tables, shown by tests: this library has nothing but tests.
+//! What no clause says of the crates of values and tables, shown by tests: this library has nothing but tests. Most
+//! cases are rows of the program `service_rows`.
 #![tactic(auto)]
 
 #[cfg(test)]
-mod arguments;
-#[cfg(test)]
 mod commands;
-#[cfg(test)]
-mod json_forms;
-#[cfg(test)]
-mod replies;
 #[cfg(test)]
 mod values;

@@ -18,7 +18,7 @@ use Rattle.chain_heard.specs.Heard.{asked_as}
 use Rattle.chain_through.specs.Calling.{all_asking}
 use Rattle.chain_through.proofs.Spelling.{AreSpelled}
 use Rattle.chain_told.specs.Told.{numbered}
-use Rattle.chain_through.proofs.Taking.{all_append}
+use Rattle.list_laws.proofs.AllLists.{all_append}
 
 abbrev pub command_of : Accepted → MessageValue
 command_of c = command (decimal c.number) c.service c.name c.body

@@ -3,15 +3,14 @@ use Rattle.std.proofs.Common.{◌≡◌, ℕ, ◌-◌, ◌⊎◌, inl, inr, true
 use Rattle.std.specs.List.{AllByRecursion}
 use Rattle.agent_node.specs.AgentLaws.{AgentFollowsHistory, FollowsHistory, asked}
 use Rattle.agent_node.specs.Runs.{AgentRun, Past, run_of}
-use Rattle.agent_rest.specs.Answering.{ServesAll}
-use Rattle.agent_told.specs.Sent.{read_as}
-use Rattle.agent_told.proofs.Lists.{all_map}
+use Rattle.node_answers.specs.AgentAnswering.{ServesAll}
+use Rattle.chain_told.specs.Sent.{read_as}
+use Rattle.chain_told.proofs.Agents.Lists.{all_map}
 use Rattle.chain_heard.specs.Heard.{Heard, HeardAll, HeardNoTarget, asked_as}
 use Rattle.chain_route.specs.Carrying.{Carries, End, end_of, value_of}
 use Rattle.chain_route.specs.Runs.{RouteRun}
 use Rattle.chain_through.specs.Calling.{Calls, entering}
 use Rattle.chain_through.specs.Through.{AllTold, AreBound, KnowsTruth, Through, top_end}
-use Rattle.chain_through.proofs.Fronts.{front_none, front_same}
 use Rattle.chain_world.proofs.Pasts.{at_all}
 use Rattle.chain_world.specs.ChainValue.{ChainValue}
 use Rattle.chain_world.specs.Standing.{ChainStands, Talks, TalksOn, past_at, unmarked}
@@ -39,6 +38,7 @@ use Rattle.world_laws.proofs.Sides.{past_on, way, way_carries}
 use Rattle.world_laws.proofs.Silent.{at_number, unopened_silent}
 use Rattle.world_laws.proofs.Unstuck.{AllTook}
 use Rattle.world_laws.proofs.Hearing.{asked_few, bound_heard, target_all, target_heard, unbound_heard}
+use Rattle.chain_route.proofs.Bytes.{front_none, front_same}
 
 -- ---- What is heard
 

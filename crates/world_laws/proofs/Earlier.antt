@@ -19,14 +19,15 @@ use Rattle.target_hub.specs.Sent.{executed_on}
 use Rattle.value_node.specs.ForwardedValue.{ForwardedValue}
 use Rattle.value_node.specs.Runs.{UpperCall, upper_after}
 use Rattle.value_node.specs.Value.{value_services}
-use Rattle.chain_through.proofs.Fronts.{front_none, front_same, front_then}
 use Rattle.chain_through.proofs.Queues.{commanding, nothing_asked, queue_commands}
 use Rattle.chain_through.proofs.Spelling.{said_so}
-use Rattle.chain_through.proofs.Through.{none_mapped}
 use Rattle.world_laws.proofs.LowerLaws.{Laws}
-use Rattle.world_laws.proofs.Silent.{all_in, at_number, unopened_silent}
+use Rattle.world_laws.proofs.Silent.{at_number, unopened_silent}
 use Rattle.world_laws.proofs.Spoken.{front_bytes, front_unmarked}
 use Rattle.world_laws.proofs.Taking.{asked_front, asks_of, quiet_none}
+use Rattle.chain_route.proofs.Bytes.{front_none, front_same, front_then}
+use Rattle.list_laws.proofs.Lists.{none_mapped}
+use Rattle.list_laws.proofs.AllLists.{all_contains as all_in}
 
 module _ (laws : Laws) where
   none_asked : (past : Past) (got : List Outgoing) → IsGoneBy got → IsFront (arrived past.calls) (unmarked got) → asked (run_of past) ≡ []

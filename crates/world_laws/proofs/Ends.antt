@@ -4,11 +4,10 @@ use Rattle.std.specs.Prelude.{slice_get, ◌^◌}
 use Rattle.std.specs.List.{AllByRecursion, Contains, flat_map, list_any}
 use Rattle.std.proofs.lemmas.Bool.{true≢false}
 use Rattle.std.proofs.lemmas.List.{length-map}
-use Rattle.std.proofs.lemmas.List.Elements.{Contains-append_left, Contains-append_right, Contains-push}
 use Rattle.agent_node.specs.AgentLaws.{AgentFollowsHistory}
 use Rattle.agent_node.specs.AgentValue.{AgentValue}
 use Rattle.agent_node.specs.Runs.{AgentRun, Past, after_all as agent_after, no_calls as agent_begun, run_of}
-use Rattle.agent_rest.specs.Answering.{ServesAll}
+use Rattle.node_answers.specs.AgentAnswering.{ServesAll}
 use Rattle.chain_route.specs.Carrying.{AllCarry, AllLoseByCuts, Carries, End, Made}
 use Rattle.chain_route.specs.Runs.{RouteRun}
 use Rattle.chain_route.specs.declared.hop.Hop.{Hop}
@@ -31,7 +30,7 @@ use Rattle.channel_core.specs.declared.states.Cause.{Cause}
 use Rattle.channel_core.specs.declared.states.Cause.TheVariants as causes
 use Rattle.channel_core.specs.declared.taking.Taken.{Taken}
 use Rattle.channel_core.specs.declared.taking.Taken.TheVariants as taken
-use Rattle.channel_faults.specs.Faults.{is_closing}
+use Rattle.channel_laws.specs.Faults.{is_closing}
 use Rattle.client_node.specs.Client.{client_services, new_client}
 use Rattle.client_node.specs.Ends.{client_end, end_calls, issued_as}
 use Rattle.client_node.specs.Lines.{end_of}
@@ -44,8 +43,6 @@ use Rattle.tcf_text.specs.declared.log.LogLine.TheVariants as lines
 use Rattle.value_node.specs.Asked.{Asked}
 use Rattle.value_node.specs.OwnMessages.{BeginsWithHello}
 use Rattle.chain_heard.specs.Heard.{asked_as}
-use Rattle.chain_through.proofs.Fronts.{front_length}
-use Rattle.chain_through.proofs.Taking.{all_append}
 use Rattle.chain_through.proofs.Ends.{answering_more}
 use Rattle.world_laws.specs.EndLaws.{AddIsSound, ClosesRightly, EndsAllRightly, EndsRightly, EndsRightlyAfterEverySchedule, IsRefusedUnder, MayEnd}
 use Rattle.world_laws.proofs.Chains.{agent, begins_here, commands, lower, speaking, unended_here, way_calls}
@@ -59,19 +56,17 @@ use Rattle.world_laws.proofs.Numbering.{each_found}
 use Rattle.world_laws.proofs.Sending.{sent_commands, sent_issued}
 use Rattle.world_laws.proofs.Serving.{AgentSpeaks, asking_many, speaks_nothing, told_to}
 use Rattle.world_laws.proofs.Sides.{way, way_carries}
-use Rattle.world_laws.proofs.Silent.{all_in, at_number}
+use Rattle.world_laws.proofs.Silent.{at_number}
 use Rattle.world_laws.proofs.Steps.{closes_played, cuts_played, lost_played}
 use Rattle.world_laws.proofs.Unclosing.{never_closing}
+use Rattle.list_laws.proofs.AllLists.{all_contained, all_append, all_contains as all_in}
+use Rattle.chain_route.proofs.Bytes.{front_length}
 
 -- a Hello and commands are no more than these commands and one
 calls_few : (asked : List Asked) (gave : List Outgoing) (calls : Calls asked gave) → length (entering calls.spoken) - 1 ≤ length asked
 calls_few asked gave calls =
     let one = front_length (entering calls.spoken) (greeting calls.services ∷ all_asking 1 asked) calls.says in
     let two = asking_many 1 asked in omega arith
-
-all_contained : {A : Type 0} → (P : A → Type 0) (xs : List A) → ((x : A) → Contains xs x → P x) → AllByRecursion P xs
-all_contained P [] each = tt
-all_contained P (x ∷ xs) each = (each x (Contains-append_left (x ∷ []) xs x (Contains-push [] x)), all_contained P xs (λ y there. each y (Contains-append_right (x ∷ []) xs y there)))
 
 module _ (laws : Laws) (images : List Image) (r : AgentRun) (follows : AgentFollowsHistory images r) (serves : AllByRecursion ServesAll r.channels)
     (unclosing : AllByRecursion (λ past. list_any is_closing past.calls ≡ false) r.channels) where

@@ -7,7 +7,7 @@ use Rattle.agent_node.specs.AgentLaws.{AgentFollowsHistory, IsEndOf}
 use Rattle.agent_node.specs.Channels.{channel_end}
 use Rattle.agent_node.specs.Runs.{AgentRun, Past, run_of}
 use Rattle.agent_node.specs.declared.channel.Channel.{Channel}
-use Rattle.agent_rest.specs.Answering.{ServesAll}
+use Rattle.node_answers.specs.AgentAnswering.{ServesAll}
 use Rattle.chain_route.proofs.Unheard.{value_hello}
 use Rattle.chain_route.specs.Carrying.{IsGoneBy}
 use Rattle.chain_route.specs.Runs.{Past as WayPast}
@@ -27,7 +27,7 @@ use Rattle.channel_core.specs.declared.held.Outgoing.{Outgoing}
 use Rattle.channel_core.specs.declared.states.Cause.TheVariants as causes
 use Rattle.channel_core.specs.declared.states.EndState.{EndState}
 use Rattle.channel_core.specs.declared.states.EndState.TheVariants.{Closed, Live, Opening, Reopening}
-use Rattle.channel_faults.specs.Faults.{is_closing}
+use Rattle.channel_laws.specs.Faults.{is_closing}
 use Rattle.target_contexts.specs.declared.process.Image.{Image}
 use Rattle.target_hub.specs.Sent.{agent_services}
 use Rattle.tcf_schedules.specs.Plan.{Plan}
@@ -35,17 +35,17 @@ use Rattle.value_node.specs.Asked.{Asked}
 use Rattle.value_node.specs.ForwardedValue.{ForwardedValue}
 use Rattle.value_node.specs.Runs.{UpperCall, upper_after}
 use Rattle.value_node.specs.Value.{value_services}
-use Rattle.chain_through.proofs.Fronts.{front_map, front_same, front_then}
 use Rattle.chain_through.proofs.Queues.{entering_formed, queue_messages}
 use Rattle.chain_through.proofs.Spelling.{said_so, same_said}
-use Rattle.chain_through.proofs.Taking.{all_append}
 use Rattle.world_laws.specs.EndLaws.{ClosesRightly}
 use Rattle.world_laws.proofs.Chains.{carried, through, top}
 use Rattle.world_laws.proofs.LowerLaws.{Laws}
 use Rattle.world_laws.proofs.Sending.{commands_alone, hello_first, none_behind}
 use Rattle.world_laws.proofs.Sides.{way, way_carries}
-use Rattle.world_laws.proofs.Silent.{all_in, at_number}
+use Rattle.world_laws.proofs.Silent.{at_number}
 use Rattle.world_laws.proofs.Spoken.{bare, bare_bytes, bare_spoken, entering_bare, front_bytes, front_unmarked}
+use Rattle.chain_route.proofs.Bytes.{front_map, front_same, front_then}
+use Rattle.list_laws.proofs.AllLists.{all_append, all_contains as all_in}
 
 -- ---- Without marks a Hello and commands are a Hello and commands
 

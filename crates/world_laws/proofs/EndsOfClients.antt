@@ -14,7 +14,7 @@ use Rattle.channel_core.specs.declared.states.Cause.{Cause}
 use Rattle.channel_core.specs.declared.states.Cause.TheVariants.{Own}
 use Rattle.channel_core.specs.declared.taking.Taken.{Taken}
 use Rattle.channel_core.specs.declared.taking.Taken.TheVariants as taken
-use Rattle.channel_faults.specs.Faults.{is_closing, is_ending}
+use Rattle.channel_laws.specs.Faults.{is_closing, is_ending}
 use Rattle.chain_world.specs.Standing.{MayBeCalled, closes_at, cuts_at}
 use Rattle.client_log.specs.Cached.{cached_value}
 use Rattle.client_log.specs.Lessons.{lessons}
@@ -32,10 +32,9 @@ use Rattle.tcf_text.specs.declared.log.LogLine.{LogLine}
 use Rattle.tcf_text.specs.declared.log.LogLine.TheVariants as lines
 use Rattle.tcf_text.specs.declared.log.RefusedWhy.{RefusedWhy}
 use Rattle.tcf_text.specs.declared.log.RefusedWhy.TheVariants as refused
-use Rattle.agent_told.proofs.Lists.{all_back}
-use Rattle.chain_through.proofs.Fronts.{front_each, front_then}
-use Rattle.chain_through.proofs.Taking.{all_append}
 use Rattle.world_laws.proofs.Lists.{front_all}
+use Rattle.list_laws.proofs.AllLists.{all_right as all_back, all_append}
+use Rattle.chain_route.proofs.Bytes.{front_each, front_then}
 
 -- ---- The calls of the end that only some calls of the client make
 

@@ -4,8 +4,7 @@ use Rattle.std.specs.Prelude.{option_to_list}
 use Rattle.std.specs.List.{AllByRecursion}
 use Rattle.agent_node.specs.AgentLaws.{AgentFollowsHistory}
 use Rattle.agent_node.specs.Runs.{AgentRun, after_all as agent_after, no_calls as agent_begun}
-use Rattle.agent_rest.specs.Answering.{ServesAll}
-use Rattle.agent_told.proofs.Lists.{all_weaker}
+use Rattle.node_answers.specs.AgentAnswering.{ServesAll}
 use Rattle.chain_heard.specs.Coherent.{IsCoherent}
 use Rattle.chain_through.specs.Through.{KnowsTruth, kept_in}
 use Rattle.chain_told.specs.Told.{AreTrueAt}
@@ -27,7 +26,6 @@ use Rattle.tcf_schedules.specs.Plan.{Plan}
 use Rattle.tcf_text.specs.Each.{Each}
 use Rattle.tcf_text.specs.Once.{Once}
 use Rattle.value_node.specs.ValueValue.{ValueValue}
-use Rattle.chain_through.proofs.Taking.{all_append}
 use Rattle.world_laws.specs.HopLaws.{ChainHopsStand, HopsStandAfterEverySchedule}
 use Rattle.world_laws.specs.WorldLaws.{AreCoherent, AreFresh, ChainIsCoherent, ChainIsFaithful, ChainLacksNothing, CoherentAfterEverySchedule, FaithfulAfterEverySchedule, FreshAfterEverySchedule, IsFaithful, IsTrueAt, KnowsTarget, NothingIsStuck, NothingStuckAfterEverySchedule}
 use Rattle.world_laws.proofs.Chains.{HearsNone, HearsTarget, adds_know, chain_hears, earlier_silent}
@@ -35,8 +33,8 @@ use Rattle.world_laws.proofs.Hops.{chain_hops}
 use Rattle.world_laws.proofs.LowerLaws.{Laws}
 use Rattle.world_laws.proofs.Numbering.{each_found}
 use Rattle.world_laws.proofs.Sides.{way, way_carries}
-use Rattle.world_laws.proofs.Silent.{all_in}
 use Rattle.world_laws.proofs.Unstuck.{AllTook, all_answered, all_took, chain_lacks, channels_lack}
+use Rattle.list_laws.proofs.AllLists.{all_weaker, all_append, all_contains as all_in}
 
 -- what a value-add knows is true where the bytes of the images are bytes
 module _ (images : List Image) (history : List Input) (typed : AreTyped images) where

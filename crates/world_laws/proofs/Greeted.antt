@@ -13,7 +13,7 @@ use Rattle.channel_core.specs.Wire.{answers, is_done, is_redirect, said_in}
 use Rattle.channel_core.specs.declared.held.Incoming.{Incoming}
 use Rattle.channel_core.specs.declared.taking.Taken.{Taken}
 use Rattle.channel_core.specs.declared.taking.Taken.TheVariants as taken
-use Rattle.channel_redirects.specs.Redirects.{IsReleased}
+use Rattle.channel_laws.specs.Redirects.{IsReleased}
 use Rattle.client_node.specs.Client.{client_services, new_client}
 use Rattle.client_node.specs.Ends.{HasNames, client_end, end_calls, issued_as}
 use Rattle.client_node.specs.Runs.{Call as ClientCall, no_past, past_of}
@@ -26,17 +26,17 @@ use Rattle.value_node.specs.Asked.{Asked}
 use Rattle.value_node.specs.Own.{redirect_done}
 use Rattle.value_node.specs.OwnLaws.{IsBoundBy}
 use Rattle.value_node.specs.OwnMessages.{IsOwn, OwnStep, a_hello, a_result, an_unknown}
-use Rattle.agent_told.proofs.Lists.{all_back, first_nothing}
-use Rattle.chain_through.proofs.Fronts.{front_each}
 use Rattle.chain_told.specs.TellsOn.{comes_as}
 use Rattle.chain_through.proofs.OwnTold.{own_parts}
-use Rattle.chain_through.proofs.Through.{none_mapped}
 use Rattle.world_laws.proofs.Accepted.{AreCounted, counted_front, numbered_counted}
 use Rattle.world_laws.proofs.LowerLaws.{Laws}
 use Rattle.world_laws.proofs.Lists.{Split, no_more, split_mapped}
 use Rattle.world_laws.proofs.Own.{AnswersNot, last_unanswered, said_as}
 use Rattle.world_laws.proofs.Replying.{incoming_same}
 use Rattle.world_laws.proofs.Sending.{heard_is, sent_commands, sent_counted, sent_issued}
+use Rattle.list_laws.proofs.AllLists.{all_right as all_back}
+use Rattle.list_laws.proofs.Lists.{none_before as first_nothing, none_mapped}
+use Rattle.chain_route.proofs.Bytes.{front_each}
 
 -- without value-adds nothing is answered; else the last that one answered is the redirect that bound the way
 abbrev pub BindsBy : List Asked → List Spoken → Type 0

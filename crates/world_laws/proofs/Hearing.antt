@@ -1,17 +1,17 @@
 -- What a client heard of the target on a way, by what comes through it.
-use Rattle.std.proofs.Common.{◌≡◌, ℕ, ◌+◌, ◌-◌, ◌^◌, ◌<◌, ◌≤◌, ◌⊎◌, inl, inr, ⊎_elim, Bool, true, false, not, List, [], ◌∷◌, ◌++◌, length, drop, map, Option, Some, None, Ok, refl, sym, ap, ◌∙◌, subst, arith, append_assoc, length-append}
+use Rattle.std.proofs.Common.{◌≡◌, ℕ, ◌+◌, ◌-◌, ◌^◌, ◌<◌, ◌≤◌, ◌⊎◌, inl, inr, ⊎_elim, Bool, true, false, not, List, [], ◌∷◌, ◌++◌, length, drop, map, Option, Some, None, refl, sym, ap, ◌∙◌, subst, arith, append_assoc, length-append}
 use Rattle.std.specs.Prelude.{IsSome}
 use Rattle.std.specs.List.{AllByRecursion}
 use Rattle.std.proofs.lemmas.List.{length-map, map-append, take-append-drop}
 use Rattle.std.proofs.lemmas.List.Concat.{flat_map-append}
 use Rattle.agent_node.specs.AgentLaws.{FollowsHistory, asked}
 use Rattle.agent_node.specs.Runs.{Past, run_of}
-use Rattle.agent_told.specs.Sent.{owed_by, read_as}
+use Rattle.chain_told.specs.Sent.{owed_by, read_as}
 use Rattle.chain_heard.specs.Heard.{AreReadable, Heard, HeardAll, HeardNoTarget, asked_as, heard_in, incoming, messages_of, through_of}
 use Rattle.chain_route.specs.Carrying.{End, Made}
 use Rattle.chain_through.specs.Calling.{Calls, entering, given_of}
 use Rattle.chain_through.specs.Through.{AllTakeAll, Content, IsBoundThrough, IsMarked, IsUnboundThrough, TakesAll, TakesAllOf, Through, content, is_storable_content}
-use Rattle.chain_through.proofs.Fronts.{IsMapped, front_each, front_flat, front_length, front_map, front_mapped, front_more, front_none, front_same, front_then, front_whole}
+use Rattle.chain_through.proofs.Fronts.{IsMapped, front_mapped, front_whole}
 use Rattle.chain_through.proofs.OwnTold.{none_from, own_unmarked}
 use Rattle.chain_through.proofs.Queues.{entering_formed}
 use Rattle.chain_through.proofs.ToldLists.{AreFound, all_found, told_front, told_more}
@@ -33,14 +33,12 @@ use Rattle.target_hub.specs.Ordered.{IsPrefixOf, IsSubsequenceOf}
 use Rattle.target_hub.specs.Received.{read}
 use Rattle.target_hub.specs.Sent.{ReadCommand, executed_on, is_through}
 use Rattle.target_hub.specs.declared.input.Input.{Input}
-use Rattle.tcf_message.specs.Message.{IsWellFormed, MessageValue, command, event, final, flow, not_known, progress, reading, spelling}
+use Rattle.tcf_message.specs.Message.{IsWellFormed, MessageValue, command, event, final, flow, not_known, progress, reading}
 use Rattle.tcf_text.specs.Lines.{Accepted}
 use Rattle.value_node.specs.Asked.{Asked}
 use Rattle.value_node.specs.Barriers.{command_in}
 use Rattle.value_node.specs.OwnLaws.{IsBoundBy}
 use Rattle.value_node.specs.OwnMessages.{IsOwn}
-use Rattle.agent_told.proofs.Lists.{first_nothing}
-use Rattle.chain_through.proofs.Through.{none_behind}
 use Rattle.chain_through.proofs.Ways.{takes_all}
 use Rattle.world_laws.proofs.Accepted.{AreCounted, counted_front, numbered_counted}
 use Rattle.world_laws.proofs.Greeted.{BindsBy, none_later}
@@ -50,15 +48,15 @@ use Rattle.world_laws.proofs.Own.{own_more}
 use Rattle.world_laws.proofs.Replying.{incoming_same}
 use Rattle.world_laws.proofs.Sending.{all_counted, heard_is, hears, sent_commands, sent_count, sent_counted}
 use Rattle.world_laws.proofs.Serving.{IsAskedFirst, content_read, contents_read, executed_front, owed_more, owed_right, told_to}
+use Rattle.chain_told.proofs.Doing.{IsReadable}
+use Rattle.chain_route.proofs.Bytes.{front_each, front_flat, front_length, front_map, front_more, front_none, front_same, front_then}
+use Rattle.list_laws.proofs.Lists.{none_before as first_nothing, none_behind}
 
 -- ---- What is heard can be read
 
 own_read : Laws → (own : List Spoken) → AreSpoken own → AreReadable (messages_of own)
 own_read laws [] each = tt
 own_read laws (s ∷ own) each = (laws.back.1 s.message each.0, own_read laws own each.1)
-
-abbrev IsReadable : Spoken → Type 0
-IsReadable s = reading (spelling s.message) ≡ Ok s.message
 
 heard_read : Laws → (heard : List Spoken) → AreSpoken heard → AllByRecursion IsReadable heard
 heard_read laws [] each = tt

@@ -4,10 +4,10 @@ use Rattle.std.specs.List.{AllByRecursion}
 use Rattle.agent_node.specs.AgentLaws.{AgentFollowsHistory, FollowsHistory, IsEndOf}
 use Rattle.agent_node.specs.Channels.{channel_end}
 use Rattle.agent_node.specs.Runs.{AgentRun, Past}
-use Rattle.agent_rest.specs.Answering.{ServesAll}
-use Rattle.chain_hops.proofs.Connections.{connected_to_last}
-use Rattle.chain_hops.specs.Hops.{HopsStand, IsWay}
-use Rattle.chain_rest.specs.Stuck.{end_of_side}
+use Rattle.node_answers.specs.AgentAnswering.{ServesAll}
+use Rattle.chain_quiet.proofs.Hops.Connections.{connected_to_last}
+use Rattle.chain_quiet.specs.Hops.{HopsStand, IsWay}
+use Rattle.chain_quiet.specs.Stuck.{end_of_side}
 use Rattle.chain_route.specs.Carrying.{GivesAll, Made, value_of}
 use Rattle.chain_route.specs.Runs.{Talk}
 use Rattle.chain_route.specs.declared.hop.Hop.{Hop}
@@ -18,7 +18,7 @@ use Rattle.chain_world.specs.ChainValue.{ChainValue}
 use Rattle.chain_world.specs.Standing.{ChainStands, past_at}
 use Rattle.channel_core.specs.Arrivals.{Spoken}
 use Rattle.channel_core.specs.EndValue.{EndValue}
-use Rattle.channel_rest.specs.Meeting.{Side, run_of}
+use Rattle.channel_laws.specs.Meeting.{Side, run_of}
 use Rattle.client_node.specs.Client.{new_client}
 use Rattle.client_node.specs.Ends.{IsEndAfter, end_calls}
 use Rattle.target_contexts.specs.declared.process.Image.{Image}

@@ -3,12 +3,12 @@ use Rattle.std.proofs.Common.{ℕ, List}
 use Rattle.std.specs.List.{AllByRecursion}
 use Rattle.agent_node.specs.AgentLaws.{AgentTellsTheTruth, messages_told}
 use Rattle.agent_node.specs.Strangers.{NoStrangersAfterAnyCalls}
-use Rattle.agent_rest.specs.Answering.{ServesAllAfterAnyCalls}
+use Rattle.node_answers.specs.AgentAnswering.{ServesAllAfterAnyCalls}
 use Rattle.chain_heard.specs.Coherent.{HeardIsCoherent, NoTargetHeardIsCoherent}
-use Rattle.agent_told.specs.Sent.{IsOwed, IsToldRightly}
+use Rattle.chain_told.specs.Sent.{TargetTellsWhatIsOwed, TargetTellsRightly}
 use Rattle.chain_heard.specs.Heard.{CommandsAreFew, HeardAmongIsOrdered, HeardIsFresh, NoTargetHeardIsFresh, NoTargetHeardIsOrdered}
-use Rattle.chain_hops.specs.Hops.{EachHopStands}
-use Rattle.chain_rest.specs.Stuck.{NothingIsStuck}
+use Rattle.chain_quiet.specs.Hops.{EachHopStands}
+use Rattle.chain_quiet.specs.Stuck.{StillWaysAreUnstuck}
 use Rattle.chain_route.specs.Carrying.{CarriesAfterAllCalls}
 use Rattle.chain_through.specs.Endings.{AnsweredIsSound, AskedIsSound, ComesToSoundEnds}
 use Rattle.chain_through.specs.Through.{ComesThrough}
@@ -18,12 +18,12 @@ use Rattle.channel_core.specs.Greeting.{WaitsForHello}
 use Rattle.channel_core.specs.QueueLaws.{QueuesNoCommand, QueuesWhatIsSent}
 use Rattle.channel_core.specs.ReceivingLaws.{EndsFairly, QueuesReadable, ReceivesInOrder, WhereAQueueComes}
 use Rattle.channel_core.specs.RunLaws.{AfterAllCalls, EndsOnce, QueuesInOrder, SendsInOrder}
-use Rattle.channel_faults.specs.Faults.{EndsByItsCalls}
-use Rattle.channel_redirects.specs.Redirects.{HoldsBehindRedirects}
-use Rattle.channel_rest.specs.Asking.{AsksNothingWaitsForNothing}
+use Rattle.channel_laws.specs.Faults.{EndsByItsCalls}
+use Rattle.channel_laws.specs.Redirects.{HoldsBehindRedirects}
+use Rattle.channel_laws.specs.Asking.{AsksNothingWaitsForNothing}
 use Rattle.client_node.specs.Ends.{EndIsRunAfterAnyCalls}
 use Rattle.client_node.specs.Runs.{LogTellsPast, OnceAfterAnyCalls, ShownAfterAnyCalls}
-use Rattle.client_rest.specs.Lacking.{EndsWhereClosed, IsAnsweredWhereNonePends}
+use Rattle.node_answers.specs.Lacking.{EndsWhereClosed, IsAnsweredWhereNonePends}
 use Rattle.target_contexts.specs.declared.process.Image.{Image}
 use Rattle.target_hub.specs.History.{IsLegal}
 use Rattle.target_hub.specs.Sent.{sent}
@@ -79,15 +79,15 @@ pub record Laws : Type 0 where
   pub strangers : NoStrangersAfterAnyCalls
   pub serves : ServesAllAfterAnyCalls
   pub told : ToldIsSpelled
-  pub right : IsToldRightly
-  pub owed : IsOwed
+  pub right : TargetTellsRightly
+  pub owed : TargetTellsWhatIsOwed
   pub adds : AddAfterAllCalls EndsAreRuns
   pub asks_nothing : AddAfterAllCalls AsksNothingBelow
   -- the way between them
   pub carries : CarriesAfterAllCalls
   pub through : ComesThrough
   pub sound : ComesToSoundEnds
-  pub unstuck : NothingIsStuck ℕ
+  pub unstuck : StillWaysAreUnstuck ℕ
   pub hops : EachHopStands ℕ
   -- what a client heard
   pub few : CommandsAreFew

@@ -10,7 +10,7 @@ use Rattle.agent_node.specs.AgentLaws.{AgentFollowsHistory, AgentTellsTheTruth}
 use Rattle.agent_node.specs.AgentValue.{AgentValue}
 use Rattle.agent_node.specs.Channels.{End, answer_queued, changed, changed_at, channel_end, end_in, event_queued, is_kept, new_channel, place_of, put_at, told_all, with_end}
 use Rattle.agent_node.specs.Runs.{AgentRun, Call, after_all, after_call, bytes_end, called, comes, gives, input_if, no_calls, opens, ticks, turns}
-use Rattle.agent_node.proofs.Places.{found, place_found}
+use Rattle.agent_node.proofs.Places.{found, place_found, channel_number}
 use Rattle.agent_node.specs.Strangers.{NoStrangersAfterAnyCalls}
 use Rattle.agent_node.specs.declared.agent.Turned.{Turned}
 use Rattle.agent_node.specs.declared.agent.Turned.TheVariants.{Nothing}
@@ -25,14 +25,11 @@ use Rattle.tcf_message.specs.Message.{MessageValue, command, event, final, flow,
 use Rattle.tcf_message.specs.declared.message.MessageFault.{MessageFault}
 use Rattle.tcf_values.specs.declared.event.EventData.{EventData}
 use Rattle.tcf_values.specs.declared.ids.ContextId.{ContextId}
-use Rattle.agent_told.proofs.Lists.{map_map}
 use Rattle.chain_world.proofs.Agents.{Reached, reached_more}
-
-abbrev number_of : Channel → ℕ
-number_of c = c.number
+use Rattle.list_laws.proofs.Lists.{map_map}
 
 abbrev numbers : List Channel → List ℕ
-numbers cs = map number_of cs
+numbers cs = map channel_number cs
 
 abbrev has : ℕ → List ℕ → Bool
 has k ns = list_any (λ n. n == k) ns
@@ -75,7 +72,7 @@ none_has k (c ∷ cs) none = by_flag (c.number == k) none (none_has k cs)
 
 set_keeps : (cs : List Channel) (place : ℕ) (c d : Channel) → slice_get cs place ≡ Some c → d.number ≡ c.number → numbers (slice_set cs place d) ≡ numbers cs
 set_keeps [] place c d there same = absurd cc
-set_keeps (x ∷ cs) zero c d there same = let is : x ≡ c = cc in ap (λ n. n ∷ numbers cs) (same ∙ ap number_of (sym is))
+set_keeps (x ∷ cs) zero c d there same = let is : x ≡ c = cc in ap (λ n. n ∷ numbers cs) (same ∙ ap channel_number (sym is))
 set_keeps (x ∷ cs) (suc place) c d there same = ap (λ ns. x.number ∷ ns) (set_keeps cs place c d there same)
 
 put_keeps : (change : End → End) (cs : List Channel) (place : ℕ) (there : Option Channel) → slice_get cs place ≡ there → numbers (put_at place change cs there) ≡ numbers cs
@@ -91,7 +88,7 @@ changed_keeps k change cs = by_place (place_of k cs)
 
 told_keeps : (events : List EventData) (position : ℕ) (cs : List Channel) → numbers (told_all events position cs) ≡ numbers cs
 told_keeps [] position cs = refl
-told_keeps (told ∷ events) position cs = told_keeps events position (map (event_queued told position) cs) ∙ map_map number_of (event_queued told position) cs
+told_keeps (told ∷ events) position cs = told_keeps events position (map (event_queued told position) cs) ∙ map_map channel_number (event_queued told position) cs
 
 abbrev of_agent : AgentValue → List ℕ
 of_agent a = numbers a.channels
@@ -200,7 +197,7 @@ opened_apart k a new apart = by_flag (is_refused k a) new
     by_flag : (flag : Bool) → ((cond {A = Bool × AgentValue} flag (false, a) (true, begun k a)).0 ≡ true → has k (of_agent a) ≡ false) → AreApart (of_agent (cond {A = Bool × AgentValue} flag (false, a) (true, begun k a)).1)
     by_flag true isnt = apart
     by_flag false isnt =
-        subst AreApart (sym (map-append number_of (filter is_kept a.channels) (new_channel k (a.position + 1) ∷ [])))
+        subst AreApart (sym (map-append channel_number (filter is_kept a.channels) (new_channel k (a.position + 1) ∷ [])))
         (more_apart (numbers (filter is_kept a.channels)) k (has_fewer is_kept k a.channels (isnt refl)) (fewer_apart is_kept a.channels apart))
 
 -- ---- Over any calls

@@ -16,15 +16,15 @@ use Rattle.chain_through.specs.Calling.{AskNothing, Says, asks, entering}
 use Rattle.value_node.specs.RelayLaws.{EndsAreRuns}
 use Rattle.value_node.specs.Runs.{LowerCall, after_all, lower_after, no_calls}
 use Rattle.value_node.specs.Value.{value_services}
-use Rattle.chain_through.proofs.Fronts.{front_each, front_then}
 use Rattle.chain_told.specs.TellsOn.{comes_as}
 use Rattle.chain_through.proofs.Queues.{commanding, entering_formed, nothing_asked, queue_commands}
 use Rattle.chain_through.proofs.Spelling.{said_so}
 use Rattle.chain_through.proofs.Taking.{received_front}
-use Rattle.chain_through.proofs.Through.{none_mapped}
 use Rattle.world_laws.proofs.LowerLaws.{Laws}
 use Rattle.world_laws.proofs.Sending.{AsksNothing}
 use Rattle.world_laws.proofs.Spoken.{front_bytes}
+use Rattle.chain_route.proofs.Bytes.{front_each, front_then}
+use Rattle.list_laws.proofs.Lists.{none_mapped}
 
 -- what comes is of messages that ask nothing
 pub record ComesQuietly (came : List Marked) : Type 0 where

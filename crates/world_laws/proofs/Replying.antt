@@ -3,7 +3,7 @@ use Rattle.std.proofs.Common.{◌≡◌, ℕ, Option, List, [], ◌∷◌, map, 
 use Rattle.std.specs.List.{AllByRecursion}
 use Rattle.tcf_message.specs.Message.{MessageValue}
 use Rattle.agent_node.specs.AgentLaws.{later_tokens, messages_told}
-use Rattle.agent_rest.proofs.Spoken.{spoken_of}
+use Rattle.node_answers.proofs.Agents.Spoken.{spoken_of}
 use Rattle.channel_core.specs.Arrivals.{Spoken}
 use Rattle.chain_heard.specs.Heard.{incoming, messages_of}
 use Rattle.chain_through.specs.Calling.{AskNothing}

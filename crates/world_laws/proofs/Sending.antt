@@ -21,14 +21,15 @@ use Rattle.tcf_message.specs.Message.{IsWellFormed, event, reading}
 use Rattle.tcf_text.specs.Lines.{Accepted}
 use Rattle.chain_heard.specs.Heard.{asked_as, heard_in}
 use Rattle.chain_through.specs.Calling.{Calls, entering, greeting}
-use Rattle.agent_told.proofs.Lists.{map_map}
 use Rattle.chain_through.proofs.Queues.{entering_formed, queue_messages}
 use Rattle.chain_through.proofs.Spelling.{said_so, same_said}
 use Rattle.chain_through.proofs.Taking.{received_front}
-use Rattle.chain_route.proofs.Bytes.{all_taken, take_mapped}
+use Rattle.chain_route.proofs.Bytes.{take_mapped}
 use Rattle.chain_through.proofs.Above.{queued_more}
 use Rattle.world_laws.proofs.Accepted.{AreCounted, AreWritten, all_named, are_counted, asking_counted, command_of, counted_taken, speaking, spoken_spelled, written}
 use Rattle.world_laws.proofs.LowerLaws.{Laws}
+use Rattle.list_laws.proofs.Lists.{map_map}
+use Rattle.list_laws.proofs.AllLists.{all_take as all_taken}
 
 pub client_hello : IsWellFormed (event locator hello client_services)
 unfolding locator hello client_services

@@ -5,8 +5,8 @@ use Rattle.agent_node.specs.AgentLaws.{AgentFollowsHistory, IsEndOf}
 use Rattle.agent_node.specs.Channels.{channel_end, end_in}
 use Rattle.agent_node.specs.Runs.{AgentRun, Past, run_of}
 use Rattle.agent_node.specs.declared.channel.Channel.{Channel}
-use Rattle.chain_hops.specs.Hops.{IsAgentSide}
-use Rattle.chain_rest.specs.Stuck.{IsServedOrRefused, IsStill}
+use Rattle.chain_quiet.specs.Hops.{IsAgentSide}
+use Rattle.chain_quiet.specs.Stuck.{IsServedOrRefused, IsStill}
 use Rattle.chain_route.specs.Runs.{Talk}
 use Rattle.chain_world.proofs.Pasts.{at_all}
 use Rattle.chain_world.specs.Chain.{is_last_quiet, none_waits}

@@ -5,17 +5,16 @@ use Rattle.std.specs.List.{AllByRecursion, filter}
 use Rattle.std.proofs.lemmas.List.Elements.{filter-append}
 use Rattle.agent_node.specs.AgentLaws.{Asked as AgentAsked, FollowsHistory, asked, messages_told, read as agent_read, tokens}
 use Rattle.agent_node.specs.Runs.{Past, run_of}
-use Rattle.agent_rest.proofs.Spoken.{said_spoken, spoken_of}
-use Rattle.agent_rest.proofs.Telling.{agent_hello}
-use Rattle.agent_told.specs.Sent.{owed_by, read_as, said_to}
+use Rattle.node_answers.proofs.Agents.Spoken.{said_spoken, spoken_of}
+use Rattle.node_answers.proofs.Agents.Telling.{agent_hello}
+use Rattle.chain_told.specs.Sent.{owed_by, read_as, said_to}
 use Rattle.chain_route.specs.Carrying.{AllCarry, End, HopCarries, Made, end_above, past_of}
 use Rattle.chain_route.specs.Runs.{Talk}
 use Rattle.chain_route.specs.declared.hop.Hop.{Hop}
-use Rattle.chain_route.proofs.Bytes.{take_front}
+use Rattle.chain_route.proofs.Bytes.{take_front, front_length, front_map, front_same, front_then}
 use Rattle.chain_through.specs.Calling.{AskNothing, Calls, Says, all_asking, asking, entering, given_of, greeting}
 use Rattle.chain_through.specs.Through.{Content, IsMarked, content, top_end}
 use Rattle.chain_through.proofs.Found.{found_more}
-use Rattle.chain_through.proofs.Fronts.{front_length, front_map, front_same, front_then}
 use Rattle.chain_through.proofs.Queues.{entering_formed, queue_messages}
 use Rattle.chain_through.proofs.Spelling.{AreSpelled, IsSpelled, one_said, said_so, same_said}
 use Rattle.chain_through.proofs.ToldLists.{AreFound, IsFound, all_found, told_more}

@@ -2,10 +2,10 @@
 use Rattle.std.proofs.Common.{◌≡◌, ℕ, inl, inr, not, Bool, true, false, List, map, Option, Some, None, option_map, IfSome, refl, ap, ◌∙◌, subst, sym}
 use Rattle.std.specs.List.{AllByRecursion}
 use Rattle.agent_node.specs.Runs.{Past}
-use Rattle.agent_rest.specs.Answering.{ServesAll}
-use Rattle.chain_hops.specs.Hops.{IsAgentSide}
-use Rattle.chain_hops.proofs.Connections.{last_lives}
-use Rattle.chain_rest.specs.Stuck.{IsChannel, IsReadable, end_of_side, last_is_live}
+use Rattle.node_answers.specs.AgentAnswering.{ServesAll}
+use Rattle.chain_quiet.specs.Hops.{IsAgentSide}
+use Rattle.chain_quiet.proofs.Hops.Connections.{last_lives}
+use Rattle.chain_quiet.specs.Stuck.{IsChannel, IsReadable, end_of_side, last_is_live}
 use Rattle.chain_route.specs.Carrying.{AllCarry, Carries, end_of, value_of}
 use Rattle.chain_route.specs.Route.{is_live, last_of}
 use Rattle.chain_route.specs.Runs.{Past as WayPast, RouteRun, Talk, after_all as way_after, no_calls as way_begun}
@@ -14,7 +14,7 @@ use Rattle.chain_world.specs.ChainValue.{ChainValue}
 use Rattle.chain_world.specs.Standing.{ChainStands, Talks, TalksOn, past_at}
 use Rattle.channel_core.specs.Arrivals.{Marked, arrived, bytes_of}
 use Rattle.channel_core.specs.declared.held.Outgoing.{Outgoing}
-use Rattle.channel_rest.specs.Meeting.{Side, run_of}
+use Rattle.channel_laws.specs.Meeting.{Side, run_of}
 use Rattle.client_node.specs.Client.{new_client}
 use Rattle.client_node.specs.Ends.{IsEndAfter, end_calls}
 use Rattle.tcf_schedules.specs.Plan.{Plan}

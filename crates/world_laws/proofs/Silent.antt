@@ -1,6 +1,5 @@
 -- A channel that was never opened executes nothing.
-use Rattle.std.proofs.Common.{◌≡◌, ℕ, zero, suc, ◌==◌, not, Bool, true, false, cond, List, [], ◌∷◌, ◌++◌, Some, None, refl, sym, ap, ◌∙◌, subst, arith, append_assoc, eqb-true}
-use Rattle.std.specs.List.{AllByRecursion, Contains}
+use Rattle.std.proofs.Common.{◌≡◌, ℕ, ◌==◌, not, Bool, true, false, cond, List, [], ◌∷◌, ◌++◌, Some, None, refl, sym, ap, ◌∙◌, append_assoc, eqb-true}
 use Rattle.std.proofs.lemmas.Bool.{and_parts, or_parts}
 use Rattle.std.proofs.lemmas.List.Folds.{list_any-append}
 use Rattle.agent_node.specs.AgentLaws.{AgentFollowsHistory}
@@ -45,9 +44,3 @@ unopened_silent images r k follows none = silent_from images k r.history [] r.hi
 
 pub at_number : (k : ℕ) (pasts : List Past) (past : Past) → past_at k pasts ≡ Some past → past.number ≡ k
 at_number k pasts past is = eqb-true past.number k (has_number k pasts past is)
-
--- what holds of each of a list
-pub all_in : {A : Type 0} → (P : A → Type 0) (xs : List A) (x : A) → AllByRecursion P xs → Contains xs x → P x
-all_in P [] x each (k, within, is) = absurd (omega arith)
-all_in P (y ∷ xs) x each (zero, within, is) = subst P is each.0
-all_in P (y ∷ xs) x each (suc k, within, is) = all_in P xs x each.1 (k, (omega arith), is)

@@ -4,10 +4,10 @@ use Rattle.std.proofs.lemmas.List.{map-append}
 use Rattle.channel_core.specs.Arrivals.{AreSpoken, IsFront, Marked, Spoken, bytes_of, enters, marked, queue_of}
 use Rattle.channel_core.specs.Wire.{said}
 use Rattle.channel_core.specs.declared.held.Outgoing.{Outgoing}
-use Rattle.agent_told.proofs.Lists.{map_map}
-use Rattle.chain_through.proofs.Fronts.{front_flat}
 use Rattle.chain_through.specs.Calling.{entering}
 use Rattle.chain_world.specs.Standing.{unmarked}
+use Rattle.list_laws.proofs.Lists.{map_map}
+use Rattle.chain_route.proofs.Bytes.{front_flat}
 
 -- ---- Without marks
 

@@ -4,7 +4,7 @@ use Rattle.std.specs.Prelude.{if◌then◌else◌, min}
 use Rattle.std.specs.List.{AllByRecursion, list_all}
 use Rattle.std.proofs.lemmas.Bool.{and_parts}
 use Rattle.agent_node.specs.AgentValue.{AgentValue}
-use Rattle.chain_rest.specs.Stuck.{HopIsStill}
+use Rattle.chain_quiet.specs.Stuck.{HopIsStill}
 use Rattle.chain_route.specs.Route.{is_add_quiet, is_hop_quiet, is_quiet as is_way_quiet}
 use Rattle.chain_route.specs.declared.hop.Hop.{Hop}
 use Rattle.chain_world.specs.Chain.{is_last_quiet, is_quiet, none_waits}
@@ -18,7 +18,7 @@ use Rattle.value_node.specs.Passing.{Upper}
 use Rattle.value_node.specs.Value.{waiting_at, waiting_on}
 use Rattle.value_node.specs.ValueValue.{ValueValue}
 use Rattle.value_node.specs.declared.states.Side.TheVariants.{Above, Below}
-use Rattle.agent_told.proofs.Lists.{all_weaker}
+use Rattle.list_laws.proofs.AllLists.{all_weaker}
 
 -- ---- An end
 

@@ -16,7 +16,6 @@ use Rattle.agent_node.specs.AgentLaws.{Asked as AgentAsked, asked, asked_by as a
 use Rattle.agent_node.specs.Runs.{Past, run_of}
 use Rattle.target_hub.specs.Sent.{agent_services}
 use Rattle.chain_through.specs.Calling.{AskNothing, all_asking, asks, entering}
-use Rattle.chain_through.proofs.Fronts.{front_flat, front_map, front_same}
 use Rattle.chain_through.proofs.Queues.{entering_formed}
 use Rattle.chain_through.proofs.Taking.{IsWritten, all_written, asked_of, calls_fit, come_as, commands_in, commands_read, received_front}
 use Rattle.chain_world.specs.Standing.{unmarked}
@@ -24,6 +23,7 @@ use Rattle.value_node.specs.Asked.{Asked}
 use Rattle.value_node.specs.RelayLaws.{asked_by, asked_in}
 use Rattle.world_laws.proofs.LowerLaws.{Laws}
 use Rattle.world_laws.proofs.Spoken.{bare, bare_bytes, bare_spoken, entering_bare}
+use Rattle.chain_route.proofs.Bytes.{front_flat, front_map, front_same}
 
 -- ---- Commands without their marks
 

@@ -2,7 +2,7 @@
 use Rattle.std.proofs.Common.{ℕ, List, [], ◌∷◌, refl}
 use Rattle.std.specs.List.{AllByRecursion}
 use Rattle.agent_node.specs.AgentLaws.{first_token, later_tokens, messages_told}
-use Rattle.agent_rest.proofs.Telling.{Come, TargetLaws, all_come, open_after}
+use Rattle.node_answers.proofs.Agents.Telling.{Come, TargetLaws, all_come, open_after}
 use Rattle.chain_through.proofs.Spelling.{IsSpelled}
 use Rattle.target_contexts.specs.declared.process.Image.{Image}
 use Rattle.target_hub.specs.History.{IsLegal}

@@ -7,14 +7,14 @@ use Rattle.agent_node.specs.Runs.{AgentRun, Call, Past, after_all, after_call, a
 use Rattle.channel_core.specs.Runs.{Call as EndCall, delivering, ending, putting_out, sending, taking}
 use Rattle.channel_core.specs.declared.taking.Taken.{Taken}
 use Rattle.channel_core.specs.declared.taking.Taken.TheVariants as taken
-use Rattle.channel_faults.specs.Faults.{is_closing}
+use Rattle.channel_laws.specs.Faults.{is_closing}
 use Rattle.target_contexts.specs.declared.process.Image.{Image}
 use Rattle.target_hub.specs.declared.done.Answered.{Answered}
 use Rattle.target_hub.specs.declared.done.Done.{Done}
 use Rattle.tcf_message.specs.Message.{MessageValue, command, event, final, flow, not_known, progress, reading}
 use Rattle.tcf_message.specs.declared.message.MessageFault.{MessageFault}
 use Rattle.tcf_values.specs.declared.event.EventData.{EventData}
-use Rattle.agent_rest.proofs.Pasts.{AreAll, AreCalled, each_called, number_called, open_called, opened_called, unless_called, with_called}
+use Rattle.node_answers.proofs.Agents.Pasts.{AreAll, AreCalled, each_called, number_called, open_called, opened_called, unless_called, with_called}
 
 abbrev IsNotClosing : EndCall Unit → Type 0
 IsNotClosing call = is_closing call ≡ false

@@ -6,8 +6,8 @@ use Rattle.agent_node.specs.Channels.{channel_end}
 use Rattle.agent_node.specs.Strangers.{HasNoStranger}
 use Rattle.agent_node.specs.Runs.{AgentRun, Past, run_of as run_of_past}
 use Rattle.agent_node.specs.declared.channel.Channel.{Channel}
-use Rattle.agent_rest.specs.Answering.{ServesAll}
-use Rattle.chain_rest.specs.Stuck.{AddIsStill, HopIsStill, IsFreeAbove, IsStill, IsUnstuck, IsWayStill}
+use Rattle.node_answers.specs.AgentAnswering.{ServesAll}
+use Rattle.chain_quiet.specs.Stuck.{AddIsStill, HopIsStill, IsFreeAbove, IsStill, IsUnstuck, IsWayStill}
 use Rattle.chain_route.specs.Carrying.{Carries, GivesAll, Made, past_of, value_of}
 use Rattle.chain_route.specs.Passing.{queue_of}
 use Rattle.chain_route.specs.RouteValue.{RouteValue}
@@ -22,8 +22,8 @@ use Rattle.channel_core.specs.Arrivals.{AreSpoken, Spoken}
 use Rattle.channel_core.specs.Closing.{is_closed}
 use Rattle.channel_core.specs.EndValue.{EndValue}
 use Rattle.channel_core.specs.QueueLaws.{is_message}
-use Rattle.channel_rest.specs.Asking.{WaitsForNothing}
-use Rattle.channel_rest.specs.Meeting.{IsFree, Side, run_of}
+use Rattle.channel_laws.specs.Asking.{WaitsForNothing}
+use Rattle.channel_laws.specs.Meeting.{IsFree, Side, run_of}
 use Rattle.client_node.specs.Client.{new_client, pending_on}
 use Rattle.client_node.specs.Ends.{IsEndAfter, client_end, end_calls}
 use Rattle.client_node.specs.Runs.{Call as ClientCall}
@@ -35,7 +35,7 @@ use Rattle.value_node.specs.Passing.{Upper}
 use Rattle.value_node.specs.RelayLaws.{EndsAreRuns}
 use Rattle.value_node.specs.Runs.{UpperCall, after_all as add_after, below, no_calls as add_begun, upper_after}
 use Rattle.value_node.specs.Value.{awaits, value_services}
-use Rattle.client_rest.specs.Lacking.{is_closed_on}
+use Rattle.node_answers.specs.Lacking.{is_closed_on}
 use Rattle.world_laws.specs.WorldLaws.{AddLacksNothing, ChainLacksNothing, LacksNothing}
 use Rattle.world_laws.proofs.Ended.{answered_at_end}
 use Rattle.world_laws.proofs.Joined.{joined_where_reached}

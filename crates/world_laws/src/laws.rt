@@ -47,10 +47,10 @@ pub fn every_schedule()
     channel_core::no_command_goes_out_before_the_hello::<u64>();
     channel_core::no_command_goes_out_before_the_hello::<Forwarded>();
     channel_core::a_closed_end_stays_closed::<()>();
-    channel_redirects::a_redirect_holds_commands_back::<u64>();
-    channel_faults::an_end_closes_by_a_fault_only_so::<u64>();
-    channel_faults::an_end_closes_by_a_fault_only_so::<()>();
-    channel_rest::who_asks_nothing_waits_for_nothing::<()>();
+    channel_laws::a_redirect_holds_commands_back::<u64>();
+    channel_laws::an_end_closes_by_a_fault_only_so::<u64>();
+    channel_laws::an_end_closes_by_a_fault_only_so::<()>();
+    channel_laws::who_asks_nothing_waits_for_nothing::<()>();
     client_node::a_clients_end_is_a_run();
     client_node::the_log_tells_what_was_taken();
     client_node::each_command_is_answered_once();
@@ -60,7 +60,7 @@ pub fn every_schedule()
     target_hub::every_history_is_bounded();
     agent_node::an_agent_tells_the_truth();
     agent_node::an_agent_has_no_strangers();
-    agent_told::what_the_target_tells_is_right();
+    chain_told::what_the_target_tells_is_right();
     value_node::a_value_add_relays();
     value_node::a_value_add_answers_itself();
     chain_route::each_hop_carries();
@@ -73,10 +73,10 @@ pub fn every_schedule()
     chain_heard::what_was_heard_is_ordered();
     chain_heard::what_was_heard_is_fresh();
     chain_heard::what_was_heard_is_true();
-    agent_rest::an_agent_answers_all();
-    client_rest::a_log_lacks_what_is_pending();
-    chain_rest::nothing_is_stuck::<u64>();
-    chain_hops::each_hop_stands::<u64>();
+    node_answers::an_agent_answers_all();
+    node_answers::a_log_lacks_what_is_pending();
+    chain_quiet::nothing_is_stuck::<u64>();
+    chain_quiet::each_hop_stands::<u64>();
     chain_world::a_world_stands();
 }
 

@@ -3,11 +3,11 @@ use Rattle.std.proofs.Common.{◌≡◌, true, List, [], Option, Some, None, sym
 use Rattle.std.specs.Prelude.{IsSome, option_map, unwrap_or}
 use Rattle.channel_core.specs.Arrivals.{bytes_of}
 use Rattle.channel_core.specs.Closing.{is_closed}
-use Rattle.channel_hop.specs.Hop.{Carries}
-use Rattle.channel_rest.specs.Meeting.{IsLasting, Side, run_of}
-use Rattle.channel_rest.specs.Numbering.{TakesNumbered}
-use Rattle.chain_hops.specs.Hops.{HopOfAdd}
-use Rattle.chain_rest.specs.Stuck.{IsReadable, end_of_side, side_above, side_below}
+use Rattle.channel_laws.specs.Hop.{Carries}
+use Rattle.channel_laws.specs.Meeting.{IsLasting, Side, run_of}
+use Rattle.channel_laws.specs.Numbering.{TakesNumbered}
+use Rattle.chain_quiet.specs.Hops.{HopOfAdd}
+use Rattle.chain_quiet.specs.Stuck.{IsReadable, end_of_side, side_above, side_below}
 use Rattle.chain_route.specs.Carrying.{GivesAll, HopCarries, Made, end_below, past_of, value_of}
 use Rattle.chain_route.specs.Passing.{queue_of}
 use Rattle.chain_route.specs.declared.hop.Hop.{Hop}
@@ -15,7 +15,7 @@ use Rattle.chain_route.proofs.Unheard.{value_hello}
 use Rattle.value_node.specs.Passing.{Upper}
 use Rattle.value_node.specs.RelayLaws.{EndsAreRuns}
 use Rattle.value_node.specs.Runs.{UpperCall, after_all, below, no_calls, upper_after}
-use Rattle.chain_hops.proofs.Facts.{EndLaws, NodeLaws}
+use Rattle.chain_quiet.proofs.Hops.Facts.{EndLaws, NodeLaws}
 
 -- ---- Its upper end
 

@@ -2,7 +2,7 @@
 use Rattle.std.proofs.Common.{◌≡◌, ◌||◌, Bool, true, false, List, [], ◌∷◌, ◌∙◌, refl, sym, ap, arith}
 use Rattle.std.specs.Prelude.{suc, ◌-◌, IsSome, length, slice_get}
 use Rattle.std.specs.List.{AllByRecursion, list_any}
-use Rattle.chain_rest.specs.Stuck.{last_is_live}
+use Rattle.chain_quiet.specs.Stuck.{last_is_live}
 use Rattle.chain_route.specs.Carrying.{AllCarry, End, HaveConnected, IsDead, Made, past_of}
 use Rattle.chain_route.specs.Route.{is_live, last_of, live_of}
 use Rattle.chain_route.specs.RouteValue.{RouteValue}

@@ -4,19 +4,19 @@ use Rattle.std.specs.Prelude.{IfSome}
 use Rattle.std.specs.List.{list_any}
 use Rattle.channel_core.specs.Arrivals.{AreSpoken, IsFront, Spoken, arrived, bytes_of, queue_of}
 use Rattle.channel_core.specs.ReceivingLaws.{CanBeRead}
-use Rattle.channel_faults.specs.Faults.{is_ending}
-use Rattle.channel_rest.specs.Meeting.{Side, as_comes, run_of}
-use Rattle.channel_rest.proofs.Meeting.{formed_as, queue_as, said_as}
-use Rattle.chain_hops.specs.Hops.{HopIsLost, IsLost, TakesFront}
-use Rattle.chain_rest.specs.Stuck.{IsChannel, IsReadable, end_of_side, side_below, unmarked}
-use Rattle.chain_rest.proofs.Marks.{unmarked_same}
+use Rattle.channel_laws.specs.Faults.{is_ending}
+use Rattle.channel_laws.specs.Meeting.{Side, as_comes, run_of}
+use Rattle.channel_laws.proofs.Rest.Meeting.{formed_as, queue_as, said_as}
+use Rattle.chain_quiet.specs.Hops.{HopIsLost, IsLost, TakesFront}
+use Rattle.chain_quiet.specs.Stuck.{IsChannel, IsReadable, end_of_side, side_below, unmarked}
+use Rattle.chain_quiet.proofs.Rest.Marks.{unmarked_same}
 use Rattle.chain_route.specs.Carrying.{HopCarries, IsUnused, Made, end_below, end_of, past_of}
 use Rattle.chain_route.specs.Runs.{Talk}
 use Rattle.chain_route.specs.declared.hop.Hop.{Hop}
 use Rattle.chain_route.proofs.Unheard.{value_hello}
-use Rattle.chain_through.proofs.Fronts.{front_none, front_same, front_then}
-use Rattle.chain_hops.proofs.Facts.{EndLaws, NodeLaws, OneEndLaws, gave_front, took_front}
-use Rattle.chain_hops.proofs.Marks.{front_unmarked}
+use Rattle.chain_quiet.proofs.Hops.Facts.{EndLaws, NodeLaws, OneEndLaws, gave_front, took_front}
+use Rattle.chain_quiet.proofs.Hops.Marks.{front_unmarked}
+use Rattle.chain_route.proofs.Bytes.{front_none, front_same, front_then}
 
 -- ---- Its ends
 

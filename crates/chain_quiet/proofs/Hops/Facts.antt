@@ -2,16 +2,16 @@
 use Rattle.std.proofs.Common.{List, refl, sym}
 use Rattle.std.specs.Prelude.{Bool, map}
 use Rattle.std.specs.List.{flat_map}
-use Rattle.chain_through.proofs.Fronts.{front_flat, front_then}
 use Rattle.channel_core.specs.Arrivals.{AreSpoken, IsFront, Spoken, arrived, bytes_of, marked, messages_in, queue_of}
 use Rattle.channel_core.specs.ReceivingLaws.{QueuesReadable, ReceivesInOrder, WhereAQueueComes, incoming_of, received}
 use Rattle.channel_core.specs.RunLaws.{AfterAllCalls as AfterEndCalls, QueuesInOrder}
-use Rattle.channel_hop.specs.Hop.{HopsStand as TwoEndsStand}
-use Rattle.channel_rest.specs.Meeting.{Side, run_of}
-use Rattle.channel_rest.specs.Numbering.{WhatComesIsNumbered}
-use Rattle.channel_rest.specs.Rest.{HearsTheEnd, IsOverAtItsEnd}
+use Rattle.channel_laws.specs.Hop.{LiveHopsStand as TwoEndsStand}
+use Rattle.channel_laws.specs.Meeting.{Side, run_of}
+use Rattle.channel_laws.specs.Numbering.{WhatComesIsNumbered}
+use Rattle.channel_laws.specs.Rest.{HearsTheEnd, IsOverAtItsEnd}
 use Rattle.value_node.specs.RelayLaws.{AfterAllCalls, EndsAreRuns}
-use Rattle.value_rest.specs.Waiting.{AnswersWhatItCan}
+use Rattle.node_answers.specs.Waiting.{AnswersWhatItCan}
+use Rattle.chain_route.proofs.Bytes.{front_flat, front_then}
 
 -- those of an end alone
 pub record OneEndLaws (T : Type 0) : Type 0 where

@@ -6,17 +6,17 @@ use Rattle.channel_core.specs.Receiving.{is_over}
 use Rattle.channel_core.specs.ReceivingLaws.{incoming_of}
 use Rattle.channel_core.specs.Wire.{end_of_stream}
 use Rattle.channel_core.specs.declared.held.Outgoing.{Outgoing}
-use Rattle.channel_hop.specs.Hop.{Carries}
-use Rattle.channel_rest.specs.Meeting.{IsLasting, Side, run_of}
-use Rattle.channel_rest.specs.Numbering.{TakesNumbered}
-use Rattle.chain_hops.specs.Hops.{HopOfAgent, HopRefused, HopToAgent, IsAgentSide}
-use Rattle.chain_rest.specs.Stuck.{IsChannel, IsReadable, end_of_side, unmarked}
+use Rattle.channel_laws.specs.Hop.{Carries}
+use Rattle.channel_laws.specs.Meeting.{IsLasting, Side, run_of}
+use Rattle.channel_laws.specs.Numbering.{TakesNumbered}
+use Rattle.chain_quiet.specs.Hops.{HopOfAgent, HopRefused, HopToAgent, IsAgentSide}
+use Rattle.chain_quiet.specs.Stuck.{IsChannel, IsReadable, end_of_side, unmarked}
 use Rattle.chain_route.specs.Carrying.{HopCarries, end_of}
 use Rattle.chain_route.specs.Runs.{Talk}
 use Rattle.chain_route.specs.declared.hop.Hop.{Hop}
-use Rattle.chain_through.proofs.Fronts.{front_none}
-use Rattle.chain_hops.proofs.Facts.{EndLaws, took_front}
-use Rattle.chain_hops.proofs.Marks.{unmarked_parts}
+use Rattle.chain_quiet.proofs.Hops.Facts.{EndLaws, took_front}
+use Rattle.chain_quiet.proofs.Hops.Marks.{unmarked_parts}
+use Rattle.chain_route.proofs.Bytes.{front_none}
 
 module _ {T : Type 0} (laws : EndLaws T) (s : Side T) (hop : Hop) (talk : Talk) (sends : IsReadable s) (carries : HopCarries hop (end_of_side s) (end_of talk))
     (given : (run_of s).end.queued ≡ []) (live : hop.is_live ≡ true) where

@@ -1,19 +1,19 @@
 -- The hops of a way of any length.
 use Rattle.std.proofs.Common.{◌||◌, Bool, false, List, [], ◌∷◌, Option, ap}
 use Rattle.std.specs.List.{list_any}
-use Rattle.channel_rest.specs.Meeting.{Side}
-use Rattle.chain_hops.specs.Hops.{EachHopStands, IsWay}
-use Rattle.chain_rest.proofs.AddHop.{above_readable}
-use Rattle.chain_rest.specs.Stuck.{last_is_live, side_above}
+use Rattle.channel_laws.specs.Meeting.{Side}
+use Rattle.chain_quiet.specs.Hops.{EachHopStands, IsWay}
+use Rattle.chain_quiet.proofs.Rest.AddHop.{above_readable}
+use Rattle.chain_quiet.specs.Stuck.{last_is_live, side_above}
 use Rattle.chain_route.specs.Carrying.{Made, end_above, end_of, past_of}
 use Rattle.chain_route.specs.Runs.{Talk}
 use Rattle.chain_route.specs.declared.hop.Hop.{Hop}
 use Rattle.value_node.specs.ForwardedValue.{ForwardedValue}
-use Rattle.chain_hops.proofs.AddHop.{above_given, add_hop}
-use Rattle.chain_hops.proofs.Connections.{connected_above, connected_later}
-use Rattle.chain_hops.proofs.CutHop.{cut_to_add, cut_to_agent}
-use Rattle.chain_hops.proofs.Facts.{EndLaws, NodeLaws}
-use Rattle.chain_hops.proofs.LastHop.{last_hop}
+use Rattle.chain_quiet.proofs.Hops.AddHop.{above_given, add_hop}
+use Rattle.chain_quiet.proofs.Hops.Connections.{connected_above, connected_later}
+use Rattle.chain_quiet.proofs.Hops.CutHop.{cut_to_add, cut_to_agent}
+use Rattle.chain_quiet.proofs.Hops.Facts.{EndLaws, NodeLaws}
+use Rattle.chain_quiet.proofs.Hops.LastHop.{last_hop}
 
 abbrev lives : List Hop → Bool
 lives hops = list_any (λ hop. hop.is_live) hops

@@ -3,9 +3,9 @@ use Rattle.std.proofs.Common.{◌≡◌, ◌&&◌, true, false, List, [], ◌∷
 use Rattle.std.specs.Prelude.{IfSome, option_map, unwrap_or}
 use Rattle.channel_core.specs.Arrivals.{Spoken, arrived, bytes_of}
 use Rattle.channel_core.specs.Closing.{is_closed}
-use Rattle.channel_rest.specs.Meeting.{AnswersAll, IsFree, RestTogether, Side, run_of}
-use Rattle.channel_rest.specs.Numbering.{TakesNumbered}
-use Rattle.chain_rest.specs.Stuck.{AddIsStill, HopIsStill, IsFreeAbove, IsReadable, IsStill, end_of_side, side_above, side_below}
+use Rattle.channel_laws.specs.Meeting.{AnswersAll, IsFree, RestTogether, Side, run_of}
+use Rattle.channel_laws.specs.Numbering.{TakesNumbered}
+use Rattle.chain_quiet.specs.Stuck.{AddIsStill, HopIsStill, IsFreeAbove, IsReadable, IsStill, end_of_side, side_above, side_below}
 use Rattle.chain_route.specs.Carrying.{HopCarries, Made, end_below, past_of, value_of}
 use Rattle.chain_route.specs.Runs.{Talk}
 use Rattle.chain_route.specs.declared.hop.Hop.{Hop}
@@ -16,9 +16,9 @@ use Rattle.value_node.specs.Runs.{UpperCall, above, after_all, below, no_calls, 
 use Rattle.value_node.specs.Value.{is_free, is_opening}
 use Rattle.value_node.specs.declared.states.Bind.{Bind}
 use Rattle.value_node.specs.declared.states.Bind.TheVariants.{Unbound, Opening, Bound, Closed}
-use Rattle.chain_rest.proofs.Facts.{EndLaws, NodeLaws, live_above}
-use Rattle.chain_rest.proofs.Meeting.{Meet, meet_at_rest, meet_free}
-use Rattle.chain_rest.proofs.Resting.{Rests}
+use Rattle.chain_quiet.proofs.Rest.Facts.{EndLaws, NodeLaws, live_above}
+use Rattle.chain_quiet.proofs.Rest.Meeting.{Meet, meet_at_rest, meet_free}
+use Rattle.chain_quiet.proofs.Rest.Resting.{Rests}
 
 -- ---- Its upper end
 

@@ -9,16 +9,16 @@ use Rattle.channel_core.specs.ReceivingLaws.{WhereAQueueComes}
 use Rattle.channel_core.specs.RunLaws.{AfterAllCalls as AfterEndCalls, QueuesInOrder}
 use Rattle.channel_core.specs.Runs.{Run}
 use Rattle.channel_core.specs.Wire.{hello, locator, said}
-use Rattle.channel_faults.specs.Faults.{is_ending}
-use Rattle.channel_rest.specs.Meeting.{Side, WhereAllIsAnswered, WhereNothingIsUnderWay, run_of}
-use Rattle.channel_rest.specs.Numbering.{WhatComesIsNumbered}
-use Rattle.channel_rest.specs.Rest.{HearsTheEnd, IsOverAtItsEnd}
-use Rattle.chain_rest.specs.Stuck.{IsStill, end_of_side}
+use Rattle.channel_laws.specs.Faults.{is_ending}
+use Rattle.channel_laws.specs.Meeting.{Side, WhereAllIsAnswered, WhereNothingIsUnderWay, run_of}
+use Rattle.channel_laws.specs.Numbering.{WhatComesIsNumbered}
+use Rattle.channel_laws.specs.Rest.{HearsTheEnd, IsOverAtItsEnd}
+use Rattle.chain_quiet.specs.Stuck.{IsStill, end_of_side}
 use Rattle.chain_route.specs.Carrying.{End, HopCarries, IsUnused}
 use Rattle.chain_route.specs.declared.hop.Hop.{Hop}
 use Rattle.tcf_message.specs.Message.{event}
 use Rattle.value_node.specs.RelayLaws.{AfterAllCalls, EndsAreRuns}
-use Rattle.value_rest.specs.Answering.{AnswersBound, AnswersUnbound}
+use Rattle.node_answers.specs.Answering.{AnswersBound, AnswersUnbound}
 
 -- those of an end below a hop
 pub record EndLaws (T : Type 0) : Type 0 where

@@ -4,16 +4,16 @@ use Rattle.channel_core.specs.Arrivals.{AreSpoken, Spoken, arrived, bytes_of}
 use Rattle.channel_core.specs.Closing.{is_closed}
 use Rattle.channel_core.specs.QueueLaws.{is_message}
 use Rattle.channel_core.specs.Wire.{end_of_stream}
-use Rattle.channel_rest.specs.Meeting.{HasAll, IsLasting, Side, run_of}
-use Rattle.chain_rest.specs.Stuck.{HopIsStill, IsReadable, IsServed, IsServedOrRefused, IsStill, end_of_side, unmarked}
+use Rattle.channel_laws.specs.Meeting.{HasAll, IsLasting, Side, run_of}
+use Rattle.chain_quiet.specs.Stuck.{HopIsStill, IsReadable, IsServed, IsServedOrRefused, IsStill, end_of_side, unmarked}
 use Rattle.chain_route.specs.Carrying.{HopCarries, end_of}
 use Rattle.chain_route.specs.Runs.{Talk}
 use Rattle.chain_route.specs.declared.hop.Hop.{Hop}
 use Rattle.chain_through.specs.Through.{TakesAll, all_said}
-use Rattle.chain_rest.proofs.Facts.{EndLaws, NodeLaws, all_given, live_above, not_over}
-use Rattle.chain_rest.proofs.Marks.{unmarked_same}
-use Rattle.chain_rest.proofs.Meeting.{Meet, meet_at_rest, meet_free}
-use Rattle.chain_rest.proofs.Resting.{Rests}
+use Rattle.chain_quiet.proofs.Rest.Facts.{EndLaws, NodeLaws, all_given, live_above, not_over}
+use Rattle.chain_quiet.proofs.Rest.Marks.{unmarked_same}
+use Rattle.chain_quiet.proofs.Rest.Meeting.{Meet, meet_at_rest, meet_free}
+use Rattle.chain_quiet.proofs.Rest.Resting.{Rests}
 
 module _ {T : Type 0} (laws : EndLaws T) (nodes : NodeLaws) (s : Side T) (hop : Hop) (talk : Talk) (sends : IsReadable s) (hop_is : HopIsStill hop) (carries : HopCarries hop (end_of_side s) (end_of talk))
     (still : IsStill (run_of s)) (opened : is_closed (run_of s).end.state ≡ false) where

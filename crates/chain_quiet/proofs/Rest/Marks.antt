@@ -3,7 +3,7 @@ use Rattle.std.proofs.Common.{◌≡◌, ℕ, List, [], ◌∷◌, ◌++◌, map
 use Rattle.std.proofs.lemmas.List.{map-append}
 use Rattle.channel_core.specs.Arrivals.{Marked, bytes_of, marked}
 use Rattle.channel_core.specs.declared.held.Outgoing.{Outgoing}
-use Rattle.chain_rest.specs.Stuck.{unmarked}
+use Rattle.chain_quiet.specs.Stuck.{unmarked}
 
 abbrev bare : Marked → Marked
 bare b = record b { mark = None }

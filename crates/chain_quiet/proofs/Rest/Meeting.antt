@@ -2,9 +2,9 @@
 use Rattle.std.proofs.Common.{◌≡◌, Bool, true, false, List}
 use Rattle.channel_core.specs.Arrivals.{Spoken}
 use Rattle.channel_core.specs.Closing.{is_closed}
-use Rattle.channel_rest.specs.Meeting.{AnswersAll, HasAll, IsFree, IsLasting, RestTogether, Side, run_of}
-use Rattle.channel_rest.specs.Numbering.{TakesNumbered}
-use Rattle.chain_rest.proofs.Facts.{EndLaws}
+use Rattle.channel_laws.specs.Meeting.{AnswersAll, HasAll, IsFree, IsLasting, RestTogether, Side, run_of}
+use Rattle.channel_laws.specs.Numbering.{TakesNumbered}
+use Rattle.chain_quiet.proofs.Rest.Facts.{EndLaws}
 
 pub record Meet {T : Type 0} (others_are : Bool) (s : Side T) (other : Side Unit) : Type 0 where
   pub lasting : IsLasting s

@@ -3,8 +3,8 @@ use Rattle.std.proofs.Common.{◌≡◌, false, true, List}
 use Rattle.std.specs.List.{list_any}
 use Rattle.channel_core.specs.Closing.{is_closed}
 use Rattle.channel_core.specs.Greeting.{is_greeting}
-use Rattle.channel_rest.specs.Meeting.{Side, run_of}
-use Rattle.chain_rest.specs.Stuck.{IsStill, IsUnstuck}
+use Rattle.channel_laws.specs.Meeting.{Side, run_of}
+use Rattle.chain_quiet.specs.Stuck.{IsStill, IsUnstuck}
 use Rattle.chain_route.specs.Carrying.{Made}
 use Rattle.chain_route.specs.Runs.{Talk}
 

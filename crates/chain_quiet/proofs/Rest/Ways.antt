@@ -1,15 +1,15 @@
 -- Nothing is stuck on a way of any length.
 use Rattle.std.proofs.Common.{List, [], ◌∷◌}
-use Rattle.channel_rest.specs.Meeting.{Side}
-use Rattle.chain_rest.specs.Stuck.{IsWayStill, NothingIsStuck, end_of_side, side_above}
+use Rattle.channel_laws.specs.Meeting.{Side}
+use Rattle.chain_quiet.specs.Stuck.{IsWayStill, StillWaysAreUnstuck, end_of_side, side_above}
 use Rattle.chain_route.specs.Carrying.{IsUnused, Made}
 use Rattle.chain_route.specs.Runs.{Talk}
 use Rattle.chain_route.specs.declared.hop.Hop.{Hop}
 use Rattle.value_node.specs.ForwardedValue.{ForwardedValue}
-use Rattle.chain_rest.proofs.AddHop.{above_readable, add_rests}
-use Rattle.chain_rest.proofs.Facts.{EndLaws, NodeLaws, not_unused}
-use Rattle.chain_rest.proofs.LastHop.{last_rests}
-use Rattle.chain_rest.proofs.Resting.{Rests}
+use Rattle.chain_quiet.proofs.Rest.AddHop.{above_readable, add_rests}
+use Rattle.chain_quiet.proofs.Rest.Facts.{EndLaws, NodeLaws, not_unused}
+use Rattle.chain_quiet.proofs.Rest.LastHop.{last_rests}
+use Rattle.chain_quiet.proofs.Rest.Resting.{Rests}
 
 -- an end that was never used isn't there
 unused_rests : {T : Type 0} → EndLaws T → (s : Side T) (talk : Talk) → IsUnused (end_of_side s) → Rests s [] talk
@@ -33,5 +33,5 @@ module _ (upper : EndLaws ForwardedValue) (nodes : NodeLaws) where
       record { sends = above_readable nodes.runs m; hops_are = way.hops_are.1; adds = way.adds.1; carries = way.carries.1; served = way.served } in
       add_rests laws nodes s hop m made talk way.sends way.hops_are.0 way.adds.0 way.carries.0 (way_rests upper (side_above m) (next ∷ hops) made talk rest)
 
-  pub none_stuck : {T : Type 0} → EndLaws T → NothingIsStuck T
+  pub none_stuck : {T : Type 0} → EndLaws T → StillWaysAreUnstuck T
   none_stuck laws s hops made talk way = (way_rests laws s hops made talk way).unstuck

@@ -28,7 +28,8 @@ use Rattle.target_hub.specs.declared.input.Input.TheVariants.{Closed, Executed, 
 use Rattle.target_hub.specs.declared.target.Target.{Target}
 use Rattle.target_truth.specs.Taught.{open_after}
 use Rattle.target_truth.proofs.Positions.{target_there}
-use Rattle.agent_told.proofs.Sending.{inputs_push, still_live}
+use Rattle.chain_told.proofs.Agents.Sending.{inputs_push, still_live}
+use Rattle.target_truth.proofs.Messages.{as_read}
 
 -- ---- what comes
 
@@ -103,9 +104,6 @@ answer_comes : (images : List Image) (history : List Input) (position : ℕ) →
     → Come images history (c ∷ asked) (answer_told position (is_through c.reading) answer ∷ rest)
 answer_comes images history position bound Unknown c asked rest is come = ((bound, is), come)
 answer_comes images history position bound (Result body) c asked rest is come = ((bound, is), come)
-
-abbrev as_read : Reading → List ℕ → List ℕ → ReadCommand
-as_read reading service name = record { reading = reading; service = service; name = name }
 
 caller_comes : (images : List Image) (history : List Input) (position : ℕ) → position ≤ length history → (reading : Reading) (service name : List ℕ) (done : Done) (asked : List ReadCommand)
     (rest : List Told) → AnswerIs images history position (as_read reading service name) done.answer → Come images history asked rest

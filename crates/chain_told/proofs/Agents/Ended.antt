@@ -1,5 +1,5 @@
 -- Which commands have their answer, of those that a channel executes in order.
-use Rattle.std.proofs.Common.{◌≡◌, ◌<◌, Bool, true, false, ◌||◌, List, [], ◌∷◌, ◌++◌, suc, zero, length, refl, ap, sym, ◌∙◌, subst, arith}
+use Rattle.std.proofs.Common.{◌≡◌, Bool, true, false, ◌||◌, List, [], ◌∷◌, ◌++◌, refl, ap, sym, ◌∙◌, subst}
 use Rattle.std.specs.Prelude.{bytes_eq}
 use Rattle.std.specs.List.{AllByRecursion, Contains}
 use Rattle.chain_told.specs.Told.{AreEndedBefore, is_ended}
@@ -8,9 +8,12 @@ use Rattle.target_hub.specs.Sent.{Told, event_at, final_at, hello_at, progress_a
 use Rattle.target_hub.specs.declared.input.Input.{Input}
 use Rattle.channel_core.specs.Arrivals.{Spoken}
 use Rattle.value_node.specs.Asked.{Asked}
-use Rattle.agent_told.proofs.Lists.{all_back, all_each, all_weaker, or_true}
-use Rattle.agent_told.proofs.Numbered.{AreApart, IsApart, one_place, same_bytes}
-use Rattle.agent_told.proofs.Saying.{ComeTo, left_behind, spoken}
+use Rattle.chain_told.proofs.Agents.Lists.{all_each}
+use Rattle.chain_told.proofs.Agents.Numbered.{AreApart, IsApart, one_place}
+use Rattle.chain_told.proofs.Agents.Saying.{ComeTo, left_behind, spoken}
+use Rattle.list_laws.proofs.AllLists.{all_contains, all_right as all_back, all_weaker}
+use Rattle.list_laws.proofs.Flags.{or_true}
+use Rattle.list_laws.proofs.Lists.{equal_itself as same_bytes}
 
 -- of the commands that were left the first ones have their answer behind these messages, and the others don't
 pub record Reached (left : List Asked) (front : List Told) : Type 0 where
@@ -70,11 +73,6 @@ reached images history (unknown_at place through ∷ front) (c ∷ left) apart c
     record { done = e.done; split = e.split; ended = e.ended; waiting = e.waiting }
 
 -- ---- the commands before one
-
-all_contains : {A : Type 0} → (P : A → Type 0) (xs : List A) (x : A) → AllByRecursion P xs → Contains xs x → P x
-all_contains P [] x all (k, within, is) = absurd (omega arith)
-all_contains P (y ∷ xs) x all (zero, within, is) = subst P is all.0
-all_contains P (y ∷ xs) x all (suc k, within, is) = let less : k < length xs = omega arith in all_contains P xs x all.1 (k, less, is)
 
 -- they have all their answers
 pub all_before : (kind : Asked → Bool) (all done left : List Asked) (c : Asked) (before : List Spoken) → AreApart all → done ++ c ∷ left ≡ all

@@ -46,7 +46,7 @@ use Rattle.tcf_values.specs.declared.faults.Fault.{Fault}
 use Rattle.tcf_values.specs.declared.ids.ContextId.{ContextId}
 use Rattle.tcf_values.specs.declared.values.BpProps.{BpProps}
 use Rattle.tcf_values.specs.declared.values.Location.{Location}
-use Rattle.agent_told.proofs.Lists.{all_append}
+use Rattle.list_laws.proofs.AllLists.{all_append}
 
 abbrev pub IsNoGreeting : EventData → Type 0
 IsNoGreeting (EventData.Hello list) = ⊥

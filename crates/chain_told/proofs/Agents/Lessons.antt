@@ -18,11 +18,11 @@ use Rattle.value_node.specs.Asked.{Asked}
 use Rattle.value_node.specs.Barriers.{command_in}
 use Rattle.value_node.specs.Deeds.{command_asked}
 use Rattle.value_node.specs.Store.{lesson_of}
-use Rattle.agent_told.specs.Sent.{read_as}
-use Rattle.agent_told.proofs.Answering.{Come}
-use Rattle.agent_told.proofs.Lists.{front_first, front_rest, no_front}
-use Rattle.agent_told.proofs.Numbered.{IsFound}
-use Rattle.agent_told.proofs.Saying.{spoken}
+use Rattle.chain_told.specs.Sent.{read_as}
+use Rattle.chain_told.proofs.Agents.Answering.{Come}
+use Rattle.chain_told.proofs.Agents.Lists.{front_first, front_rest, no_front}
+use Rattle.chain_told.proofs.Agents.Numbered.{IsFound}
+use Rattle.chain_told.proofs.Agents.Saying.{spoken}
 
 pub locator_is : locator ≡ codes "Locator"
 unfolding locator

@@ -1,5 +1,5 @@
 -- Fronts of lists, and lists by a test.
-use Rattle.std.proofs.Common.{◌≡◌, zero, suc, inl, inr, Bool, true, false, ◌||◌, cond, List, [], ◌∷◌, ◌++◌, map, filter, refl, ap, ap₂, sym, ◌∙◌, arith}
+use Rattle.std.proofs.Common.{◌≡◌, zero, suc, inl, inr, Bool, true, false, cond, List, [], ◌∷◌, ◌++◌, map, filter, refl, ap, ap₂, sym, ◌∙◌, arith}
 use Rattle.std.specs.List.{AllByRecursion, Contains, flat_map}
 use Rattle.std.proofs.lemmas.List.{append_assoc, map-append}
 use Rattle.std.proofs.lemmas.List.Concat.{flat_map-append}
@@ -63,23 +63,7 @@ cut_at (u ∷ us) vs (x ∷ xs) ys e =
     let same : u ≡ x = cc in
     let rest : us ++ vs ≡ xs ++ ys = cc in cut_further u x us vs xs ys same (cut_at us vs xs ys rest)
 
-pub first_nothing : {A : Type 0} → (xs ys : List A) → xs ++ ys ≡ [] → xs ≡ []
-first_nothing [] ys e = refl
-first_nothing (x ∷ xs) ys e = absurd cc
-
 -- ---- by a test
-
-pub or_true : (b : Bool) → (b || true) ≡ true
-or_true true = refl
-or_true false = refl
-
-pub or_none : (b : Bool) → (b || false) ≡ b
-or_none true = refl
-or_none false = refl
-
-pub map_map : {A B C : Type 0} → (f : B → C) (g : A → B) (xs : List A) → map f (map g xs) ≡ map (λ x. f (g x)) xs
-map_map f g [] = refl
-map_map f g (x ∷ xs) = ap (λ l. f (g x) ∷ l) (map_map f g xs)
 
 pub filter_mapped : {A B : Type 0} → (q : B → Bool) (f : A → B) (xs : List A) → filter q (map f xs) ≡ map f (filter (λ x. q (f x)) xs)
 filter_mapped q f [] = refl
@@ -148,18 +132,6 @@ parts_of p (z ∷ zs) xs ys e = part_by (p z) p z zs xs ys refl e (λ us. parts_
 
 -- ---- what holds of each
 
-pub all_front : {A : Type 0} → (P : A → Type 0) (xs ys : List A) → AllByRecursion P (xs ++ ys) → AllByRecursion P xs
-all_front P [] ys all = tt
-all_front P (x ∷ xs) ys all = (all.0, all_front P xs ys all.1)
-
-pub all_back : {A : Type 0} → (P : A → Type 0) (xs ys : List A) → AllByRecursion P (xs ++ ys) → AllByRecursion P ys
-all_back P [] ys all = all
-all_back P (x ∷ xs) ys all = all_back P xs ys all.1
-
-pub all_append : {A : Type 0} → (P : A → Type 0) (xs ys : List A) → AllByRecursion P xs → AllByRecursion P ys → AllByRecursion P (xs ++ ys)
-all_append P [] ys left right = right
-all_append P (x ∷ xs) ys left right = (left.0, all_append P xs ys left.1 right)
-
 pub all_map : {A B : Type 0} → (P : B → Type 0) (Q : A → Type 0) (f : A → B) (xs : List A) → ((x : A) → Q x → P (f x)) → AllByRecursion Q xs → AllByRecursion P (map f xs)
 all_map P Q f [] each all = tt
 all_map P Q f (x ∷ xs) each all = (each x all.0, all_map P Q f xs each all.1)
@@ -168,17 +140,9 @@ pub all_each : {A : Type 0} → (P : A → Type 0) (xs : List A) → ((x : A) �
 all_each P [] each = tt
 all_each P (x ∷ xs) each = (each x, all_each P xs each)
 
-pub all_weaker : {A : Type 0} → (P Q : A → Type 0) (xs : List A) → ((x : A) → P x → Q x) → AllByRecursion P xs → AllByRecursion Q xs
-all_weaker P Q [] each all = tt
-all_weaker P Q (x ∷ xs) each all = (each x all.0, all_weaker P Q xs each all.1)
-
 pub all_test : {A : Type 0} → (P : A → Type 0) (b : Bool) (xs ys : List A) → (b ≡ true → AllByRecursion P xs) → (b ≡ false → AllByRecursion P ys) → AllByRecursion P (cond b xs ys)
 all_test P true xs ys first second = first refl
 all_test P false xs ys first second = second refl
-
-pub all_filter : {A : Type 0} → (P : A → Type 0) (q : A → Bool) (xs : List A) → AllByRecursion P xs → AllByRecursion P (filter q xs)
-all_filter P q [] all = tt
-all_filter P q (x ∷ xs) all = all_test P (q x) (x ∷ filter q xs) (filter q xs) (λ _. (all.0, all_filter P q xs all.1)) (λ _. all_filter P q xs all.1)
 
 -- ---- what stands in a list
 

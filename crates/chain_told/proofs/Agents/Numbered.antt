@@ -6,10 +6,9 @@ use Rattle.std.proofs.lemmas.Slice.Eq.{bytes_eq-Decides}
 use Rattle.chain_told.specs.Told.{command_under, numbered}
 use Rattle.chain_told.proofs.Decimals.{decimal_one}
 use Rattle.value_node.specs.Asked.{Asked}
-use Rattle.agent_told.specs.Sent.{read_as}
-
-pub same_bytes : (bytes : List ℕ) → bytes_eq bytes bytes ≡ true
-same_bytes bytes = (bytes_eq-Decides bytes bytes).1 refl
+use Rattle.chain_told.specs.Sent.{read_as}
+use Rattle.list_laws.proofs.AllLists.{all_at}
+use Rattle.list_laws.proofs.Lists.{equal_itself}
 
 unlike : (m n : ℕ) → (m ≡ n → ⊥) → m < 10 ^ 64 → n < 10 ^ 64 → bytes_eq (decimal m) (decimal n) ≡ false
 unlike m n other small less = by_flag (bytes_eq (decimal m) (decimal n)) refl
@@ -56,16 +55,12 @@ found_behind c all (d ∷ commands) apart found =
 pub found_all : (commands : List Asked) → AreApart commands → AllByRecursion (IsFound commands) commands
 found_all [] apart = tt
 found_all (c ∷ commands) apart =
-    (ap (λ b. cond b (Some c) (command_under c.token commands)) (same_bytes c.token), found_behind c commands commands apart.0 (found_all commands apart.1))
+    (ap (λ b. cond b (Some c) (command_under c.token commands)) (equal_itself c.token), found_behind c commands commands apart.0 (found_all commands apart.1))
 
 -- ---- a place among them
 
-all_at : {A : Type 0} → (P : A → Type 0) (xs ys : List A) (x : A) → AllByRecursion P (xs ++ x ∷ ys) → P x
-all_at P [] ys x all = all.0
-all_at P (y ∷ xs) ys x all = all_at P xs ys x all.1
-
 not_apart : (c d : Asked) → c.token ≡ d.token → bytes_eq c.token d.token ≡ false → ⊥
-not_apart c d same apart = true≢false (sym (subst (λ token. bytes_eq c.token token ≡ true) same (same_bytes c.token)) ∙ apart)
+not_apart c d same apart = true≢false (sym (subst (λ token. bytes_eq c.token token ≡ true) same (equal_itself c.token)) ∙ apart)
 
 -- what stands before the one with this token
 pub one_place : (earlier done later left : List Asked) (c d : Asked) → AreApart (done ++ d ∷ left) → earlier ++ c ∷ later ≡ done ++ d ∷ left → c.token ≡ d.token → earlier ≡ done

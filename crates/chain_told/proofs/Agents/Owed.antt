@@ -15,10 +15,10 @@ use Rattle.target_hub.specs.declared.input.Input.{Input}
 use Rattle.tcf_message.specs.Message.{MessageValue, final, not_known}
 use Rattle.value_node.specs.Asked.{Asked}
 use Rattle.value_node.specs.Barriers.{command_in}
-use Rattle.agent_told.specs.Sent.{IsOwed, bare, read_as}
-use Rattle.agent_told.proofs.Answering.{sent_comes}
-use Rattle.agent_told.proofs.Numbered.{IsFound, found_all, numbered_apart, read_numbered}
-use Rattle.agent_told.proofs.Saying.{ComeTo, come_to, spoken}
+use Rattle.chain_told.specs.Sent.{TargetTellsWhatIsOwed, bare, read_as}
+use Rattle.chain_told.proofs.Agents.Answering.{sent_comes}
+use Rattle.chain_told.proofs.Agents.Numbered.{IsFound, found_all, numbered_apart, read_numbered}
+use Rattle.chain_told.proofs.Agents.Saying.{ComeTo, come_to, spoken}
 
 -- an answer to a storable command is left out, and that is what isn't through
 through_is : (reading : Reading) → is_through reading ≡ not (is_stored (command_in reading))
@@ -73,7 +73,7 @@ owed_told images history all (unknown_at place through ∷ told) (c ∷ left) fo
     one_owed all c through place (not_known []) (unknown_at place through) (owed_in all (spoken left told)) (filter is_owed told) found.0 come.0.1.flag refl
     (owed_told images history all told left found.1 come.1)
 
-pub owed : AskingChangesNothing → AskingIsTheSame → IsOwed
+pub owed : AskingChangesNothing → AskingIsTheSame → TargetTellsWhatIsOwed
 owed nothing same images history k commands legal few asked =
     let all = numbered 1 commands in
     let counted : 1 + length commands ≤ 10 ^ 64 = omega arith in

@@ -15,8 +15,8 @@ use Rattle.target_truth.specs.Taught.{position_of}
 use Rattle.target_truth.proofs.Lives.{nowhere}
 use Rattle.value_node.specs.Asked.{Asked}
 use Rattle.value_node.specs.Deeds.{mark_after}
-use Rattle.agent_told.proofs.Saying.{behind, left_behind, one_told, spoken, spoken_first}
-use Rattle.agent_told.proofs.Sending.{Begins, Climbs, IsLater, begins, is_hello, passed, place_of}
+use Rattle.chain_told.proofs.Agents.Saying.{behind, left_behind, one_told, spoken, spoken_first}
+use Rattle.chain_told.proofs.Agents.Sending.{Begins, Climbs, IsLater, begins, is_hello, passed, place_of}
 
 -- ---- what a channel is told begins with the Hello
 

@@ -21,14 +21,14 @@ use Rattle.target_truth.specs.Taught.{position_of, taught}
 use Rattle.tcf_values.specs.declared.command.Command.{Command}
 use Rattle.value_node.specs.Asked.{Asked}
 use Rattle.value_node.specs.Barriers.{command_in}
-use Rattle.agent_told.specs.Sent.{IsToldRightly, read_as}
-use Rattle.agent_told.proofs.Answering.{AnswersSo, Come, sent_comes}
-use Rattle.agent_told.proofs.Ended.{Reached, all_before, reached}
-use Rattle.agent_told.proofs.Lessons.{learned_same}
-use Rattle.agent_told.proofs.Lists.{all_back}
-use Rattle.agent_told.proofs.Numbered.{AreApart, IsFound, found_all, numbered_apart, read_numbered}
-use Rattle.agent_told.proofs.Placed.{beginning, mark_pushed, marked, place_is, placed}
-use Rattle.agent_told.proofs.Saying.{ComeTo, ComesTo, Cut, come_at, come_front, come_to, cut, left_behind, one_told, spoken, spoken_push}
+use Rattle.chain_told.specs.Sent.{TargetTellsRightly, read_as}
+use Rattle.chain_told.proofs.Agents.Answering.{AnswersSo, Come, sent_comes}
+use Rattle.chain_told.proofs.Agents.Ended.{Reached, all_before, reached}
+use Rattle.chain_told.proofs.Agents.Lessons.{learned_same}
+use Rattle.chain_told.proofs.Agents.Numbered.{AreApart, IsFound, found_all, numbered_apart, read_numbered}
+use Rattle.chain_told.proofs.Agents.Placed.{beginning, mark_pushed, marked, place_is, placed}
+use Rattle.chain_told.proofs.Agents.Saying.{ComeTo, ComesTo, Cut, come_at, come_front, come_to, cut, left_behind, one_told, spoken, spoken_push}
+use Rattle.list_laws.proofs.AllLists.{all_right as all_back}
 
 -- ---- it is that of a command that has no answer yet
 
@@ -139,7 +139,7 @@ rightly truth kept same images history k all front more now legal apart asked sp
       answered = answered_now images history all r.done (spoken all front) now (left_behind front all) apart r.split here left r.ended;
     }
 
-pub told_rightly : IsTrueAfterEachMessage → AskingChangesNothing → AskingIsTheSame → IsToldRightly
+pub told_rightly : IsTrueAfterEachMessage → AskingChangesNothing → AskingIsTheSame → TargetTellsRightly
 told_rightly truth kept same images history k commands legal few asked before rest s split =
     let all = numbered 1 commands in
     let counted : 1 + length commands ≤ 10 ^ 64 = omega arith in

@@ -10,9 +10,10 @@ use Rattle.target_hub.specs.declared.input.Input.{Input}
 use Rattle.target_truth.specs.Taught.{open_after}
 use Rattle.tcf_message.specs.Message.{event, final, not_known, progress}
 use Rattle.value_node.specs.Asked.{Asked}
-use Rattle.agent_told.specs.Sent.{read_as}
-use Rattle.agent_told.proofs.Answering.{AnswersSo, Come, Comes, FirstIs, IsNotKnown}
-use Rattle.agent_told.proofs.Lists.{front_first, no_front}
+use Rattle.chain_told.specs.Sent.{read_as}
+use Rattle.chain_told.proofs.Agents.Answering.{AnswersSo, Come, Comes, FirstIs, IsNotKnown}
+use Rattle.chain_told.proofs.Agents.Lists.{front_first, no_front}
+use Rattle.list_laws.proofs.Lists.{nothing_there}
 
 -- ---- the messages
 
@@ -72,10 +73,6 @@ pub record Cut (left : List Asked) (told : List Told) (before : List Spoken) (s 
   pub split : told ≡ front ++ now ∷ more
   pub first : before ≡ spoken left front
   pub is : s ≡ one_told (left_behind front left) now
-
-nothing_there : {A : Type 0} → (before rest : List A) (s : A) → [] ≡ before ++ s ∷ rest → ⊥
-nothing_there [] rest s e = cc
-nothing_there (b ∷ before) rest s e = cc
 
 cut_on : (left : List Asked) (now : Told) (told : List Told) (before : List Spoken) (s b : Spoken) → b ≡ one_told left now → Cut (behind now left) told before s → Cut left (now ∷ told) (b ∷ before) s
 cut_on left now told before s b head further = record {

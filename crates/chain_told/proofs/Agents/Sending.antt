@@ -21,8 +21,10 @@ use Rattle.target_hub.specs.declared.done.Done.{Done}
 use Rattle.target_hub.specs.declared.input.Input.{Input}
 use Rattle.target_hub.specs.declared.input.Input.TheVariants.{Opened, Executed, Ticked, Closed}
 use Rattle.target_hub.specs.declared.target.Target.{Target}
-use Rattle.agent_told.proofs.Greetless.{AreGreetless, IsNoGreeting, closed_greetless, executed_greetless, ticked_greetless}
-use Rattle.agent_told.proofs.Lists.{all_append, all_each, all_map, all_test, or_none}
+use Rattle.chain_told.proofs.Agents.Greetless.{AreGreetless, IsNoGreeting, closed_greetless, executed_greetless, ticked_greetless}
+use Rattle.chain_told.proofs.Agents.Lists.{all_each, all_map, all_test}
+use Rattle.list_laws.proofs.Flags.{or_neither, second_false, or_false as or_none}
+use Rattle.list_laws.proofs.AllLists.{all_append}
 
 -- ---- after the Hello
 
@@ -110,10 +112,6 @@ first_false : (a b : Bool) → (a || b) ≡ false → a ≡ false
 first_false true b neither = absurd (true≢false neither)
 first_false false b neither = refl
 
-second_false : (a b : Bool) → (a || b) ≡ false → b ≡ false
-second_false true b neither = absurd (true≢false neither)
-second_false false b neither = neither
-
 climbs_after : (k : ℕ) (before : List Input) (target : Target) (inputs : List Input) → was_opened k inputs ≡ false → (low : ℕ) → low ≤ length before + 1 → Climbs low (sent_after k before target inputs)
 climbs_after k before target [] none low below = tt
 climbs_after k before target (input ∷ inputs) none low below =
@@ -135,10 +133,6 @@ opened_push k before input = list_any-append (opens k) before (input ∷ []) ∙
 closed_push : (k : ℕ) (before : List Input) (input : Input) → was_closed k (before ++ input ∷ []) ≡ (was_closed k before || closes k input)
 closed_push k before input = list_any-append (closes k) before (input ∷ []) ∙ ap (λ b. was_closed k before || b) (or_none (closes k input))
 
-both_false : (a b : Bool) → a ≡ false → b ≡ false → (a || b) ≡ false
-both_false true b none other = absurd (true≢false none)
-both_false false b none other = other
-
 front_opened : (k : ℕ) (xs ys : List Input) → was_opened k (xs ++ ys) ≡ false → was_opened k xs ≡ false
 front_opened k xs ys none = first_false (was_opened k xs) (was_opened k ys) (sym (list_any-append (opens k) xs ys) ∙ none)
 
@@ -159,7 +153,7 @@ pub passed : (k : ℕ) (before : List Input) (target : Target) (inputs rest : Li
 passed k before target [] rest unopened none = ap (λ xs. sent_after k xs target rest) (sym (append-nil before))
 passed k before target (input ∷ inputs) rest unopened none =
     let still : was_opened k (before ++ input ∷ []) ≡ false =
-    opened_push k before input ∙ both_false (was_opened k before) (opens k input) unopened (first_false (opens k input) (was_opened k inputs) none) in
+    opened_push k before input ∙ or_neither (was_opened k before) (opens k input) unopened (first_false (opens k input) (was_opened k inputs) none) in
     ap (λ told. told ++ sent_after k (before ++ input ∷ []) (input_after input target) (inputs ++ rest)) (silent_before k before target input still)
     ∙ passed k (before ++ input ∷ []) (input_after input target) inputs rest still (second_false (opens k input) (was_opened k inputs) none)
     ∙ ap (λ xs. sent_after k xs (inputs_after inputs (input_after input target)) rest) (append_assoc before (input ∷ []) inputs)
@@ -188,7 +182,7 @@ unclosed k images history before [] rest legal split none = refl
 unclosed k images history before (input ∷ inputs) rest legal split none =
     let allowed = legal before input (inputs ++ rest) split in
     let together = append_assoc before (input ∷ []) inputs in
-    both_false (closes k input) (was_closed k inputs)
+    or_neither (closes k input) (was_closed k inputs)
     (no_closing k before (inputs_after before (new_target images)) input allowed (front_opened k before (input ∷ inputs) none))
     (unclosed k images history (before ++ input ∷ []) inputs rest legal (split ∙ sym (append_assoc before (input ∷ []) (inputs ++ rest)))
     (ap (was_opened k) together ∙ none))
@@ -207,7 +201,7 @@ opened_once : (k : ℕ) (images : List Image) (history before inputs : List Inpu
     → was_opened k before ≡ true → was_opened k inputs ≡ false
 opened_once k images history before [] legal split was = refl
 opened_once k images history before (input ∷ inputs) legal split was =
-    both_false (opens k input) (was_opened k inputs)
+    or_neither (opens k input) (was_opened k inputs)
     (no_opening k before (inputs_after before (new_target images)) input (legal before input inputs split) was)
     (opened_once k images history (before ++ input ∷ []) inputs legal (split ∙ sym (append_assoc before (input ∷ []) inputs))
     (opened_push k before input ∙ ap (λ b. b || opens k input) was))

@@ -15,8 +15,9 @@ use Rattle.channel_core.specs.declared.states.Cause.TheVariants.{Ended, Own}
 use Rattle.channel_core.specs.declared.states.EndState.TheVariants.{Opening}
 use Rattle.channel_core.specs.declared.taking.Taken.{Taken}
 use Rattle.channel_core.specs.declared.taking.Taken.TheVariants.{Closed}
-use Rattle.channel_faults.proofs.Following.{AreFine, Follows, StateIs, StopIs, alike, command_came, either, piece_came}
-use Rattle.channel_faults.proofs.Taking.{IsFine, MayTake, TakenIs, taken_next}
+use Rattle.channel_laws.proofs.Faults.Following.{AreFine, Follows, StateIs, StopIs, alike, command_came, either, piece_came}
+use Rattle.channel_laws.proofs.Faults.Taking.{IsFine, MayTake, TakenIs, taken_next}
+use Rattle.list_laws.proofs.AllLists.{all_append}
 
 -- the causes that a call may bring
 abbrev pub MayBring : {T : Type 0} → (Cause → Type 0) → Call T → EndValue T → Type 0
@@ -43,17 +44,13 @@ followed {T = T} Fine r next same f i = record {
   opening = λ is. ap (λ (ts : List (Taken T)). flat_map incoming_of ts) same ∙ i.opening (f.opening is);
 }
 
-all_behind : {A : Type 0} → (P : A → Type 0) (xs ys : List A) → AllByRecursion P xs → AllByRecursion P ys → AllByRecursion P (xs ++ ys)
-all_behind P [] ys a b = b
-all_behind P (x ∷ xs) ys a b = (a.0, all_behind P xs ys a.1 b)
-
 took : {T : Type 0} → (Fine : Cause → Type 0) (r : Run T) → MayTake Fine r.end.inbox r.end → IsFineRun Fine r → IsFineRun Fine (after_call taking r)
 took Fine r may i =
     let next = next_taken r.end in
     let n = taken_next Fine r.end.inbox r.end may i.fine in
     record {
       fine = record { stop = n.stop; state = n.state };
-      taken = all_behind (TakenIs Fine) r.past.taken (listed next.0) i.taken n.taken;
+      taken = all_append (TakenIs Fine) r.past.taken (listed next.0) i.taken n.taken;
       opening = λ is. let o = n.opening is in flat_map-append incoming_of r.past.taken (listed next.0) ∙ ap (λ ms. ms ++ flat_map incoming_of (listed next.0)) (i.opening o.0) ∙ o.1;
     }
 

@@ -1,6 +1,6 @@
 -- A command that was sent and isn't answered has a place among those of the end that were sent.
 use Rattle.std.proofs.Common.{◌≡◌, ℕ, zero, suc, ◌+◌, ◌-◌, ◌<◌, ◌==◌, Bool, true, false, cond, not, ◌||◌, List, [], ◌∷◌, ◌++◌, length, map, filter, drop, Some, None, refl, sym, ap, ◌∙◌, subst, arith, take-append-drop}
-use Rattle.std.specs.Prelude.{bytes_eq, decimal, slice_get, slice_index_or}
+use Rattle.std.specs.Prelude.{decimal, slice_get, slice_index_or}
 use Rattle.std.specs.List.{AllByRecursion, list_any, position_or_len, range_with_len}
 use Rattle.std.proofs.lemmas.Bool.{eqb-true, lt-ltb, or_left, or_right}
 use Rattle.std.proofs.lemmas.List.{map-append}
@@ -10,13 +10,11 @@ use Rattle.channel_core.specs.RunLaws.{CountsAnswers, SendsInOrder, is_answered,
 use Rattle.channel_core.specs.Runs.{Issued, Run}
 use Rattle.channel_core.specs.Taking.{is_held, place_of, sent_at, sent_place, unless_held}
 use Rattle.channel_core.specs.declared.held.Held.{Held}
-use Rattle.channel_faults.specs.Faults.{IsAwaited}
+use Rattle.channel_laws.specs.Faults.{IsAwaited}
+use Rattle.list_laws.proofs.AllLists.{all_right}
+use Rattle.channel_core.proofs.Rows.{names}
 
 -- ---- The commands that were sent aren't held
-
-behind : {A : Type 0} → (P : A → Type 0) (xs ys : List A) → AllByRecursion P (xs ++ ys) → AllByRecursion P ys
-behind P [] ys all = all
-behind P (x ∷ xs) ys all = behind P xs ys all.1
 
 above : (low from n : ℕ) → low < from → AllByRecursion (λ m. low < m) (range_with_len from n)
 above low from zero less = tt
@@ -39,16 +37,13 @@ unheld (i ∷ sent) held from (suc n) is =
     let first : token ≡ from = cc in
     let rest : map (λ x. x.command.token) sent ++ map (λ h. h.token) held ≡ range_with_len (from + 1) n = cc in
     let later = subst (AllByRecursion (λ m. token < m)) (sym rest) (above token (from + 1) n (omega arith)) in
-    (none_held token held (behind (λ m. token < m) (map (λ x. x.command.token) sent) (map (λ h. h.token) held) later), unheld sent held (from + 1) n rest)
+    (none_held token held (all_right (λ m. token < m) (map (λ x. x.command.token) sent) (map (λ h. h.token) held) later), unheld sent held (from + 1) n rest)
 
 tokens_of : {T : Type 0} → (all : List (Issued T)) → map (λ h. h.token) (map (λ i. i.command) all) ≡ map (λ i. i.command.token) all
 tokens_of [] = refl
 tokens_of (i ∷ all) = ap (λ ns. i.command.token ∷ ns) (tokens_of all)
 
 -- ---- Their rows
-
-abbrev names : {T : Type 0} → List ℕ → ℕ × T → Bool
-names token row = bytes_eq token (decimal row.0)
 
 rows_of : {T : Type 0} → (P : ℕ × T → Type 0) (test : ℕ × T → Bool) (all : List (Issued T)) → AllByRecursion (λ i. P (row_of i)) all → AllByRecursion P (filter test (map row_of all))
 rows_of P test [] each = tt

@@ -9,9 +9,9 @@ use Rattle.channel_core.specs.ReceivingLaws.{EndsFor}
 use Rattle.channel_core.specs.Runs.{Call, Run, after_calls, begun, closing, commanding, delivering, draining, ending, putting_out, sending, taking}
 use Rattle.channel_core.specs.declared.states.Cause.{Cause}
 use Rattle.channel_core.specs.declared.states.Cause.TheVariants.{Ended, Own}
-use Rattle.channel_faults.specs.Faults.{EndsByItsCalls, is_closing, is_ending}
-use Rattle.channel_faults.proofs.AllCalls.{MayBring, ends_fine, fine_after}
-use Rattle.channel_faults.proofs.Faulty.{first_fine}
+use Rattle.channel_laws.specs.Faults.{EndsByItsCalls, is_closing, is_ending}
+use Rattle.channel_laws.proofs.Faults.AllCalls.{MayBring, ends_fine, fine_after}
+use Rattle.channel_laws.proofs.Faults.Faulty.{first_fine}
 
 is_none : {A : Type 0} → (test : A → Bool) (first rest : List A) (x : A) → list_any test (first ++ x ∷ rest) ≡ false → test x ≡ false
 is_none test first rest x none = by_flag (test x) refl

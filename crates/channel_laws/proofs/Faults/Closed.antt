@@ -27,7 +27,7 @@ pub record IsStill {T : Type 0} (r later : Run T) : Type 0 where
   pub accepted : later.past.accepted ≡ r.past.accepted
   pub held : later.end.held ≡ r.end.held
 
-held_by : {T : Type 0} → (flag : Bool) (one other e : EndValue T) → one.held ≡ e.held → other.held ≡ e.held → (cond flag one other).held ≡ e.held
+pub held_by : {T : Type 0} → (flag : Bool) (one other e : EndValue T) → one.held ≡ e.held → other.held ≡ e.held → (cond flag one other).held ≡ e.held
 held_by true one other e first second = first
 held_by false one other e first second = second
 

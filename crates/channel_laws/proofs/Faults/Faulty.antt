@@ -1,5 +1,5 @@
 -- The message for which an end closes by a fault is there, and is the fault.
-use Rattle.std.proofs.Common.{◌≡◌, ℕ, Bool, true, false, ◌||◌, List, [], ◌∷◌, ◌++◌, map, Option, Some, None, refl, sym, ap, ◌∙◌, subst, append_assoc, append-nil}
+use Rattle.std.proofs.Common.{◌≡◌, ℕ, Bool, true, false, List, [], ◌∷◌, ◌++◌, map, Option, Some, None, refl, sym, ap, ◌∙◌, subst, append_assoc, append-nil}
 use Rattle.std.specs.Prelude.{Contains}
 use Rattle.std.specs.List.{flat_map}
 use Rattle.std.proofs.lemmas.Grind.{flat_map-append}
@@ -23,12 +23,13 @@ use Rattle.channel_core.specs.declared.states.Reason.{Reason}
 use Rattle.channel_core.specs.declared.states.Reason.TheVariants.{Early, Grammar, Token}
 use Rattle.channel_core.specs.declared.taking.Taken.{Taken}
 use Rattle.channel_core.specs.declared.taking.Taken.TheVariants.{Closed}
-use Rattle.channel_faults.specs.Faults.{FaultsAreThere, IsAwaited, IsFault, IsThere}
-use Rattle.channel_faults.proofs.AllCalls.{IsFineRun, MayBring, MayBringAll, ends_fine, fine_after}
-use Rattle.channel_faults.proofs.Awaiting.{awaited_place}
-use Rattle.channel_faults.proofs.Closed.{FromNowOn, same_sent, still_after, undrained_after}
-use Rattle.channel_faults.proofs.Judging.{IsFaulty}
-use Rattle.channel_faults.proofs.Taking.{MayTake}
+use Rattle.channel_laws.specs.Faults.{FaultsAreThere, IsAwaited, IsFault, IsThere}
+use Rattle.channel_laws.proofs.Faults.AllCalls.{IsFineRun, MayBring, MayBringAll, ends_fine, fine_after}
+use Rattle.channel_laws.proofs.Faults.Awaiting.{awaited_place}
+use Rattle.channel_laws.proofs.Faults.Closed.{FromNowOn, same_sent, still_after, undrained_after}
+use Rattle.channel_laws.proofs.Faults.Judging.{IsFaulty}
+use Rattle.channel_laws.proofs.Faults.Taking.{MayTake}
+use Rattle.list_laws.proofs.Flags.{or_false}
 
 -- the laws of the crate below
 pub record Laws (T : Type 0) : Type 0 where
@@ -86,10 +87,6 @@ record IsSince {T : Type 0} (before now : Run T) : Type 0 where
   answered : (token : ℕ) → is_answered now.past.taken token ≡ is_answered before.past.taken token
   sent : sent_of now ≡ sent_of before
 
-or_none : (flag : Bool) → (flag || false) ≡ flag
-or_none true = refl
-or_none false = refl
-
 since : {T : Type 0} → (number : ℕ) (reason : Reason) (left : List Arrived) (r : Run T) (rest : List (Call T)) → FromNowOn TakesNothingClosed r → FromNowOn StaysClosed r
     → next_taken r.end ≡ broken number reason (record r.end { inbox = left }) → IsSince r (after_calls rest (after_call taking r))
 since {T = T} number reason left r rest none stays is =
@@ -100,7 +97,7 @@ since {T = T} number reason left r rest none stays is =
     let taken : (after_calls rest next).past.taken ≡ r.past.taken ++ Closed cause ∷ [] = still.taken ∙ ap (λ (n : Option (Taken T) × EndValue T). r.past.taken ++ listed n.0) is in
     record {
       messages = ap (λ (ts : List (Taken T)). flat_map incoming_of ts) taken ∙ flat_map-append incoming_of r.past.taken (Closed cause ∷ []) ∙ append-nil (flat_map incoming_of r.past.taken);
-      answered = λ token. ap (λ (ts : List (Taken T)). is_answered ts token) taken ∙ list_any-append _ r.past.taken (Closed cause ∷ []) ∙ or_none (is_answered r.past.taken token);
+      answered = λ token. ap (λ (ts : List (Taken T)). is_answered ts token) taken ∙ list_any-append _ r.past.taken (Closed cause ∷ []) ∙ or_false (is_answered r.past.taken token);
       sent = same_sent next (after_calls rest next) still.accepted still.held ∙ same_sent r next refl (ap (λ (n : Option (Taken T) × EndValue T). n.1.held) is);
     }
 

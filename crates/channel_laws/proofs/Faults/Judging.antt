@@ -11,7 +11,7 @@ use Rattle.channel_core.specs.declared.states.Reason.{Reason}
 use Rattle.channel_core.specs.declared.states.Reason.TheVariants.{Early, Grammar, Token}
 use Rattle.channel_core.specs.declared.taking.Judged.{Judged}
 use Rattle.channel_core.specs.declared.taking.Judged.TheVariants.{Answers, Asks, GoesOn, Greets, Stray, Tells, TooEarly}
-use Rattle.channel_faults.specs.Faults.{IsUnder}
+use Rattle.channel_laws.specs.Faults.{IsUnder}
 
 -- it breaks the protocol for this reason
 abbrev pub IsFaulty : {T : Type 0} → Reason → Said → EndValue T → Type 0

@@ -22,8 +22,8 @@ use Rattle.channel_core.specs.declared.taking.Judged.{Judged}
 use Rattle.channel_core.specs.declared.taking.Judged.TheVariants.{Answers, Asks, GoesOn, Greets, Stray, Tells, TooEarly}
 use Rattle.channel_core.specs.declared.taking.Taken.{Taken}
 use Rattle.channel_core.specs.declared.taking.Taken.TheVariants.{Closed, Command, Event, Final, Hello, Progress}
-use Rattle.channel_faults.proofs.Following.{Follows, StateIs, StopIs, after, alike, either, level, opened, release}
-use Rattle.channel_faults.proofs.Judging.{IsAt, IsFaulty, JudgedSo, judged_so}
+use Rattle.channel_laws.proofs.Faults.Following.{Follows, StateIs, StopIs, after, alike, either, level, opened, release}
+use Rattle.channel_laws.proofs.Faults.Judging.{IsAt, IsFaulty, JudgedSo, judged_so}
 
 -- the cause of a closing that was taken is fine
 abbrev pub TakenIs : {T : Type 0} → (Cause → Type 0) → Taken T → Type 0

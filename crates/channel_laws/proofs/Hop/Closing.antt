@@ -12,13 +12,13 @@ use Rattle.channel_core.specs.declared.states.EndState.{EndState}
 use Rattle.channel_core.specs.declared.states.EndState.TheVariants.{Closed, Live, Opening, Reopening}
 use Rattle.channel_core.proofs.Feeding.{Cited}
 use Rattle.channel_core.proofs.Received as receiving
-use Rattle.channel_faults.specs.Faults.{is_ending}
-use Rattle.channel_faults.proofs.Calling.{all_by_calls}
-use Rattle.channel_rest.specs.Meeting.{IsLasting, Side, run_of}
-use Rattle.channel_rest.proofs.Ending.{all_hear}
-use Rattle.channel_rest.proofs.Meeting.{ends_as, formed_as, is_told_end, readable, said_as}
-use Rattle.channel_hop.specs.Hop.{Carries, EndIsUnderWay}
-use Rattle.channel_hop.proofs.Coming.{came_front, comes_behind}
+use Rattle.channel_laws.specs.Faults.{is_ending}
+use Rattle.channel_laws.proofs.Faults.Calling.{all_by_calls}
+use Rattle.channel_laws.specs.Meeting.{IsLasting, Side, run_of}
+use Rattle.channel_laws.proofs.Rest.Ending.{all_hear}
+use Rattle.channel_laws.proofs.Rest.Meeting.{ends_as, formed_as, is_told_end, readable, said_as}
+use Rattle.channel_laws.specs.Hop.{Carries, EndIsUnderWay}
+use Rattle.channel_laws.proofs.Hop.Coming.{came_front, comes_behind}
 
 -- The other one queued the end of the stream last: where this one is open, it was heard, or bytes are in flight.
 still_comes : {T U : Type 0} → Cited → (is_marked : Bool) (s : Side T) (other : Side U) (flight : List Marked) → IsLasting other → Carries is_marked s other flight → (front : List Outgoing)

@@ -15,14 +15,14 @@ use Rattle.channel_core.specs.declared.states.Reason.TheVariants.{Early, Grammar
 use Rattle.channel_core.proofs.Feeding.{Cited, total}
 use Rattle.channel_core.proofs.Received as receiving
 use Rattle.channel_core.proofs.Running.{all_in_order}
-use Rattle.channel_faults.specs.Faults.{is_ending}
-use Rattle.channel_faults.proofs.Calling.{all_by_calls}
-use Rattle.channel_faults.proofs.Following.{StopIs}
-use Rattle.channel_rest.specs.Meeting.{IsLasting, Side, all_heard, as_comes, run_of}
-use Rattle.channel_rest.proofs.Meeting.{entering, entering_formed, formed_as, queue_as, readable, said_as}
-use Rattle.channel_rest.proofs.Numbering.{taken_front}
-use Rattle.channel_hop.specs.Hop.{Carries, Hears}
-use Rattle.channel_hop.proofs.Stopping.{IsLast, all_stop_so}
+use Rattle.channel_laws.specs.Faults.{is_ending}
+use Rattle.channel_laws.proofs.Faults.Calling.{all_by_calls}
+use Rattle.channel_laws.proofs.Faults.Following.{StopIs}
+use Rattle.channel_laws.specs.Meeting.{IsLasting, Side, all_heard, as_comes, run_of}
+use Rattle.channel_laws.proofs.Rest.Meeting.{entering, entering_formed, formed_as, queue_as, readable, said_as}
+use Rattle.channel_laws.proofs.Rest.Numbering.{taken_front}
+use Rattle.channel_laws.specs.Hop.{Carries, Hears}
+use Rattle.channel_laws.proofs.Hop.Stopping.{IsLast, all_stop_so}
 
 -- ---- What is in flight comes behind what came
 

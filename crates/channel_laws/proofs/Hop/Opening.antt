@@ -1,5 +1,5 @@
 -- To an end that is opening a Hello is under way.
-use Rattle.std.proofs.Common.{◌≡◌, ℕ, Bool, true, false, ◌&&◌, ◌||◌, List, [], ◌∷◌, ◌++◌, Option, refl, sym, ap, ◌∙◌, subst}
+use Rattle.std.proofs.Common.{◌≡◌, ℕ, Bool, true, false, ◌||◌, List, [], ◌∷◌, ◌++◌, Option, refl, sym, ap, ◌∙◌, subst}
 use Rattle.std.specs.Prelude.{bytes_eq}
 use Rattle.std.specs.List.{filter, flat_map}
 use Rattle.std.proofs.lemmas.Bool.{or_left}
@@ -17,26 +17,22 @@ use Rattle.channel_core.specs.declared.states.EndState.TheVariants.{Opening}
 use Rattle.channel_core.specs.declared.taking.Taken.{Taken}
 use Rattle.channel_core.proofs.Feeding.{Cited}
 use Rattle.channel_core.proofs.Sent.{all_what_is_sent}
-use Rattle.channel_rest.specs.Meeting.{IsLasting, Side, all_heard, hello_behind, run_of}
-use Rattle.channel_rest.specs.Rest.{StandsAs, hello_among, is_hello}
-use Rattle.channel_rest.proofs.AllCalls.{all_stand}
-use Rattle.channel_rest.proofs.Answering.{hello_heard}
-use Rattle.channel_rest.proofs.Levels.{Frames}
-use Rattle.channel_rest.proofs.Meeting.{entering, entering_formed, readable, said_as}
-use Rattle.channel_rest.proofs.Spelling.{framed_one}
-use Rattle.channel_hop.proofs.Coming.{Way}
+use Rattle.channel_laws.specs.Meeting.{IsLasting, Side, all_heard, hello_behind, run_of}
+use Rattle.channel_laws.specs.Rest.{StandsAs, hello_among, is_hello}
+use Rattle.channel_laws.proofs.Rest.AllCalls.{all_stand}
+use Rattle.channel_laws.proofs.Rest.Answering.{hello_heard}
+use Rattle.channel_laws.proofs.Rest.Levels.{Frames}
+use Rattle.channel_laws.proofs.Rest.Meeting.{entering, entering_formed, readable, said_as}
+use Rattle.channel_laws.proofs.Rest.Spelling.{framed_one}
+use Rattle.channel_laws.proofs.Hop.Coming.{Way}
+use Rattle.list_laws.proofs.Flags.{and_true}
 
 -- ---- The Hello
-
-both_true : (a b : Bool) → a ≡ true → b ≡ true → (a && b) ≡ true
-both_true true true first second = refl
-both_true true false first second = absurd cc
-both_true false b first second = absurd cc
 
 hello_greets : (m : MessageValue) (body : List ℕ) → m ≡ event locator hello_word body → is_hello (said_by m) ≡ true
 hello_greets m body is =
     ap (λ x. is_hello (said_by x)) is
-    ∙ ap (λ b. is_hello (event_said b)) (both_true (bytes_eq locator locator) (bytes_eq hello_word hello_word) ((bytes_eq-Decides locator locator).1 refl) ((bytes_eq-Decides hello_word hello_word).1 refl))
+    ∙ ap (λ b. is_hello (event_said b)) (and_true (bytes_eq locator locator) (bytes_eq hello_word hello_word) ((bytes_eq-Decides locator locator).1 refl) ((bytes_eq-Decides hello_word hello_word).1 refl))
 
 -- a message that is said as a Hello is one
 says_hello : Frames → (m : MessageValue) (mark other : Option ℕ) (body : List ℕ) → IsWellFormed m → IsWellFormed (event locator hello_word body) → said m mark ≡ said (event locator hello_word body) other

@@ -1,5 +1,5 @@
 -- The two ends of a live hop stand so, at any moment.
-use Rattle.std.proofs.Common.{◌≡◌, Bool, true, false, not, ◌&&◌, ◌||◌, List, ◌⊎◌, inl, inr, refl, ap, ◌∙◌, subst}
+use Rattle.std.proofs.Common.{◌≡◌, Bool, true, false, not, ◌&&◌, ◌||◌, List, ap, ◌∙◌, subst}
 use Rattle.std.specs.Prelude.{pos, int_lt}
 use Rattle.channel_core.specs.Arrivals.{Marked}
 use Rattle.channel_core.specs.Closing.{is_closed}
@@ -10,20 +10,17 @@ use Rattle.channel_core.specs.declared.states.EndState.{EndState}
 use Rattle.channel_core.specs.declared.states.EndState.TheVariants.{Reopening}
 use Rattle.channel_core.proofs.Feeding.{Cited}
 use Rattle.channel_core.proofs.Running.{all_free}
-use Rattle.channel_rest.specs.Meeting.{IsLasting, Side, run_of}
-use Rattle.channel_rest.specs.Rest.{StandsAs, lacks_answer, lacks_hello}
-use Rattle.channel_rest.proofs.AllCalls.{all_stand}
-use Rattle.channel_rest.proofs.Levels.{Frames}
-use Rattle.channel_rest.proofs.Meeting.{readable, said_as}
-use Rattle.channel_hop.specs.Hop.{BothOpen, Carries, HopsStand}
-use Rattle.channel_hop.proofs.Closing.{closes_too}
-use Rattle.channel_hop.proofs.Coming.{Way, way}
-use Rattle.channel_hop.proofs.Opening.{hello_comes}
-use Rattle.channel_hop.proofs.Waiting.{somewhere}
-
-one_of : (a b : Bool) → (a || b) ≡ true → (a ≡ true) ⊎ (b ≡ true)
-one_of true b is = inl refl
-one_of false b is = inr is
+use Rattle.channel_laws.specs.Meeting.{IsLasting, Side, run_of}
+use Rattle.channel_laws.specs.Rest.{StandsAs, lacks_answer, lacks_hello}
+use Rattle.channel_laws.proofs.Rest.AllCalls.{all_stand}
+use Rattle.channel_laws.proofs.Rest.Levels.{Frames}
+use Rattle.channel_laws.proofs.Rest.Meeting.{readable, said_as}
+use Rattle.channel_laws.specs.Hop.{BothOpen, Carries, LiveHopsStand}
+use Rattle.channel_laws.proofs.Hop.Closing.{closes_too}
+use Rattle.channel_laws.proofs.Hop.Coming.{Way, way}
+use Rattle.channel_laws.proofs.Hop.Opening.{hello_comes}
+use Rattle.channel_laws.proofs.Hop.Waiting.{somewhere}
+use Rattle.list_laws.proofs.Flags.{or_cases}
 
 both_open : {T U : Type 0} → Cited → Frames → (is_marked others_are : Bool) (s : Side T) (other : Side U) (falling rising : List Marked) → IsLasting s → IsLasting other → Carries is_marked s other falling
     → Carries others_are other s rising → is_closed (run_of s).end.state ≡ false → is_closed (run_of other).end.state ≡ false → BothOpen is_marked others_are s other
@@ -32,7 +29,7 @@ both_open {T = T} {U = U} c f is_marked others_are s other falling rising l m ca
   up = up.hears;
   commands = λ i sent none. somewhere c f is_marked others_are s other (said_as is_marked (readable c other m).spoken) l down up i sent none;
   opening = λ opening. hello_comes c f is_marked s other m down opening;
-  reopening = λ reopening. one_of (lacks_answer (sent_of r) r.past.taken) (lacks_hello (sent_of r) r.past.taken) (waits_for reopening);
+  reopening = λ reopening. or_cases (lacks_answer (sent_of r) r.past.taken) (lacks_hello (sent_of r) r.past.taken) (waits_for reopening);
   held = λ live told. all_free s.hello s.mark s.calls (ap (λ state. is_live state && not (int_lt (pos 0) r.end.told)) live ∙ ap not told);
 }
   where
@@ -48,7 +45,7 @@ both_open {T = T} {U = U} c f is_marked others_are s other falling rising l m ca
     waits_for : r.end.state ≡ Reopening → (lacks_answer (sent_of r) r.past.taken || lacks_hello (sent_of r) r.past.taken) ≡ true
     waits_for reopening = let P : EndState → Type 0 = λ state. StandsAs state r in (subst P reopening (all_stand s.hello s.mark s.calls)).1
 
-pub all_hops_stand : {T U : Type 0} → Cited → Frames → HopsStand T U
+pub all_hops_stand : {T U : Type 0} → Cited → Frames → LiveHopsStand T U
 all_hops_stand c f is_marked others_are s other falling rising l m carries lifts = record {
   falls = carries;
   rises = lifts;

@@ -11,7 +11,7 @@ use Rattle.channel_core.specs.declared.taking.Taken.{Taken}
 use Rattle.channel_core.proofs.Faces.{Change, breaks, closed_change, closes, ended_change, ends, Face, face, finishes, stays, taken_change, takes}
 use Rattle.channel_core.proofs.Keeping.{IsTidy}
 use Rattle.channel_core.proofs.Tidy.{tidy_called, tidy_open}
-use Rattle.channel_faults.proofs.Following.{AreFine, StopIs, alike, command_came, either, piece_came}
+use Rattle.channel_laws.proofs.Faults.Following.{AreFine, StopIs, alike, command_came, either, piece_came}
 
 -- the causes of a last entry
 abbrev pub IsLast : Cause → Type 0

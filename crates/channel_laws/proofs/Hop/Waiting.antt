@@ -14,16 +14,16 @@ use Rattle.channel_core.specs.Runs.{Issued}
 use Rattle.channel_core.specs.Wire.{said_by, said_in}
 use Rattle.channel_core.specs.declared.held.Incoming.{Incoming}
 use Rattle.channel_core.proofs.Feeding.{Cited}
-use Rattle.channel_rest.specs.Meeting.{IsLasting, Side, all_heard, answers_among, run_of}
-use Rattle.channel_rest.specs.Numbering.{token_asked, tokens_among}
-use Rattle.channel_rest.specs.Rest.{answered_among}
-use Rattle.channel_rest.proofs.Answering.{answered_heard}
-use Rattle.channel_rest.proofs.AsSaid.{all_tell}
-use Rattle.channel_rest.proofs.Levels.{Frames}
-use Rattle.channel_rest.proofs.Meeting.{entering, entering_formed, readable, said_as}
-use Rattle.channel_rest.proofs.Numbering.{tokens_of, tokens_sent}
-use Rattle.channel_hop.specs.Hop.{Hears, IsSomewhere, falls, rises, waits}
-use Rattle.channel_hop.proofs.Coming.{Way}
+use Rattle.channel_laws.specs.Meeting.{IsLasting, Side, all_heard, answers_among, run_of}
+use Rattle.channel_laws.specs.Numbering.{token_asked, tokens_among}
+use Rattle.channel_laws.specs.Rest.{answered_among}
+use Rattle.channel_laws.proofs.Rest.Answering.{answered_heard}
+use Rattle.channel_laws.proofs.Rest.AsSaid.{all_tell}
+use Rattle.channel_laws.proofs.Rest.Levels.{Frames}
+use Rattle.channel_laws.proofs.Rest.Meeting.{entering, entering_formed, readable, said_as}
+use Rattle.channel_laws.proofs.Rest.Numbering.{tokens_of, tokens_sent}
+use Rattle.channel_laws.specs.Hop.{Hears, IsSomewhere, falls, rises, waits}
+use Rattle.channel_laws.proofs.Hop.Coming.{Way}
 
 -- ---- Tokens
 

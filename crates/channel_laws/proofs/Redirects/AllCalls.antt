@@ -1,5 +1,5 @@
 -- Every call keeps the commands behind a redirect back.
-use Rattle.std.proofs.Common.{◌≡◌, ℕ, ◌+◌, ◌-◌, List, [], ◌∷◌, ◌++◌, length, take, refl, sym, ap, ◌∙◌, subst, arith, length-append}
+use Rattle.std.proofs.Common.{◌≡◌, ◌+◌, ◌-◌, List, [], ◌∷◌, length, take, refl, sym, ap, ◌∙◌, subst, arith, length-append}
 use Rattle.std.proofs.lemmas.List.{length-map}
 use Rattle.channel_core.specs.Beginning.{new_end}
 use Rattle.channel_core.specs.Closing.{is_closed}
@@ -8,10 +8,13 @@ use Rattle.channel_core.specs.Receiving.{is_over}
 use Rattle.channel_core.specs.RunLaws.{AfterAllCalls, HoldsNoneWhereFree, sent_of}
 use Rattle.channel_core.specs.Runs.{Call, Run, after_call, after_calls, begun, closing, commanding, delivering, draining, ending, putting_out, refusal_to, sending, taking}
 use Rattle.channel_core.specs.declared.states.Cause.TheVariants.{Own}
-use Rattle.channel_redirects.specs.Redirects.{HoldsBehindRedirects}
-use Rattle.channel_redirects.proofs.Holding.{HoldsBack, either, holds_commanded, holds_delivered, same, shut}
-use Rattle.channel_redirects.proofs.Standing.{HoldsBehind, stands_behind}
-use Rattle.channel_redirects.proofs.Taking.{holds_taken}
+use Rattle.channel_laws.specs.Redirects.{HoldsBehindRedirects}
+use Rattle.channel_laws.proofs.Redirects.Holding.{HoldsBack, holds_commanded, holds_delivered, same, shut}
+use Rattle.channel_laws.proofs.Redirects.Standing.{HoldsBehind, stands_behind}
+use Rattle.channel_laws.proofs.Redirects.Taking.{holds_taken}
+use Rattle.list_laws.proofs.Lists.{take_front}
+use Rattle.channel_laws.proofs.Faults.Closed.{FromNowOn}
+use Rattle.channel_core.proofs.Keeping.{either_keeps as either}
 
 -- the laws of the crate below
 pub record Laws (T : Type 0) : Type 0 where
@@ -36,20 +39,12 @@ holds_called closing r free closed h =
 holds_called draining r free closed h =
     either (HoldsBack r.past.accepted r.past.taken) (is_closed r.end.state) _ r.end (same r.past.accepted r.past.taken r.end _ refl refl refl h) h
 
--- it holds now, and whatever more is called
-abbrev FromNowOn : {T : Type 0} → (Run T → Type 0) → Run T → Type 0
-FromNowOn {T} P r = (more : List (Call T)) → P (after_calls more r)
-
 holds : {T : Type 0} → (calls : List (Call T)) (r : Run T) → FromNowOn HoldsNoneWhereFree r → FromNowOn TakesNothingClosed r → HoldsRun r → HoldsRun (after_calls calls r)
 holds [] r free closed h = h
 holds (call ∷ calls) r free closed h =
     holds calls (after_call call r) (λ more. free (call ∷ more)) (λ more. closed (call ∷ more)) (holds_called call r (free []) (closed []) h)
 
 -- ---- The law
-
-take_front : {A : Type 0} → (xs ys : List A) (n : ℕ) → n ≡ length xs → take n (xs ++ ys) ≡ xs
-take_front [] ys n is = rw is refl
-take_front (x ∷ xs) ys n is = rw is (ap (λ zs. x ∷ zs) (take_front xs ys (length xs) refl))
 
 sent_is : {T : Type 0} → (r : Run T) → (h : HoldsRun r) → sent_of r ≡ h.sent
 sent_is r h =

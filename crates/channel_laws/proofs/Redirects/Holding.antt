@@ -22,7 +22,8 @@ use Rattle.channel_core.specs.declared.states.Cause.{Cause}
 use Rattle.channel_core.specs.declared.states.EndState.{EndState}
 use Rattle.channel_core.specs.declared.states.EndState.TheVariants.{Closed, Live, Opening, Reopening}
 use Rattle.channel_core.specs.declared.taking.Taken.{Taken}
-use Rattle.channel_redirects.proofs.Standing.{AreReleased, Stands, other_sent, redirect_sent, stands_behind, stands_more}
+use Rattle.channel_laws.proofs.Redirects.Standing.{AreReleased, Stands, other_sent, redirect_sent, stands_behind, stands_more}
+use Rattle.channel_core.proofs.Keeping.{either_keeps}
 
 -- the accepted commands are those that were sent and those that are held
 pub record HoldsBack {T : Type 0} (all : List (Issued T)) (taken : List (Taken T)) (e : EndValue T) : Type 0 where
@@ -31,10 +32,6 @@ pub record HoldsBack {T : Type 0} (all : List (Issued T)) (taken : List (Taken T
   pub parts : all ≡ sent ++ waiting
   pub held : map (λ i. i.command) waiting ≡ e.held
   pub stands : Stands e.state e.redirect taken sent
-
-pub either : {T : Type 0} → (I : EndValue T → Type 0) (flag : Bool) (one other : EndValue T) → I one → I other → I (cond flag one other)
-either I true one other i j = i
-either I false one other i j = j
 
 -- ---- Steps
 
@@ -58,11 +55,11 @@ pub shut : {T : Type 0} → (all : List (Issued T)) (taken : List (Taken T)) (ca
 shut all taken cause e h = record { sent = h.sent; waiting = h.waiting; parts = h.parts; held = h.held; stands = stands_behind e.state e.redirect taken h.sent h.stands }
 
 pub level : {T : Type 0} → (all : List (Issued T)) (taken : List (Taken T)) (e : EndValue T) → HoldsBack all taken e → HoldsBack all taken (leveled e)
-level all taken e h = either (HoldsBack all taken) (is_due e.is_loud (level_of (length e.inbox))) _ e (same all taken e _ refl refl refl h) h
+level all taken e h = either_keeps (HoldsBack all taken) (is_due e.is_loud (level_of (length e.inbox))) _ e (same all taken e _ refl refl refl h) h
 
 -- ---- What is held goes out, up to and with the first redirect
 
-is_live_state : (state : EndState) → is_live state ≡ true → state ≡ Live
+pub is_live_state : (state : EndState) → is_live state ≡ true → state ≡ Live
 is_live_state Opening is = absurd cc
 is_live_state Live is = refl
 is_live_state Reopening is = absurd cc
@@ -77,10 +74,10 @@ all_of_live taken sent e live s = let P : EndState → Type 0 = λ state. Stands
 live_of_all : {T : Type 0} → (taken : List (Taken T)) (sent : List (Issued T)) (e : EndValue T) → e.state ≡ Live → AreReleased taken sent → Stands e.state e.redirect taken sent
 live_of_all taken sent e live a = let P : EndState → Type 0 = λ state. Stands state e.redirect taken sent in subst P (sym live) a
 
-first_of : {T : Type 0} → (i : Issued T) (waiting : List (Issued T)) (first : Held) (held : List Held) → map (λ x. x.command) (i ∷ waiting) ≡ first ∷ held → i.command ≡ first
+pub first_of : {T : Type 0} → (i : Issued T) (waiting : List (Issued T)) (first : Held) (held : List Held) → map (λ x. x.command) (i ∷ waiting) ≡ first ∷ held → i.command ≡ first
 first_of i waiting first held is = cc
 
-rest_of : {T : Type 0} → (i : Issued T) (waiting : List (Issued T)) (first : Held) (held : List Held) → map (λ x. x.command) (i ∷ waiting) ≡ first ∷ held → map (λ x. x.command) waiting ≡ held
+pub rest_of : {T : Type 0} → (i : Issued T) (waiting : List (Issued T)) (first : Held) (held : List Held) → map (λ x. x.command) (i ∷ waiting) ≡ first ∷ held → map (λ x. x.command) waiting ≡ held
 rest_of i waiting first held is = cc
 
 goes_out : {T : Type 0} → (all sent waiting : List (Issued T)) (taken : List (Taken T)) (first : Held) (held : List Held) (e : EndValue T)
@@ -158,11 +155,11 @@ holds_item all taken mark items.End e h = same all taken e _ refl refl refl h
 holds_came : {T : Type 0} → (all : List (Issued T)) (taken : List (Taken T)) (mark : Option ℕ) (list : List Item) (e : EndValue T) → HoldsBack all taken e → HoldsBack all taken (came_by mark list e)
 holds_came all taken mark [] e h = h
 holds_came all taken mark (item ∷ list) e h =
-    holds_came all taken mark list (cond (is_over e) e (item_came mark item e)) (either (HoldsBack all taken) (is_over e) e _ h (holds_item all taken mark item e h))
+    holds_came all taken mark list (cond (is_over e) e (item_came mark item e)) (either_keeps (HoldsBack all taken) (is_over e) e _ h (holds_item all taken mark item e h))
 
 holds_stopped : {T : Type 0} → (all : List (Issued T)) (taken : List (Taken T)) (answer : Result Unit StreamFault) (e : EndValue T) → HoldsBack all taken e → HoldsBack all taken (stopped_by answer e)
 holds_stopped all taken (Ok done) e h = h
-holds_stopped all taken (Err fault) e h = either (HoldsBack all taken) (is_over e) e _ h (same all taken e _ refl refl refl h)
+holds_stopped all taken (Err fault) e h = either_keeps (HoldsBack all taken) (is_over e) e _ h (same all taken e _ refl refl refl h)
 
 pub holds_delivered : {T : Type 0} → (all : List (Issued T)) (taken : List (Taken T)) (piece : List ℕ) (mark : Option ℕ) (e : EndValue T) → HoldsBack all taken e
     → HoldsBack all taken (delivered piece mark e)
@@ -173,7 +170,7 @@ holds_delivered all taken piece mark e h =
 
 -- ---- A new command
 
-none_waits : {T : Type 0} → (waiting : List (Issued T)) → map (λ i. i.command) waiting ≡ [] → waiting ≡ []
+pub none_waits : {T : Type 0} → (waiting : List (Issued T)) → map (λ i. i.command) waiting ≡ [] → waiting ≡ []
 none_waits [] is = refl
 none_waits (i ∷ waiting) is = absurd cc
 

@@ -1,13 +1,15 @@
 -- A final answer names the pending command that it is taken for.
 use Rattle.std.proofs.Common.{◌≡◌, ℕ, ◌+◌, Bool, true, false, not, cond, nat_lt, List, [], ◌∷◌, length, Option, Some, None, refl, sym, ap, ◌∙◌, one-add}
-use Rattle.std.specs.Prelude.{bytes_eq, decimal, position, slice_get}
+use Rattle.std.specs.Prelude.{decimal, position, slice_get}
 use Rattle.std.specs.List.{position_or_len}
 use Rattle.std.proofs.lemmas.Slice.Eq.{bytes_eq-Decides}
 use Rattle.channel_core.specs.EndValue.{EndValue}
-use Rattle.channel_core.specs.Taking.{answer_judged, is_early, is_held, judged, judged_by, place_of, progress_judged, sent_at, sent_place, unless_held}
+use Rattle.channel_core.specs.Taking.{is_early, is_held, judged, judged_by, place_of, sent_at, sent_place, unless_held}
 use Rattle.channel_core.specs.Wire.{Said, answers, asks, goes_on, greets, tells}
 use Rattle.channel_core.specs.declared.held.Held.{Held}
 use Rattle.channel_core.specs.declared.taking.Judged.TheVariants.{Answers, TooEarly}
+use Rattle.channel_core.proofs.Finals.{no_progress, is_answer}
+use Rattle.channel_core.proofs.Rows.{names}
 
 -- ---- The row at a place that was found
 
@@ -48,14 +50,6 @@ record IsAsked {T : Type 0} (message : Said) (e : EndValue T) (place : ℕ) (don
   message_is : message ≡ answers token done
   found : place_of token e.pending ≡ Some place
 
-no_progress : (sent : Option ℕ) (place : ℕ) (done : Bool) → progress_judged sent ≡ Answers place done → ⊥
-no_progress None place done is = cc
-no_progress (Some other) place done is = cc
-
-is_answer : (sent : Option ℕ) (other done : Bool) (place : ℕ) → answer_judged other sent ≡ Answers place done → (sent ≡ Some place) × (other ≡ done)
-is_answer None other done place is = absurd cc
-is_answer (Some here) other done place is = (let same : here ≡ place = cc in ap Some same, cc)
-
 asked_by : {T : Type 0} → (message : Said) (e : EndValue T) (place : ℕ) (done : Bool) → judged_by message e ≡ Answers place done → IsAsked message e place done
 asked_by greets e place done is = absurd cc
 asked_by tells e place done is = absurd cc
@@ -71,9 +65,6 @@ asked message e place done is = by_flag (is_early e.state message) is
     by_flag : (flag : Bool) → cond flag TooEarly (judged_by message e) ≡ Answers place done → IsAsked message e place done
     by_flag true is = absurd cc
     by_flag false is = asked_by message e place done is
-
-abbrev names : {T : Type 0} → List ℕ → ℕ × T → Bool
-names token row = bytes_eq token (decimal row.0)
 
 -- its token is that of the command at the place
 pub names_its_command : {T : Type 0} → (message : Said) (e : EndValue T) (place : ℕ) (done : Bool) (row : ℕ × T) → judged message e ≡ Answers place done → slice_get e.pending place ≡ Some row

@@ -13,7 +13,7 @@ use Rattle.channel_core.specs.declared.states.EndState.{EndState}
 use Rattle.channel_core.specs.declared.states.EndState.TheVariants.{Closed, Live, Opening, Reopening}
 use Rattle.channel_core.specs.declared.taking.Taken.{Taken}
 use Rattle.channel_core.specs.declared.taking.Taken.TheVariants.{Final, Hello}
-use Rattle.channel_redirects.specs.Redirects.{IsReleased}
+use Rattle.channel_laws.specs.Redirects.{IsReleased}
 
 -- ---- What was taken
 

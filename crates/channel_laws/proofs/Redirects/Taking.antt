@@ -19,9 +19,9 @@ use Rattle.channel_core.specs.declared.taking.Judged.{Judged}
 use Rattle.channel_core.specs.declared.taking.Judged.TheVariants.{Answers, Asks, GoesOn, Greets, Stray, Tells, TooEarly}
 use Rattle.channel_core.specs.declared.taking.Taken.{Taken}
 use Rattle.channel_core.specs.declared.taking.Taken.TheVariants.{Closed, Final, Hello}
-use Rattle.channel_redirects.proofs.Holding.{HoldsBack, level, release, same, shut, taken_more}
-use Rattle.channel_redirects.proofs.Naming.{names_its_command}
-use Rattle.channel_redirects.proofs.Standing.{Stands, stands_done, stands_failed, stands_greeted}
+use Rattle.channel_laws.proofs.Redirects.Holding.{HoldsBack, level, release, same, shut, taken_more}
+use Rattle.channel_laws.proofs.Redirects.Naming.{names_its_command}
+use Rattle.channel_laws.proofs.Redirects.Standing.{Stands, stands_done, stands_failed, stands_greeted}
 
 -- an end, and what was taken from it last
 abbrev HoldsAfter : {T : Type 0} → List (Issued T) → List (Taken T) → Option (Taken T) × EndValue T → Type 0
@@ -75,7 +75,7 @@ holds_redirected false token all taken tag incoming e opened is answer h =
       stands = stands_failed e.state token taken h.sent tag incoming opened answer (subst P is h.stands);
     })
 
-redirect_is : (token : ℕ) (redirect : Option ℕ) → is_of token redirect ≡ true → redirect ≡ Some token
+pub redirect_is : (token : ℕ) (redirect : Option ℕ) → is_of token redirect ≡ true → redirect ≡ Some token
 redirect_is token None is = absurd cc
 redirect_is token (Some redirect) is = ap Some (eqb-true redirect token is)
 

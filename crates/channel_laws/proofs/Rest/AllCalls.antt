@@ -17,10 +17,14 @@ use Rattle.channel_core.proofs.ClosingSo.{all_takes_nothing}
 use Rattle.channel_core.proofs.Finals.{unspent}
 use Rattle.channel_core.proofs.Rows.{IsRising, rising_filter, rising_of}
 use Rattle.channel_core.proofs.Running.{Stands as AlwaysStands, always, stands_after, stands_at_first}
-use Rattle.channel_rest.specs.Rest.{AreAnswered, PendsUnanswered, StandsAsTaken}
-use Rattle.channel_rest.proofs.Resting.{IsNew, Rests, either, rests_commanded, rests_delivered, same, shut}
-use Rattle.channel_rest.proofs.Standing.{Stands, stands_as}
-use Rattle.channel_rest.proofs.Taking.{AreNamed, rests_taken}
+use Rattle.channel_laws.specs.Rest.{AreAnswered, PendsUnanswered, StandsAsTaken}
+use Rattle.channel_laws.proofs.Rest.Resting.{IsNew, Rests, rests_commanded, rests_delivered, same, shut}
+use Rattle.channel_laws.proofs.Rest.Standing.{Stands, stands_as}
+use Rattle.channel_laws.proofs.Rest.Taking.{AreNamed, rests_taken}
+use Rattle.list_laws.proofs.Flags.{not_true}
+use Rattle.list_laws.proofs.Lists.{take_front}
+use Rattle.channel_core.proofs.Commands.{none_waits}
+use Rattle.channel_core.proofs.Keeping.{either_keeps as either}
 
 -- ---- What is pending has no answer
 
@@ -42,10 +46,6 @@ row_within : {T : Type 0} → (low high : ℕ) (rows : List (ℕ × T)) (place :
 row_within low high [] place row r at = absurd cc
 row_within {T = T} low high (first ∷ rows) zero row r at = let same : first ≡ row = cc in let P : ℕ × T → Type 0 = λ x. x.0 ≤ high in subst P same r.1
 row_within low high (first ∷ rows) (suc place) row r at = row_within first.0 high rows place row r.2 at
-
-not_true : (flag : Bool) → not flag ≡ true → flag ≡ false
-not_true true is = absurd cc
-not_true false is = refl
 
 -- the accepted commands without an answer
 abbrev lone : {T : Type 0} → Run T → List (ℕ × T)
@@ -110,10 +110,6 @@ rests_all {T = T} hello mark calls =
 
 -- ---- The laws
 
-take_front : {A : Type 0} → (xs ys : List A) (n : ℕ) → n ≡ length xs → take n (xs ++ ys) ≡ xs
-take_front [] ys n is = rw is refl
-take_front (x ∷ xs) ys n is = rw is (ap (λ zs. x ∷ zs) (take_front xs ys (length xs) refl))
-
 rested_sent : {T : Type 0} → (r : Run T) → (h : RestsRun r) → sent_of r ≡ h.sent
 rested_sent r h =
     let waits : length h.waiting ≡ length r.end.held = sym (length-map h.waiting (λ i. i.command)) ∙ ap length h.held in
@@ -133,10 +129,6 @@ none_left taken [] each = refl
 none_left {T = T} taken (i ∷ all) each =
     let rest = filter (λ (row : ℕ × T). not (is_answered taken row.0)) (map row_of all) in
     ap (λ b. cond (not b) (row_of i ∷ rest) rest) each.0 ∙ none_left taken all each.1
-
-none_waits : {T : Type 0} → (waiting : List (Issued T)) → map (λ i. i.command) waiting ≡ [] → waiting ≡ []
-none_waits [] is = refl
-none_waits (i ∷ waiting) is = absurd cc
 
 all_sent : {T : Type 0} → (r : Run T) → RestsRun r → r.end.held ≡ [] → sent_of r ≡ r.past.accepted
 all_sent r h none = rested_sent r h ∙ sym (h.parts ∙ ap (λ xs. h.sent ++ xs) (none_waits h.waiting (h.held ∙ none)) ∙ append-nil h.sent)

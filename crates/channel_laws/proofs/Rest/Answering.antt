@@ -18,13 +18,13 @@ use Rattle.channel_core.specs.declared.states.EndState.TheVariants.{Live}
 use Rattle.channel_core.specs.declared.taking.Taken.{Taken}
 use Rattle.channel_core.proofs.Feeding.{Cited}
 use Rattle.channel_core.proofs.Running.{all_sent_in_order}
-use Rattle.channel_rest.specs.Meeting.{AtRest, IsAnsweredBy, RestTogether, WhereAllIsAnswered, all_heard, all_said, answers_among, does_one, hello_behind, lacks_hello_behind, redirect_in, redirects_among, run_of}
-use Rattle.channel_rest.specs.Rest.{AreAnswered, IsMade, TellsAsMessages, answered_among, hello_among, is_done_for, is_hello, lacks_answer, lacks_hello, lacks_hello_among}
-use Rattle.channel_rest.proofs.AsSaid.{all_tell}
-use Rattle.channel_rest.proofs.Levels.{Frames}
-use Rattle.channel_rest.proofs.Making.{sent_made}
-use Rattle.channel_rest.proofs.Meeting.{all_rest_together, entering, entering_formed, formed_as, queued_said, readable, said_as}
-use Rattle.channel_rest.proofs.Spelling.{field_one, framed_one}
+use Rattle.channel_laws.specs.Meeting.{AtRest, IsAnsweredBy, RestTogether, WhereAllIsAnswered, all_heard, all_said, answers_among, does_one, hello_behind, lacks_hello_behind, redirect_in, redirects_among, run_of}
+use Rattle.channel_laws.specs.Rest.{AreAnswered, IsMade, TellsAsMessages, answered_among, hello_among, is_done_for, is_hello, lacks_answer, lacks_hello, lacks_hello_among}
+use Rattle.channel_laws.proofs.Rest.AsSaid.{all_tell}
+use Rattle.channel_laws.proofs.Rest.Levels.{Frames}
+use Rattle.channel_laws.proofs.Rest.Making.{sent_made}
+use Rattle.channel_laws.proofs.Rest.Meeting.{all_rest_together, entering, entering_formed, formed_as, queued_said, readable, said_as}
+use Rattle.channel_laws.proofs.Rest.Spelling.{field_one, framed_one}
 
 -- ---- A command, and the message that was read of it
 

@@ -18,8 +18,9 @@ use Rattle.channel_core.specs.declared.taking.Judged.{Judged}
 use Rattle.channel_core.specs.declared.taking.Judged.TheVariants.{Answers, Asks, GoesOn, Greets, Stray, Tells, TooEarly}
 use Rattle.channel_core.specs.declared.taking.Taken.{Taken}
 use Rattle.channel_core.specs.declared.taking.Taken.TheVariants.{Closed, Command, Event, Final, Hello, Progress}
-use Rattle.channel_redirects.proofs.Naming.{names_its_command}
-use Rattle.channel_rest.specs.Rest.{IsAsSaid, TakesAsSaid, TellsAsMessages, answered_among, hello_among, is_done_for, is_hello, lacks_hello, lacks_hello_among}
+use Rattle.channel_laws.proofs.Redirects.Naming.{names_its_command}
+use Rattle.channel_laws.specs.Rest.{IsAsSaid, TakesAsSaid, TellsAsMessages, answered_among, hello_among, is_done_for, is_hello, lacks_hello, lacks_hello_among}
+use Rattle.list_laws.proofs.AllLists.{all_append}
 
 -- what is judged so says so; of an answer the command that it names is known
 abbrev JudgedAs : Judged → Said → Type 0
@@ -89,10 +90,6 @@ next_as (arrived ∷ inbox) e =
     message_as arrived.number arrived.incoming (judged message next) next refl (judged_as message next)
 
 -- ---- Every call
-
-pub all_append : {A : Type 0} → (P : A → Type 0) (xs ys : List A) → AllByRecursion P xs → AllByRecursion P ys → AllByRecursion P (xs ++ ys)
-all_append P [] ys first second = second
-all_append P (x ∷ xs) ys first second = (first.0, all_append P xs ys first.1 second)
 
 said_called : {T : Type 0} → (call : Call T) (r : Run T) → TakesAsSaid r → TakesAsSaid (after_call call r)
 said_called (delivering piece mark) r i = i

@@ -1,5 +1,5 @@
 -- Where all bytes of a queue with the end of the stream have come, that was heard; and what is over stays so.
-use Rattle.std.proofs.Common.{◌≡◌, ◌≢◌, ℕ, ◌+◌, Bool, true, false, cond, List, [], ◌∷◌, ◌++◌, length, Option, Some, None, is_some, refl, sym, ap, ◌∙◌, subst, append_assoc, append-nil}
+use Rattle.std.proofs.Common.{◌≡◌, ℕ, ◌+◌, Bool, true, false, cond, List, [], ◌∷◌, ◌++◌, length, Option, Some, None, is_some, refl, sym, ap, ◌∙◌, subst, append_assoc, append-nil}
 use Rattle.std.specs.List.{list_any}
 use Rattle.std.proofs.lemmas.Bool.{or_right}
 use Rattle.std.proofs.lemmas.List.{append_cancel_left}
@@ -22,8 +22,9 @@ use Rattle.channel_core.proofs.Feeding.{Cited, FedTo, IsAt, at_first, fed_queue,
 use Rattle.channel_core.proofs.Keeping.{IsTidy}
 use Rattle.channel_core.proofs.Running.{always}
 use Rattle.channel_core.proofs.Tidy.{tidy_called, tidy_open}
-use Rattle.channel_faults.specs.Faults.{is_ending}
-use Rattle.channel_rest.specs.Rest.{HearsTheEnd, IsOverAtItsEnd, StaysOver}
+use Rattle.channel_laws.specs.Faults.{is_ending}
+use Rattle.channel_laws.specs.Rest.{HearsTheEnd, IsOverAtItsEnd, StaysOver}
+use Rattle.channel_core.proofs.Received.{none_left}
 
 -- the stream stands within the queue's next entry
 record IsWithin (is_ended : Bool) (more : List Marked) (f : Face) : Type 0 where
@@ -95,10 +96,6 @@ hears_calls {T = T} c is_ended (call ∷ calls) more r tidy h =
     (hears_called c is_ended call (arrived calls ++ more) r tidy (subst Q (append_assoc (arrived_in call) (arrived calls) more) h))
 
 -- ---- The law
-
-none_left : (left : List ℕ) (mark : Option ℕ) (behind : List Marked) → left ≢ [] → [] ≡ marked left mark ++ behind → ⊥
-none_left [] mark behind some is = some refl
-none_left (x ∷ left) mark behind some is = absurd cc
 
 -- behind the end of the stream nothing is to come, and before it something is
 never_within : (front : List ℕ) (later : List Spoken) → IsAt front (queue_of later true) [] → ⊥

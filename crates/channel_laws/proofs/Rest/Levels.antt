@@ -1,11 +1,10 @@
 -- The level that was told last is that of an inbox, and lets commands out unless the end is loud.
-use Rattle.std.proofs.Common.{◌≡◌, ℕ, suc, ◌+◌, ◌-◌, ◌<◌, ◌≤◌, ◌==◌, Bool, true, false, cond, nat_lt, List, [], ◌∷◌, ◌++◌, length, Option, Some, None, refl, sym, ap, ◌∙◌, subst, arith, ltb-true, ltb-false}
-use Rattle.std.specs.Prelude.{ℤ, pos, negsuc, neg_ℤ, int_lt}
+use Rattle.std.proofs.Common.{◌≡◌, ℕ, ◌+◌, ◌<◌, ◌≤◌, ◌==◌, Bool, true, false, cond, List, [], ◌∷◌, ◌++◌, length, Option, Some, None, refl, sym, ap, ◌∙◌, subst, arith}
+use Rattle.std.specs.Prelude.{ℤ, pos, int_lt}
 use Rattle.std.specs.List.{filter, last_or}
-use Rattle.std.proofs.lemmas.Int.{ints}
 use Rattle.stream_escape.specs.Stream.{framed}
 use Rattle.tcf_message.specs.Fault.{IsDecimalToken, IsReadBack}
-use Rattle.tcf_message.specs.Message.{MessageValue, command, event, final, flow, not_known, progress, spelling, IsLevel, IsWellFormed}
+use Rattle.tcf_message.specs.Message.{MessageValue, command, event, final, flow, not_known, progress, spelling, IsWellFormed}
 use Rattle.channel_core.specs.Arrivals.{AreSpoken, Spoken, level_after, level_by, queue_of}
 use Rattle.channel_core.specs.Beginning.{new_end}
 use Rattle.channel_core.specs.Closing.{farewell, is_closed}
@@ -24,8 +23,11 @@ use Rattle.channel_core.specs.declared.states.EndState.TheVariants.{Live}
 use Rattle.channel_core.proofs.Commands.{AreCommands, commands_push, farewell_none, none_more, one_more, taken_out, unheld_none}
 use Rattle.channel_core.proofs.Keeping.{Keeps, KeepsAny, KeepsOut, IsTidy, closed_keeps, delivered_keeps, either_keeps, ended_keeps, greeted_open, released_keeps, taken_keeps}
 use Rattle.channel_core.proofs.Running.{Stands, always, stands_after, stands_at_first}
-use Rattle.channel_rest.specs.Rest.{LetsCommandsOut}
-use Rattle.channel_rest.proofs.Spelling.{framed_one}
+use Rattle.channel_laws.specs.Rest.{LetsCommandsOut}
+use Rattle.channel_laws.proofs.Rest.Spelling.{framed_one}
+use Rattle.list_laws.proofs.Lists.{last_push}
+use Rattle.channel_core.proofs.Levels.{command_none}
+use Rattle.channel_core.proofs.Sayable.{level_fits}
 
 -- ---- The last level is that of an inbox
 
@@ -33,10 +35,6 @@ use Rattle.channel_rest.proofs.Spelling.{framed_one}
 abbrev TellsOf : Option Outgoing → Bool → Type 0
 TellsOf None is_loud = is_loud ≡ false
 TellsOf (Some o) is_loud = (n : ℕ) × (o ≡ said (flow (level_of n)) None) × (is_loud ≡ int_lt (pos 0) (level_of n))
-
-last_push : {A : Type 0} → (o : Option A) (xs : List A) (x : A) → last_or o (xs ++ x ∷ []) ≡ Some x
-last_push o [] x = refl
-last_push o (y ∷ xs) x = last_push (Some y) xs x
 
 record IsTold {T : Type 0} (given : List Outgoing) (e : EndValue T) : Type 0 where
   told : TellsOf (last_or None (filter is_flow (given ++ e.queued))) e.is_loud
@@ -74,9 +72,6 @@ told_level given e i = either_keeps (IsTold given) (is_due e.is_loud (level_of (
       commands = i.commands;
     })
     i
-
-command_none : (h : Held) → first_byte h.outgoing.bytes ≡ 67 → filter is_flow (h.outgoing ∷ []) ≡ []
-command_none h letter = let isnt : is_flow h.outgoing ≡ false = ap (λ n. n == 70) letter in rw isnt refl
 
 told_out : {T : Type 0} → (given : List Outgoing) → KeepsOut {T = T} (IsTold given)
 told_out given e h held is opened i =
@@ -184,27 +179,6 @@ level_one c one other first second is =
     cc
 
 -- ---- A level is one that can be told
-
-level_fits : (n : ℕ) → IsLevel (level_of n)
-level_fits n = by_over (nat_lt 200 n) refl
-  where
-    below : (k m : ℕ) → k + m + 1 ≡ 100 → IsLevel (negsuc k)
-    below k m is = grind (arith, ints)
-
-    above : (k : ℕ) → k ≤ 100 → IsLevel (pos k)
-    above k few = grind (arith, ints)
-
-    by_low : (flag : Bool) → nat_lt n 100 ≡ flag → n ≤ 200 → IsLevel (cond flag (neg_ℤ (pos (100 - n))) (pos (n - 100)))
-    by_low true e few =
-        let less : n < 100 = ltb-true n 100 e in
-        let is : 100 - n ≡ suc (99 - n) = omega arith in
-        let P : ℕ → Type 0 = λ m. IsLevel (neg_ℤ (pos m)) in
-        subst P (sym is) (below (99 - n) n (omega arith))
-    by_low false e few = above (n - 100) (omega arith)
-
-    by_over : (flag : Bool) → nat_lt 200 n ≡ flag → IsLevel (cond flag (pos 100) (cond (nat_lt n 100) (neg_ℤ (pos (100 - n))) (pos (n - 100))))
-    by_over true e = above 100 (omega arith)
-    by_over false e = by_low (nat_lt n 100) refl (ltb-false 200 n e)
 
 -- ---- The law
 

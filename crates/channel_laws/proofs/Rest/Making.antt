@@ -1,28 +1,17 @@
 -- Each accepted command is made of its names and its data, within the limits.
-use Rattle.std.proofs.Common.{◌≡◌, ℕ, ◌+◌, ◌==◌, Bool, true, false, cond, nat_lt, nat_le, List, [], ◌∷◌, ◌++◌, length, Option, Some, None, refl, sym, subst, append-nil, ltb-false}
+use Rattle.std.proofs.Common.{◌≡◌, ℕ, ◌+◌, List, [], ◌∷◌, ◌++◌, length, Option, Some, None, refl, sym, subst, append-nil, ltb-false}
 use Rattle.std.specs.List.{AllByRecursion}
 use Rattle.tcf_message.specs.Message.{most_body}
 use Rattle.channel_core.specs.Beginning.{new_end}
-use Rattle.channel_core.specs.Closing.{is_closed}
-use Rattle.channel_core.specs.EndValue.{EndValue}
 use Rattle.channel_core.specs.RunLaws.{AfterAllCalls, sent_of}
 use Rattle.channel_core.specs.Runs.{Call, Issued, Run, after_call, after_calls, begun, closing, commanding, delivering, draining, ending, issued, putting_out, refusal_to, sending, taking, unless_refused}
-use Rattle.channel_core.specs.Sending.{last_token, most_pending, refusal_of}
 use Rattle.channel_core.specs.declared.sending.SendRefusal.{SendRefusal}
-use Rattle.channel_core.specs.declared.sending.SendRefusal.TheVariants.{Full, NotOpen, Spent, TooLong}
 use Rattle.channel_core.proofs.Commands.{sent_is}
 use Rattle.channel_core.proofs.Running.{Stands, always, stands_after, stands_at_first}
-use Rattle.channel_rest.specs.Rest.{IsMade, MakesCommands}
-use Rattle.channel_rest.proofs.AllCalls.{is_new}
-use Rattle.channel_rest.proofs.AsSaid.{all_append}
-
-fitting : {T : Type 0} → (size : ℕ) (e : EndValue T) → refusal_of size e ≡ None → nat_lt most_body size ≡ false
-fitting size e none = by_flags (is_closed e.state) (nat_lt most_body size) (nat_le most_pending (length e.pending)) (e.last == last_token) none
-  where
-    by_flags : (a b c d : Bool) → cond a (Some NotOpen) (cond b (Some TooLong) (cond c (Some Full) (cond d (Some Spent) None))) ≡ None → b ≡ false
-    by_flags true b c d is = absurd cc
-    by_flags false true c d is = absurd cc
-    by_flags false false c d is = refl
+use Rattle.channel_laws.specs.Rest.{IsMade, MakesCommands}
+use Rattle.channel_laws.proofs.Rest.AllCalls.{is_new}
+use Rattle.list_laws.proofs.AllLists.{all_left, all_append}
+use Rattle.channel_core.proofs.Saying.{fitting}
 
 made_new : {T : Type 0} → (refusal : Option SendRefusal) (service name body : List ℕ) (tag : T) (mark : Option ℕ) (r : Run T) → refusal_to service name body r.end ≡ refusal → Stands r → MakesCommands r
     → AllByRecursion IsMade (r.past.accepted ++ unless_refused refusal [] (issued service name body tag mark r.end ∷ []))
@@ -59,14 +48,10 @@ made_after (call ∷ calls) r s i = made_after calls (after_call call r) (stands
 pub all_made : {T : Type 0} → AfterAllCalls {T = T} MakesCommands
 all_made {T = T} hello mark calls = made_after calls (begun (new_end {T = T} hello mark)) (stands_at_first hello mark) tt
 
-front_of : {A : Type 0} → (P : A → Type 0) (xs ys : List A) → AllByRecursion P (xs ++ ys) → AllByRecursion P xs
-front_of P [] ys all = tt
-front_of P (x ∷ xs) ys all = (all.0, front_of P xs ys all.1)
-
 -- so is each that was sent
 pub sent_made : {T : Type 0} → (hello : List ℕ) (mark : Option ℕ) (calls : List (Call T)) → AllByRecursion IsMade (sent_of (after_calls calls (begun (new_end hello mark))))
 sent_made {T = T} hello mark calls =
     let r = after_calls calls (begun (new_end {T = T} hello mark)) in
     let s = always {T = T} hello mark calls in
     let all = subst (λ (xs : List (Issued T)). AllByRecursion IsMade xs) s.split.parts (all_made hello mark calls) in
-    subst (λ (xs : List (Issued T)). AllByRecursion IsMade xs) (sym (sent_is r s.split)) (front_of IsMade s.split.sent s.split.waiting all)
+    subst (λ (xs : List (Issued T)). AllByRecursion IsMade xs) (sym (sent_is r s.split)) (all_left IsMade s.split.sent s.split.waiting all)

@@ -25,14 +25,15 @@ use Rattle.channel_core.proofs.Feeding.{Cited}
 use Rattle.channel_core.proofs.Received as receiving
 use Rattle.channel_core.proofs.Running.{all_can_be_read, all_end_once, all_free, all_in_order}
 use Rattle.channel_core.proofs.Sent.{all_what_is_sent}
-use Rattle.channel_faults.specs.Faults.{is_ending}
-use Rattle.channel_faults.proofs.Calling.{all_by_calls}
-use Rattle.channel_rest.specs.Meeting.{AtRest, HasAll, IsLasting, Side, WhereNothingIsUnderWay, all_heard, all_said, as_comes, run_of}
-use Rattle.channel_rest.specs.Rest.{StandsAs, lacks_answer, lacks_hello}
-use Rattle.channel_rest.proofs.AllCalls.{all_pend, all_stand}
-use Rattle.channel_rest.proofs.Ending.{all_hear}
-use Rattle.channel_rest.proofs.Levels.{Frames, all_let_out}
-use Rattle.channel_rest.proofs.Spelling.{framed_one}
+use Rattle.channel_laws.specs.Faults.{is_ending}
+use Rattle.channel_laws.proofs.Faults.Calling.{all_by_calls}
+use Rattle.channel_laws.specs.Meeting.{AtRest, HasAll, IsLasting, Side, WhereNothingIsUnderWay, all_heard, all_said, as_comes, run_of}
+use Rattle.channel_laws.specs.Rest.{StandsAs, lacks_answer, lacks_hello}
+use Rattle.channel_laws.proofs.Rest.AllCalls.{all_pend, all_stand}
+use Rattle.channel_laws.proofs.Rest.Ending.{all_hear}
+use Rattle.channel_laws.proofs.Rest.Levels.{Frames, all_let_out}
+use Rattle.channel_laws.proofs.Rest.Spelling.{framed_one}
+use Rattle.list_laws.proofs.Flags.{same_flag}
 
 -- ---- A queue
 
@@ -215,11 +216,6 @@ closes_too c is_marked others_are s other l m h g closed = by_state (run_of s).e
     by_state Reopening is closed = absurd cc
     by_state (Closed cause) is closed = closes_for c is_marked others_are s other l m h g cause is
 
-both : (one other : Bool) → (one ≡ true → other ≡ true) → (other ≡ true → one ≡ true) → one ≡ other
-both true other there back = sym (there refl)
-both false true there back = absurd (let is : false ≡ true = back refl in cc)
-both false false there back = refl
-
 -- ---- An open end
 
 live_of : {T : Type 0} → (state : EndState) (r : Run T) → is_closed state ≡ false → StandsAs state r → state ≢ Opening → lacks_answer (sent_of r) r.past.taken ≡ false → lacks_hello (sent_of r) r.past.taken ≡ false
@@ -333,7 +329,7 @@ at_rest {T = T} {U = U} c f is_marked others_are s other m h g opened open_too =
 
 pub all_rest_together : {T U : Type 0} → Cited → Frames → WhereNothingIsUnderWay T U
 all_rest_together c f is_marked others_are s other l m h g =
-    let closed = both (is_closed (run_of s).end.state) (is_closed (run_of other).end.state) (closes_too c is_marked others_are s other l m h g) (closes_too c others_are is_marked other s m l g h) in
+    let closed = same_flag (is_closed (run_of s).end.state) (is_closed (run_of other).end.state) (closes_too c is_marked others_are s other l m h g) (closes_too c others_are is_marked other s m l g h) in
     record {
       closed = closed;
       first = λ opened. at_rest c f is_marked others_are s other m h g opened (sym closed ∙ opened);

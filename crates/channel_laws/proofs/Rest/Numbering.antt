@@ -16,13 +16,13 @@ use Rattle.channel_core.proofs.Commands.{sent_is}
 use Rattle.channel_core.proofs.Feeding.{Cited}
 use Rattle.channel_core.proofs.Received as receiving
 use Rattle.channel_core.proofs.Running.{all_can_be_read, all_counted, all_in_order, all_sent_in_order, always}
-use Rattle.channel_rest.specs.Meeting.{Side, all_heard, all_said, as_comes, run_of}
-use Rattle.channel_rest.specs.Rest.{IsMade}
-use Rattle.channel_rest.specs.Numbering.{WhatComesIsNumbered, token_asked, tokens_among, tokens_from}
-use Rattle.channel_rest.proofs.Answering.{AreAlike, are_alike, are_asking, asking, commands_said, is_asking}
-use Rattle.channel_rest.proofs.Levels.{Frames}
-use Rattle.channel_rest.proofs.Making.{all_made, sent_made}
-use Rattle.channel_rest.proofs.Meeting.{entering, formed_as, queue_as, said_as}
+use Rattle.channel_laws.specs.Meeting.{Side, all_heard, all_said, as_comes, run_of}
+use Rattle.channel_laws.specs.Rest.{IsMade}
+use Rattle.channel_laws.specs.Numbering.{WhatComesIsNumbered, token_asked, tokens_among, tokens_from}
+use Rattle.channel_laws.proofs.Rest.Answering.{AreAlike, are_alike, are_asking, asking, commands_said, is_asking}
+use Rattle.channel_laws.proofs.Rest.Levels.{Frames}
+use Rattle.channel_laws.proofs.Rest.Making.{all_made, sent_made}
+use Rattle.channel_laws.proofs.Rest.Meeting.{entering, formed_as, queue_as, said_as}
 
 -- ---- Fronts
 

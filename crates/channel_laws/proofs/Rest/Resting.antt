@@ -1,8 +1,6 @@
 -- What comes to an end, and what is sent, keeps where it stands.
-use Rattle.std.proofs.Common.{◌≡◌, ℕ, ◌≤◌, Bool, true, false, cond, not, List, [], ◌∷◌, ◌++◌, length, map, Option, Some, None, Result, Ok, Err, refl, sym, ap, ◌∙◌, subst, append_assoc, append-nil}
-use Rattle.std.specs.Prelude.{pos, int_lt}
+use Rattle.std.proofs.Common.{◌≡◌, ℕ, ◌≤◌, Bool, true, false, cond, List, [], ◌∷◌, ◌++◌, length, map, Option, Some, None, Result, Ok, Err, refl, sym, ap, ◌∙◌, subst, append_assoc, append-nil}
 use Rattle.std.specs.List.{AllByRecursion}
-use Rattle.std.proofs.lemmas.Bool.{and_parts}
 use Rattle.std.proofs.lemmas.List.{map-append}
 use Rattle.stream_escape.specs.Fed.{fed}
 use Rattle.stream_escape.specs.declared.stream.Item.{Item}
@@ -12,7 +10,7 @@ use Rattle.tcf_message.specs.Message.{MessageValue, command, event, final, flow,
 use Rattle.tcf_message.specs.declared.message.MessageFault.{MessageFault}
 use Rattle.channel_core.specs.Closing.{closed_for}
 use Rattle.channel_core.specs.EndValue.{EndValue}
-use Rattle.channel_core.specs.Holding.{is_free, is_live, let_out, released, sent_out}
+use Rattle.channel_core.specs.Holding.{is_free, let_out, released, sent_out}
 use Rattle.channel_core.specs.Level.{is_due, leveled, level_of}
 use Rattle.channel_core.specs.Receiving.{came_by, counted, delivered, entered, heard, is_over, item_came, stopped_by}
 use Rattle.channel_core.specs.RunLaws.{is_answered}
@@ -22,9 +20,11 @@ use Rattle.channel_core.specs.declared.held.Held.{Held}
 use Rattle.channel_core.specs.declared.sending.SendRefusal.{SendRefusal}
 use Rattle.channel_core.specs.declared.states.Cause.{Cause}
 use Rattle.channel_core.specs.declared.states.EndState.{EndState}
-use Rattle.channel_core.specs.declared.states.EndState.TheVariants.{Closed, Live, Opening, Reopening}
+use Rattle.channel_core.specs.declared.states.EndState.TheVariants.{Live, Reopening}
 use Rattle.channel_core.specs.declared.taking.Taken.{Taken}
-use Rattle.channel_rest.proofs.Standing.{HasGreeted, IsQuiet, Stands, other_sent, redirect_sent}
+use Rattle.channel_laws.proofs.Rest.Standing.{HasGreeted, IsQuiet, Stands, other_sent, redirect_sent}
+use Rattle.channel_laws.proofs.Redirects.Holding.{none_waits, free_is_live, first_of, rest_of}
+use Rattle.channel_core.proofs.Keeping.{either_keeps}
 
 -- a command without an answer, whose token is a number of 64 bits
 pub record IsNew {T : Type 0} (taken : List (Taken T)) (i : Issued T) : Type 0 where
@@ -44,10 +44,6 @@ pub record Rests {T : Type 0} (all : List (Issued T)) (taken : List (Taken T)) (
   pub stands : Stands e.state e.redirect taken sent
   pub greeted : HasGreeted e.state taken
 
-pub either : {T : Type 0} → (I : EndValue T → Type 0) (flag : Bool) (one other : EndValue T) → I one → I other → I (cond flag one other)
-either I true one other i j = i
-either I false one other i j = j
-
 -- ---- Steps
 
 pub same : {T : Type 0} → (all : List (Issued T)) (taken : List (Taken T)) (e next : EndValue T) → next.state ≡ e.state → next.redirect ≡ e.redirect → next.held ≡ e.held
@@ -62,18 +58,9 @@ pub shut : {T : Type 0} → (all : List (Issued T)) (taken : List (Taken T)) (ca
 shut all taken cause e h = record { sent = h.sent; waiting = h.waiting; parts = h.parts; held = h.held; fresh = h.fresh; stands = tt; greeted = tt }
 
 pub level : {T : Type 0} → (all : List (Issued T)) (taken : List (Taken T)) (e : EndValue T) → Rests all taken e → Rests all taken (leveled e)
-level all taken e h = either (Rests all taken) (is_due e.is_loud (level_of (length e.inbox))) _ e (same all taken e _ refl refl refl h) h
+level all taken e h = either_keeps (Rests all taken) (is_due e.is_loud (level_of (length e.inbox))) _ e (same all taken e _ refl refl refl h) h
 
 -- ---- What is held goes out, up to and with the first redirect
-
-is_live_state : (state : EndState) → is_live state ≡ true → state ≡ Live
-is_live_state Opening is = absurd cc
-is_live_state Live is = refl
-is_live_state Reopening is = absurd cc
-is_live_state (Closed cause) is = absurd cc
-
-free_is_live : {T : Type 0} → (e : EndValue T) → is_free e ≡ true → e.state ≡ Live
-free_is_live e is = is_live_state e.state (and_parts (is_live e.state) (not (int_lt (pos 0) e.told)) is).0
 
 live_stands : {T : Type 0} → (taken : List (Taken T)) (sent : List (Issued T)) (e : EndValue T) → e.state ≡ Live → Stands e.state e.redirect taken sent → (e.redirect ≡ None) × IsQuiet taken sent
 live_stands taken sent e live s = let P : EndState → Type 0 = λ state. Stands state e.redirect taken sent in subst P live s
@@ -86,12 +73,6 @@ greeted_live taken e live g = let G : EndState → Type 0 = λ state. HasGreeted
 
 live_greeted : {T : Type 0} → (taken : List (Taken T)) (e : EndValue T) → e.state ≡ Live → HasGreeted Live taken → HasGreeted e.state taken
 live_greeted taken e live g = let G : EndState → Type 0 = λ state. HasGreeted state taken in subst G (sym live) g
-
-first_of : {T : Type 0} → (i : Issued T) (waiting : List (Issued T)) (first : Held) (held : List Held) → map (λ x. x.command) (i ∷ waiting) ≡ first ∷ held → i.command ≡ first
-first_of i waiting first held is = cc
-
-rest_of : {T : Type 0} → (i : Issued T) (waiting : List (Issued T)) (first : Held) (held : List Held) → map (λ x. x.command) (i ∷ waiting) ≡ first ∷ held → map (λ x. x.command) waiting ≡ held
-rest_of i waiting first held is = cc
 
 -- a redirect that goes out
 asks : {T : Type 0} → (first : Held) (taken : List (Taken T)) (sent : List (Issued T)) (i : Issued T) → i.command ≡ first → first.is_redirect ≡ true → IsNew taken i → IsQuiet taken sent
@@ -180,11 +161,11 @@ rests_item all taken mark items.End e h = same all taken e _ refl refl refl h
 rests_came : {T : Type 0} → (all : List (Issued T)) (taken : List (Taken T)) (mark : Option ℕ) (list : List Item) (e : EndValue T) → Rests all taken e → Rests all taken (came_by mark list e)
 rests_came all taken mark [] e h = h
 rests_came all taken mark (item ∷ list) e h =
-    rests_came all taken mark list (cond (is_over e) e (item_came mark item e)) (either (Rests all taken) (is_over e) e _ h (rests_item all taken mark item e h))
+    rests_came all taken mark list (cond (is_over e) e (item_came mark item e)) (either_keeps (Rests all taken) (is_over e) e _ h (rests_item all taken mark item e h))
 
 rests_stopped : {T : Type 0} → (all : List (Issued T)) (taken : List (Taken T)) (answer : Result Unit StreamFault) (e : EndValue T) → Rests all taken e → Rests all taken (stopped_by answer e)
 rests_stopped all taken (Ok done) e h = h
-rests_stopped all taken (Err fault) e h = either (Rests all taken) (is_over e) e _ h (same all taken e _ refl refl refl h)
+rests_stopped all taken (Err fault) e h = either_keeps (Rests all taken) (is_over e) e _ h (same all taken e _ refl refl refl h)
 
 pub rests_delivered : {T : Type 0} → (all : List (Issued T)) (taken : List (Taken T)) (piece : List ℕ) (mark : Option ℕ) (e : EndValue T) → Rests all taken e
     → Rests all taken (delivered piece mark e)
@@ -194,10 +175,6 @@ rests_delivered all taken piece mark e h =
     rests_stopped all taken came.answer (came_by mark came.items next) (rests_came all taken mark came.items next (same all taken e next refl refl refl h))
 
 -- ---- A new command
-
-none_waits : {T : Type 0} → (waiting : List (Issued T)) → map (λ i. i.command) waiting ≡ [] → waiting ≡ []
-none_waits [] is = refl
-none_waits (i ∷ waiting) is = absurd cc
 
 new_push : {T : Type 0} → (taken : List (Taken T)) (waiting : List (Issued T)) (i : Issued T) → AreNew taken waiting → IsNew taken i → AreNew taken (waiting ++ i ∷ [])
 new_push taken [] i all n = (n, tt)

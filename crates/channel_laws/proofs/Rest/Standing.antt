@@ -17,8 +17,8 @@ use Rattle.channel_core.specs.declared.states.EndState.{EndState}
 use Rattle.channel_core.specs.declared.states.EndState.TheVariants.{Closed, Live, Opening, Reopening}
 use Rattle.channel_core.specs.declared.taking.Taken.{Taken}
 use Rattle.channel_core.specs.declared.taking.Taken.TheVariants.{Final, Hello}
-use Rattle.channel_rest.specs.Rest.{StandsAs, does_redirect, lacks_answer, lacks_hello}
-use Rattle.channel_rest.proofs.Telling.{answered_more, does_failed, does_last, does_none, hello_came, hello_more, hello_other, hello_sent, hits, hits_other, is_hit, lacks_answered, lacks_one, lacks_other, last_unnamed, none_lacks, none_named, unanswered_more}
+use Rattle.channel_laws.specs.Rest.{StandsAs, does_redirect, lacks_answer, lacks_hello}
+use Rattle.channel_laws.proofs.Rest.Telling.{answered_more, does_failed, does_last, does_none, hello_came, hello_more, hello_other, hello_sent, hits, hits_other, is_hit, lacks_answered, lacks_one, lacks_other, last_unnamed, none_lacks, none_named, unanswered_more}
 
 -- no redirect waits for anything
 pub record IsQuiet {T : Type 0} (taken : List (Taken T)) (sent : List (Issued T)) : Type 0 where

@@ -1,7 +1,7 @@
 -- What is taken from the inbox keeps where the end stands.
 use Rattle.std.proofs.Common.{◌≡◌, ◌≢◌, ℕ, ◌≤◌, ◌==◌, Bool, true, false, cond, List, [], ◌∷◌, ◌++◌, length, map, Option, Some, None, refl, sym, ap, ◌∙◌, subst, append-nil}
 use Rattle.std.specs.Prelude.{decimal, remove, slice_get}
-use Rattle.std.proofs.lemmas.Bool.{eqb-false, eqb-true, or_parts}
+use Rattle.std.proofs.lemmas.Bool.{eqb-false, or_parts}
 use Rattle.channel_core.specs.Closing.{closed_for, is_closed}
 use Rattle.channel_core.specs.EndValue.{EndValue}
 use Rattle.channel_core.specs.Greeting.{is_greeting}
@@ -24,12 +24,14 @@ use Rattle.channel_core.specs.declared.taking.Judged.TheVariants.{Answers, Asks,
 use Rattle.channel_core.specs.declared.taking.Taken.{Taken}
 use Rattle.channel_core.specs.declared.taking.Taken.TheVariants.{Closed, Command, Event, Final, Hello, Progress}
 use Rattle.channel_core.proofs.Keeping.{leveled_state}
-use Rattle.channel_faults.proofs.Judging.{JudgedSo, judged_so}
-use Rattle.channel_redirects.proofs.Naming.{names_its_command}
-use Rattle.channel_rest.specs.Rest.{does_redirect}
-use Rattle.channel_rest.proofs.Resting.{AreNew, Rests, level, release, same}
-use Rattle.channel_rest.proofs.Standing.{Stands, greeted_more, greeted_now, greeted_open, stands_answered, stands_done, stands_failed, stands_greeted, stands_other}
-use Rattle.channel_rest.proofs.Telling.{hits_other, is_hit, unanswered_more}
+use Rattle.channel_laws.proofs.Faults.Judging.{JudgedSo, judged_so}
+use Rattle.channel_laws.proofs.Redirects.Naming.{names_its_command}
+use Rattle.channel_laws.specs.Rest.{does_redirect}
+use Rattle.channel_laws.proofs.Rest.Resting.{AreNew, Rests, level, release, same}
+use Rattle.channel_laws.proofs.Rest.Standing.{Stands, greeted_more, greeted_now, greeted_open, stands_answered, stands_done, stands_failed, stands_greeted, stands_other}
+use Rattle.channel_laws.proofs.Rest.Telling.{hits_other, is_hit, unanswered_more}
+use Rattle.channel_laws.proofs.Faults.Closed.{held_by}
+use Rattle.channel_laws.proofs.Redirects.Taking.{redirect_is}
 
 -- ---- The command that an answer names was sent
 
@@ -180,10 +182,6 @@ rests_redirected false token all taken tag incoming e n is h =
       greeted = greeted_more Live taken (Final tag incoming ∷ []) (greeted_open e.state taken n.opened n.begun h.greeted);
     })
 
-redirect_is : (token : ℕ) (redirect : Option ℕ) → is_of token redirect ≡ true → redirect ≡ Some token
-redirect_is token None is = absurd cc
-redirect_is token (Some redirect) is = ap Some (eqb-true redirect token is)
-
 rests_answered : {T : Type 0} → (token : ℕ) (done : Bool) (all : List (Issued T)) (taken : List (Taken T)) (tag : T) (incoming : Incoming) (e : EndValue T) → IsNamed taken incoming token done e
     → Rests all taken e → Rests all (taken ++ Final tag incoming ∷ []) (answered token done e)
 rests_answered token done all taken tag incoming e n h = by_flag (is_of token e.redirect) refl
@@ -199,10 +197,6 @@ rests_answered token done all taken tag incoming e n h = by_flag (is_of token e.
       stands = stands_answered e.state e.redirect taken h.sent tag incoming token done n.begun is n.answer n.within n.first h.stands;
       greeted = greeted_more e.state taken (Final tag incoming ∷ []) h.greeted;
     }
-
-held_by : {T : Type 0} → (flag : Bool) (one other e : EndValue T) → one.held ≡ e.held → other.held ≡ e.held → (cond flag one other).held ≡ e.held
-held_by true one other e first second = first
-held_by false one other e first second = second
 
 leveled_held : {T : Type 0} → (e : EndValue T) → (leveled e).held ≡ e.held
 leveled_held e = held_by (is_due e.is_loud (level_of (length e.inbox))) _ e e refl refl

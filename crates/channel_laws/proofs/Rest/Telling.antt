@@ -14,13 +14,10 @@ use Rattle.channel_core.specs.declared.held.Incoming.{Incoming}
 use Rattle.channel_core.specs.declared.taking.Taken.{Taken}
 use Rattle.channel_core.specs.declared.taking.Taken.TheVariants.{Closed, Command, Event, Final, Hello, Progress}
 use Rattle.channel_core.proofs.Rows.{not_named}
-use Rattle.channel_rest.specs.Rest.{does_redirect, is_done_for, lacks_answer, lacks_hello}
+use Rattle.channel_laws.specs.Rest.{does_redirect, is_done_for, lacks_answer, lacks_hello}
+use Rattle.list_laws.proofs.Flags.{or_false, or_assoc}
 
 -- ---- Flags
-
-or_none : (flag : Bool) → (flag || false) ≡ flag
-or_none true = refl
-or_none false = refl
 
 and_none : (flag : Bool) → (flag && false) ≡ false
 and_none true = refl
@@ -30,10 +27,6 @@ and_all : (flag : Bool) → (flag && true) ≡ flag
 and_all true = refl
 and_all false = refl
 
-or_three : (a b c : Bool) → (a || (b || c)) ≡ ((a || b) || c)
-or_three true b c = refl
-or_three false b c = refl
-
 -- ---- Answers
 
 -- the entry is the final answer under this token
@@ -41,14 +34,14 @@ abbrev pub is_hit : {T : Type 0} → Taken T → ℕ → Bool
 is_hit t n = list_any (λ text. bytes_eq text (decimal n)) (answered_in t)
 
 pub answered_more : {T : Type 0} → (taken : List (Taken T)) (t : Taken T) (n : ℕ) → is_answered (taken ++ t ∷ []) n ≡ (is_answered taken n || is_hit t n)
-answered_more taken t n = list_any-append (λ x. is_hit x n) taken (t ∷ []) ∙ ap (λ b. is_answered taken n || b) (or_none (is_hit t n))
+answered_more taken t n = list_any-append (λ x. is_hit x n) taken (t ∷ []) ∙ ap (λ b. is_answered taken n || b) (or_false (is_hit t n))
 
 pub unanswered_more : {T : Type 0} → (taken : List (Taken T)) (t : Taken T) (n : ℕ) → is_answered taken n ≡ false → is_hit t n ≡ false → is_answered (taken ++ t ∷ []) n ≡ false
 unanswered_more taken t n none other = answered_more taken t n ∙ ap (λ b. b || is_hit t n) none ∙ other
 
 pub hits : {T : Type 0} → (tag : T) (incoming : Incoming) (token n : ℕ) (done : Bool) → said_in incoming.raw ≡ answers (decimal token) done → is_hit (Final tag incoming) n ≡ bytes_eq (decimal token) (decimal n)
 hits tag incoming token n done answer =
-    ap (λ (m : Said). list_any (λ text. bytes_eq text (decimal n)) (token_in m)) answer ∙ or_none (bytes_eq (decimal token) (decimal n))
+    ap (λ (m : Said). list_any (λ text. bytes_eq text (decimal n)) (token_in m)) answer ∙ or_false (bytes_eq (decimal token) (decimal n))
 
 pub hits_other : {T : Type 0} → (tag : T) (incoming : Incoming) (token n : ℕ) (done : Bool) → said_in incoming.raw ≡ answers (decimal token) done → token ≤ last_token → n ≤ last_token → token ≢ n
     → is_hit (Final tag incoming) n ≡ false
@@ -76,19 +69,19 @@ pub lacks_append : {T : Type 0} → (taken : List (Taken T)) (front : List (Issu
     → lacks_answer (front ++ i ∷ []) taken ≡ (lacks_answer front taken || (i.command.is_redirect && not (is_answered taken i.command.token)))
 lacks_append {T = T} taken front i =
     let lone = i.command.is_redirect && not (is_answered taken i.command.token) in
-    list_any-append (λ (x : Issued T). x.command.is_redirect && not (is_answered taken x.command.token)) front (i ∷ []) ∙ ap (λ b. lacks_answer front taken || b) (or_none lone)
+    list_any-append (λ (x : Issued T). x.command.is_redirect && not (is_answered taken x.command.token)) front (i ∷ []) ∙ ap (λ b. lacks_answer front taken || b) (or_false lone)
 
 -- another command than a redirect
 pub lacks_other : {T : Type 0} → (taken : List (Taken T)) (sent : List (Issued T)) (i : Issued T) → i.command.is_redirect ≡ false → lacks_answer sent taken ≡ false → lacks_answer (sent ++ i ∷ []) taken ≡ false
 lacks_other taken sent i isnt none =
-    lacks_append taken sent i ∙ ap (λ b. lacks_answer sent taken || (b && not (is_answered taken i.command.token))) isnt ∙ or_none (lacks_answer sent taken) ∙ none
+    lacks_append taken sent i ∙ ap (λ b. lacks_answer sent taken || (b && not (is_answered taken i.command.token))) isnt ∙ or_false (lacks_answer sent taken) ∙ none
 
 -- a redirect that is answered
 pub lacks_answered : {T : Type 0} → (taken : List (Taken T)) (front : List (Issued T)) (i : Issued T) → lacks_answer front taken ≡ false → is_answered taken i.command.token ≡ true
     → lacks_answer (front ++ i ∷ []) taken ≡ false
 lacks_answered taken front i none is =
     lacks_append taken front i ∙ ap (λ b. lacks_answer front taken || (i.command.is_redirect && not b)) is ∙ ap (λ b. lacks_answer front taken || b) (and_none i.command.is_redirect)
-    ∙ or_none (lacks_answer front taken) ∙ none
+    ∙ or_false (lacks_answer front taken) ∙ none
 
 -- and one that isn't
 pub lacks_one : {T : Type 0} → (taken : List (Taken T)) (front : List (Issued T)) (i : Issued T) → i.command.is_redirect ≡ true → is_answered taken i.command.token ≡ false
@@ -101,17 +94,17 @@ lacks_one taken front i redirects none =
 
 -- another entry than a Hello
 pub hello_more : {T : Type 0} → (sent : List (Issued T)) (taken : List (Taken T)) (t : Taken T) → is_greeting t ≡ false → lacks_hello sent (taken ++ t ∷ []) ≡ (lacks_hello sent taken || does_redirect sent t)
-hello_more sent [] t none = or_none (does_redirect sent t && true) ∙ and_all (does_redirect sent t)
+hello_more sent [] t none = or_false (does_redirect sent t && true) ∙ and_all (does_redirect sent t)
 hello_more sent (x ∷ taken) t none =
     let greets = list_any is_greeting taken in
-    let same : list_any is_greeting (taken ++ t ∷ []) ≡ greets = list_any-append is_greeting taken (t ∷ []) ∙ ap (λ b. greets || (b || false)) none ∙ or_none greets in
+    let same : list_any is_greeting (taken ++ t ∷ []) ≡ greets = list_any-append is_greeting taken (t ∷ []) ∙ ap (λ b. greets || (b || false)) none ∙ or_false greets in
     ap (λ g. (does_redirect sent x && not g) || lacks_hello sent (taken ++ t ∷ [])) same
     ∙ ap (λ b. (does_redirect sent x && not greets) || b) (hello_more sent taken t none)
-    ∙ or_three (does_redirect sent x && not greets) (lacks_hello sent taken) (does_redirect sent t)
+    ∙ or_assoc (does_redirect sent x && not greets) (lacks_hello sent taken) (does_redirect sent t)
 
 -- an entry that does no redirect
 pub hello_other : {T : Type 0} → (sent : List (Issued T)) (taken : List (Taken T)) (t : Taken T) → is_greeting t ≡ false → does_redirect sent t ≡ false → lacks_hello sent (taken ++ t ∷ []) ≡ lacks_hello sent taken
-hello_other sent taken t none other = hello_more sent taken t none ∙ ap (λ b. lacks_hello sent taken || b) other ∙ or_none (lacks_hello sent taken)
+hello_other sent taken t none other = hello_more sent taken t none ∙ ap (λ b. lacks_hello sent taken || b) other ∙ or_false (lacks_hello sent taken)
 
 -- a Hello
 pub hello_came : {T : Type 0} → (sent : List (Issued T)) (taken : List (Taken T)) (incoming : Incoming) → lacks_hello sent (taken ++ Hello incoming ∷ []) ≡ false
@@ -137,7 +130,7 @@ said_more {T = T} sent i (answers token done) none =
     (list_any-append names sent (i ∷ [])
     ∙ ap (λ b. list_any names sent || ((i.command.is_redirect && b) || false)) other.0
     ∙ ap (λ b. list_any names sent || (b || false)) (and_none i.command.is_redirect)
-    ∙ or_none (list_any names sent))
+    ∙ or_false (list_any names sent))
 
 does_more : {T : Type 0} → (sent : List (Issued T)) (i : Issued T) (t : Taken T) → is_hit t i.command.token ≡ false → does_redirect (sent ++ i ∷ []) t ≡ does_redirect sent t
 does_more sent i (Hello incoming) none = refl
@@ -186,7 +179,7 @@ last_unnamed {T = T} n front last within fits other none =
     list_any-append (names n) front (last ∷ [])
     ∙ ap (λ b. list_any (names n) front || ((last.command.is_redirect && b) || false)) (not_named n last.command.token within fits other)
     ∙ ap (λ b. list_any (names n) front || (b || false)) (and_none last.command.is_redirect)
-    ∙ or_none (list_any (names n) front) ∙ none
+    ∙ or_false (list_any (names n) front) ∙ none
 
 -- an answer without an error under the token of the last one does that
 pub does_last : {T : Type 0} → (front : List (Issued T)) (last : Issued T) (tag : T) (incoming : Incoming) → last.command.is_redirect ≡ true → said_in incoming.raw ≡ answers (decimal last.command.token) true

@@ -4,9 +4,9 @@ use Rattle.std.specs.Prelude.{Contains, decimal}
 use Rattle.std.specs.List.{AllByRecursion, flat_map}
 use Rattle.channel_core.specs.Sending.{last_token}
 use Rattle.channel_core.proofs.Rows.{decimal_one}
-use Rattle.channel_rest.specs.Numbering.{AreNumbered, tokens_from}
+use Rattle.channel_laws.specs.Numbering.{AreNumbered, tokens_from}
 use Rattle.value_node.specs.Asked.{Asked}
-use Rattle.value_node.proofs.Lists.{all_left, all_then}
+use Rattle.list_laws.proofs.AllLists.{all_left, all_then}
 
 abbrev pub AreApart : List (List ℕ) → Type 0
 AreApart [] = Unit {0}

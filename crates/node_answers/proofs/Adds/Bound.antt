@@ -14,12 +14,12 @@ use Rattle.channel_core.specs.declared.taking.Taken.{Taken}
 use Rattle.channel_core.proofs.ClosingSo.{all_close_only_so, all_takes_nothing}
 use Rattle.channel_core.proofs.Running.{all_counted, all_end_once, all_sent_in_order, all_stay_closed}
 use Rattle.channel_core.proofs.Sent.{all_its_messages}
-use Rattle.channel_rest.specs.Meeting.{AnswersAll, IsFree, all_said, answers_among, lacks_hello_behind}
-use Rattle.channel_rest.specs.Numbering.{TakesNumbered, tokens_among}
-use Rattle.channel_rest.specs.Rest.{IsAsSaid, TellsAsMessages, answered_among, hello_among, lacks_hello, lacks_hello_among}
-use Rattle.channel_rest.proofs.AsSaid.{all_as_said, all_tell}
-use Rattle.channel_rest.proofs.Meeting.{entering, entering_formed, queued_said}
-use Rattle.channel_rest.proofs.Spelling.{AreSpelled, IsSpelled, same_said}
+use Rattle.channel_laws.specs.Meeting.{AnswersAll, IsFree, all_said, answers_among, lacks_hello_behind}
+use Rattle.channel_laws.specs.Numbering.{TakesNumbered, tokens_among}
+use Rattle.channel_laws.specs.Rest.{IsAsSaid, TellsAsMessages, answered_among, hello_among, lacks_hello, lacks_hello_among}
+use Rattle.channel_laws.proofs.Rest.AsSaid.{all_as_said, all_tell}
+use Rattle.channel_laws.proofs.Rest.Meeting.{entering, entering_formed, queued_said}
+use Rattle.channel_laws.proofs.Rest.Spelling.{AreSpelled, IsSpelled, same_said}
 use Rattle.value_node.specs.Asked.{Asked}
 use Rattle.value_node.specs.Deeds.{Deed, asked_in, deeds_from, heard_in, sent_in}
 use Rattle.value_node.specs.ForwardedValue.{ForwardedValue}
@@ -35,19 +35,19 @@ use Rattle.value_node.proofs.HoldsCalled.{IsHeld, always_held}
 use Rattle.value_node.proofs.HoldsOwn.{always_answers}
 use Rattle.value_node.proofs.HoldsSaid.{always_passes}
 use Rattle.value_node.proofs.Knowing.{Lessons}
-use Rattle.value_node.proofs.Lists.{all_append, all_left, all_right, all_then}
 use Rattle.value_node.proofs.OwnAnswers.{IsLeft}
 use Rattle.value_node.proofs.OwnReplies.{Names}
 use Rattle.value_node.proofs.Sendable.{Sizes}
-use Rattle.value_rest.proofs.BoundAnswered.{all_told}
-use Rattle.value_rest.proofs.Apart.{AreApart, numbered_apart, tokens_of}
-use Rattle.value_rest.proofs.BoundAsked.{IsWritten, all_written, asked_both}
-use Rattle.value_rest.proofs.BoundGreeted.{all_greeted, own_greeted}
-use Rattle.value_rest.proofs.BoundOwn.{AreAnsweredIn, own_answers, own_spelled}
-use Rattle.value_rest.proofs.BoundTokens.{RedirectsWhereNamed, each_redirects}
-use Rattle.value_rest.proofs.Own.{value_hello}
-use Rattle.value_rest.proofs.Taken.{redirects_of, redirects_taken, taken_answered, tokens_taken}
-use Rattle.value_rest.proofs.BoundTold.{answered_before, answered_later, hello_told, tells_from, tells_spelled, told_so}
+use Rattle.node_answers.proofs.Adds.BoundAnswered.{all_told}
+use Rattle.node_answers.proofs.Adds.Apart.{AreApart, numbered_apart, tokens_of}
+use Rattle.node_answers.proofs.Adds.BoundAsked.{IsWritten, all_written, asked_both}
+use Rattle.node_answers.proofs.Adds.BoundGreeted.{all_greeted, own_greeted}
+use Rattle.node_answers.proofs.Adds.BoundOwn.{AreAnsweredIn, own_answers, own_spelled}
+use Rattle.node_answers.proofs.Adds.BoundTokens.{RedirectsWhereNamed, each_redirects}
+use Rattle.node_answers.proofs.Adds.Own.{value_hello}
+use Rattle.node_answers.proofs.Adds.Taken.{redirects_of, redirects_taken, taken_answered, tokens_taken}
+use Rattle.node_answers.proofs.Adds.BoundTold.{answered_before, answered_later, hello_told, tells_from, tells_spelled, told_so}
+use Rattle.list_laws.proofs.AllLists.{all_append, all_left, all_right, all_then}
 
 -- the laws of the crates below
 pub record Laws : Type 0 where

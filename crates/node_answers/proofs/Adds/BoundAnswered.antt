@@ -9,16 +9,17 @@ use Rattle.tcf_message.specs.declared.message.MessageFault.{MessageFault}
 use Rattle.channel_core.specs.Arrivals.{Spoken}
 use Rattle.channel_core.specs.RunLaws.{token_in}
 use Rattle.channel_core.specs.Wire.{event_said, hello, locator, said_by, said_of}
-use Rattle.channel_rest.specs.Meeting.{answers_among}
-use Rattle.channel_rest.specs.Rest.{answered_among}
+use Rattle.channel_laws.specs.Meeting.{answers_among}
+use Rattle.channel_laws.specs.Rest.{answered_among}
 use Rattle.value_node.specs.Asked.{Asked}
 use Rattle.value_node.specs.Deeds.{Deed, answers, asked_in, forwards, heard_in, hears, sent_in}
 use Rattle.value_node.specs.RelayLaws.{IsOfItsCommand, IsOpen, token_below}
 use Rattle.value_node.proofs.DeedLists.{AreRight, sent_both}
 use Rattle.value_node.proofs.Holding.{issued_from}
-use Rattle.value_rest.proofs.BoundOwn.{AreAnsweredIn, answered_here}
-use Rattle.value_rest.proofs.BoundTokens.{below_at, is_at, one_place, same_bytes}
-use Rattle.value_rest.proofs.BoundTold.{any_behind, passed_as, tells_from}
+use Rattle.node_answers.proofs.Adds.BoundOwn.{AreAnsweredIn, answered_here}
+use Rattle.node_answers.proofs.Adds.BoundTokens.{below_at, is_at, one_place}
+use Rattle.node_answers.proofs.Adds.BoundTold.{any_behind, passed_as, tells_from}
+use Rattle.list_laws.proofs.Lists.{equal_by as same_bytes}
 
 -- ---- The command that a message from above is of
 

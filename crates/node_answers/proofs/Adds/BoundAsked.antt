@@ -12,9 +12,9 @@ use Rattle.value_node.specs.Asked.{Asked}
 use Rattle.value_node.specs.OwnLaws.{asked_until}
 use Rattle.value_node.specs.RelayLaws.{asked_by, asked_in, asked_since}
 use Rattle.value_node.specs.Runs.{Past, below, below_since_bound, below_until_bound, lower_after}
-use Rattle.value_node.proofs.Lists.{all_append}
 use Rattle.value_node.proofs.OwnReadable.{well_read}
 use Rattle.value_node.proofs.Pasts.{after_both, taken_more}
+use Rattle.list_laws.proofs.AllLists.{all_append}
 
 -- ---- They were read, so they can be written
 

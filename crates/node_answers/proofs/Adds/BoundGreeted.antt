@@ -9,25 +9,23 @@ use Rattle.tcf_message.specs.declared.message.MessageFault.{MessageFault}
 use Rattle.channel_core.specs.Arrivals.{Spoken}
 use Rattle.channel_core.specs.Wire.{answers as answers_said, event_said, hello, is_done, is_redirect, locator, said_by, said_of}
 use Rattle.channel_core.specs.declared.held.Incoming.{Incoming}
-use Rattle.channel_rest.specs.Meeting.{does_one, hello_behind, lacks_hello_behind}
-use Rattle.channel_rest.specs.Rest.{hello_among, is_done_for, is_hello, lacks_hello_among}
+use Rattle.channel_laws.specs.Meeting.{does_one, hello_behind, lacks_hello_behind}
+use Rattle.channel_laws.specs.Rest.{hello_among, is_done_for, is_hello, lacks_hello_among}
 use Rattle.value_node.specs.Asked.{Asked}
 use Rattle.value_node.specs.Deeds.{Deed, answers, asked_in, forwards, heard_in, hears, sent_in}
 use Rattle.value_node.specs.RelayLaws.{IsOfItsCommand, token_below}
 use Rattle.value_node.proofs.DeedLists.{AreRight}
 use Rattle.value_node.proofs.Holding.{issued_from}
-use Rattle.value_node.proofs.Lists.{all_append, all_stands}
+use Rattle.value_node.proofs.Lists.{all_stands}
 use Rattle.value_node.proofs.OwnReplies.{Names}
-use Rattle.value_rest.proofs.BoundAnswered.{of_one, sent_same, sent_then}
-use Rattle.value_rest.proofs.BoundTokens.{RedirectsWhereNamed, issued_at}
-use Rattle.value_rest.proofs.BoundTold.{any_behind, hello_told, passed_as, tells_from}
-use Rattle.value_rest.proofs.BoundUnstored.{redirect_unstored}
+use Rattle.node_answers.proofs.Adds.BoundAnswered.{of_one, sent_same, sent_then}
+use Rattle.node_answers.proofs.Adds.BoundTokens.{RedirectsWhereNamed, issued_at}
+use Rattle.node_answers.proofs.Adds.BoundTold.{any_behind, hello_told, passed_as, tells_from}
+use Rattle.node_answers.proofs.Adds.BoundUnstored.{redirect_unstored}
+use Rattle.list_laws.proofs.Flags.{never_true}
+use Rattle.list_laws.proofs.AllLists.{all_append}
 
 -- ---- Flags
-
-never : (flag : Bool) → (flag ≡ true → ⊥) → flag ≡ false
-never true isnt = absurd (isnt refl)
-never false isnt = refl
 
 -- a first part is false where it is false, or where what is behind it is there
 none_first : (first behind rest : Bool) → (first ≡ true → behind ≡ true) → rest ≡ false → ((first && not behind) || rest) ≡ false
@@ -103,7 +101,7 @@ module _ (names : Names) (tokens : List (List ℕ)) (all : List Asked) (few : 1 
   told_greeted before (answers c reply mark ∷ deeds) sent are whole right each named none =
       let rightly = right.0 in
       let isnt : does_one tokens (answers_said c.token (is_done reply)) ≡ false =
-      never (does_one tokens (answers_said c.token (is_done reply)))
+      never_true (does_one tokens (answers_said c.token (is_done reply)))
       (λ so. redirect_unstored names c rightly.command (each.0 (and_parts (is_done reply) (list_any (λ text. bytes_eq c.token text) tokens) so).1) rightly.read rightly.storable) in
       ap (λ b. (b && not (hello_behind (tells_from sent deeds))) || lacks_hello_behind tokens (tells_from sent deeds)) isnt
       ∙ told_greeted (before ++ answers c reply mark ∷ []) deeds sent (sent_same before (answers c reply mark) sent refl are) whole right.1 each.1 named none

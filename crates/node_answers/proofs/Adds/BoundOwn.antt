@@ -7,13 +7,13 @@ use Rattle.tcf_message.specs.Message.{MessageValue, event}
 use Rattle.channel_core.specs.Arrivals.{Spoken}
 use Rattle.channel_core.specs.RunLaws.{token_in}
 use Rattle.channel_core.specs.Wire.{hello, locator, said_by}
-use Rattle.channel_rest.specs.Meeting.{answers_among}
-use Rattle.channel_rest.proofs.Spelling.{AreSpelled, IsSpelled}
+use Rattle.channel_laws.specs.Meeting.{answers_among}
+use Rattle.channel_laws.proofs.Rest.Spelling.{AreSpelled, IsSpelled}
 use Rattle.value_node.specs.Asked.{Asked}
 use Rattle.value_node.specs.OwnMessages.{IsOwn, OwnStep, a_hello, a_result, an_unknown}
-use Rattle.value_node.proofs.Lists.{all_then}
-use Rattle.value_rest.proofs.BoundAsked.{IsWritten}
-use Rattle.value_rest.proofs.BoundTokens.{alike}
+use Rattle.node_answers.proofs.Adds.BoundAsked.{IsWritten}
+use Rattle.list_laws.proofs.AllLists.{all_then}
+use Rattle.list_laws.proofs.Lists.{equal_bytes as alike}
 
 -- ---- It is spelled so
 

@@ -1,30 +1,17 @@
 -- Commands under the tokens from a number on: which one a token names.
-use Rattle.std.proofs.Common.{◌≡◌, ℕ, zero, suc, ◌+◌, ◌-◌, ◌^◌, ◌<◌, ◌≤◌, Bool, true, false, cond, ◌&&◌, List, [], ◌∷◌, ◌++◌, length, refl, sym, ap, ◌∙◌, arith, append_assoc}
+use Rattle.std.proofs.Common.{◌≡◌, ℕ, zero, suc, ◌+◌, ◌-◌, ◌^◌, ◌<◌, ◌≤◌, true, cond, ◌&&◌, List, [], ◌∷◌, ◌++◌, length, refl, sym, ap, ◌∙◌, arith, append_assoc}
 use Rattle.std.specs.Prelude.{bytes_eq, decimal}
 use Rattle.std.specs.List.{AllByRecursion, list_any}
 use Rattle.std.proofs.lemmas.Bool.{or_left, or_right}
-use Rattle.std.proofs.lemmas.Fmt.{decimal_injective}
-use Rattle.std.proofs.lemmas.Slice.Eq.{bytes_eq-Decides}
 use Rattle.channel_core.specs.Wire.{is_redirect}
 use Rattle.value_node.specs.Asked.{Asked}
 use Rattle.value_node.specs.RelayLaws.{token_below}
 use Rattle.value_node.proofs.Holding.{issued_from}
-use Rattle.value_rest.proofs.Apart.{AreApart, same_asked, tokens_of}
-use Rattle.value_rest.proofs.Taken.{redirects_of}
-use Rattle.value_rest.proofs.WhileUnbound.{redirect_found}
-
-pub alike : (xs ys : List ℕ) → xs ≡ ys → bytes_eq xs ys ≡ true
-alike xs ys same = (bytes_eq-Decides xs ys).1 same
-
-pub same_bytes : (xs ys : List ℕ) → bytes_eq xs ys ≡ true → xs ≡ ys
-same_bytes xs ys is = (bytes_eq-Decides xs ys).0 is
-
-differ : (m n : ℕ) → m < 2 ^ 64 → n < 2 ^ 64 → (m ≡ n → ⊥) → bytes_eq (decimal m) (decimal n) ≡ false
-differ m n small other unequal = by_flag (bytes_eq (decimal m) (decimal n)) refl
-  where
-    by_flag : (flag : Bool) → bytes_eq (decimal m) (decimal n) ≡ flag → flag ≡ false
-    by_flag true is = absurd (unequal (decimal_injective m n small other (same_bytes (decimal m) (decimal n) is)))
-    by_flag false is = refl
+use Rattle.node_answers.proofs.Adds.Apart.{AreApart, same_asked, tokens_of}
+use Rattle.node_answers.proofs.Adds.Taken.{redirects_of}
+use Rattle.node_answers.proofs.Adds.WhileUnbound.{redirect_found}
+use Rattle.list_laws.proofs.Numbers.{other_decimals}
+use Rattle.list_laws.proofs.Lists.{equal_bytes}
 
 -- ---- A token of a redirect names that redirect
 
@@ -90,11 +77,11 @@ one_place (d ∷ front) c back (d' ∷ front') c' back' same long =
 pub below_at : (first : ℕ) (front : List Asked) (c : Asked) (back : List Asked) → first + length front < 2 ^ 64 → token_below first (decimal (first + length front)) (front ++ c ∷ back) ≡ c.token
 below_at first [] c back small =
     let here : first + 0 ≡ first = omega arith in
-    ap (λ b. cond b c.token (token_below (first + 1) (decimal (first + 0)) back)) (alike (decimal (first + 0)) (decimal first) (ap (λ k. decimal k) here))
+    ap (λ b. cond b c.token (token_below (first + 1) (decimal (first + 0)) back)) (equal_bytes (decimal (first + 0)) (decimal first) (ap (λ k. decimal k) here))
 below_at first (d ∷ front) c back small =
     let few : first + suc (length front) < 2 ^ 64 = small in
     let moved : first + suc (length front) ≡ (first + 1) + length front = omega arith in
-    ap (λ b. cond b d.token (token_below (first + 1) (decimal (first + suc (length front))) (front ++ c ∷ back))) (differ (first + suc (length front)) first few (omega arith) (λ is. omega arith))
+    ap (λ b. cond b d.token (token_below (first + 1) (decimal (first + suc (length front))) (front ++ c ∷ back))) (other_decimals (first + suc (length front)) first few (omega arith) (λ is. omega arith))
     ∙ ap (λ k. token_below (first + 1) (decimal k) (front ++ c ∷ back)) moved ∙ below_at (first + 1) front c back (omega arith)
 
 -- and where it is a redirect it was sent above as one
@@ -102,7 +89,7 @@ pub issued_at : (first : ℕ) (front : List Asked) (c : Asked) (back : List Aske
     → list_any (λ i. i.command.is_redirect && bytes_eq token (decimal i.command.token)) (issued_from first (front ++ c ∷ back)) ≡ true
 issued_at first [] c back token is redirects =
     let here : first + 0 ≡ first = omega arith in
-    let same : bytes_eq token (decimal first) ≡ true = alike token (decimal first) (is ∙ ap (λ k. decimal k) here) in
+    let same : bytes_eq token (decimal first) ≡ true = equal_bytes token (decimal first) (is ∙ ap (λ k. decimal k) here) in
     or_left (is_redirect c.service c.name && bytes_eq token (decimal first)) _ (ap (λ b. b && bytes_eq token (decimal first)) redirects ∙ same)
 issued_at first (d ∷ front) c back token is redirects =
     let moved : first + suc (length front) ≡ (first + 1) + length front = omega arith in

@@ -11,15 +11,15 @@ use Rattle.tcf_message.specs.declared.message.MessageFault.{MessageFault}
 use Rattle.channel_core.specs.Arrivals.{Spoken}
 use Rattle.channel_core.specs.RunLaws.{token_in}
 use Rattle.channel_core.specs.Wire.{said, said_by, said_of}
-use Rattle.channel_rest.specs.Meeting.{all_said, answers_among, hello_behind}
-use Rattle.channel_rest.specs.Rest.{hello_among, is_hello}
-use Rattle.channel_rest.proofs.Spelling.{AreSpelled, IsSpelled}
+use Rattle.channel_laws.specs.Meeting.{all_said, answers_among, hello_behind}
+use Rattle.channel_laws.specs.Rest.{hello_among, is_hello}
+use Rattle.channel_laws.proofs.Rest.Spelling.{AreSpelled, IsSpelled}
 use Rattle.value_node.specs.Asked.{Asked}
 use Rattle.value_node.specs.Deeds.{Deed, answers, asked_in, forwards, heard_in, hears}
 use Rattle.value_node.specs.RelayLaws.{passed_in, token_below, told_from}
-use Rattle.value_node.proofs.Lists.{all_append}
 use Rattle.value_node.proofs.OwnReadable.{well_read}
-use Rattle.value_rest.proofs.BoundAsked.{IsWritten}
+use Rattle.node_answers.proofs.Adds.BoundAsked.{IsWritten}
+use Rattle.list_laws.proofs.AllLists.{all_append}
 
 abbrev pub passed_as : List Asked → Option ℕ → Result MessageValue MessageFault → List Spoken
 passed_as commands mark m = map (λ x. record { message = x; mark = mark }) (passed_in commands m)

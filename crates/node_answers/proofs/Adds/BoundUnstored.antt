@@ -14,7 +14,7 @@ use Rattle.value_node.specs.Asked.{Asked}
 use Rattle.value_node.specs.Barriers.{command_in}
 use Rattle.value_node.specs.Deeds.{command_asked}
 use Rattle.value_node.proofs.OwnReplies.{Names}
-use Rattle.value_rest.proofs.Failing.{redirect_read}
+use Rattle.node_answers.proofs.Adds.Failing.{redirect_read}
 
 stores_none : (command : Command) → named_as command ≡ named.Locator commands.Redirect → stores command ≡ true → ⊥
 stores_none (Redirect peer) is stored = absurd cc

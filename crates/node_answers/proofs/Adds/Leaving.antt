@@ -12,11 +12,11 @@ use Rattle.channel_core.specs.RunLaws.{is_answered, token_in, unanswered}
 use Rattle.channel_core.specs.Wire.{answers, event_said, hello, is_redirect, locator, said_by}
 use Rattle.channel_core.specs.declared.states.EndState.TheVariants.{Reopening}
 use Rattle.channel_core.specs.declared.taking.Taken.{Taken}
-use Rattle.channel_rest.specs.Meeting.{all_said, answers_among, does_one, hello_behind, lacks_hello_behind, redirects_among}
-use Rattle.channel_rest.specs.Numbering.{TakesNumbered, tokens_among}
-use Rattle.channel_rest.specs.Rest.{answered_among, lacks_hello, lacks_hello_among}
-use Rattle.channel_rest.proofs.AllCalls.{all_pend}
-use Rattle.channel_rest.proofs.Spelling.{IsSpelled, same_said}
+use Rattle.channel_laws.specs.Meeting.{all_said, answers_among, does_one, hello_behind, lacks_hello_behind, redirects_among}
+use Rattle.channel_laws.specs.Numbering.{TakesNumbered, tokens_among}
+use Rattle.channel_laws.specs.Rest.{answered_among, lacks_hello, lacks_hello_among}
+use Rattle.channel_laws.proofs.Rest.AllCalls.{all_pend}
+use Rattle.channel_laws.proofs.Rest.Spelling.{IsSpelled, same_said}
 use Rattle.value_node.specs.Asked.{Asked}
 use Rattle.value_node.specs.Deeds.{Deed, asked_in, heard_in, sent_in}
 use Rattle.value_node.specs.ForwardedValue.{ForwardedValue}
@@ -28,25 +28,26 @@ use Rattle.value_node.specs.declared.relay.Relay.{Relay}
 use Rattle.value_node.specs.declared.states.Bind.{Bind}
 use Rattle.value_node.specs.declared.states.Bind.TheVariants.{Unbound, Opening, Bound, Closed}
 use Rattle.value_node.proofs.Holding.{Holds, issued_from}
-use Rattle.value_node.proofs.Lists.{all_left}
 use Rattle.value_node.proofs.OwnAnswers.{IsLeft}
-use Rattle.value_rest.specs.Waiting.{AnswersWhatItCan, AwaitsHello, Lacks, LeavesUnanswered, WaitsFor, pending_below}
-use Rattle.value_rest.proofs.Apart.{AreApart, same_asked, tokens_of}
-use Rattle.value_rest.proofs.Bound.{Laws, accepted, apart, as_said, asked_are, few_sent, greeted, itself, queued, spelled, tells}
-use Rattle.value_rest.proofs.Bound as bound_run
-use Rattle.value_rest.proofs.BoundAnswered.{answer_told}
-use Rattle.value_rest.proofs.BoundTold.{answered_later, tells_from}
-use Rattle.value_rest.proofs.LeavingOwn.{each_others, unanswered_both}
-use Rattle.value_rest.proofs.LeavingPending.{is_pending, pends_still, tokens_pending}
-use Rattle.value_rest.proofs.LeavingSent.{answer_untold, sent_apart, sent_asked, sent_unless_told, sent_unstored}
-use Rattle.value_rest.proofs.LeavingTokens.{IsOneOf, IsPlaced, apart_behind, one_contained, one_either, one_holds, one_left, one_of, one_placed, one_right, others_before, to_tokens}
-use Rattle.value_rest.proofs.LeavingUpper.{all_reopening}
-use Rattle.value_rest.proofs.Own.{Cited, HasSaid, LeftIn, always_said, first_end, greeting, none_left, own_formed, own_queue}
-use Rattle.value_rest.proofs.Pairing.{AnswerEach, among_behind, each_among, each_at}
-use Rattle.value_rest.proofs.Replying.{clashes}
-use Rattle.value_rest.proofs.Speaking.{spoken_in}
-use Rattle.value_rest.proofs.Taken.{redirects_of, redirects_taken, tokens_taken}
-use Rattle.value_rest.proofs.WhileUnbound.{all_splits, does_none, lacks_none}
+use Rattle.node_answers.specs.Waiting.{AnswersWhatItCan, AwaitsHello, Lacks, LeavesUnanswered, WaitsFor, pending_below}
+use Rattle.node_answers.proofs.Adds.Apart.{AreApart, same_asked, tokens_of}
+use Rattle.node_answers.proofs.Adds.Bound.{Laws, accepted, apart, as_said, asked_are, few_sent, greeted, itself, queued, spelled, tells}
+use Rattle.node_answers.proofs.Adds.Bound as bound_run
+use Rattle.node_answers.proofs.Adds.BoundAnswered.{answer_told}
+use Rattle.node_answers.proofs.Adds.BoundTold.{answered_later, tells_from}
+use Rattle.node_answers.proofs.Adds.LeavingOwn.{each_others, unanswered_both}
+use Rattle.node_answers.proofs.Adds.LeavingPending.{is_pending, pends_still, tokens_pending}
+use Rattle.node_answers.proofs.Adds.LeavingSent.{answer_untold, sent_apart, sent_asked, sent_unless_told, sent_unstored}
+use Rattle.node_answers.proofs.Adds.LeavingTokens.{IsOneOf, IsPlaced, apart_behind, one_contained, one_either, one_holds, one_left, one_of, one_placed, one_right, others_before, to_tokens}
+use Rattle.node_answers.proofs.Adds.LeavingUpper.{all_reopening}
+use Rattle.node_answers.proofs.Adds.Own.{Cited, HasSaid, LeftIn, always_said, greeting, none_left, own_formed, own_queue}
+use Rattle.node_answers.proofs.Adds.Pairing.{AnswerEach, among_behind, each_among, each_at}
+use Rattle.node_answers.proofs.Adds.Replying.{clashes}
+use Rattle.node_answers.proofs.Adds.Speaking.{spoken_in}
+use Rattle.node_answers.proofs.Adds.Taken.{redirects_of, redirects_taken, tokens_taken}
+use Rattle.node_answers.proofs.Adds.WhileUnbound.{all_splits, does_none, lacks_none}
+use Rattle.list_laws.proofs.AllLists.{all_left}
+use Rattle.value_node.proofs.Answering.{first_end}
 
 -- ---- Its Hello answers nothing
 

@@ -6,11 +6,11 @@ use Rattle.std.proofs.lemmas.List.Folds.{list_any-append}
 use Rattle.channel_core.specs.Arrivals.{Spoken}
 use Rattle.channel_core.specs.RunLaws.{token_in}
 use Rattle.channel_core.specs.Wire.{Said, said_by}
-use Rattle.channel_rest.specs.Meeting.{answers_among}
+use Rattle.channel_laws.specs.Meeting.{answers_among}
 use Rattle.value_node.specs.Asked.{Asked}
-use Rattle.value_rest.proofs.BoundTokens.{same_bytes}
-use Rattle.value_rest.proofs.LeavingTokens.{AreOthers}
-use Rattle.value_rest.proofs.Pairing.{AnswerEach}
+use Rattle.node_answers.proofs.Adds.LeavingTokens.{AreOthers}
+use Rattle.node_answers.proofs.Adds.Pairing.{AnswerEach}
+use Rattle.list_laws.proofs.Lists.{equal_by as same_bytes}
 
 unlike : (xs ys : List ℕ) → (xs ≡ ys → ⊥) → bytes_eq xs ys ≡ false
 unlike xs ys differ = by_flag (bytes_eq xs ys) refl

@@ -9,21 +9,21 @@ use Rattle.tcf_message.specs.declared.message.MessageFault.{MessageFault}
 use Rattle.channel_core.specs.Arrivals.{Spoken}
 use Rattle.channel_core.specs.RunLaws.{token_in}
 use Rattle.channel_core.specs.Wire.{event_said, hello, locator, said_by, said_of}
-use Rattle.channel_rest.specs.Meeting.{answers_among}
-use Rattle.channel_rest.specs.Rest.{answered_among}
+use Rattle.channel_laws.specs.Meeting.{answers_among}
+use Rattle.channel_laws.specs.Rest.{answered_among}
 use Rattle.value_node.specs.Asked.{Asked}
 use Rattle.value_node.specs.Deeds.{Deed, answers, asked_in, forwards, heard_in, hears, sent_in}
 use Rattle.value_node.specs.RelayLaws.{IsOfItsCommand, IsOpen, token_below}
 use Rattle.value_node.proofs.DeedLists.{AreRight, all_sent}
-use Rattle.value_node.proofs.Lists.{all_right}
-use Rattle.value_rest.proofs.Apart.{AreApart, tokens_of}
-use Rattle.value_rest.proofs.BoundAnswered.{of_one, sent_same, sent_then}
-use Rattle.value_rest.proofs.BoundOwn.{answered_here}
-use Rattle.value_rest.proofs.BoundTokens.{alike}
-use Rattle.value_rest.proofs.BoundTold.{passed_as, tells_from}
-use Rattle.value_rest.proofs.LeavingOwn.{unanswered_here}
-use Rattle.value_rest.proofs.LeavingTokens.{IsOneOf, of_tokens, place_one, to_tokens}
-use Rattle.value_rest.proofs.Replying.{clashes}
+use Rattle.node_answers.proofs.Adds.Apart.{AreApart, tokens_of}
+use Rattle.node_answers.proofs.Adds.BoundAnswered.{of_one, sent_same, sent_then}
+use Rattle.node_answers.proofs.Adds.BoundOwn.{answered_here}
+use Rattle.node_answers.proofs.Adds.BoundTold.{passed_as, tells_from}
+use Rattle.node_answers.proofs.Adds.LeavingOwn.{unanswered_here}
+use Rattle.node_answers.proofs.Adds.LeavingTokens.{IsOneOf, of_tokens, place_one, to_tokens}
+use Rattle.node_answers.proofs.Adds.Replying.{clashes}
+use Rattle.list_laws.proofs.AllLists.{all_right}
+use Rattle.list_laws.proofs.Lists.{equal_bytes as alike}
 
 -- ---- The tokens of deeds
 

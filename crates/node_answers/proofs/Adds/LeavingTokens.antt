@@ -3,7 +3,7 @@ use Rattle.std.proofs.Common.{◌≡◌, ◌⊎◌, inl, inr, ℕ, zero, suc, �
 use Rattle.std.specs.Prelude.{Contains}
 use Rattle.std.specs.List.{AllByRecursion}
 use Rattle.value_node.specs.Asked.{Asked}
-use Rattle.value_rest.proofs.Apart.{AreApart, at_behind, tokens_of}
+use Rattle.node_answers.proofs.Adds.Apart.{AreApart, at_behind, tokens_of}
 
 -- the token is that of one of them
 abbrev pub IsOneOf : List ℕ → List Asked → Type 0

@@ -6,12 +6,12 @@ use Rattle.channel_core.specs.Runs.{Call, Issued, after_calls, begun}
 use Rattle.channel_core.specs.declared.states.EndState.{EndState}
 use Rattle.channel_core.specs.declared.states.EndState.TheVariants.{Closed, Live, Opening, Reopening}
 use Rattle.channel_core.specs.declared.taking.Taken.{Taken}
-use Rattle.channel_rest.specs.Rest.{lacks_hello}
-use Rattle.channel_rest.proofs.AllCalls.{rests_all}
-use Rattle.channel_rest.proofs.Resting.{AreNew}
-use Rattle.channel_rest.proofs.Standing.{Stands}
-use Rattle.channel_rest.proofs.Telling.{hello_sent}
-use Rattle.value_rest.proofs.Replying.{clashes}
+use Rattle.channel_laws.specs.Rest.{lacks_hello}
+use Rattle.channel_laws.proofs.Rest.AllCalls.{rests_all}
+use Rattle.channel_laws.proofs.Rest.Resting.{AreNew}
+use Rattle.channel_laws.proofs.Rest.Standing.{Stands}
+use Rattle.channel_laws.proofs.Rest.Telling.{hello_sent}
+use Rattle.node_answers.proofs.Adds.Replying.{clashes}
 
 pub record IsReopening (state : EndState) (redirect : Option ℕ) : Type 0 where
   pub state_is : state ≡ Reopening

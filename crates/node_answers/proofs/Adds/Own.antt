@@ -16,9 +16,9 @@ use Rattle.channel_core.specs.Taking.{closes, next_taken}
 use Rattle.channel_core.specs.Wire.{answers, event_said, hello, is_redirect, locator, said, said_by}
 use Rattle.channel_core.proofs.ClosingSo.{all_close_only_so}
 use Rattle.channel_core.proofs.Sent.{all_its_messages}
-use Rattle.channel_rest.specs.Meeting.{answers_among}
-use Rattle.channel_rest.specs.Numbering.{TakesNumbered, tokens_among}
-use Rattle.channel_rest.proofs.AsSaid.{all_as_said}
+use Rattle.channel_laws.specs.Meeting.{answers_among}
+use Rattle.channel_laws.specs.Numbering.{TakesNumbered, tokens_among}
+use Rattle.channel_laws.proofs.Rest.AsSaid.{all_as_said}
 use Rattle.tcf_message.specs.Message.{IsWellFormed, event}
 use Rattle.value_node.specs.Asked.{Asked}
 use Rattle.value_node.specs.OwnLaws.{AsksNothingBelow, asked_until}
@@ -30,16 +30,17 @@ use Rattle.value_node.specs.ValueValue.{ValueValue}
 use Rattle.value_node.specs.declared.relay.Relay.{Relay}
 use Rattle.value_node.specs.declared.states.Bind.{Bind}
 use Rattle.value_node.specs.declared.states.Bind.TheVariants.{Unbound, Opening, Bound, Closed}
-use Rattle.value_node.proofs.Lists.{all_left}
 use Rattle.value_node.proofs.OwnAnswers.{IsLeft, plain, spelled}
 use Rattle.value_node.proofs.OwnReplies.{Names}
 use Rattle.value_node.proofs.Pasts.{after_both, taken_in, taken_more}
 use Rattle.value_node.proofs.Steps.{called_whole, end_ran, relay_called, whole}
-use Rattle.value_rest.proofs.Apart.{AreApart, apart_left, numbered_apart, same_asked, tokens_of}
-use Rattle.value_rest.proofs.Pairing.{AnswerEach, among_behind, each_among, each_at, each_then}
-use Rattle.value_rest.proofs.Replying.{Replies, call_replies}
-use Rattle.value_rest.proofs.Speaking.{sent_spelled, spoken_both, spoken_formed, spoken_in}
-use Rattle.value_rest.proofs.Taken.{tokens_taken}
+use Rattle.node_answers.proofs.Adds.Apart.{AreApart, apart_left, numbered_apart, same_asked, tokens_of}
+use Rattle.node_answers.proofs.Adds.Pairing.{AnswerEach, among_behind, each_among, each_at, each_then}
+use Rattle.node_answers.proofs.Adds.Replying.{Replies, call_replies}
+use Rattle.node_answers.proofs.Adds.Speaking.{sent_spelled, spoken_both, spoken_formed, spoken_in}
+use Rattle.node_answers.proofs.Adds.Taken.{tokens_taken}
+use Rattle.value_node.proofs.Answering.{first_end, asked_of, asked_more}
+use Rattle.list_laws.proofs.AllLists.{all_left}
 
 -- the laws that this stands on
 pub record Cited : Type 0 where
@@ -58,19 +59,6 @@ pub record OwnPart (r : ValueRun) : Type 0 where
       → is_redirect c.service c.name ≡ true → said_by s.message ≡ answers c.token true → (r.past.is_bound ≡ true) × (rest ≡ [])
 
 -- ---- what is asked, and what is said
-
-abbrev pub first_end : Lower
-first_end = new_end value_services None
-
-abbrev pub asked_of : List LowerCall → List Asked
-asked_of calls = flat_map asked_by (lower_after calls).past.taken
-
-asked_more : (calls more : List LowerCall) (lower : Lower) → lower ≡ (lower_after calls).end → asked_of (calls ++ more) ≡ asked_of calls ++ flat_map asked_by (taken_in more lower)
-asked_more calls more lower same =
-    ap (λ (r : Run Unit). flat_map asked_by r.past.taken) (after_both calls more (lower_after []))
-    ∙ ap (flat_map asked_by) (taken_more more (lower_after calls))
-    ∙ flat_map-append asked_by (lower_after calls).past.taken (taken_in more (lower_after calls).end)
-    ∙ ap (λ (e : Lower). asked_of calls ++ flat_map asked_by (taken_in more e)) (sym same)
 
 said_more : (calls more : List LowerCall) (lower : Lower) → lower ≡ (lower_after calls).end → spoken_in (calls ++ more) first_end ≡ spoken_in calls first_end ++ spoken_in more lower
 said_more calls more lower same =

@@ -1,14 +1,15 @@
 -- Commands and their answers, one by one: a redirect's answer without an error is the last one.
-use Rattle.std.proofs.Common.{◌≡◌, Bool, true, false, ◌||◌, List, [], ◌∷◌, ◌++◌, refl, ap, sym, ◌∙◌}
+use Rattle.std.proofs.Common.{◌≡◌, Bool, true, false, List, [], ◌∷◌, ◌++◌, refl, ap, sym, ◌∙◌}
 use Rattle.std.specs.Prelude.{bytes_eq}
 use Rattle.std.specs.List.{AllByRecursion, list_any}
 use Rattle.std.proofs.lemmas.Slice.Eq.{bytes_eq-Decides}
 use Rattle.channel_core.specs.Arrivals.{Spoken}
 use Rattle.channel_core.specs.RunLaws.{token_in}
 use Rattle.channel_core.specs.Wire.{Said, answers, is_redirect, said_by}
-use Rattle.channel_rest.specs.Meeting.{answers_among}
+use Rattle.channel_laws.specs.Meeting.{answers_among}
 use Rattle.value_node.specs.Asked.{Asked}
-use Rattle.value_node.proofs.Lists.{all_then}
+use Rattle.list_laws.proofs.Flags.{or_left, or_right}
+use Rattle.list_laws.proofs.AllLists.{all_then}
 
 -- it answers the command, and others are said behind it; where the flag is set the last one may do a redirect
 pub record IsAnswer (binds : Bool) (c : Asked) (s : Spoken) (behind : List Spoken) : Type 0 where
@@ -60,14 +61,6 @@ each_at binds (c ∷ commands) (t ∷ spoken) (b ∷ before) s rest each are =
     one_behind binds c commands s rest (each_at binds commands spoken before s rest each.1 others)
 
 -- ---- each is answered among them
-
-or_right : (a b : Bool) → b ≡ true → (a || b) ≡ true
-or_right true b on = refl
-or_right false b on = on
-
-or_left : (a b : Bool) → a ≡ true → (a || b) ≡ true
-or_left true b on = refl
-or_left false b on = absurd cc
 
 pub among_behind : (s : Spoken) (spoken : List Spoken) (commands : List Asked) → AllByRecursion (λ c. answers_among c.token spoken ≡ true) commands
     → AllByRecursion (λ c. answers_among c.token (s ∷ spoken) ≡ true) commands

@@ -33,9 +33,10 @@ use Rattle.value_node.proofs.OwnReplies.{IsReplyTo, Names, reply_is}
 use Rattle.value_node.proofs.Pasts.{taken_in}
 use Rattle.value_node.proofs.Steps.{relay, relay_called}
 use Rattle.value_node.proofs.TakenBelow.{behind_takes}
-use Rattle.value_rest.proofs.Failing.{IsFailed, failed_undone, reply_failed}
-use Rattle.value_rest.proofs.Pairing.{AnswerEach}
-use Rattle.value_rest.proofs.Speaking.{spoken_in, spoken_once}
+use Rattle.node_answers.proofs.Adds.Failing.{IsFailed, failed_undone, reply_failed}
+use Rattle.node_answers.proofs.Adds.Pairing.{AnswerEach}
+use Rattle.node_answers.proofs.Adds.Speaking.{spoken_in, spoken_once}
+use Rattle.list_laws.proofs.Lists.{same_some}
 
 -- these messages answer the first of those that were left and of those that are asked, and the value-add stands so then
 pub record Replies (left commands : List Asked) (said_now : List Spoken) (bind : Bind) (redirect : Option (List ℕ)) : Type 0 where
@@ -80,14 +81,11 @@ binds_after Opening body after done = absurd after
 binds_after Bound body after done = refl
 binds_after Closed body after done = absurd after
 
-same_token : (token other : List ℕ) → ◌≡◌ {A = Option (List ℕ)} (Some token) (Some other) → token ≡ other
-same_token token other same = cc
-
 redirect_replies : (redirect : Option (List ℕ)) (body : List ℕ) (bind : Bind) (v : Relay) (left : List Asked) → is_closed v.lower.state ≡ false → IsLeft Opening redirect left → IsAfter bind body
     → Replies left (flat_map asked_by (taken_in (answering redirect body) v.lower)) (spoken_in (answering redirect body) v.lower) bind (redirect_answered redirect body v).redirect
 redirect_replies None body bind v left unclosed is after = let clash : ◌≡◌ {A = Option (List ℕ)} None (Some is.0.token) = is.2 in absurd cc
 redirect_replies (Some token) body bind v left unclosed is after =
-    one_reply left [] is.0 (an_answer token body) (is_done body) v.lower bind None unclosed (append-nil left ∙ is.1) (ap (λ t. answers t (is_done body)) (same_token token is.0.token is.2))
+    one_reply left [] is.0 (an_answer token body) (is_done body) v.lower bind None unclosed (append-nil left ∙ is.1) (ap (λ t. answers t (is_done body)) (same_some token is.0.token is.2))
     (λ asks on. binds_after bind body after on) (none_left bind body after)
 
 -- ---- a command is taken while it is unbound

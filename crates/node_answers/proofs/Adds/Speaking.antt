@@ -10,9 +10,9 @@ use Rattle.channel_core.specs.Runs.{Unheld, called as end_called, closing, comma
 use Rattle.tcf_message.specs.Message.{IsWellFormed}
 use Rattle.value_node.specs.Passing.{Lower}
 use Rattle.value_node.specs.Runs.{LowerCall}
-use Rattle.value_node.proofs.Lists.{all_append}
 use Rattle.value_node.proofs.OwnAnswers.{plain, spelled}
 use Rattle.value_node.proofs.Steps.{ran}
+use Rattle.list_laws.proofs.AllLists.{all_append}
 
 abbrev pub spoken_by : LowerCall → Lower → List Spoken
 spoken_by (delivering piece mark) e = []

@@ -10,15 +10,15 @@ use Rattle.channel_core.specs.Wire.{Said, answers, asks, goes_on, greets, is_red
 use Rattle.channel_core.specs.declared.held.Incoming.{Incoming}
 use Rattle.channel_core.specs.declared.taking.Taken.{Taken}
 use Rattle.channel_core.specs.declared.taking.Taken.TheVariants as taken
-use Rattle.channel_rest.specs.Meeting.{IsAnsweredBy, answers_among, redirect_in, redirects_among}
-use Rattle.channel_rest.specs.Numbering.{token_asked, tokens_among}
-use Rattle.channel_rest.specs.Rest.{IsAsSaid}
+use Rattle.channel_laws.specs.Meeting.{IsAnsweredBy, answers_among, redirect_in, redirects_among}
+use Rattle.channel_laws.specs.Numbering.{token_asked, tokens_among}
+use Rattle.channel_laws.specs.Rest.{IsAsSaid}
 use Rattle.tcf_message.specs.Message.{MessageValue, command, reading}
 use Rattle.tcf_message.specs.declared.message.MessageFault.{MessageFault}
 use Rattle.value_node.specs.Asked.{Asked}
 use Rattle.value_node.specs.RelayLaws.{asked_by, asked_in}
-use Rattle.value_node.proofs.Lists.{all_left, all_right}
-use Rattle.value_rest.proofs.Apart.{tokens_of}
+use Rattle.node_answers.proofs.Adds.Apart.{tokens_of}
+use Rattle.list_laws.proofs.AllLists.{all_left, all_right}
 
 -- the tokens of the redirects among commands
 abbrev pub redirect_of : Asked → List (List ℕ)

@@ -7,18 +7,18 @@ use Rattle.std.proofs.lemmas.Slice.Eq.{bytes_eq-Decides}
 use Rattle.channel_core.specs.Arrivals.{Spoken}
 use Rattle.channel_core.specs.Runs.{Run}
 use Rattle.channel_core.specs.Wire.{Said, answers, asks, goes_on, greets, is_redirect, said_by, tells}
-use Rattle.channel_rest.specs.Meeting.{AnswersAll, does_one, hello_behind, lacks_hello_behind}
-use Rattle.channel_rest.proofs.AsSaid.{all_as_said}
+use Rattle.channel_laws.specs.Meeting.{AnswersAll, does_one, hello_behind, lacks_hello_behind}
+use Rattle.channel_laws.proofs.Rest.AsSaid.{all_as_said}
 use Rattle.value_node.specs.Asked.{Asked}
 use Rattle.value_node.specs.OwnLaws.{asked_until}
 use Rattle.value_node.specs.RelayLaws.{AfterAllCalls, EndsAreRuns, StandsWell}
 use Rattle.value_node.specs.Runs.{LowerCall, ValueRun, after_all, below, below_until_bound, lower_after, no_calls}
 use Rattle.value_node.specs.Value.{value_services}
 use Rattle.value_node.specs.declared.states.Bind.TheVariants.{Unbound}
-use Rattle.value_rest.specs.Answering.{AnswersUnbound}
-use Rattle.value_rest.proofs.Own.{Cited, OwnPart, own_part}
-use Rattle.value_rest.proofs.Replying.{clashes}
-use Rattle.value_rest.proofs.Taken.{redirects_of, redirects_taken, taken_answered}
+use Rattle.node_answers.specs.Answering.{AnswersUnbound}
+use Rattle.node_answers.proofs.Adds.Own.{Cited, OwnPart, own_part}
+use Rattle.node_answers.proofs.Adds.Replying.{clashes}
+use Rattle.node_answers.proofs.Adds.Taken.{redirects_of, redirects_taken, taken_answered}
 
 -- ---- the redirect whose token one of them is
 

@@ -2,13 +2,12 @@
 use Rattle.std.proofs.Common.{◌≡◌, ℕ, ◌+◌, ◌^◌, ◌<◌, ◌≤◌, Bool, true, false, cond, List, [], ◌∷◌, ◌++◌, length, refl, sym, ap, ◌∙◌, subst, arith, append_assoc}
 use Rattle.std.specs.Prelude.{bytes_eq, decimal}
 use Rattle.std.specs.List.{AllByRecursion, flat_map, list_any}
-use Rattle.std.proofs.lemmas.Fmt.{decimal_injective}
 use Rattle.std.proofs.lemmas.List.Folds.{list_any-append}
-use Rattle.std.proofs.lemmas.Slice.Eq.{bytes_eq-Decides}
 use Rattle.agent_node.specs.AgentLaws.{Asked, tokens}
 use Rattle.channel_core.specs.Wire.{is_redirect}
-use Rattle.channel_rest.specs.Numbering.{tokens_from}
-use Rattle.agent_rest.proofs.Lists.{or_neither}
+use Rattle.channel_laws.specs.Numbering.{tokens_from}
+use Rattle.list_laws.proofs.Numbers.{other_decimals}
+use Rattle.list_laws.proofs.Flags.{or_neither}
 
 -- the token of a redirect
 abbrev pub redirect_of : Asked → List (List ℕ)
@@ -20,13 +19,6 @@ is_among token names = list_any (λ text. bytes_eq token text) names
 -- it is a redirect, or has no token of one
 abbrev pub IsApart : List (List ℕ) → Asked → Type 0
 IsApart redirects c = is_redirect c.service c.name ≡ false → is_among c.token redirects ≡ false
-
-other_digits : (m n : ℕ) → m < 2 ^ 64 → n < 2 ^ 64 → (m ≡ n → ⊥) → bytes_eq (decimal m) (decimal n) ≡ false
-other_digits m n few less differ = by_flag (bytes_eq (decimal m) (decimal n)) refl
-  where
-    by_flag : (flag : Bool) → bytes_eq (decimal m) (decimal n) ≡ flag → flag ≡ false
-    by_flag true is = absurd (differ (decimal_injective m n few less ((bytes_eq-Decides (decimal m) (decimal n)).0 is)))
-    by_flag false is = refl
 
 among_first : (token : List ℕ) (c : Asked) (names : List (List ℕ)) → bytes_eq token c.token ≡ false → is_among token names ≡ false → is_among token (redirect_of c ++ names) ≡ false
 among_first token c names other none = by_flag (is_redirect c.service c.name)
@@ -48,7 +40,7 @@ later_apart n next (c ∷ commands) are less few =
     let high : next < 2 ^ 64 = omega arith in
     let more : n < next + 1 = omega arith in
     let fits : next + 1 + length commands ≤ 2 ^ 64 = omega arith in
-    among_first (decimal n) c (flat_map redirect_of commands) (ap (bytes_eq (decimal n)) first ∙ other_digits n next small high (less_differs n next less))
+    among_first (decimal n) c (flat_map redirect_of commands) (ap (bytes_eq (decimal n)) first ∙ other_decimals n next small high (less_differs n next less))
     (later_apart n (next + 1) commands rest more fits)
 
 -- these tokens are before the number
@@ -59,7 +51,7 @@ before_more : (next : ℕ) (names : List (List ℕ)) (c : Asked) → c.token ≡
 before_more next names c is high before n low small =
     let less : next < n = omega arith in
     let there : next ≤ n = omega arith in
-    let other : bytes_eq (decimal n) c.token ≡ false = ap (bytes_eq (decimal n)) is ∙ other_digits n next small high (λ same. less_differs next n less (sym same)) in
+    let other : bytes_eq (decimal n) c.token ≡ false = ap (bytes_eq (decimal n)) is ∙ other_decimals n next small high (λ same. less_differs next n less (sym same)) in
     list_any-append (λ text. bytes_eq (decimal n) text) names (redirect_of c)
     ∙ or_neither (is_among (decimal n) names) (is_among (decimal n) (redirect_of c)) (before n there small) (by_flag (is_redirect c.service c.name) other)
   where

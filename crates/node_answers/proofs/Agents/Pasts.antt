@@ -5,7 +5,7 @@ use Rattle.agent_node.specs.AgentValue.{AgentValue}
 use Rattle.agent_node.specs.Runs.{Past, on_number, on_open, opened_by, run_of, unless_over, with_calls}
 use Rattle.channel_core.specs.Closing.{is_closed}
 use Rattle.channel_core.specs.Runs.{Call}
-use Rattle.agent_rest.proofs.Lists.{all_append}
+use Rattle.list_laws.proofs.AllLists.{all_append}
 
 module _ (P : Call Unit → Type 0) where
   abbrev pub AreAll : List (Call Unit) → Type 0

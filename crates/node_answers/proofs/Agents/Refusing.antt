@@ -19,7 +19,7 @@ use Rattle.target_hub.specs.Execution.{exec_effect}
 use Rattle.target_hub.specs.declared.done.Answered.{Answered}
 use Rattle.target_hub.specs.declared.done.Answered.TheVariants.{Result, Unknown}
 use Rattle.target_hub.specs.declared.target.Target.{Target}
-use Rattle.agent_rest.proofs.Lists.{and_parts}
+use Rattle.list_laws.proofs.Flags.{and_parts}
 
 -- an answer with data has an error
 abbrev pub Refuses : Answered → Type 0

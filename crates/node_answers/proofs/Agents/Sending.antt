@@ -30,9 +30,9 @@ use Rattle.agent_node.specs.AgentValue.{AgentValue}
 use Rattle.agent_node.specs.Runs.{AgentRun, Call, Past, after_all, after_call, answer_calls, answer_of, answered_by, asked_by, bytes_end, comes, event_call, gives, hearing, input_by, input_if, input_of, next_of, no_calls, on_number, on_one, on_open, opens, progress_call, ticked_by, ticks, took_by, turns, with_calls}
 use Rattle.agent_node.specs.declared.agent.Turned.{Turned}
 use Rattle.agent_node.specs.declared.agent.Turned.TheVariants.{Nothing, Took}
-use Rattle.agent_rest.proofs.Lists.{or_second}
-use Rattle.agent_rest.proofs.Pasts.{each_called, number_called, open_called, opened_called, unless_called, with_called}
-use Rattle.agent_rest.proofs.Telling.{TargetLaws, progress_size}
+use Rattle.node_answers.proofs.Agents.Pasts.{each_called, number_called, open_called, opened_called, unless_called, with_called}
+use Rattle.node_answers.proofs.Agents.Telling.{TargetLaws, progress_size}
+use Rattle.list_laws.proofs.Flags.{or_right as or_second}
 
 -- a call of the agent's end
 abbrev pub IsPlain : EndCall Unit → Type 0

@@ -3,25 +3,25 @@ use Rattle.std.proofs.Common.{◌≡◌, suc, ◌^◌, ◌<◌, ◌≤◌, List,
 use Rattle.std.specs.List.{AllByRecursion, flat_map}
 use Rattle.agent_node.specs.AgentLaws.{Asked, FollowsHistory, asked, messages_told, read, tokens}
 use Rattle.agent_node.specs.Runs.{Past, after_all, no_calls, run_of}
-use Rattle.agent_rest.specs.Answering.{ServesAll, ServesAllAfterAnyCalls}
+use Rattle.node_answers.specs.AgentAnswering.{ServesAll, ServesAllAfterAnyCalls}
 use Rattle.channel_core.specs.Arrivals.{Spoken}
 use Rattle.channel_core.specs.ReceivingLaws.{incoming_of}
 use Rattle.channel_core.specs.RunLaws.{AfterAllCalls}
 use Rattle.channel_core.specs.declared.held.Incoming.{Incoming}
-use Rattle.channel_rest.specs.Meeting.{AnswersAll, lacks_hello_behind}
-use Rattle.channel_rest.specs.Numbering.{TakesNumbered, tokens_from}
-use Rattle.channel_rest.specs.Rest.{TakesAsSaid}
+use Rattle.channel_laws.specs.Meeting.{AnswersAll, lacks_hello_behind}
+use Rattle.channel_laws.specs.Numbering.{TakesNumbered, tokens_from}
+use Rattle.channel_laws.specs.Rest.{TakesAsSaid}
 use Rattle.target_contexts.specs.declared.process.Image.{Image}
 use Rattle.target_hub.specs.History.{IsLegal}
 use Rattle.target_hub.specs.Sent.{Told, agent_services, executed_on, sent}
 use Rattle.target_hub.specs.declared.input.Input.{Input}
 use Rattle.tcf_message.specs.Message.{IsToken}
-use Rattle.agent_rest.proofs.Lists.{all_both}
-use Rattle.agent_rest.proofs.Numbered.{all_apart, redirect_of}
-use Rattle.agent_rest.proofs.Sending.{ArePlain, SendingLaws, all_stay, executed_fits, plain_commands, plain_readable}
-use Rattle.agent_rest.proofs.Spoken.{AreAnswered, said_spoken, told_answered, told_does_none, told_formed, told_to}
-use Rattle.agent_rest.proofs.Taken.{all_answered, all_named, asked_among, asked_same, redirects_same, tokens_same}
-use Rattle.agent_rest.proofs.Telling.{Come, agent_hello, all_come}
+use Rattle.node_answers.proofs.Agents.Numbered.{all_apart, redirect_of}
+use Rattle.node_answers.proofs.Agents.Sending.{ArePlain, SendingLaws, all_stay, executed_fits, plain_commands, plain_readable}
+use Rattle.node_answers.proofs.Agents.Spoken.{AreAnswered, said_spoken, told_answered, told_does_none, told_formed, told_to}
+use Rattle.node_answers.proofs.Agents.Taken.{all_answered, all_named, asked_among, asked_same, redirects_same, tokens_same}
+use Rattle.node_answers.proofs.Agents.Telling.{Come, agent_hello, all_come}
+use Rattle.list_laws.proofs.AllLists.{all_both}
 
 pub record Laws : Type 0 where
   pub sending : SendingLaws

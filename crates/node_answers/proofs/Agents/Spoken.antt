@@ -6,12 +6,14 @@ use Rattle.std.proofs.lemmas.Slice.Eq.{bytes_eq-Decides}
 use Rattle.agent_node.specs.AgentLaws.{Asked, all_said, messages_told, read, tokens}
 use Rattle.channel_core.specs.Arrivals.{AreSpoken, Spoken}
 use Rattle.channel_core.specs.Wire.{event_said, hello, is_done, is_redirect, locator, said}
-use Rattle.channel_rest.specs.Meeting.{all_said as all_spoken, answers_among, does_one, hello_behind, lacks_hello_behind}
+use Rattle.channel_laws.specs.Meeting.{all_said as all_spoken, answers_among, does_one, hello_behind, lacks_hello_behind}
 use Rattle.target_hub.specs.Sent.{Told, event_at, final_at, hello_at, progress_at, unknown_at}
 use Rattle.tcf_message.specs.Message.{IsToken, MessageValue, event, final, most_body, not_known, progress}
-use Rattle.agent_rest.proofs.Lists.{all_weaker, and_first, and_second, or_first, or_neither, or_second}
-use Rattle.agent_rest.proofs.Numbered.{IsApart, is_among}
-use Rattle.agent_rest.proofs.Telling.{Come}
+use Rattle.node_answers.proofs.Agents.Lists.{and_first, and_second}
+use Rattle.node_answers.proofs.Agents.Numbered.{IsApart, is_among}
+use Rattle.node_answers.proofs.Agents.Telling.{Come}
+use Rattle.list_laws.proofs.AllLists.{all_weaker}
+use Rattle.list_laws.proofs.Flags.{or_left as or_first, or_neither, or_right as or_second}
 
 abbrev pub spoken_of : List (MessageValue × Option ℕ) → List Spoken
 spoken_of messages = map (λ m. record { message = m.0; mark = m.1 }) messages

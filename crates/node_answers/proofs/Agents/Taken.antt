@@ -9,16 +9,16 @@ use Rattle.channel_core.specs.Wire.{Said, answers, asks, goes_on, greets, said_o
 use Rattle.channel_core.specs.declared.held.Incoming.{Incoming}
 use Rattle.channel_core.specs.declared.taking.Taken.{Taken}
 use Rattle.channel_core.specs.declared.taking.Taken.TheVariants as taken
-use Rattle.channel_rest.specs.Meeting.{IsAnsweredBy, redirect_in, redirects_among}
-use Rattle.channel_rest.specs.Numbering.{token_asked, tokens_among}
-use Rattle.channel_rest.specs.Rest.{IsAsSaid}
+use Rattle.channel_laws.specs.Meeting.{IsAnsweredBy, redirect_in, redirects_among}
+use Rattle.channel_laws.specs.Numbering.{token_asked, tokens_among}
+use Rattle.channel_laws.specs.Rest.{IsAsSaid}
 use Rattle.channel_core.specs.Arrivals.{Spoken}
 use Rattle.tcf_message.specs.Fault.{IsReadBack}
 use Rattle.tcf_message.specs.Message.{IsToken, MessageValue, command, event, final, flow, not_known, progress, reading}
 use Rattle.tcf_message.specs.declared.message.MessageFault.{MessageFault}
-use Rattle.agent_rest.proofs.Lists.{all_append}
-use Rattle.agent_rest.proofs.Numbered.{redirect_of}
-use Rattle.agent_rest.proofs.Spoken.{AreAnswered}
+use Rattle.node_answers.proofs.Agents.Numbered.{redirect_of}
+use Rattle.node_answers.proofs.Agents.Spoken.{AreAnswered}
+use Rattle.list_laws.proofs.AllLists.{all_append}
 
 -- the commands among these messages
 abbrev pub asked_among : List Incoming → List Asked

@@ -22,7 +22,8 @@ use Rattle.target_hub.specs.declared.input.Input.{Input}
 use Rattle.target_hub.specs.declared.input.Input.TheVariants.{Closed, Executed, Opened, Ticked}
 use Rattle.target_hub.specs.declared.target.Target.{Target}
 use Rattle.agent_node.proofs.Histories.{inputs_more, live_same}
-use Rattle.agent_rest.proofs.Refusing.{Refuses, redirect_refused}
+use Rattle.node_answers.proofs.Agents.Refusing.{Refuses, redirect_refused}
+use Rattle.target_hub.proofs.Bounded.{front_legal}
 
 -- the laws of the target
 pub record TargetLaws : Type 0 where
@@ -135,11 +136,6 @@ greeting_come true position asked rest come = (agent_hello, come)
 greeting_come false position asked rest come = come
 
 -- ---- Of each input, and of all
-
--- the front of a legal history is legal
-front_legal : (images : List Image) (front rest : List Input) → IsLegal images (front ++ rest) → IsLegal images front
-front_legal images front rest legal before input more split =
-    legal before input (more ++ rest) (ap (λ (inputs : List Input). inputs ++ rest) split ∙ append_assoc before (input ∷ more) rest)
 
 module _ (laws : TargetLaws) where
   input_come : (k : ℕ) (before : List Input) (target : Target) (input : Input) (asked : List ReadCommand) (rest : List Told) → IsAllowed before target input → IsBounded target → Come asked rest

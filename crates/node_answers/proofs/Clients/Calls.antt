@@ -1,17 +1,16 @@
 -- Each call of a client keeps that the log of a closed channel is finished.
-use Rattle.std.proofs.Common.{◌≡◌, ℕ, ◌+◌, Bool, true, false, List, [], ◌∷◌, ◌++◌, length, Option, Some, None, Result, Ok, refl, ap, sym, ◌∙◌, subst, inl, inr, ◌⊎◌}
+use Rattle.std.proofs.Common.{◌≡◌, ℕ, ◌+◌, Bool, true, false, List, [], ◌∷◌, ◌++◌, length, Option, Some, None, refl, ap, sym, ◌∙◌, subst, inl, inr, ◌⊎◌}
 use Rattle.std.specs.Prelude.{if◌then◌else◌}
 use Rattle.std.specs.List.{Contains, list_any}
 use Rattle.cached_lines.specs.declared.what.CachedWhat.{CachedWhat}
-use Rattle.tcf_message.specs.Message.{MessageValue, command, not_known, reading}
-use Rattle.tcf_message.specs.declared.message.MessageFault.{MessageFault}
+use Rattle.tcf_message.specs.Message.{reading}
 use Rattle.tcf_text.specs.Lines.{finals}
 use Rattle.tcf_text.specs.Once.{AllAnswered, is_end}
 use Rattle.tcf_text.specs.declared.log.LogLine.{LogLine}
 use Rattle.tcf_text.specs.declared.log.LogLine.TheVariants as lines
 use Rattle.tcf_text.specs.declared.log.RefusedWhy.{RefusedWhy}
 use Rattle.tcf_text.specs.declared.log.RefusedWhy.TheVariants as refused
-use Rattle.channel_core.specs.Closing.{closed_for as end_closed_for, closed_own, is_closed}
+use Rattle.channel_core.specs.Closing.{closed_own, is_closed}
 use Rattle.channel_core.specs.EndValue.{EndValue}
 use Rattle.channel_core.specs.Sending.{refusal_of}
 use Rattle.channel_core.specs.Taking.{next_taken}
@@ -26,13 +25,14 @@ use Rattle.client_node.specs.Client.{closed_for, new_client, not_recognised, not
 use Rattle.client_node.specs.ClientValue.{ClientValue}
 use Rattle.client_node.specs.Lines.{event_line, final_line, hello_line, progress_line, why_of}
 use Rattle.client_node.specs.Runs.{Call, asks, bytes_end, called, closes, comes, gives, opens, run, sends, turns}
-use Rattle.client_node.proofs.Calls.{Holds, Stands, call_kept, new_holds, over, under_way}
-use Rattle.client_node.proofs.Ends.{IsOpen, commanded_open, delivered_open, ended_open, given_open, nothing_taken, queued_open, refused_then}
-use Rattle.client_node.proofs.Lists.{none_in}
+use Rattle.client_node.proofs.Calls.{Holds, Stands, call_kept, new_holds, over, under_way, client, command_open}
+use Rattle.client_node.proofs.Ends.{IsOpen, commanded_open, delivered_open, ended_open, given_open, nothing_taken, refused_then}
 use Rattle.client_node.proofs.Standing.{Standing}
 use Rattle.client_node.proofs.Taken.{Leaves, Outcome, next_gives}
-use Rattle.client_rest.specs.Lacking.{EndsWhereClosed, IsAnsweredWhereNonePends, is_closed_on}
-use Rattle.client_rest.proofs.Finished.{Finished, finished_by, finished_push}
+use Rattle.node_answers.specs.Lacking.{EndsWhereClosed, IsAnsweredWhereNonePends, is_closed_on}
+use Rattle.node_answers.proofs.Clients.Finished.{Finished, finished_by, finished_push}
+use Rattle.client_node.proofs.Following.{own_pending}
+use Rattle.list_laws.proofs.Contained.{none_in}
 
 -- ---- what holds of a client
 
@@ -41,9 +41,6 @@ FinishedWhereClosed channel log = is_closed_on channel ≡ true → Finished log
 
 abbrev pub Finishes : ClientValue → Type 0
 Finishes c = FinishedWhereClosed c.channel c.log
-
-abbrev client : Option (EndValue ℕ) → List LogLine → Bool → ClientValue
-client channel log spent = record { channel = channel; log = log; is_spent = spent }
 
 -- an open end's log needn't be
 still_open : (last : ℕ) (rows : List (ℕ × ℕ)) (e : EndValue ℕ) (log : List LogLine) → IsOpen last rows e → FinishedWhereClosed (Some e) log
@@ -111,10 +108,6 @@ finishes_by : (flag : Bool) (one other : ClientValue) → Finishes one → Finis
 finishes_by true one other first second = first
 finishes_by false one other first second = second
 
-own_pending : (flag : Bool) (e : EndValue ℕ) → (if flag then e else end_closed_for Own e).pending ≡ e.pending
-own_pending true e = refl
-own_pending false e = refl
-
 closes_finishes : (channel : Option (EndValue ℕ)) (log : List LogLine) (spent : Bool) → Stands channel log → FinishedWhereClosed channel log
     → Finishes (called closes (client channel log spent))
 closes_finishes None log spent stands old = λ closed. cc
@@ -125,10 +118,6 @@ closes_finishes (Some e) log spent (under_way last rows open_end going) old =
 closes_finishes (Some e) log spent (over ended done) old = rw ended.closed (λ closed. old ended.closed)
 
 -- ---- a turn
-
-command_open : (last : ℕ) (rows : List (ℕ × ℕ)) (e : EndValue ℕ) (m : Result MessageValue MessageFault) → IsOpen last rows e → IsOpen last rows (not_recognised m e)
-command_open last rows e (Ok (command token service name body)) open_end = queued_open last rows (not_known token) None e open_end
-command_open last rows e m open_end = open_end
 
 noted_finishes : (last : ℕ) (rows : List (ℕ × ℕ)) (e : EndValue ℕ) (log : List LogLine) (spent : Bool) (line : Option LogLine) → IsOpen last rows e
     → Finishes (noted line (client (Some e) log spent))

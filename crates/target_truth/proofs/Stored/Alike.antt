@@ -3,10 +3,10 @@ use Rattle.std.proofs.Common.{ap}
 use Rattle.std.proofs.lemmas.Option.{none-some}
 use Rattle.knowledge.specs.Laws.{ReadIsKnown}
 use Rattle.reply_tables.specs.Written.{answer_data}
-use Rattle.stored_truth.specs.Laws.{IsAnsweredAlike, IsWrittenAt}
-use Rattle.stored_truth.proofs.Asked.{context_alike, properties_alike, state_alike, status_alike}
-use Rattle.stored_truth.proofs.Memory.{memory_alike}
-use Rattle.stored_truth.proofs.Registers.{register_alike, registers_alike}
+use Rattle.target_truth.specs.StoredLaws.{IsAnsweredAlike, IsWrittenAt}
+use Rattle.target_truth.proofs.Stored.Asked.{context_alike, properties_alike, state_alike, status_alike}
+use Rattle.target_truth.proofs.Stored.Memory.{memory_alike}
+use Rattle.target_truth.proofs.Stored.Registers.{register_alike, registers_alike}
 use Rattle.target_hub.specs.Fresh.{target_at}
 use Rattle.tcf_values.specs.declared.command.Command.TheVariants as commands
 

@@ -9,7 +9,7 @@ use Rattle.knowledge.specs.Reply.{context_reply, context_state_reply, properties
 use Rattle.knowledge.specs.declared.state.StateFact.{StateFact}
 use Rattle.knowledge.specs.declared.state.StateFact.TheVariants as told
 use Rattle.run_control.specs.Asking.{context_answer, run_state, state_answer}
-use Rattle.stored_truth.proofs.Found.{mapped}
+use Rattle.target_truth.proofs.Stored.Found.{mapped}
 use Rattle.target_contexts.specs.Live.{process_of}
 use Rattle.target_contexts.specs.Named.{attached_in, process_at_number, thread_for}
 use Rattle.target_contexts.specs.declared.process.Process.{Process}

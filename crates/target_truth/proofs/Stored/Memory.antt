@@ -1,6 +1,6 @@
 -- Bytes of memory: what is answered of them is what the target answers.
-use Rattle.std.proofs.Common.{◌≡◌, ℕ, zero, suc, ℤ, ◌+◌, ◌-◌, ◌<◌, ◌≤◌, ◌==◌, Bool, true, false, not, cond, List, [], ◌∷◌, length, take, drop, find, slice_get, Option, Some, None, is_none, option_map, option_and_then, refl, sym, ◌∙◌, ap, arith, length-drop, length-take, pos, negsuc}
-use Rattle.std.proofs.lemmas.Bool.{and_parts, false≢true, le-ltb, leb-true, not-true, or_from, or_parts}
+use Rattle.std.proofs.Common.{◌≡◌, ℕ, zero, suc, ℤ, ◌+◌, ◌<◌, ◌≤◌, ◌==◌, Bool, true, false, not, cond, List, [], ◌∷◌, length, take, drop, find, slice_get, Option, Some, None, is_none, option_map, option_and_then, refl, sym, ◌∙◌, ap, arith, pos, negsuc}
+use Rattle.std.proofs.lemmas.Bool.{and_parts, false≢true, le-ltb, not-true, or_from, or_parts}
 use Rattle.std.proofs.lemmas.Option.{cond_some, none-some, same_Some}
 use Rattle.std.specs.Prelude.{int_lt, unsigned_abs}
 use Rattle.block_store.specs.Blocks.{has_range, part}
@@ -13,7 +13,7 @@ use Rattle.knowledge.specs.Laws.{AreKnown, ReadIsKnown}
 use Rattle.knowledge.specs.Reply.{is_readable, memory_reply, process_asked, range_asked, range_of}
 use Rattle.knowledge.specs.Rows as learned
 use Rattle.knowledge.specs.declared.state.StateFact.{StateFact}
-use Rattle.stored_truth.proofs.Found.{mapped, passed}
+use Rattle.target_truth.proofs.Stored.Found.{mapped, passed}
 use Rattle.target_contexts.specs.Named.{number_for, process_at_number}
 use Rattle.target_contexts.specs.declared.process.Process.{Process}
 use Rattle.target_hub.specs.Execution.{exec_effect}
@@ -29,16 +29,10 @@ use Rattle.tcf_values.specs.declared.command.Command.TheVariants as commands
 use Rattle.tcf_values.specs.declared.faults.Fault.TheVariants as faults
 use Rattle.tcf_values.specs.declared.ids.ContextId.{ContextId}
 use Rattle.tcf_values.specs.declared.ids.ContextId.TheVariants as ids
+use Rattle.list_laws.proofs.Numbers.{above_zero}
+use Rattle.knowledge.proofs.Inside.{part_length}
 
 -- ---- a range that is covered has its bytes
-
-taken : (size first start : ℕ) (bytes : List ℕ) → start ≤ first → first + size ≤ start + length bytes → length (take size (drop (first - start) bytes)) ≡ size
-taken size first start bytes begins ends = omega (arith, length-take size (drop (first - start) bytes), length-drop (first - start) bytes)
-
-part_length : (process addr size : ℕ) (block : Block) → has_range process addr size block ≡ true → length (part addr size block) ≡ size
-part_length process addr size block has =
-    let parts = and_parts _ _ has in
-    taken size addr block.addr block.bytes (leb-true _ _ (and_parts _ _ parts.0).1) (leb-true _ _ parts.1)
 
 length_by : (process addr size : ℕ) (bytes : List ℕ) (block : Block) (blocks : List Block) (has : Bool) → has_range process addr size block ≡ has
     → (covered process addr size blocks ≡ Some bytes → length bytes ≡ size)
@@ -90,10 +84,6 @@ named target known (Some context) process holds is = named_by target known conte
 
 -- ---- a range that can be read passes the checks
 
-positive : (n : ℕ) → (n == 0) ≡ false → 0 < n
-positive zero is = cc
-positive (suc n) is = omega arith
-
 small : (addr size : ℤ) → int_lt size (pos 0) ≡ false → unsigned_abs addr + unsigned_abs size ≤ 65536 → int_lt (pos 65536) size ≡ false
 small addr (pos n) is fits = le-ltb 65536 n (omega (arith, fits))
 small addr (negsuc n) is fits = cc
@@ -112,7 +102,7 @@ readable addr size is =
     record {
       sized = or_from _ _ begins.1 (small addr size begins.1 (inside addr size lies));
       placed = or_from _ _ begins.0 ends.1;
-      some = positive (unsigned_abs size) (not-true (unsigned_abs size == 0) parts.1);
+      some = above_zero (unsigned_abs size) (not-true (unsigned_abs size == 0) parts.1);
     }
 
 -- ---- get

@@ -14,7 +14,7 @@ use Rattle.knowledge.specs.Facts.{Facts, is_suspended, register_is, state_is}
 use Rattle.knowledge.specs.Reply.{are_parts_known, bytes_or_none, part_bytes, part_known, parts_bytes, register_known, register_reply, registers_reply, word_reply}
 use Rattle.knowledge.specs.Rows.{is_part}
 use Rattle.knowledge.specs.declared.state.StateFact.{StateFact}
-use Rattle.stored_truth.proofs.Found.{mapped, passed}
+use Rattle.target_truth.proofs.Stored.Found.{mapped, passed}
 use Rattle.target_contexts.specs.Named.{is_running, runs}
 use Rattle.target_contexts.specs.declared.process.Process.{Process}
 use Rattle.target_contexts.specs.declared.process.ThreadState.{ThreadState}

@@ -17,10 +17,10 @@ use Rattle.knowledge.specs.declared.state.StateFact.TheVariants as state
 use Rattle.reply_tables.specs.Limits.{IsAnswerTo}
 use Rattle.reply_tables.specs.ReadingLaws.{BytesReadBack}
 use Rattle.reply_tables.specs.Written.{IsTyped}
-use Rattle.stored_lessons.proofs.Each.{all_if, bound, mapped, passed}
-use Rattle.stored_lessons.proofs.Learned.{IsSoundOf}
-use Rattle.stored_lessons.proofs.Registers.{parts_tell, parts_typed, whole_tells, word_bytes}
-use Rattle.stored_lessons.proofs.Told.{Tells}
+use Rattle.value_store.proofs.Lessons.Each.{bound, mapped, passed}
+use Rattle.value_store.proofs.Lessons.Learned.{IsSoundOf}
+use Rattle.value_store.proofs.Lessons.Registers.{parts_tell, parts_typed, whole_tells, word_bytes}
+use Rattle.value_store.proofs.Lessons.Told.{Tells}
 use Rattle.tcf_values.specs.Ids.{context_of}
 use Rattle.tcf_values.specs.declared.answer.Answer.{Answer}
 use Rattle.tcf_values.specs.declared.command.Command.{Command}
@@ -28,6 +28,7 @@ use Rattle.tcf_values.specs.declared.command.Command.TheVariants as command
 use Rattle.tcf_values.specs.declared.ids.ContextId.{ContextId}
 use Rattle.tcf_values.specs.declared.ids.ContextId.TheVariants.{Process, Thread}
 use Rattle.tcf_values.specs.declared.values.RunState.TheVariants as run
+use Rattle.list_laws.proofs.AllLists.{all_if}
 
 pub record IsGood (known : Facts) (asked : Command) (answer : Answer) : Type 0 where
   pub fits : IsAnswerTo asked answer

@@ -13,7 +13,7 @@ use Rattle.base64.specs.Decode.{IsDecodeTable, decode_error, decode_group, decod
 use Rattle.base64.specs.Engines.{standard}
 use Rattle.base64.specs.GeneralPurpose.{decoded_of}
 use Rattle.base64.proofs.Tables.{IsDecodeTable_from, are_tables_inverse}
-use Rattle.stored_lessons.proofs.Each.{all_append, all_take}
+use Rattle.list_laws.proofs.AllLists.{all_append, all_take}
 
 abbrev IsSmall : ℕ → Type 0
 IsSmall byte = byte < 256

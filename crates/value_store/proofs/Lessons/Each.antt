@@ -1,6 +1,5 @@
 -- What is so of what is found where it is so of all that can be found, and of each in a list.
-use Rattle.std.proofs.Common.{◌≡◌, ℕ, zero, suc, Bool, true, false, cond, List, [], ◌∷◌, ◌++◌, take, drop, Option, Some, None, option_map, refl, subst}
-use Rattle.std.specs.List.{AllByRecursion}
+use Rattle.std.proofs.Common.{◌≡◌, Bool, true, false, cond, Option, Some, None, option_map, refl, subst}
 use Rattle.std.specs.Prelude.{IfSome, option_and_then}
 
 -- ---- what is found
@@ -52,21 +51,3 @@ passed true found a is = (refl, is)
 passed false found a is = cc
 
 -- ---- each in a list
-
-pub all_append : {A : Type 0} → (P : A → Type 0) (xs ys : List A) → AllByRecursion P xs → AllByRecursion P ys → AllByRecursion P (xs ++ ys)
-all_append P [] ys left right = right
-all_append P (x ∷ xs) ys left right = (left.0, all_append P xs ys left.1 right)
-
-pub all_if : {A : Type 0} → (P : A → Type 0) (test : Bool) (xs : List A) → (test ≡ true → AllByRecursion P xs) → AllByRecursion P (cond test xs [])
-all_if P true xs all = all refl
-all_if P false xs all = tt
-
-pub all_take : {A : Type 0} → (P : A → Type 0) (n : ℕ) (xs : List A) → AllByRecursion P xs → AllByRecursion P (take n xs)
-all_take P zero xs all = tt
-all_take P (suc n) [] all = tt
-all_take P (suc n) (x ∷ xs) all = (all.0, all_take P n xs all.1)
-
-pub all_drop : {A : Type 0} → (P : A → Type 0) (n : ℕ) (xs : List A) → AllByRecursion P xs → AllByRecursion P (drop n xs)
-all_drop P zero xs all = all
-all_drop P (suc n) [] all = tt
-all_drop P (suc n) (x ∷ xs) all = all_drop P n xs all.1

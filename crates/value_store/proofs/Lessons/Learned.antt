@@ -12,10 +12,9 @@ use Rattle.knowledge.specs.Facts.{Facts, is_suspended, nothing}
 use Rattle.knowledge.specs.Learning.{Message, event_taken, bad_event_taken, answer_taken, other_taken, changes_of, learn, learn_all}
 use Rattle.knowledge.specs.Rows.{added_context, answer_changes, are_of_range, changed_context, changed_range, changed_register, event_changes, is_outside, is_part, memory_changes, memory_read, moved_for, parts_read, process_for, removed_context, removed_properties, stale_for, state_changes, state_of_thread, told_properties, whole_read, word_read}
 use Rattle.knowledge.specs.declared.state.StateFact.{StateFact}
-use Rattle.stored_lessons.specs.Taken.{AreTaken}
-use Rattle.stored_lessons.proofs.Each.{all_append, all_drop, all_if, all_take}
-use Rattle.stored_lessons.proofs.Messages.{IsSoundMessage, taken_so}
-use Rattle.stored_lessons.proofs.Reading.{IsBp, IsSound, IsSoundEvent, IsWord}
+use Rattle.value_store.specs.Taken.{AreTaken}
+use Rattle.value_store.proofs.Lessons.Messages.{IsSoundMessage, taken_so}
+use Rattle.value_store.proofs.Lessons.Reading.{IsSound, IsSoundEvent, IsWord}
 use Rattle.tcf_values.specs.Ids.{context_of, register_of}
 use Rattle.tcf_values.specs.declared.answer.Answer.{Answer}
 use Rattle.tcf_values.specs.declared.command.Command.{Command}
@@ -32,6 +31,8 @@ use Rattle.tcf_values.specs.declared.values.Range.{Range}
 use Rattle.tcf_values.specs.declared.values.RunState.{RunState}
 use Rattle.tcf_values.specs.declared.values.RunState.TheVariants as run
 use Rattle.reply_tables.specs.Written.{IsTypedState}
+use Rattle.list_laws.proofs.AllLists.{all_append, all_drop, all_if, all_take}
+use Rattle.cache_learning.proofs.Limits.{IsBp}
 
 pub record IsSoundOf (known : Facts) : Type 0 where
   pub contexts : (id : List ℕ) (context : ContextData) → known.contexts id ≡ Some context → IsContext context

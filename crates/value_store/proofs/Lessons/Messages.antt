@@ -8,9 +8,9 @@ use Rattle.reply_tables.specs.Events.{event_by, event_in, known_or_bad}
 use Rattle.reply_tables.specs.Parts.{ended_parts}
 use Rattle.service_names.specs.Events.{event_named}
 use Rattle.service_names.specs.declared.events.EventName.{EventName}
-use Rattle.stored_lessons.specs.Taken.{IsTaken}
-use Rattle.stored_lessons.proofs.Each.{then_any}
-use Rattle.stored_lessons.proofs.Reading.{IsSound, IsSoundEvent, answer_so, event_so}
+use Rattle.value_store.specs.Taken.{IsTaken}
+use Rattle.value_store.proofs.Lessons.Each.{then_any}
+use Rattle.value_store.proofs.Lessons.Reading.{IsSound, IsSoundEvent, answer_so, event_so}
 use Rattle.tcf_values.specs.declared.answer.Answer.{Answer}
 use Rattle.tcf_values.specs.declared.command.Command.{Command}
 use Rattle.tcf_values.specs.declared.event.EventData.{EventData}

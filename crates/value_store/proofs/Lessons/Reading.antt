@@ -1,5 +1,5 @@
 -- What is read of an answer and of an event is within the limits of its kind and of its types.
-use Rattle.std.proofs.Common.{◌≡◌, ℕ, ◌<◌, ◌^◌, nat_lt, Bool, true, false, cond, List, [], ◌∷◌, length, Option, Some, None, option_map, arith}
+use Rattle.std.proofs.Common.{ℕ, ◌<◌, ◌^◌, nat_lt, Bool, true, false, cond, List, [], ◌∷◌, length, Option, Some, None, option_map, arith}
 use Rattle.std.proofs.lemmas.Bool.{ltb-true}
 use Rattle.std.specs.List.{AllByRecursion}
 use Rattle.std.specs.Prelude.{IfSome, option_and_then, unwrap_or, ◌==◌, codes}
@@ -29,20 +29,18 @@ use Rattle.reply_tables.specs.Rows.{row_of}
 use Rattle.serde_json.specs.Data.{Data, null, boolean, number, string, array, object, Items, no_items, item}
 use Rattle.serde_json.specs.Find.{as_bool, as_number, as_str, as_u64}
 use Rattle.service_names.specs.declared.events.EventName.{EventName}
-use Rattle.stored_lessons.proofs.Decoded.{decoded_bytes_small}
-use Rattle.stored_lessons.proofs.Each.{if_found, map_any, map_so, then_any, then_so, where_so}
+use Rattle.value_store.proofs.Lessons.Decoded.{decoded_bytes_small}
+use Rattle.value_store.proofs.Lessons.Each.{if_found, map_any, map_so, then_any, then_so, where_so}
 use Rattle.tcf_values.specs.declared.answer.Answer.{Answer}
 use Rattle.tcf_values.specs.declared.command.Command.{Command}
 use Rattle.tcf_values.specs.declared.errors.ErrorReport.{ErrorReport}
 use Rattle.tcf_values.specs.declared.event.EventData.{EventData}
 use Rattle.tcf_values.specs.declared.values.BpProps.{BpProps}
 use Rattle.tcf_values.specs.declared.values.Place.TheVariants.{Address, Error}
+use Rattle.cache_learning.proofs.Limits.{IsBp}
 
 abbrev pub IsWord : ℕ → Type 0
 IsWord n = n < 2 ^ 32
-
-abbrev pub IsBp : BpProps → Type 0
-IsBp properties = is_bp properties ≡ true
 
 -- ---- kinds of values
 

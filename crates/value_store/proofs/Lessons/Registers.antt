@@ -10,13 +10,14 @@ use Rattle.command_tables.specs.Canonical.{AreBytes}
 use Rattle.knowledge.specs.Facts.{Facts}
 use Rattle.knowledge.specs.Reply.{are_parts_known, bytes_or_none, part_bytes, part_known, parts_bytes, register_known}
 use Rattle.knowledge.specs.Rows.{is_part, parts_read, whole_read, word_read}
-use Rattle.stored_lessons.proofs.Each.{all_append, all_drop, all_if, all_take, bound, map_any, mapped, passed, where_so}
-use Rattle.stored_lessons.proofs.Learned.{IsSoundOf}
-use Rattle.stored_lessons.proofs.Reading.{IsWord}
-use Rattle.stored_lessons.proofs.Told.{Tells}
+use Rattle.value_store.proofs.Lessons.Each.{bound, map_any, mapped, passed, where_so}
+use Rattle.value_store.proofs.Lessons.Learned.{IsSoundOf}
+use Rattle.value_store.proofs.Lessons.Reading.{IsWord}
+use Rattle.value_store.proofs.Lessons.Told.{Tells}
 use Rattle.tcf_values.specs.Ids.{register_of}
 use Rattle.tcf_values.specs.declared.ids.RegisterId.{RegisterId}
 use Rattle.tcf_values.specs.declared.values.Location.{Location}
+use Rattle.list_laws.proofs.AllLists.{all_append, all_drop, all_if, all_take}
 
 abbrev word : ℕ → List ℕ
 word value = to_le_bytes w32 value

@@ -8,8 +8,7 @@ use Rattle.knowledge.specs.Facts.{Facts, is_suspended, nothing, register_is, sta
 use Rattle.knowledge.specs.Learning.{Message, event_taken, bad_event_taken, answer_taken, other_taken, learn, learn_all}
 use Rattle.knowledge.specs.Rows.{added_context, answer_changes, are_of_range, changed_context, changed_range, changed_register, event_changes, is_outside, is_part, memory_changes, memory_read, moved_for, parts_read, process_for, removed_context, removed_properties, stale_for, state_changes, state_of_thread, told_properties, whole_read, word_read}
 use Rattle.knowledge.specs.declared.state.StateFact.{StateFact}
-use Rattle.stored_lessons.specs.Laws.{HaveStates, LearnedHaveStates, PartsAreGrounded, StatesStay}
-use Rattle.stored_lessons.proofs.Each.{all_append, all_if}
+use Rattle.value_store.specs.Laws.{HaveStates, LearnedHaveStates, PartsAreGrounded, StatesStay}
 use Rattle.tcf_values.specs.Ids.{context_of, register_of}
 use Rattle.tcf_values.specs.declared.answer.Answer.{Answer}
 use Rattle.tcf_values.specs.declared.command.Command.{Command}
@@ -22,6 +21,7 @@ use Rattle.tcf_values.specs.declared.values.Location.{Location}
 use Rattle.tcf_values.specs.declared.values.Range.{Range}
 use Rattle.tcf_values.specs.declared.values.RunState.{RunState}
 use Rattle.tcf_values.specs.declared.values.RunState.TheVariants as run
+use Rattle.list_laws.proofs.AllLists.{all_append, all_if}
 
 -- ---- one change
 

@@ -11,18 +11,16 @@ use Rattle.knowledge.specs.Rows.{answer_changes}
 use Rattle.reply_tables.specs.Answers.{answer_read}
 use Rattle.reply_tables.specs.ReadingLaws.{AnswersReadBack, BytesReadBack}
 use Rattle.reply_tables.specs.Written.{answer_data}
-use Rattle.stored_lessons.specs.Laws.{StoredAnswersTeachNothingNew}
-use Rattle.stored_lessons.proofs.Answered.{IsGood, answer_good}
-use Rattle.stored_lessons.proofs.Each.{passed}
-use Rattle.stored_lessons.proofs.Learned.{IsSoundOf, learned_sound, nothing_sound}
-use Rattle.stored_lessons.proofs.Told.{part_after_all}
+use Rattle.value_store.specs.Laws.{StoredAnswersTeachNothingNew}
+use Rattle.value_store.proofs.Lessons.Answered.{IsGood, answer_good}
+use Rattle.value_store.proofs.Lessons.Each.{passed}
+use Rattle.value_store.proofs.Lessons.Learned.{IsSoundOf, learned_sound, nothing_sound}
+use Rattle.value_store.proofs.Lessons.Told.{part_after_all}
 use Rattle.tcf_values.specs.declared.answer.Answer.{Answer}
 use Rattle.tcf_values.specs.declared.command.Command.{Command}
 use Rattle.value_store.specs.Learning.{data_of, most_data}
 use Rattle.value_store.specs.Rows.{facts_in}
-
-one_body : (one other : List ℕ) → ◌≡◌ {A = Option (List ℕ)} (Some one) (Some other) → one ≡ other
-one_body one other is = cc
+use Rattle.list_laws.proofs.Lists.{same_some}
 
 -- the answer whose data they are
 answer_of_data : (command : Command) (found : Option Answer) (body : List ℕ) → data_of command found ≡ Some body → (answer : Answer) × (found ≡ Some answer) × (answer_data command answer ≡ body)
@@ -30,7 +28,7 @@ answer_of_data command None body is = cc
 answer_of_data command (Some answer) body is =
     let written = answer_data command answer in
     let fits = passed (nat_le (length written) most_data) (Some written) body is in
-    (answer, refl, one_body written body fits.1)
+    (answer, refl, same_some written body fits.1)
 
 -- what is read of them is the answer, or nothing
 read_part : (command : Command) (answer : Answer) (some known : Facts) (utf8 : Bool) (read : Option Answer) → IsGood known command answer → IsPart some known

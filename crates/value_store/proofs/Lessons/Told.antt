@@ -6,6 +6,7 @@ use Rattle.std.proofs.lemmas.Bool.{and_parts, eqb-true, leb-true, or_cases}
 use Rattle.std.proofs.lemmas.Slice.Eq.{bytes_eq-Decides}
 use Rattle.knowledge.specs.Changes.{Change, all_gone, context_told, context_gone, state_told, state_gone, register_read, register_gone, thread_registers_gone, registers_gone, bytes_read, bytes_gone, range_gone, properties_told, properties_gone, status_told, status_gone, statuses_gone, after, after_all, at_register, has_byte, is_byte, is_still}
 use Rattle.knowledge.specs.Facts.{context_is, state_is, register_is, byte_is, properties_are, status_is, Facts, IsPart, is_suspended}
+use Rattle.list_laws.proofs.Lists.{no_some}
 
 -- what the change tells is known
 abbrev pub Tells : Facts → Change → Type 0
@@ -19,9 +20,6 @@ Tells known _ = Unit {0}
 
 -- ---- one place written
 
-none_known : {A : Type 0} → (x : A) → ◌≡◌ {A = Option A} None (Some x) → ⊥
-none_known x is = cc
-
 at_text_known : {A : Type 0} → (known : List ℕ → Option A) (id other : List ℕ) (told x : A) (before : Option A) (b : Bool) → bytes_eq id other ≡ b → known id ≡ Some told
     → (before ≡ Some x → known other ≡ Some x) → cond b (Some told) before ≡ Some x → known other ≡ Some x
 at_text_known known id other told x before true same there part is =
@@ -30,7 +28,7 @@ at_text_known known id other told x before true same there part is =
 at_text_known known id other told x before false same there part is = part is
 
 gone_known : {A : Type 0} → (found : Option A) (x : A) (before : Option A) (b : Bool) → (before ≡ Some x → found ≡ Some x) → cond b None before ≡ Some x → found ≡ Some x
-gone_known found x before true part is = absurd (none_known x is)
+gone_known found x before true part is = absurd (no_some x is)
 gone_known found x before false part is = part is
 
 at_thread_known : {A : Type 0} → (known : ℕ → ℕ → Option A) (process thread p t : ℕ) (told x : A) (before : Option A) (b : Bool) → (nat_eq process p && nat_eq thread t) ≡ b
@@ -62,7 +60,7 @@ read_known true process thread index value some known there p t i x part is =
 read_known false process thread index value some known there p t i x part is = part is
 
 row_known : (b : Bool) (before : ℕ → Option ℕ) (i x : ℕ) (found : Option ℕ) → (before i ≡ Some x → found ≡ Some x) → cond b (λ index. None) before i ≡ Some x → found ≡ Some x
-row_known true before i x found part is = absurd (none_known x is)
+row_known true before i x found part is = absurd (no_some x is)
 row_known false before i x found part is = part is
 
 is_there : (byte : ℕ) (found : Option ℕ) → is_byte byte found ≡ true → found ≡ Some byte
@@ -88,12 +86,12 @@ bytes_known process addr bytes some known told p place byte part is =
 -- ---- a change
 
 pub part_after : (change : Change) (some known : Facts) → Tells known change → IsPart some known → IsPart (after change some) known
-part_after all_gone some known told part (context_is id x) is = absurd (none_known x is)
-part_after all_gone some known told part (state_is p t x) is = absurd (none_known x is)
-part_after all_gone some known told part (register_is p t i x) is = absurd (none_known x is)
+part_after all_gone some known told part (context_is id x) is = absurd (no_some x is)
+part_after all_gone some known told part (state_is p t x) is = absurd (no_some x is)
+part_after all_gone some known told part (register_is p t i x) is = absurd (no_some x is)
 part_after all_gone some known told part (byte_is p place byte) is = absurd (true≢false (sym is))
-part_after all_gone some known told part (properties_are id x) is = absurd (none_known x is)
-part_after all_gone some known told part (status_is id x) is = absurd (none_known x is)
+part_after all_gone some known told part (properties_are id x) is = absurd (no_some x is)
+part_after all_gone some known told part (status_is id x) is = absurd (no_some x is)
 part_after (context_told id context) some known told part (context_is other x) is =
     at_text_known known.contexts id other context x (some.contexts other) (bytes_eq id other) refl told (part (context_is other x)) is
 part_after (context_gone id) some known told part (context_is other x) is =
@@ -108,7 +106,7 @@ part_after (register_gone process thread index) some known told part (register_i
     gone_known (known.registers p t i) x (some.registers p t i) (nat_eq process p && nat_eq thread t && nat_eq index i) (part (register_is p t i x)) is
 part_after (thread_registers_gone process thread) some known told part (register_is p t i x) is =
     row_known (nat_eq process p && nat_eq thread t) (some.registers p t) i x (known.registers p t i) (part (register_is p t i x)) is
-part_after registers_gone some known told part (register_is p t i x) is = absurd (none_known x is)
+part_after registers_gone some known told part (register_is p t i x) is = absurd (no_some x is)
 part_after (bytes_read process addr bytes) some known told part (byte_is p place byte) is =
     bytes_known process addr bytes some known told p place byte (part (byte_is p place byte)) is
 part_after (bytes_gone process) some known told part (byte_is p place byte) is = part (byte_is p place byte) (and_parts _ _ is).0
@@ -121,7 +119,7 @@ part_after (status_told id status) some known told part (status_is other x) is =
     at_text_known known.statuses id other status x (some.statuses other) (bytes_eq id other) refl told (part (status_is other x)) is
 part_after (status_gone id) some known told part (status_is other x) is =
     gone_known (known.statuses other) x (some.statuses other) (bytes_eq id other) (part (status_is other x)) is
-part_after statuses_gone some known told part (status_is other x) is = absurd (none_known x is)
+part_after statuses_gone some known told part (status_is other x) is = absurd (no_some x is)
 part_after _ some known told part fact is = part fact is
 
 pub part_after_all : (changes : List Change) (some known : Facts) → AllByRecursion (Tells known) changes → IsPart some known → IsPart (after_all changes some) known

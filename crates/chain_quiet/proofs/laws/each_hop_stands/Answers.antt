@@ -1,7 +1,7 @@
 use Rattle.value_node.specs.ForwardedValue.{ForwardedValue}
-use Rattle.chain_hops.proofs.Facts.{EndLaws, NodeLaws, OneEndLaws}
-use Rattle.chain_hops.proofs.Ways.{hops_stand}
-use Rattle.chain_hops.proofs.laws.each_hop_stands.Goals as goal
+use Rattle.chain_quiet.proofs.Hops.Facts.{EndLaws, NodeLaws, OneEndLaws}
+use Rattle.chain_quiet.proofs.Hops.Ways.{hops_stand}
+use Rattle.chain_quiet.proofs.laws.each_hop_stands.Goals as goal
 
 pub returns : goal.returns
 returns g c =

@@ -1,7 +1,7 @@
 use Rattle.value_node.specs.ForwardedValue.{ForwardedValue}
-use Rattle.chain_rest.proofs.Facts.{EndLaws, NodeLaws}
-use Rattle.chain_rest.proofs.Ways.{none_stuck}
-use Rattle.chain_rest.proofs.laws.nothing_is_stuck.Goals as goal
+use Rattle.chain_quiet.proofs.Rest.Facts.{EndLaws, NodeLaws}
+use Rattle.chain_quiet.proofs.Rest.Ways.{none_stuck}
+use Rattle.chain_quiet.proofs.laws.nothing_is_stuck.Goals as goal
 
 pub returns : goal.returns
 returns g c =

@@ -1,6 +1,6 @@
-use Rattle.agent_told.proofs.Owed.{owed}
-use Rattle.agent_told.proofs.Rightly.{told_rightly}
-use Rattle.agent_told.proofs.laws.what_the_target_tells_is_right.Goals as goal
+use Rattle.chain_told.proofs.Agents.Owed.{owed}
+use Rattle.chain_told.proofs.Agents.Rightly.{told_rightly}
+use Rattle.chain_told.proofs.laws.what_the_target_tells_is_right.Goals as goal
 
 pub returns : goal.returns
 returns c =

@@ -1,7 +1,7 @@
 use Rattle.channel_core.proofs.Feeding.{Cited}
-use Rattle.channel_rest.proofs.Levels.{Frames}
-use Rattle.channel_hop.proofs.Standing.{all_hops_stand}
-use Rattle.channel_hop.proofs.laws.a_live_hop_stands.Goals as goal
+use Rattle.channel_laws.proofs.Rest.Levels.{Frames}
+use Rattle.channel_laws.proofs.Hop.Standing.{all_hops_stand}
+use Rattle.channel_laws.proofs.laws.a_live_hop_stands.Goals as goal
 
 pub returns : goal.returns
 returns g c =

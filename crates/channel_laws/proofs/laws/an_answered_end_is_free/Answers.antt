@@ -1,7 +1,7 @@
 use Rattle.channel_core.proofs.Feeding.{Cited}
-use Rattle.channel_rest.proofs.Levels.{Frames}
-use Rattle.channel_rest.proofs.Answering.{all_free}
-use Rattle.channel_rest.proofs.laws.an_answered_end_is_free.Goals as goal
+use Rattle.channel_laws.proofs.Rest.Levels.{Frames}
+use Rattle.channel_laws.proofs.Rest.Answering.{all_free}
+use Rattle.channel_laws.proofs.laws.an_answered_end_is_free.Goals as goal
 
 pub returns : goal.returns
 returns g c =

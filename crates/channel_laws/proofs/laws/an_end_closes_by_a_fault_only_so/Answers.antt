@@ -1,6 +1,6 @@
-use Rattle.channel_faults.proofs.Calling.{all_by_calls}
-use Rattle.channel_faults.proofs.Faulty.{all_are_there}
-use Rattle.channel_faults.proofs.laws.an_end_closes_by_a_fault_only_so.Goals as goal
+use Rattle.channel_laws.proofs.Faults.Calling.{all_by_calls}
+use Rattle.channel_laws.proofs.Faults.Faulty.{all_are_there}
+use Rattle.channel_laws.proofs.laws.an_end_closes_by_a_fault_only_so.Goals as goal
 
 pub returns-clause-faults : goal.returns-clause-faults
 returns-clause-faults g c = all_are_there (record {

@@ -1,8 +1,8 @@
-use Rattle.channel_rest.proofs.AllCalls.{all_pend, all_stand}
-use Rattle.channel_rest.proofs.AsSaid.{all_as_said, all_tell}
-use Rattle.channel_rest.proofs.Levels.{all_let_out}
-use Rattle.channel_rest.proofs.Making.{all_made}
-use Rattle.channel_rest.proofs.laws.an_end_stands_as_it_took.Goals as goal
+use Rattle.channel_laws.proofs.Rest.AllCalls.{all_pend, all_stand}
+use Rattle.channel_laws.proofs.Rest.AsSaid.{all_as_said, all_tell}
+use Rattle.channel_laws.proofs.Rest.Levels.{all_let_out}
+use Rattle.channel_laws.proofs.Rest.Making.{all_made}
+use Rattle.channel_laws.proofs.laws.an_end_stands_as_it_took.Goals as goal
 
 pub returns-clause-taken : goal.returns-clause-taken
 returns-clause-taken g c = all_as_said

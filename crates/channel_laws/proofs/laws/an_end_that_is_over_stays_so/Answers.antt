@@ -1,5 +1,5 @@
-use Rattle.channel_rest.proofs.Ending.{all_over_at_end, all_stay_over}
-use Rattle.channel_rest.proofs.laws.an_end_that_is_over_stays_so.Goals as goal
+use Rattle.channel_laws.proofs.Rest.Ending.{all_over_at_end, all_stay_over}
+use Rattle.channel_laws.proofs.laws.an_end_that_is_over_stays_so.Goals as goal
 
 pub returns-clause-stays : goal.returns-clause-stays
 returns-clause-stays g c = all_stay_over

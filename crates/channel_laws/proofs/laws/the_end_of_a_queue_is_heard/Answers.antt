@@ -1,6 +1,6 @@
 use Rattle.channel_core.proofs.Feeding.{Cited}
-use Rattle.channel_rest.proofs.Ending.{all_hear}
-use Rattle.channel_rest.proofs.laws.the_end_of_a_queue_is_heard.Goals as goal
+use Rattle.channel_laws.proofs.Rest.Ending.{all_hear}
+use Rattle.channel_laws.proofs.laws.the_end_of_a_queue_is_heard.Goals as goal
 
 pub returns : goal.returns
 returns g c =

@@ -1,7 +1,7 @@
 use Rattle.channel_core.proofs.Feeding.{Cited}
-use Rattle.channel_rest.proofs.Levels.{Frames}
-use Rattle.channel_rest.proofs.Meeting.{all_rest_together}
-use Rattle.channel_rest.proofs.laws.two_ends_rest_together.Goals as goal
+use Rattle.channel_laws.proofs.Rest.Levels.{Frames}
+use Rattle.channel_laws.proofs.Rest.Meeting.{all_rest_together}
+use Rattle.channel_laws.proofs.laws.two_ends_rest_together.Goals as goal
 
 pub returns : goal.returns
 returns g c =

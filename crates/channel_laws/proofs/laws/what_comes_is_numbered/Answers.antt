@@ -1,7 +1,7 @@
 use Rattle.channel_core.proofs.Feeding.{Cited}
-use Rattle.channel_rest.proofs.Levels.{Frames}
-use Rattle.channel_rest.proofs.Numbering.{all_numbered}
-use Rattle.channel_rest.proofs.laws.what_comes_is_numbered.Goals as goal
+use Rattle.channel_laws.proofs.Rest.Levels.{Frames}
+use Rattle.channel_laws.proofs.Rest.Numbering.{all_numbered}
+use Rattle.channel_laws.proofs.laws.what_comes_is_numbered.Goals as goal
 
 pub returns : goal.returns
 returns g c =

@@ -1,5 +1,5 @@
-use Rattle.client_rest.proofs.Calls.{answered_where_none_pends, ends_where_closed}
-use Rattle.client_rest.proofs.laws.a_log_lacks_what_is_pending.Goals as goal
+use Rattle.node_answers.proofs.Clients.Calls.{answered_where_none_pends, ends_where_closed}
+use Rattle.node_answers.proofs.laws.a_log_lacks_what_is_pending.Goals as goal
 
 pub returns : goal.returns
 returns c = record { answered = answered_where_none_pends; ended = ends_where_closed }

@@ -1,8 +1,8 @@
 use Rattle.value_node.proofs.OwnReplies.{Names}
-use Rattle.value_rest.proofs.Bound.{Laws, answers_all, node_laws}
-use Rattle.value_rest.proofs.Own.{Cited}
-use Rattle.value_rest.proofs.WhileUnbound.{always_answers_unbound}
-use Rattle.value_rest.proofs.laws.a_value_add_answers_all.Goals as goal
+use Rattle.node_answers.proofs.Adds.Bound.{Laws, answers_all, node_laws}
+use Rattle.node_answers.proofs.Adds.Own.{Cited}
+use Rattle.node_answers.proofs.Adds.WhileUnbound.{always_answers_unbound}
+use Rattle.node_answers.proofs.laws.a_value_add_answers_all.Goals as goal
 
 pub returns-clause-unbound : goal.returns-clause-unbound
 returns-clause-unbound c =

@@ -1,7 +1,7 @@
-use Rattle.agent_rest.proofs.Sending.{SendingLaws}
-use Rattle.agent_rest.proofs.Serving.{Laws, serves_all}
-use Rattle.agent_rest.proofs.Telling.{TargetLaws}
-use Rattle.agent_rest.proofs.laws.an_agent_answers_all.Goals as goal
+use Rattle.node_answers.proofs.Agents.Sending.{SendingLaws}
+use Rattle.node_answers.proofs.Agents.Serving.{Laws, serves_all}
+use Rattle.node_answers.proofs.Agents.Telling.{TargetLaws}
+use Rattle.node_answers.proofs.laws.an_agent_answers_all.Goals as goal
 
 pub returns : goal.returns
 returns c =

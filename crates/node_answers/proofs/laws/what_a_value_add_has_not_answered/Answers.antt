@@ -1,8 +1,8 @@
 use Rattle.value_node.proofs.OwnReplies.{Names}
-use Rattle.value_rest.proofs.Bound.{Laws, node_laws}
-use Rattle.value_rest.proofs.Leaving.{always_leaves}
-use Rattle.value_rest.proofs.Own.{Cited}
-use Rattle.value_rest.proofs.laws.what_a_value_add_has_not_answered.Goals as goal
+use Rattle.node_answers.proofs.Adds.Bound.{Laws, node_laws}
+use Rattle.node_answers.proofs.Adds.Leaving.{always_leaves}
+use Rattle.node_answers.proofs.Adds.Own.{Cited}
+use Rattle.node_answers.proofs.laws.what_a_value_add_has_not_answered.Goals as goal
 
 pub returns : goal.returns
 returns c =

@@ -1,9 +1,10 @@
 use Rattle.value_serving.proofs.Connecting.{breaks_connected, breaks_failed, breaks_unasked, connected_so, failed_so}
-use Rattle.value_serving.proofs.Results.{on_err, on_ok_both, on_ok_same}
+use Rattle.value_serving.proofs.Results.{on_ok_both, on_ok_same}
 use Rattle.std.proofs.Common.{ap}
 use Rattle.value_node.specs.ValueValue.{ValueValue}
 use Rattle.value_serving.specs.Adds.{with_node}
 use Rattle.value_serving.proofs.passing.connect.Goals as goal
+use Rattle.serving_wires.proofs.Flushes.{on_any as on_err}
 
 pub returns-in-Ok-clause-ok : goal.returns-in-Ok-clause-ok
 returns-in-Ok-clause-ok g c =

@@ -1,8 +1,9 @@
 use Rattle.value_serving.proofs.Hearing.{hears, hears_in_part, hears_not_gathered}
 use Rattle.value_serving.proofs.Leading.{broken_at_once}
-use Rattle.value_serving.proofs.Results.{on_err, on_ok_same}
+use Rattle.value_serving.proofs.Results.{on_ok_same}
 use Rattle.value_serving.specs.Passing.{heard}
 use Rattle.value_serving.proofs.passing.hear.Goals as goal
+use Rattle.serving_wires.proofs.Flushes.{on_any as on_err}
 
 pub returns-in_err-wait-clause-err : goal.returns-in_err-wait-clause-err
 returns-in_err-wait-clause-err g c =

@@ -1,6 +1,7 @@
 use Rattle.value_serving.proofs.Hearing.{makes_room, room_broken, room_broken_first}
-use Rattle.value_serving.proofs.Results.{on_err, on_err_same, on_ok_same}
+use Rattle.value_serving.proofs.Results.{on_err_same, on_ok_same}
 use Rattle.value_serving.proofs.passing.make_room.Goals as goal
+use Rattle.serving_wires.proofs.Flushes.{on_any as on_err}
 
 pub returns-in_err-take-clause-err : goal.returns-in_err-take-clause-err
 returns-in_err-take-clause-err g c =

@@ -1,7 +1,7 @@
-use Rattle.value_serving.proofs.Results.{on_err}
 use Rattle.value_serving.proofs.Rounds.{fewer_wait, pass_begins, pass_breaks, pass_ends, pass_next, taken_within}
 use Rattle.std.proofs.Common.{arith}
 use Rattle.value_serving.proofs.passing.pass_on.Goals as goal
+use Rattle.serving_wires.proofs.Flushes.{on_any as on_err}
 
 pub loop-add-init : goal.loop-add-init
 loop-add-init g c = pass_begins c.args.peer.now _ c.args.add.now c.args.sending.now _ _

@@ -1,6 +1,6 @@
 use Rattle.value_serving.proofs.Connecting.{take_begins, take_breaks, take_next, take_stops, take_waits}
-use Rattle.value_serving.proofs.Results.{on_err}
 use Rattle.value_serving.proofs.passing.take.Goals as goal
+use Rattle.serving_wires.proofs.Flushes.{on_any as on_err}
 
 pub loop-init : goal.loop-init
 loop-init g c = take_begins c.args.peer.now _ c.args.count c.args.add.now c.args.sending.now _ _

@@ -1,6 +1,6 @@
 use Rattle.value_serving.proofs.Connecting.{not_connected, not_taken, nothing_taken, one_connected, one_took}
-use Rattle.value_serving.proofs.Results.{on_err}
 use Rattle.value_serving.proofs.passing.turn.Goals as goal
+use Rattle.serving_wires.proofs.Flushes.{on_any as on_err}
 
 pub returns-in_err-take_one-clause-err : goal.returns-in_err-take_one-clause-err
 returns-in_err-take_one-clause-err g c = on_err c.from_residual.result _ (not_taken c.args.peer.now _ c.args.add.now c.args.sending.now _ _)

@@ -1,5 +1,5 @@
-use Rattle.stored_lessons.proofs.States.{learned_have_states, parts_are_grounded, states_stay}
-use Rattle.stored_lessons.proofs.laws.what_is_learned_has_states.Goals as goal
+use Rattle.value_store.proofs.Lessons.States.{learned_have_states, parts_are_grounded, states_stay}
+use Rattle.value_store.proofs.laws.what_is_learned_has_states.Goals as goal
 
 pub returns-clause-stay : goal.returns-clause-stay
 returns-clause-stay c = states_stay

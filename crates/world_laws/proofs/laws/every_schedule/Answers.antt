@@ -1,4 +1,4 @@
-use Rattle.agent_rest.proofs.Telling.{TargetLaws}
+use Rattle.node_answers.proofs.Agents.Telling.{TargetLaws}
 use Rattle.world_laws.proofs.Ends.{ends_rightly}
 use Rattle.world_laws.proofs.Faithful.{coherent, faithful, fresh, hops_stand, unstuck}
 use Rattle.world_laws.proofs.LowerLaws.{Laws}

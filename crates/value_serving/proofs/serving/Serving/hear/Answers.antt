@@ -1,7 +1,7 @@
 use Rattle.std.proofs.Common.{sym}
 use Rattle.value_serving.proofs.Hearing.{heard_in_part, heard_of_none, heard_so}
-use Rattle.value_serving.proofs.Results.{on_err}
 use Rattle.value_serving.proofs.serving.Serving.hear.Goals as goal
+use Rattle.serving_wires.proofs.Flushes.{on_any as on_err}
 
 pub returns-in_err-hear_at-clause-err : goal.returns-in_err-hear_at-clause-err
 returns-in_err-hear_at-clause-err g c =

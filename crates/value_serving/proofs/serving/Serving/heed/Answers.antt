@@ -1,7 +1,7 @@
 use Rattle.value_serving.proofs.Hearing.{idles}
 use Rattle.value_serving.proofs.Leading.{broken_at_once}
-use Rattle.value_serving.proofs.Results.{on_err}
 use Rattle.value_serving.proofs.serving.Serving.heed.Goals as goal
+use Rattle.serving_wires.proofs.Flushes.{on_any as on_err}
 
 pub returns-in-Opened-clause-err : goal.returns-in-Opened-clause-err
 returns-in-Opened-clause-err g c = on_err c.open.result _ (broken_at_once _ _ _ _ _ _)

@@ -1,0 +1,11 @@
+pub mod Lists
+pub mod Greetless
+pub mod Sending
+pub mod Answering
+pub mod Numbered
+pub mod Saying
+pub mod Ended
+pub mod Placed
+pub mod Lessons
+pub mod Owed
+pub mod Rightly

@@ -1,0 +1,4 @@
+pub mod Redirects
+pub mod Faults
+pub mod Rest
+pub mod Hop

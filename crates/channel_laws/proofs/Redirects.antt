@@ -1,0 +1,5 @@
+pub mod Standing
+pub mod Naming
+pub mod Holding
+pub mod Taking
+pub mod AllCalls

@@ -1,0 +1,14 @@
+pub mod Spelling
+pub mod AsSaid
+pub mod Telling
+pub mod Standing
+pub mod Resting
+pub mod Taking
+pub mod AllCalls
+pub mod Levels
+pub mod Ending
+pub mod Meeting
+pub mod Making
+pub mod Answering
+pub mod Numbering
+pub mod Asking

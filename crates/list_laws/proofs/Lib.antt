@@ -1,0 +1,5 @@
+pub mod Flags
+pub mod Numbers
+pub mod AllLists
+pub mod Contained
+pub mod Lists

@@ -1,0 +1,4 @@
+pub mod Answering
+pub mod Waiting
+pub mod AgentAnswering
+pub mod Lacking

@@ -1,0 +1,154 @@
+//! The rows of what peers keep of a target.
+use crate::tables::{command_of, put_text};
+use crate::words::{Named, data, first, two};
+use anyhow::{Result, ensure};
+use cache_learning::{hear_event, hear_final};
+use json_values::{bp_value, context_value, status_value};
+use knowledge::{Knowledge, StateFact};
+use std::alloc::Global;
+use tcf_message::Message;
+use tcf_outside::Octets;
+use tcf_text::show_line;
+use tcf_values::{ContextId, context_id, register_id};
+use value_store::Store;
+
+/// The cache of a client, and that of a value-add.
+#[derive(Drop)]
+pub struct Caches {
+    alloc: Global,
+    known: Knowledge,
+    store: Store,
+}
+
+impl Caches {
+    pub fn new(alloc: Global) -> Result<Caches> {
+        Ok(Caches {
+            alloc,
+            known: Knowledge::new(alloc)?,
+            store: Store::new(alloc)?,
+        })
+    }
+
+    /// Both take an event.
+    pub fn hear(&mut self, words: &str) -> Result<()> {
+        let named = Named::read(self.alloc, words)?;
+        let (service, name) = (named.service.as_slice(), named.name.as_slice());
+        let data = named.data.as_slice();
+        hear_event(self.alloc, &mut self.known, service, name, data)?;
+        self.store.hear_event(self.alloc, service, name, data)?;
+        Ok(())
+    }
+
+    /// Both take an answer to a command.
+    pub fn learn(&mut self, words: &str) -> Result<()> {
+        let (asked, answered) = two(words);
+        let named = Named::read(self.alloc, asked)?;
+        let answer = data(self.alloc, answered)?;
+        hear_final(
+            self.alloc,
+            &mut self.known,
+            named.service.as_slice(),
+            named.name.as_slice(),
+            named.data.as_slice(),
+            answer.as_slice(),
+        )?;
+        let command = command_of(self.alloc, asked)?;
+        self.store
+            .hear_answer(self.alloc, &command, answer.as_slice())?;
+        Ok(())
+    }
+
+    /// Puts what the value-add answers of a command.
+    pub fn put_reply(&mut self, words: &str, out: &mut Octets) -> Result<()> {
+        let command = command_of(self.alloc, words)?;
+        match self.store.answer(self.alloc, &command)? {
+            Some(data) => {
+                let message = Message::Result {
+                    token: b"",
+                    body: data.as_slice(),
+                };
+                show_line(&message, out)?;
+                Ok(())
+            }
+            None => put_text("none", out),
+        }
+    }
+
+    /// Puts what the client's cache has.
+    pub fn put_known(&self, words: &str, out: &mut Octets) -> Result<()> {
+        let (kind, id) = first(words);
+        let text = match kind {
+            "context" => self.context(id)?,
+            "state" => self.state(id)?,
+            "register" => self.register(id)?,
+            "properties" => self.properties(id)?,
+            "status" => self.status(id)?,
+            _ => self.bytes(id)?,
+        };
+        match text {
+            Some(text) => put_text(text.as_str(), out),
+            None => put_text("none", out),
+        }
+    }
+
+    fn context(&self, id: &str) -> Result<Option<String>> {
+        let Some(context) = self.known.context(id.as_bytes()) else {
+            return Ok(None);
+        };
+        Ok(Some(context_value(self.alloc, context)?.to_string(self.alloc)?))
+    }
+
+    fn properties(&self, id: &str) -> Result<Option<String>> {
+        let Some(props) = self.known.properties(id.as_bytes()) else {
+            return Ok(None);
+        };
+        Ok(Some(bp_value(self.alloc, props)?.to_string(self.alloc)?))
+    }
+
+    fn status(&self, id: &str) -> Result<Option<String>> {
+        let Some(status) = self.known.status(id.as_bytes()) else {
+            return Ok(None);
+        };
+        Ok(Some(status_value(self.alloc, status)?.to_string(self.alloc)?))
+    }
+
+    fn state(&self, id: &str) -> Result<Option<String>> {
+        match self.known.state(id.as_bytes()) {
+            Some(StateFact::Running) => Ok(Some(String::from_str(self.alloc, "running")?)),
+            Some(StateFact::Suspended { reason, hits }) => {
+                let mut text = format!(in self.alloc; "suspended {}", reason.as_str())?;
+                for hit in hits.as_slice() {
+                    text.push(' ')?;
+                    text.push_str(hit.as_str())?;
+                }
+                Ok(Some(text))
+            }
+            None => Ok(None),
+        }
+    }
+
+    fn register(&self, id: &str) -> Result<Option<String>> {
+        let Some(register) = register_id(id.as_bytes()) else {
+            return Ok(None);
+        };
+        match self.known.register(register) {
+            Some(value) => Ok(Some(format!(in self.alloc; "{value}")?)),
+            None => Ok(None),
+        }
+    }
+
+    /// The bytes of `PROCESS ADDR SIZE`, in hexadecimal digits.
+    fn bytes(&self, words: &str) -> Result<Option<String>> {
+        let (id, range) = first(words);
+        let (addr, size) = first(range);
+        let (addr, size) = (addr.parse::<u32>()?, size.parse::<u32>()?);
+        let Some(ContextId::Process(process)) = context_id(id.as_bytes()) else {
+            return Ok(None);
+        };
+        ensure!(size != 0, "no size");
+        match self.known.bytes(process, addr, size) {
+            Some(bytes) => Ok(Some(hex::encode(self.alloc, bytes)?)),
+            None => Ok(None),
+        }
+    }
+}

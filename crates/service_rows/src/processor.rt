@@ -1,0 +1,105 @@
+//! The rows of one processor with its memory. Their numbers are in hexadecimal digits.
+use crate::tables::put_text;
+use crate::words::first;
+use anyhow::{Context, Result, ensure};
+use rv32i_core::{Cpu, Memory, decode, execute};
+use std::alloc::Global;
+use tcf_outside::Octets;
+
+/// How many bytes an image can have.
+const MOST_BYTES: usize = 65_536;
+
+fn number(word: &str) -> Result<u32> {
+    u32::from_str_radix(word, 16).context("no number")
+}
+
+/// A memory with these bytes at 0; one of zeros where there are none.
+pub fn memory(alloc: Global, word: &str) -> Result<Memory> {
+    let bytes = hex::decode(alloc, word)?;
+    if bytes.is_empty() {
+        return Ok(Memory::new(alloc)?);
+    }
+    ensure!(bytes.len() <= MOST_BYTES, "no memory");
+    Ok(Memory::with_image(alloc, bytes.as_slice())?)
+}
+
+/// Puts a word at an address, the lowest byte first. Bytes outside memory are left out.
+fn put_word(memory: &mut Memory, place: u32, word: u32) {
+    let [first, second, third, fourth] = word.to_le_bytes();
+    let _ = memory.write(place, first);
+    let _ = memory.write(place.wrapping_add(1), second);
+    let _ = memory.write(place.wrapping_add(2), third);
+    let _ = memory.write(place.wrapping_add(3), fourth);
+}
+
+/// Writes bytes from an address on, and puts whether all lie in memory.
+pub fn put_write(alloc: Global, memory: &mut Memory, words: &str, out: &mut Octets) -> Result<()> {
+    let (place, code) = first(words);
+    let mut place = number(place)?;
+    let mut inside = true;
+    for byte in &hex::decode(alloc, code)? {
+        inside = memory.write(place, *byte) && inside;
+        place = place.wrapping_add(1);
+    }
+    put_text(if inside { "inside" } else { "outside" }, out)
+}
+
+/// Puts the byte at an address.
+pub fn put_byte(alloc: Global, memory: &Memory, word: &str, out: &mut Octets) -> Result<()> {
+    match memory.read(number(word)?) {
+        Some(byte) => put_text(format!(in alloc; "{byte:x}")?.as_str(), out),
+        None => put_text("outside", out),
+    }
+}
+
+/// Puts the instruction that a word is.
+pub fn put_instruction(alloc: Global, word: &str, out: &mut Octets) -> Result<()> {
+    match decode(number(word)?) {
+        Some(instruction) => put_text(format!(in alloc; "{instruction:?}")?.as_str(), out),
+        None => put_text("none", out),
+    }
+}
+
+/// Sets the register of `xN=VALUE`.
+fn set_register(cpu: &mut Cpu, word: &str) -> Result<()> {
+    let (name, value) = word.split_once('=').context("no value")?;
+    let index = name.strip_prefix('x').context("no register")?;
+    let register = cpu.x.get_mut(index.parse::<usize>()?);
+    *register.context("no register")? = number(value)?;
+    Ok(())
+}
+
+/// A processor at an address with these registers, and zeros in the others.
+fn processor(pc: &str, registers: &str) -> Result<Cpu> {
+    let mut cpu = Cpu {
+        pc: number(pc)?,
+        x: [0; 32],
+    };
+    for word in registers.split_whitespace() {
+        set_register(&mut cpu, word)?;
+    }
+    Ok(cpu)
+}
+
+/// Appends the registers that are not as they were.
+fn add_changes(before: &Cpu, now: &Cpu, line: &mut String) -> Result<()> {
+    for (index, (old, new)) in before.x.iter().zip(now.x.iter()).enumerate() {
+        if old != new {
+            write!(line, " x{index}={new:x}")?;
+        }
+    }
+    Ok(())
+}
+
+/// Puts a word at the pc, executes it, and puts what comes of it, the pc and the registers that changed.
+pub fn put_step(alloc: Global, memory: &mut Memory, words: &str, out: &mut Octets) -> Result<()> {
+    let (pc, words) = first(words);
+    let (word, registers) = first(words);
+    let before = processor(pc, registers)?;
+    put_word(memory, before.pc, number(word)?);
+    let mut now = before;
+    let outcome = execute(&mut now, memory);
+    let mut line = format!(in alloc; "{outcome:?} pc={:x}", now.pc)?;
+    add_changes(&before, &now, &mut line)?;
+    put_text(line.as_str(), out)
+}

@@ -1,0 +1,196 @@
+//! The rows of one command, answer or event, read by the tables.
+ghost use Rattle.command_tables.specs.Canonical.{IsReadable};
+ghost use Rattle.reply_tables.specs.Events.{IsEvent};
+ghost use Rattle.tcf_values.specs.Spelling.{IsContext, IsRegister};
+
+use crate::words::{Named, bytes, data, number, two};
+use anyhow::Result;
+use command_tables::{Reading, read_command, write_command};
+use reply_tables::{ReadAnswer, ReadEvent, read_answer, read_event, write_answer, write_event};
+use std::alloc::Global;
+use tcf_message::Message;
+use tcf_outside::{Duplicate, Octets};
+use tcf_text::show_line;
+use tcf_values::{
+    Answer, Command, ContextId, EventData, RegisterId, context_id, context_text, format_of_code,
+    is_changing, is_storable, register_id, register_text,
+};
+
+/// Puts a line.
+pub fn put_text(text: &str, out: &mut Octets) -> Result<()> {
+    out.extend(text.as_bytes())?;
+    out.push(b'\n')?;
+    Ok(())
+}
+
+fn read(alloc: Global, named: &Named) -> Result<Reading> {
+    Ok(read_command(
+        alloc,
+        named.service.as_slice(),
+        named.name.as_slice(),
+        named.data.as_slice(),
+    )?)
+}
+
+/// The command of the words, if it is one.
+pub fn command_of(alloc: Global, words: &str) -> Result<Option<Command>> {
+    let named = Named::read(alloc, words)?;
+    match read(alloc, &named)? {
+        Reading::Known(command) => Ok(Some(command)),
+        Reading::Unknown | Reading::Bad { .. } => Ok(None),
+    }
+}
+
+/// Puts a command as it is written.
+fn put_written(alloc: Global, command: &Command, out: &mut Octets) -> Result<()>
+    requires { IsReadable command.now }
+{
+    let written = write_command(alloc, command)?;
+    let message = Message::Command {
+        token: b"",
+        service: written.service.as_bytes(),
+        name: written.name.as_bytes(),
+        body: written.body.as_slice(),
+    };
+    show_line(&message, out)?;
+    Ok(())
+}
+
+/// Puts what a command is read as; one that is known as a copy of it is written.
+pub fn put_command(alloc: Global, words: &str, out: &mut Octets) -> Result<()> {
+    let named = Named::read(alloc, words)?;
+    match read(alloc, &named)? {
+        Reading::Known(command) => put_written(alloc, &command.copy()?, out),
+        Reading::Unknown => put_text("unknown", out),
+        Reading::Bad { index, code } => {
+            put_text(format!(in alloc; "bad {index} {code}")?.as_str(), out)
+        }
+    }
+}
+
+fn class_of(command: &Command) -> &'static str {
+    if is_changing(command) {
+        "changing"
+    } else if is_storable(command) {
+        "storable"
+    } else {
+        "neither"
+    }
+}
+
+/// Puts whether a command is changing, storable or neither.
+pub fn put_class(alloc: Global, words: &str, out: &mut Octets) -> Result<()> {
+    match command_of(alloc, words)? {
+        Some(command) => put_text(class_of(&command), out),
+        None => put_text("no command", out),
+    }
+}
+
+/// Puts an answer as it is written.
+fn put_answered(alloc: Global, word: &str, data: &[u8], out: &mut Octets) -> Result<()> {
+    out.extend(word.as_bytes())?;
+    let message = Message::Result {
+        token: b"",
+        body: data,
+    };
+    show_line(&message, out)?;
+    Ok(())
+}
+
+/// Puts what data is read as, as an answer to a command: the data that a copy of it is written as.
+fn put_read(alloc: Global, command: &Command, data: &[u8], out: &mut Octets) -> Result<()> {
+    match read_answer(alloc, command, data)? {
+        ReadAnswer::Known(answer) => {
+            let word = match &answer {
+                Answer::Failed(_) => "failed ",
+                _ => "",
+            };
+            let mut data = Octets::new(alloc);
+            write_answer(alloc, command, &answer.copy()?, &mut data)?;
+            put_answered(alloc, word, data.as_slice(), out)
+        }
+        ReadAnswer::Bad => put_text("bad", out),
+    }
+}
+
+/// Puts what the data of an answer is read as.
+pub fn put_answer(alloc: Global, words: &str, out: &mut Octets) -> Result<()> {
+    let (asked, answered) = two(words);
+    match command_of(alloc, asked)? {
+        Some(command) => put_read(alloc, &command, data(alloc, answered)?.as_slice(), out),
+        None => put_text("no command", out),
+    }
+}
+
+/// Puts an event as a copy of it is written.
+pub fn put_told(alloc: Global, event: &EventData, out: &mut Octets) -> Result<()>
+    requires { IsEvent event.now }
+{
+    let written = write_event(alloc, &event.copy()?)?;
+    let message = Message::Event {
+        service: written.service.as_bytes(),
+        name: written.name.as_bytes(),
+        body: written.body.as_slice(),
+    };
+    show_line(&message, out)?;
+    Ok(())
+}
+
+/// Puts what the data of an event is read as.
+pub fn put_event(alloc: Global, words: &str, out: &mut Octets) -> Result<()> {
+    let named = Named::read(alloc, words)?;
+    let read = read_event(
+        alloc,
+        named.service.as_slice(),
+        named.name.as_slice(),
+        named.data.as_slice(),
+    )?;
+    match read {
+        ReadEvent::Known(event) => put_told(alloc, &event, out),
+        ReadEvent::Foreign => put_text("foreign", out),
+        ReadEvent::Bad => put_text("bad", out),
+    }
+}
+
+fn context_line(alloc: Global, id: ContextId) -> Result<String>
+    requires { IsContext id }
+{
+    let text = context_text(alloc, id)?;
+    let text = text.as_str();
+    Ok(match id {
+        ContextId::Process(process) => format!(in alloc; "process {process} {text}")?,
+        ContextId::Thread(process, thread) => {
+            format!(in alloc; "thread {process} {thread} {text}")?
+        }
+    })
+}
+
+fn register_line(alloc: Global, id: RegisterId) -> Result<String>
+    requires { IsRegister id }
+{
+    let text = register_text(alloc, id)?;
+    Ok(format!(in alloc;
+        "register {} {} {} {}",
+        id.process,
+        id.thread,
+        id.index,
+        text.as_str()
+    )?)
+}
+
+/// Puts what a text spells, and the spelling of that.
+pub fn put_id(alloc: Global, word: &str, out: &mut Octets) -> Result<()> {
+    let text = bytes(alloc, word)?;
+    match (context_id(text.as_slice()), register_id(text.as_slice())) {
+        (Some(id), None) => put_text(context_line(alloc, id)?.as_str(), out),
+        (None, Some(id)) => put_text(register_line(alloc, id)?.as_str(), out),
+        (None, None) => put_text("none", out),
+        (Some(_), Some(_)) => put_text("both", out),
+    }
+}
+
+/// Puts the text of an error's code.
+pub fn put_code(word: &str, out: &mut Octets) -> Result<()> {
+    let code = u8::try_from(number(word)?)?;
+    put_text(format_of_code(code).unwrap_or("none"), out)
+}

@@ -1,0 +1,119 @@
+//! The rows of a target that several channels share.
+ghost use Rattle.target_hub.specs.Limits.{AreEvents};
+
+use crate::tables::{put_text, put_told};
+use crate::words::{Named, first, number};
+use anyhow::{Context, Result};
+use command_tables::read_command;
+use std::alloc::Global;
+use target_hub::{Answered, Done, Events, Hub, Image};
+use tcf_message::Message;
+use tcf_outside::Octets;
+use tcf_text::show_line;
+use tcf_values::{Bytes, ContextId, Text, context_id};
+
+/// The bytes of `HEX` or `HEX*N`.
+fn image_bytes(alloc: Global, code: &str) -> Result<Bytes> {
+    let (code, count) = code.split_once('*').unwrap_or((code, "1"));
+    let part = hex::decode(alloc, code)?;
+    let mut bytes = Vec::new(alloc);
+    for _ in 0..number(count)? {
+        bytes.extend_from_slice(part.as_slice())?;
+    }
+    Ok(Bytes::from_vec(bytes))
+}
+
+fn image(alloc: Global, word: &str) -> Result<Image> {
+    let (name, code) = word.split_once('=').context("no image")?;
+    Ok(Image {
+        name: Text::from_str(alloc, name)?,
+        bytes: image_bytes(alloc, code)?,
+    })
+}
+
+/// A target with these images.
+pub fn target(alloc: Global, words: &str) -> Result<Hub> {
+    let mut images = Vec::new(alloc);
+    for word in words.split_whitespace() {
+        images.push(image(alloc, word)?)?;
+    }
+    Ok(Hub::new(alloc, images)?)
+}
+
+fn put_events(alloc: Global, events: &Events, out: &mut Octets) -> Result<()>
+    requires { AreEvents events.now }
+{
+    for event in events {
+        put_told(alloc, event, out)?;
+    }
+    Ok(())
+}
+
+fn put_progress(alloc: Global, channel: &[u8], address: u32, out: &mut Octets) -> Result<()> {
+    let mut data = Octets::new(alloc);
+    data.extend(format!(in alloc; "{address}\0")?.as_bytes())?;
+    let message = Message::Progress {
+        token: channel,
+        body: data.as_slice(),
+    };
+    show_line(&message, out)?;
+    Ok(())
+}
+
+fn put_answer(channel: &[u8], answer: &Answered, out: &mut Octets) -> Result<()> {
+    let message = match answer {
+        Answered::Unknown => Message::NotKnown { token: channel },
+        Answered::Result(data) => Message::Result {
+            token: channel,
+            body: data.as_slice(),
+        },
+    };
+    show_line(&message, out)?;
+    Ok(())
+}
+
+/// Puts the events, and the progress and the answer under the channel's number.
+fn put_done(alloc: Global, channel: &[u8], done: &Done, out: &mut Octets) -> Result<()>
+    requires { AreEvents done.now.events }
+{
+    put_events(alloc, &done.events, out)?;
+    for address in &done.progress {
+        put_progress(alloc, channel, *address, out)?;
+    }
+    put_answer(channel, &done.answer, out)
+}
+
+/// Executes a channel's command.
+pub fn execute(alloc: Global, hub: &mut Hub, words: &str, out: &mut Octets) -> Result<()> {
+    let (channel, words) = first(words);
+    let named = Named::read(alloc, words)?;
+    let (service, name) = (named.service.as_slice(), named.name.as_slice());
+    let reading = read_command(alloc, service, name, named.data.as_slice())?;
+    let done = hub.execute(number(channel)?, service, name, &reading)?;
+    put_done(alloc, channel.as_bytes(), &done, out)
+}
+
+/// Executes an instruction of a thread.
+pub fn tick(alloc: Global, hub: &mut Hub, word: &str, out: &mut Octets) -> Result<()> {
+    let thread = context_id(word.as_bytes()).context("no thread")?;
+    match hub.tick(thread)? {
+        Some(events) => put_events(alloc, &events, out),
+        None => put_text("idle", out),
+    }
+}
+
+/// Lets a channel go.
+pub fn close(alloc: Global, hub: &mut Hub, word: &str, out: &mut Octets) -> Result<()> {
+    let events = hub.close(number(word)?)?;
+    put_events(alloc, &events, out)
+}
+
+/// Puts the threads that run.
+pub fn put_running(alloc: Global, hub: &Hub, out: &mut Octets) -> Result<()> {
+    for thread in &hub.running()? {
+        if let ContextId::Thread(process, thread) = thread {
+            put_text(format!(in alloc; "P{process}.{thread}")?.as_str(), out)?;
+        }
+    }
+    Ok(())
+}

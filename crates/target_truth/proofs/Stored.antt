@@ -1,0 +1,5 @@
+pub mod Found
+pub mod Asked
+pub mod Registers
+pub mod Memory
+pub mod Alike

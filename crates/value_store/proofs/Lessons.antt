@@ -1,0 +1,10 @@
+pub mod Each
+pub mod Decoded
+pub mod Reading
+pub mod Messages
+pub mod Learned
+pub mod Told
+pub mod Registers
+pub mod Answered
+pub mod Stored
+pub mod States

@@ -42,7 +42,8 @@ def cited(crate, libraries):
     folder = TOP / 'crates' / crate
     files = [path for part in ('src', 'specs', 'proofs') for path in (folder / part).rglob('*')]
     words = set().union(*(words_of(path) for path in files if path.suffix in ('.rt', '.antt')))
-    return (words & libraries) - BUILT_IN - {crate}
+    own = {path.stem for path in files if path.suffix == '.rt'}
+    return (words & libraries) - BUILT_IN - own - {crate}
 
 
 def main():

@@ -56,6 +56,16 @@ fn push_word(word: &str, out: &mut Octets) -> Result<(), Trouble> {
     push_text(word, out)
 }
 
+/// The text before the first blank, and that behind it.
+pub fn cut(text: &str) -> (&str, &str) {
+    text.split_once(' ').unwrap_or((text, ""))
+}
+
+/// The number that the text is.
+pub fn number(text: &str) -> Result<u64, Trouble> {
+    text.parse::<u64>().ok().ok_or(Trouble::Form)
+}
+
 /// Appends the bytes that the line gives: behind `|` those of a text and its end, behind `=` those that its words
 /// stand for. Tells whether it is such a line, or says nothing.
 pub fn push_line(line: &str, out: &mut Octets) -> Result<bool, Trouble> {

@@ -1,5 +1,5 @@
 //! A case: what the top call is given, and what it is to make of it. `docs/CONFORMANCE.md` has the format.
-use crate::bytes::push_line;
+use crate::bytes::{cut, number, push_line};
 use crate::trouble::Trouble;
 use std::alloc::Global;
 use std::mem;
@@ -16,7 +16,7 @@ pub struct Taken {
 /// What a run is to give: its status, its text, what some wires take, and, if that is said, which are shut in order.
 #[derive(Drop)]
 pub struct Wanted {
-    pub status: u8,
+    pub status: u64,
     pub text: Octets,
     pub taken: Vec<Taken>,
     pub shut: Option<String>,
@@ -51,7 +51,7 @@ impl Case {
     pub fn of_schedule(
         alloc: Global,
         schedule: &[u8],
-        status: u8,
+        status: u64,
         text: Octets,
     ) -> Result<Self, Trouble> {
         let mut case = Case::new(alloc);
@@ -72,7 +72,7 @@ impl Case {
 
     /// Adds what a part says of the wires: an event, the answer of a connect, or how much a put takes.
     fn add_script(&mut self, kind: &str, rest: &str, bytes: Octets) -> Result<(), Trouble> {
-        let event = match (kind, rest.parse::<u64>().ok()) {
+        let event = match (kind, number(rest).ok()) {
             ("opened", Some(channel)) => WireEvent::Opened(channel),
             ("piece", Some(channel)) => WireEvent::Piece(channel, bytes),
             ("ended", Some(channel)) => WireEvent::Ended(channel),
@@ -80,7 +80,7 @@ impl Case {
             ("idle", None) => WireEvent::Idle,
             ("stop", None) => WireEvent::Stop,
             ("connect", answer) => return Ok(self.wires.answer(answer)?),
-            ("room", _) => return Ok(self.wires.take_at_most(rest.parse::<usize>()?)?),
+            ("room", Some(most)) => return Ok(self.wires.take_at_most(most as usize)?),
             _ => return Err(Trouble::Form),
         };
         Ok(self.wires.give(event)?)
@@ -88,15 +88,15 @@ impl Case {
 
     /// Adds what a part says: a line, and the bytes that the lines behind it give.
     fn add(&mut self, line: &str, bytes: Octets) -> Result<(), Trouble> {
-        let (kind, rest) = line.split_once(' ').unwrap_or((line, ""));
+        let (kind, rest) = cut(line);
         match kind {
             "" => {}
             "run" => self.push_words(rest)?,
             "file" => self.files.hold(rest, bytes.as_slice())?,
-            "status" => self.wanted.status = rest.parse::<u8>()?,
+            "status" => self.wanted.status = number(rest)?,
             "prints" => self.wanted.text = bytes,
             "taken" => {
-                let channel = rest.parse::<u64>()?;
+                let channel = number(rest)?;
                 self.wanted.taken.push(Taken { channel, bytes })?;
             }
             "shut" => {

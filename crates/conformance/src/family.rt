@@ -1,4 +1,5 @@
 //! Families of cases: a file of cases, or a folder of schedules with what `tcf chain` is to print of each.
+use crate::bytes::{cut, number};
 use crate::case::{Case, read_case};
 use crate::play::difference;
 use crate::trouble::Trouble;
@@ -65,7 +66,9 @@ fn try_cases<R: Files + Print + AllocGlobal>(
 ) -> Result<Tally, Trouble> {
     let text = read_text(rt, folder, name)?;
     let mut tally = Tally { tried: 0, right: 0 };
-    for part in text.split("\ncase ").skip(1) {
+    let mut parts = text.split("\ncase ");
+    let _ = parts.next();
+    for part in parts {
         let (name, lines) = part.split_once('\n').unwrap_or((part, ""));
         try_case(rt, name, read_case(rt.alloc(), lines), &mut tally)?;
     }
@@ -82,8 +85,7 @@ fn read_schedule<R: Files + AllocGlobal>(
     let schedule = read_bytes(rt, folder, name)?;
     let wanted = format!(in rt.alloc(); "{name}.stdout")?;
     let text = Octets::from_vec(read_bytes(rt, folder, wanted.as_str())?);
-    let status = status.parse::<u8>()?;
-    Case::of_schedule(rt.alloc(), schedule.as_slice(), status, text)
+    Case::of_schedule(rt.alloc(), schedule.as_slice(), number(status)?, text)
 }
 
 /// Tries the schedules of a folder, whose file `status` has a line with a name and a status for each.
@@ -96,7 +98,7 @@ fn try_schedules<R: Files + Print + AllocGlobal>(
     let statuses = read_text(rt, folder.as_str(), "status")?;
     let mut tally = Tally { tried: 0, right: 0 };
     for line in statuses.lines() {
-        let (name, status) = line.split_once(' ').unwrap_or((line, ""));
+        let (name, status) = cut(line);
         let case = read_schedule(rt, folder.as_str(), name, status);
         try_case(rt, name, case, &mut tally)?;
     }

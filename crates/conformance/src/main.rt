@@ -8,6 +8,7 @@ mod family;
 mod play;
 mod trouble;
 
+use bytes::cut;
 use family::{read_text, try_family};
 use std::process::ExitCode;
 use std::rt::{Env, Files};
@@ -27,7 +28,7 @@ fn try_all<R: Files + Print + AllocGlobal>(rt: &R, folder: &str) -> Result<bool,
     let index = read_text(rt, folder, "index")?;
     let mut is_right = true;
     for line in index.lines() {
-        let (form, name) = line.split_once(' ').ok_or(Trouble::Form)?;
+        let (form, name) = cut(line);
         let tally = try_family(rt, folder, form, name)?;
         println!(rt; "{name}: {tally} as wanted")?;
         is_right = is_right && tally.is_right();

@@ -9,15 +9,13 @@ use tcf_wires::{WireCall, WireScript};
 
 /// Where the first line begins that differs, in both texts.
 fn differing_line(got: &[u8], wanted: &[u8]) -> usize {
-    let mut place = 0usize;
     let mut line = 0usize;
-    for (byte, other) in got.iter().zip(wanted) {
-        if *byte != *other {
+    for place in 0..got.len().min(wanted.len()) {
+        if got[place] != wanted[place] {
             break;
         }
-        place = place.saturating_add(1);
-        if *byte == b'\n' {
-            line = place;
+        if got[place] == b'\n' {
+            line = place + 1;
         }
     }
     line
@@ -86,7 +84,7 @@ pub fn difference(alloc: Global, case: Case) -> Result<Option<String>, AllocErro
     } = case;
     let mut out = MemorySink::new(alloc);
     let exit = tcf(alloc, &words, &mut files, &mut out, &mut wires);
-    let status = exit.status();
+    let status = u64::from(exit.status());
     if let Some(found) = text_difference(alloc, out.told(), wanted.text.as_slice())? {
         return Ok(Some(found));
     }

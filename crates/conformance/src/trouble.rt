@@ -1,7 +1,6 @@
 //! Why the cases can't be tried.
 use std::alloc::{AllocError, AllocFailed};
 use std::io;
-use std::num::ParseIntError;
 
 /// Why the cases, or one of them, can't be tried.
 #[derive(Debug, Drop)]
@@ -23,12 +22,6 @@ impl From<AllocError> for Trouble {
 impl<T: Drop> From<AllocFailed<T>> for Trouble {
     fn from(_failed: AllocFailed<T>) -> Self {
         Trouble::NoMemory
-    }
-}
-
-impl From<ParseIntError> for Trouble {
-    fn from(_error: ParseIntError) -> Self {
-        Trouble::Form
     }
 }
 

@@ -1,11 +1,10 @@
-//! Tests that show of the servings what no clause says, over wires that follow a script.
+//! Tests that show of what each serving stands on what no clause says, and what no run over wires shows alone: pieces that
+//! wait, puts that take little or fail, and channels in order.
 #![tactic(auto)]
 
 #[cfg(test)]
-mod agents;
+mod intakes;
 #[cfg(test)]
-mod clients;
+mod outboxes;
 #[cfg(test)]
-mod value_adds;
-#[cfg(test)]
-mod wires;
+mod rosters;

@@ -32,15 +32,17 @@ fn shown(alloc: Global, reading: &Reading) -> Result<String, AllocError> {
     }
 }
 
+/// What data is read as.
+fn read(alloc: Global, service: &str, name: &str, body: &[u8]) -> Result<String, AllocError> {
+    let reading = read_command(alloc, service.as_bytes(), name.as_bytes(), body)?;
+    shown(alloc, &reading)
+}
+
 #[test]
 fn commands_are_read_as_the_services_say(rt: HostRuntime) -> Result<(), Fail> {
     for (service, name, body, want) in &ROWS {
-        let reading = read_command(rt.alloc(), service.as_bytes(), name.as_bytes(), body)?;
-        assert_eq!(rt;
-            shown(rt.alloc(), &reading)?.as_str(),
-            *want,
-            "{service} {name}"
-        );
+        let found = read(rt.alloc(), service, name, body)?;
+        assert_eq!(rt; found.as_str(), *want, "{service} {name}");
     }
     Ok(())
 }

@@ -132,7 +132,7 @@ struct Objects {
 }
 
 /// The objects of a run, of which this fails.
-fn objects(alloc: Global, failing: &Failing) -> Result<Objects, Fail> {
+fn make_objects(alloc: Global, failing: &Failing) -> Result<Objects, Fail> {
     let mut files = MemoryFiles::new(alloc);
     files.hold("c", b"chain A 0\n")?;
     files.hold("s", b"N\x001\0\x03\x01\x03\x01")?;
@@ -166,7 +166,7 @@ fn what_fails_ends_the_run(rt: HostRuntime) -> Result<(), Fail> {
             mut files,
             mut out,
             mut wires,
-        } = objects(rt.alloc(), failing)?;
+        } = make_objects(rt.alloc(), failing)?;
         let found = tcf(rt.alloc(), &words, &mut files, &mut out, &mut wires);
         assert_eq!(rt; found, *exit, "of {text}");
         assert_eq!(rt; found.status(), *status, "of {text}");

@@ -1,14 +1,13 @@
 //! The rows of what peers keep of a target.
-use crate::tables::{command_of, put_text};
+use crate::rows::Board;
+use crate::tables::{command_of, put_answered, put_text};
 use crate::words::{Named, data, first, two};
 use anyhow::{Result, ensure};
 use cache_learning::{hear_event, hear_final};
 use json_values::{bp_value, context_value, status_value};
 use knowledge::{Knowledge, StateFact};
 use std::alloc::Global;
-use tcf_message::Message;
 use tcf_outside::Octets;
-use tcf_text::show_line;
 use tcf_values::{ContextId, context_id, register_id};
 use value_store::Store;
 
@@ -29,8 +28,14 @@ impl Caches {
         })
     }
 
+    fn restart(&mut self) -> Result<()> {
+        self.known = Knowledge::new(self.alloc)?;
+        self.store = Store::new(self.alloc)?;
+        Ok(())
+    }
+
     /// Both take an event.
-    pub fn hear(&mut self, words: &str) -> Result<()> {
+    fn hear(&mut self, words: &str) -> Result<()> {
         let named = Named::read(self.alloc, words)?;
         let (service, name) = (named.service.as_slice(), named.name.as_slice());
         let data = named.data.as_slice();
@@ -40,7 +45,7 @@ impl Caches {
     }
 
     /// Both take an answer to a command.
-    pub fn learn(&mut self, words: &str) -> Result<()> {
+    fn learn(&mut self, words: &str) -> Result<()> {
         let (asked, answered) = two(words);
         let named = Named::read(self.alloc, asked)?;
         let answer = data(self.alloc, answered)?;
@@ -58,24 +63,22 @@ impl Caches {
         Ok(())
     }
 
-    /// Puts what the value-add answers of a command.
-    pub fn put_reply(&mut self, words: &str, out: &mut Octets) -> Result<()> {
+    /// What the value-add answers of a command.
+    fn reply(&mut self, words: &str) -> Result<Option<Octets>> {
         let command = command_of(self.alloc, words)?;
-        match self.store.answer(self.alloc, &command)? {
-            Some(data) => {
-                let message = Message::Result {
-                    token: b"",
-                    body: data.as_slice(),
-                };
-                show_line(&message, out)?;
-                Ok(())
-            }
+        Ok(self.store.answer(self.alloc, &command)?)
+    }
+
+    /// Puts what the value-add answers of a command.
+    fn put_reply(&mut self, words: &str, out: &mut Octets) -> Result<()> {
+        match self.reply(words)? {
+            Some(data) => put_answered("", data.as_slice(), out),
             None => put_text("none", out),
         }
     }
 
     /// Puts what the client's cache has.
-    pub fn put_known(&self, words: &str, out: &mut Octets) -> Result<()> {
+    fn put_known(&self, words: &str, out: &mut Octets) -> Result<()> {
         let (kind, id) = first(words);
         let text = match kind {
             "context" => self.context(id)?,
@@ -149,6 +152,20 @@ impl Caches {
         match self.known.bytes(process, addr, size) {
             Some(bytes) => Ok(Some(hex::encode(self.alloc, bytes)?)),
             None => Ok(None),
+        }
+    }
+}
+
+impl Board for Caches {
+    fn play(&mut self, row: &str, out: &mut Octets) -> Result<()> {
+        let (kind, words) = first(row);
+        match kind {
+            "cache" => self.restart(),
+            "hear" => self.hear(words),
+            "learn" => self.learn(words),
+            "known" => self.put_known(words, out),
+            "reply" => self.put_reply(words, out),
+            _ => put_text("no row", out),
         }
     }
 }

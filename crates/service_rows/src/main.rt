@@ -36,20 +36,22 @@ mod caches;
 mod parts;
 mod processor;
 mod rows;
-mod session;
 mod tables;
 mod target;
 mod words;
 
 use anyhow::Result;
-use rows::Rows;
+use caches::Caches;
+use processor::Processor;
+use rows::{Board, Rows};
 use std::io::Write;
 use std::{env, fs, io};
+use tables::Tables;
+use target::Target;
 
 /// Plays the rows of a file, and tells what was found.
-fn play(rt: &HostRuntime, name: &str) -> Result<()> {
-    let text = fs::read_to_string(rt, name)?;
-    let mut rows = Rows::new(rt.alloc())?;
+fn play<B: Board>(rt: &HostRuntime, name: &str, text: &str, board: B) -> Result<()> {
+    let mut rows = Rows::new(rt.alloc(), board);
     for (place, line) in text.lines().enumerate() {
         rows.take(place, line)?;
     }
@@ -57,9 +59,21 @@ fn play(rt: &HostRuntime, name: &str) -> Result<()> {
     Ok(())
 }
 
+/// Plays the rows of a file on what they are for, which its name says.
+fn play_file(rt: &HostRuntime, name: &str) -> Result<()> {
+    let text = fs::read_to_string(rt, name)?;
+    let text = text.as_str();
+    match name {
+        "processor.rows" => play(rt, name, text, Processor::new(rt.alloc())?),
+        "target.rows" => play(rt, name, text, Target::new(rt.alloc())?),
+        "caches.rows" => play(rt, name, text, Caches::new(rt.alloc())?),
+        _ => play(rt, name, text, Tables::new(rt.alloc())),
+    }
+}
+
 fn main(rt: HostRuntime) -> Result<()> {
     for name in env::args(&rt)?.skip(1) {
-        play(&rt, name.as_str())?;
+        play_file(&rt, name.as_str())?;
     }
     Ok(())
 }

@@ -1,4 +1,5 @@
 //! The rows of one processor with its memory. Their numbers are in hexadecimal digits.
+use crate::rows::Board;
 use crate::tables::put_text;
 use crate::words::first;
 use anyhow::{Context, Result, ensure};
@@ -14,7 +15,7 @@ fn number(word: &str) -> Result<u32> {
 }
 
 /// A memory with these bytes at 0; one of zeros where there are none.
-pub fn memory(alloc: Global, word: &str) -> Result<Memory> {
+fn memory(alloc: Global, word: &str) -> Result<Memory> {
     let bytes = hex::decode(alloc, word)?;
     if bytes.is_empty() {
         return Ok(Memory::new(alloc)?);
@@ -33,7 +34,7 @@ fn put_word(memory: &mut Memory, place: u32, word: u32) {
 }
 
 /// Writes bytes from an address on, and puts whether all lie in memory.
-pub fn put_write(alloc: Global, memory: &mut Memory, words: &str, out: &mut Octets) -> Result<()> {
+fn put_write(alloc: Global, memory: &mut Memory, words: &str, out: &mut Octets) -> Result<()> {
     let (place, code) = first(words);
     let mut place = number(place)?;
     let mut inside = true;
@@ -45,7 +46,7 @@ pub fn put_write(alloc: Global, memory: &mut Memory, words: &str, out: &mut Octe
 }
 
 /// Puts the byte at an address.
-pub fn put_byte(alloc: Global, memory: &Memory, word: &str, out: &mut Octets) -> Result<()> {
+fn put_byte(alloc: Global, memory: &Memory, word: &str, out: &mut Octets) -> Result<()> {
     match memory.read(number(word)?) {
         Some(byte) => put_text(format!(in alloc; "{byte:x}")?.as_str(), out),
         None => put_text("outside", out),
@@ -53,7 +54,7 @@ pub fn put_byte(alloc: Global, memory: &Memory, word: &str, out: &mut Octets) ->
 }
 
 /// Puts the instruction that a word is.
-pub fn put_instruction(alloc: Global, word: &str, out: &mut Octets) -> Result<()> {
+fn put_instruction(alloc: Global, word: &str, out: &mut Octets) -> Result<()> {
     match decode(number(word)?) {
         Some(instruction) => put_text(format!(in alloc; "{instruction:?}")?.as_str(), out),
         None => put_text("none", out),
@@ -70,7 +71,7 @@ fn set_register(cpu: &mut Cpu, word: &str) -> Result<()> {
 }
 
 /// A processor at an address with these registers, and zeros in the others.
-fn processor(pc: &str, registers: &str) -> Result<Cpu> {
+fn cpu(pc: &str, registers: &str) -> Result<Cpu> {
     let mut cpu = Cpu {
         pc: number(pc)?,
         x: [0; 32],
@@ -92,14 +93,49 @@ fn add_changes(before: &Cpu, now: &Cpu, line: &mut String) -> Result<()> {
 }
 
 /// Puts a word at the pc, executes it, and puts what comes of it, the pc and the registers that changed.
-pub fn put_step(alloc: Global, memory: &mut Memory, words: &str, out: &mut Octets) -> Result<()> {
+fn put_step(alloc: Global, memory: &mut Memory, words: &str, out: &mut Octets) -> Result<()> {
     let (pc, words) = first(words);
     let (word, registers) = first(words);
-    let before = processor(pc, registers)?;
+    let before = cpu(pc, registers)?;
     put_word(memory, before.pc, number(word)?);
     let mut now = before;
     let outcome = execute(&mut now, memory);
     let mut line = format!(in alloc; "{outcome:?} pc={:x}", now.pc)?;
     add_changes(&before, &now, &mut line)?;
     put_text(line.as_str(), out)
+}
+
+/// A processor's memory, at first of zeros.
+#[derive(Drop)]
+pub struct Processor {
+    alloc: Global,
+    memory: Memory,
+}
+
+impl Processor {
+    pub fn new(alloc: Global) -> Result<Processor> {
+        Ok(Processor {
+            alloc,
+            memory: memory(alloc, "")?,
+        })
+    }
+
+    fn restart(&mut self, words: &str) -> Result<()> {
+        self.memory = memory(self.alloc, words)?;
+        Ok(())
+    }
+}
+
+impl Board for Processor {
+    fn play(&mut self, row: &str, out: &mut Octets) -> Result<()> {
+        let (kind, words) = first(row);
+        match kind {
+            "decode" => put_instruction(self.alloc, words, out),
+            "memory" => self.restart(words),
+            "write" => put_write(self.alloc, &mut self.memory, words, out),
+            "byte" => put_byte(self.alloc, &self.memory, words, out),
+            "step" => put_step(self.alloc, &mut self.memory, words, out),
+            _ => put_text("no row", out),
+        }
+    }
 }

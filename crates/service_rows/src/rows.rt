@@ -1,8 +1,13 @@
 //! The rows of a file, and what is told of them.
-use crate::session::Session;
 use anyhow::Result;
 use std::alloc::Global;
 use tcf_outside::Octets;
+
+/// What rows are played on.
+pub trait Board: Drop {
+    /// Plays a row, and puts what it gives, which may be no line.
+    fn play(&mut self, row: &str, out: &mut Octets) -> Result<()>;
+}
 
 /// What a row gave, and what is wanted of it, line by line.
 #[derive(Drop)]
@@ -14,9 +19,9 @@ struct Row {
 
 /// The rows of a file so far.
 #[derive(Drop)]
-pub struct Rows {
+pub struct Rows<B> {
     alloc: Global,
-    session: Session,
+    board: B,
     row: Option<Row>,
     /// How many were compared, and how many of them gave what is wanted.
     all: u64,
@@ -32,16 +37,16 @@ fn put_line(line: &str, out: &mut Octets) -> Result<()> {
     Ok(())
 }
 
-impl Rows {
-    pub fn new(alloc: Global) -> Result<Rows> {
-        Ok(Rows {
+impl<B: Board> Rows<B> {
+    pub fn new(alloc: Global, board: B) -> Rows<B> {
+        Rows {
             alloc,
-            session: Session::new(alloc)?,
+            board,
             row: None,
             all: 0,
             right: 0,
             report: Octets::new(alloc),
-        })
+        }
     }
 
     /// Takes the line at a place, counted from 0.
@@ -73,7 +78,7 @@ impl Rows {
             given: Octets::new(self.alloc),
             wanted: Octets::new(self.alloc),
         };
-        self.session.play(played, &mut row.given)?;
+        self.board.play(played, &mut row.given)?;
         if row.given.is_empty() {
             put_line("nothing", &mut row.given)?;
         }

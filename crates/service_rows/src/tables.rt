@@ -1,13 +1,19 @@
 //! The rows of one command, answer or event, read by the tables.
+ghost use Rattle.std.specs.Prelude.{IfOk};
 ghost use Rattle.command_tables.specs.Canonical.{IsReadable};
+ghost use Rattle.command_tables.specs.Reading.{IsReading};
 ghost use Rattle.reply_tables.specs.Events.{IsEvent};
+ghost use Rattle.reply_tables.specs.Limits.{IsAnswerTo};
 ghost use Rattle.tcf_values.specs.Spelling.{IsContext, IsRegister};
 
-use crate::words::{Named, bytes, data, number, two};
+use crate::parts::put_part;
+use crate::rows::Board;
+use crate::words::{Named, bytes, data, first, number, two};
 use anyhow::Result;
 use command_tables::{Reading, read_command, write_command};
 use reply_tables::{ReadAnswer, ReadEvent, read_answer, read_event, write_answer, write_event};
 use std::alloc::Global;
+use std::fmt::Debug;
 use tcf_message::Message;
 use tcf_outside::{Duplicate, Octets};
 use tcf_text::show_line;
@@ -23,7 +29,19 @@ pub fn put_text(text: &str, out: &mut Octets) -> Result<()> {
     Ok(())
 }
 
-fn read(alloc: Global, named: &Named) -> Result<Reading> {
+/// Whether a copy shows what its source shows.
+fn is_copied<T: Duplicate + Debug>(alloc: Global, source: &T) -> Result<bool> {
+    let twin = source.copy()?;
+    let (shown, want) = (
+        format!(in alloc; "{twin:?}")?,
+        format!(in alloc; "{source:?}")?,
+    );
+    Ok(shown.as_str() == want.as_str())
+}
+
+fn read(alloc: Global, named: &Named) -> Result<Reading>
+    ensures { IfOk result (IsReading named.now.service.items named.now.name.items) }
+{
     Ok(read_command(
         alloc,
         named.service.as_slice(),
@@ -45,6 +63,9 @@ pub fn command_of(alloc: Global, words: &str) -> Result<Option<Command>> {
 fn put_written(alloc: Global, command: &Command, out: &mut Octets) -> Result<()>
     requires { IsReadable command.now }
 {
+    if !is_copied(alloc, command)? {
+        return put_text("copied otherwise", out);
+    }
     let written = write_command(alloc, command)?;
     let message = Message::Command {
         token: b"",
@@ -56,11 +77,11 @@ fn put_written(alloc: Global, command: &Command, out: &mut Octets) -> Result<()>
     Ok(())
 }
 
-/// Puts what a command is read as; one that is known as a copy of it is written.
+/// Puts what a command is read as.
 pub fn put_command(alloc: Global, words: &str, out: &mut Octets) -> Result<()> {
     let named = Named::read(alloc, words)?;
     match read(alloc, &named)? {
-        Reading::Known(command) => put_written(alloc, &command.copy()?, out),
+        Reading::Known(command) => put_written(alloc, &command, out),
         Reading::Unknown => put_text("unknown", out),
         Reading::Bad { index, code } => {
             put_text(format!(in alloc; "bad {index} {code}")?.as_str(), out)
@@ -86,8 +107,8 @@ pub fn put_class(alloc: Global, words: &str, out: &mut Octets) -> Result<()> {
     }
 }
 
-/// Puts an answer as it is written.
-fn put_answered(alloc: Global, word: &str, data: &[u8], out: &mut Octets) -> Result<()> {
+/// Puts a word and an answer.
+pub fn put_answered(word: &str, data: &[u8], out: &mut Octets) -> Result<()> {
     out.extend(word.as_bytes())?;
     let message = Message::Result {
         token: b"",
@@ -97,18 +118,26 @@ fn put_answered(alloc: Global, word: &str, data: &[u8], out: &mut Octets) -> Res
     Ok(())
 }
 
-/// Puts what data is read as, as an answer to a command: the data that a copy of it is written as.
+/// Puts an answer as it is written.
+fn put_known(alloc: Global, command: &Command, answer: &Answer, out: &mut Octets) -> Result<()>
+    requires { IsAnswerTo command.now answer.now }
+{
+    if !is_copied(alloc, answer)? {
+        return put_text("copied otherwise", out);
+    }
+    let word = match answer {
+        Answer::Failed(_) => "failed ",
+        _ => "",
+    };
+    let mut data = Octets::new(alloc);
+    write_answer(alloc, command, answer, &mut data)?;
+    put_answered(word, data.as_slice(), out)
+}
+
+/// Puts what data is read as, as an answer to a command.
 fn put_read(alloc: Global, command: &Command, data: &[u8], out: &mut Octets) -> Result<()> {
     match read_answer(alloc, command, data)? {
-        ReadAnswer::Known(answer) => {
-            let word = match &answer {
-                Answer::Failed(_) => "failed ",
-                _ => "",
-            };
-            let mut data = Octets::new(alloc);
-            write_answer(alloc, command, &answer.copy()?, &mut data)?;
-            put_answered(alloc, word, data.as_slice(), out)
-        }
+        ReadAnswer::Known(answer) => put_known(alloc, command, &answer, out),
         ReadAnswer::Bad => put_text("bad", out),
     }
 }
@@ -122,11 +151,14 @@ pub fn put_answer(alloc: Global, words: &str, out: &mut Octets) -> Result<()> {
     }
 }
 
-/// Puts an event as a copy of it is written.
+/// Puts an event as it is written.
 pub fn put_told(alloc: Global, event: &EventData, out: &mut Octets) -> Result<()>
     requires { IsEvent event.now }
 {
-    let written = write_event(alloc, &event.copy()?)?;
+    if !is_copied(alloc, event)? {
+        return put_text("copied otherwise", out);
+    }
+    let written = write_event(alloc, event)?;
     let message = Message::Event {
         service: written.service.as_bytes(),
         name: written.name.as_bytes(),
@@ -193,4 +225,32 @@ pub fn put_id(alloc: Global, word: &str, out: &mut Octets) -> Result<()> {
 pub fn put_code(word: &str, out: &mut Octets) -> Result<()> {
     let code = u8::try_from(number(word)?)?;
     put_text(format_of_code(code).unwrap_or("none"), out)
+}
+
+/// The rows that need nothing of those before them.
+#[derive(Drop)]
+pub struct Tables {
+    alloc: Global,
+}
+
+impl Tables {
+    pub fn new(alloc: Global) -> Tables {
+        Tables { alloc }
+    }
+}
+
+impl Board for Tables {
+    fn play(&mut self, row: &str, out: &mut Octets) -> Result<()> {
+        let (kind, words) = first(row);
+        match kind {
+            "command" => put_command(self.alloc, words, out),
+            "class" => put_class(self.alloc, words, out),
+            "answer" => put_answer(self.alloc, words, out),
+            "event" => put_event(self.alloc, words, out),
+            "id" => put_id(self.alloc, words, out),
+            "part" => put_part(self.alloc, words, out),
+            "code" => put_code(words, out),
+            _ => put_text("no row", out),
+        }
+    }
 }

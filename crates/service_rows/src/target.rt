@@ -1,6 +1,7 @@
 //! The rows of a target that several channels share.
 ghost use Rattle.target_hub.specs.Limits.{AreEvents};
 
+use crate::rows::Board;
 use crate::tables::{put_text, put_told};
 use crate::words::{Named, first, number};
 use anyhow::{Context, Result};
@@ -32,7 +33,7 @@ fn image(alloc: Global, word: &str) -> Result<Image> {
 }
 
 /// A target with these images.
-pub fn target(alloc: Global, words: &str) -> Result<Hub> {
+fn hub(alloc: Global, words: &str) -> Result<Hub> {
     let mut images = Vec::new(alloc);
     for word in words.split_whitespace() {
         images.push(image(alloc, word)?)?;
@@ -84,7 +85,7 @@ fn put_done(alloc: Global, channel: &[u8], done: &Done, out: &mut Octets) -> Res
 }
 
 /// Executes a channel's command.
-pub fn execute(alloc: Global, hub: &mut Hub, words: &str, out: &mut Octets) -> Result<()> {
+fn execute(alloc: Global, hub: &mut Hub, words: &str, out: &mut Octets) -> Result<()> {
     let (channel, words) = first(words);
     let named = Named::read(alloc, words)?;
     let (service, name) = (named.service.as_slice(), named.name.as_slice());
@@ -94,7 +95,7 @@ pub fn execute(alloc: Global, hub: &mut Hub, words: &str, out: &mut Octets) -> R
 }
 
 /// Executes an instruction of a thread.
-pub fn tick(alloc: Global, hub: &mut Hub, word: &str, out: &mut Octets) -> Result<()> {
+fn tick(alloc: Global, hub: &mut Hub, word: &str, out: &mut Octets) -> Result<()> {
     let thread = context_id(word.as_bytes()).context("no thread")?;
     match hub.tick(thread)? {
         Some(events) => put_events(alloc, &events, out),
@@ -103,17 +104,52 @@ pub fn tick(alloc: Global, hub: &mut Hub, word: &str, out: &mut Octets) -> Resul
 }
 
 /// Lets a channel go.
-pub fn close(alloc: Global, hub: &mut Hub, word: &str, out: &mut Octets) -> Result<()> {
+fn close(alloc: Global, hub: &mut Hub, word: &str, out: &mut Octets) -> Result<()> {
     let events = hub.close(number(word)?)?;
     put_events(alloc, &events, out)
 }
 
 /// Puts the threads that run.
-pub fn put_running(alloc: Global, hub: &Hub, out: &mut Octets) -> Result<()> {
+fn put_running(alloc: Global, hub: &Hub, out: &mut Octets) -> Result<()> {
     for thread in &hub.running()? {
         if let ContextId::Thread(process, thread) = thread {
             put_text(format!(in alloc; "P{process}.{thread}")?.as_str(), out)?;
         }
     }
     Ok(())
+}
+
+/// A target, at first without images.
+#[derive(Drop)]
+pub struct Target {
+    alloc: Global,
+    hub: Hub,
+}
+
+impl Target {
+    pub fn new(alloc: Global) -> Result<Target> {
+        Ok(Target {
+            alloc,
+            hub: hub(alloc, "")?,
+        })
+    }
+
+    fn restart(&mut self, words: &str) -> Result<()> {
+        self.hub = hub(self.alloc, words)?;
+        Ok(())
+    }
+}
+
+impl Board for Target {
+    fn play(&mut self, row: &str, out: &mut Octets) -> Result<()> {
+        let (kind, words) = first(row);
+        match kind {
+            "target" => self.restart(words),
+            "exec" => execute(self.alloc, &mut self.hub, words, out),
+            "tick" => tick(self.alloc, &mut self.hub, words, out),
+            "close" => close(self.alloc, &mut self.hub, words, out),
+            "running" => put_running(self.alloc, &self.hub, out),
+            _ => put_text("no row", out),
+        }
+    }
 }

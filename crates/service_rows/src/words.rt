@@ -1,7 +1,7 @@
 //! The words of a row, and the data that they spell.
 use anyhow::{Context, Result};
 use percent_encoding::percent_decode;
-use std::alloc::Global;
+use std::alloc::{AllocError, Global};
 
 /// The first word, and what stands behind the blank that ends it.
 pub fn first(line: &str) -> (&str, &str) {
@@ -18,7 +18,7 @@ pub fn number(word: &str) -> Result<u64> {
     word.parse::<u64>().context("no number")
 }
 
-fn put_bytes(word: &str, out: &mut Vec<u8>) -> Result<()> {
+fn put_bytes(word: &str, out: &mut Vec<u8>) -> Result<(), AllocError> {
     if word != "-" {
         percent_decode(word.as_bytes()).append_to(out)?;
     }
@@ -26,14 +26,14 @@ fn put_bytes(word: &str, out: &mut Vec<u8>) -> Result<()> {
 }
 
 /// The bytes of a word.
-pub fn bytes(alloc: Global, word: &str) -> Result<Vec<u8>> {
+pub fn bytes(alloc: Global, word: &str) -> Result<Vec<u8>, AllocError> {
     let mut bytes = Vec::new(alloc);
     put_bytes(word, &mut bytes)?;
     Ok(bytes)
 }
 
 /// The data of words: each is a part, with its zero but where it begins with `!`.
-pub fn data(alloc: Global, words: &str) -> Result<Vec<u8>> {
+pub fn data(alloc: Global, words: &str) -> Result<Vec<u8>, AllocError> {
     let mut data = Vec::new(alloc);
     for word in words.split_whitespace() {
         match word.strip_prefix('!') {
@@ -57,7 +57,7 @@ pub struct Named {
 
 impl Named {
     /// Reads a service, a name and data.
-    pub fn read(alloc: Global, words: &str) -> Result<Named> {
+    pub fn read(alloc: Global, words: &str) -> Result<Named, AllocError> {
         let (service, words) = first(words);
         let (name, words) = first(words);
         Ok(Named {

@@ -1,6 +1,7 @@
 //! That a process without a debugger ends by an exception, as it is told.
 use command_tables::read_command;
 use std::alloc::{AllocError, Global};
+use std::process::Abort;
 use std::test::Fail;
 use target_contexts::Image;
 use target_hub::{Done, Hub};
@@ -19,11 +20,10 @@ fn hub(alloc: Global) -> Result<Hub, Fail> {
 }
 
 /// A channel starts the process without a debugger.
-fn start(alloc: Global, hub: &mut Hub) -> Result<Done, AllocError> {
-    let (service, name) = (b"Processes", b"start");
+fn execute(alloc: Global, hub: &mut Hub) -> Result<Done, AllocError> {
     let body = b"\"\"\0\"a\"\0[]\0[]\0false\0";
-    let reading = read_command(alloc, service, name, body)?;
-    hub.execute(0, service, name, &reading)
+    let reading = read_command(alloc, b"Processes", b"start", body)?;
+    hub.execute(0, b"Processes", b"start", &reading)
 }
 
 fn removed(alloc: Global, ids: &[Text]) -> Result<String, AllocError> {
@@ -50,6 +50,12 @@ fn shown(alloc: Global, events: &[EventData]) -> Result<String, AllocError> {
     Ok(line)
 }
 
+/// What the start tells.
+fn started(alloc: Global, hub: &mut Hub) -> Result<String, AllocError> {
+    let done = execute(alloc, hub)?;
+    shown(alloc, done.events.as_slice())
+}
+
 /// What an instruction of P1.1 tells.
 fn ticked(alloc: Global, hub: &mut Hub) -> Result<String, AllocError> {
     match hub.tick(ContextId::Thread(1, 1))? {
@@ -58,16 +64,17 @@ fn ticked(alloc: Global, hub: &mut Hub) -> Result<String, AllocError> {
     }
 }
 
+/// The start tells one thing, and each instruction another.
+fn assert_told(rt: &(impl Abort + AllocGlobal), hub: &mut Hub) -> Result<(), Fail> {
+    assert_eq!(rt; started(rt.alloc(), hub)?.as_str(), "added 2 ");
+    for want in ["", "", "removed P1.1 P1 exited P1 -2 ", "idle"] {
+        assert_eq!(rt; ticked(rt.alloc(), hub)?.as_str(), want);
+    }
+    Ok(())
+}
+
 #[test]
 fn a_process_without_a_debugger_ends_by_an_exception(rt: HostRuntime) -> Result<(), Fail> {
     let mut hub = hub(rt.alloc())?;
-    let done = start(rt.alloc(), &mut hub)?;
-    assert_eq!(rt;
-        shown(rt.alloc(), done.events.as_slice())?.as_str(),
-        "added 2 "
-    );
-    for want in ["", "", "removed P1.1 P1 exited P1 -2 ", "idle"] {
-        assert_eq!(rt; ticked(rt.alloc(), &mut hub)?.as_str(), want);
-    }
-    Ok(())
+    assert_told(&rt, &mut hub)
 }

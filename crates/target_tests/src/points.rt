@@ -1,18 +1,28 @@
 //! That an enabled breakpoint has an instance at its address or an error, and that an ID is given once.
 use breakpoints::{BpDone, Breakpoints};
 use std::alloc::{AllocError, Global};
+use std::process::Abort;
 use std::test::Fail;
 use tcf_values::{BpProps, Command, Instance, Place, Text};
 
-/// Adds the enabled breakpoint `b`.
-fn add(alloc: Global, list: &mut Breakpoints, location: &str) -> Result<BpDone, AllocError> {
-    let props = BpProps {
-        id: Text::from_str(alloc, "b")?,
+fn props(alloc: Global, location: &str) -> Result<BpProps, AllocError> {
+    let id = Text::from_str(alloc, "b")?;
+    let location = Some(Text::from_str(alloc, location)?);
+    Ok(BpProps {
+        id,
         enabled: true,
-        location: Some(Text::from_str(alloc, location)?),
+        location,
         contexts: None,
-    };
-    list.apply(0, &Command::BpAdd { props })
+    })
+}
+
+/// Adds the enabled breakpoint `b`, and tells the code where that is refused.
+fn add(alloc: Global, list: &mut Breakpoints, location: &str) -> Result<Option<u8>, AllocError> {
+    let props = props(alloc, location)?;
+    match list.apply(0, &Command::BpAdd { props })? {
+        BpDone::Failed(code) => Ok(Some(code)),
+        BpDone::Changed { .. } => Ok(None),
+    }
 }
 
 /// An instance as its context, and its address or its error.
@@ -25,21 +35,33 @@ fn shown(alloc: Global, instance: &Instance) -> Result<String, AllocError> {
 }
 
 /// The one instance of the breakpoint where P1 is attached.
-fn only_instance(alloc: Global, list: &Breakpoints) -> Result<String, Fail> {
-    let status = list.status(b"b", &[1])?.ok_or("no status")?;
-    match status.instances.as_slice() {
-        [instance] => Ok(shown(alloc, instance)?),
-        _ => Err("not one instance")?,
+fn only_instance(alloc: Global, list: &Breakpoints) -> Result<String, AllocError> {
+    match list.status(b"b", &[1])? {
+        Some(status) => match status.instances.as_slice() {
+            [instance] => shown(alloc, instance),
+            _ => String::from_str(alloc, "not one instance"),
+        },
+        None => String::from_str(alloc, "no status"),
     }
+}
+
+fn assert_added(
+    rt: &(impl Abort + AllocGlobal),
+    list: &mut Breakpoints,
+    location: &str,
+    want: &str,
+) -> Result<(), Fail> {
+    assert_eq!(rt; add(rt.alloc(), list, location)?, None);
+    assert_eq!(rt; only_instance(rt.alloc(), list)?.as_str(), want);
+    assert_eq!(rt; add(rt.alloc(), list, "4")?, Some(1));
+    Ok(())
 }
 
 #[test]
 fn a_breakpoint_is_at_its_address_or_has_an_error(rt: HostRuntime) -> Result<(), Fail> {
     for (location, want) in [("0x10", "P1 at 16"), ("6", "P1 bad-location")] {
         let mut list = Breakpoints::new(rt.alloc());
-        let _ = add(rt.alloc(), &mut list, location)?;
-        assert_eq!(rt; only_instance(rt.alloc(), &list)?.as_str(), want);
-        assert!(rt; matches!(&add(rt.alloc(), &mut list, "4")?, BpDone::Failed(1)));
+        assert_added(&rt, &mut list, location, want)?;
     }
     Ok(())
 }

@@ -5,7 +5,7 @@ use Rattle.std.proofs.lemmas.Grind.{flat_map-append}
 use Rattle.std.proofs.lemmas.List.{map-append}
 use Rattle.channel_core.specs.Closing.{is_closed}
 use Rattle.channel_core.specs.Laws.{listed}
-use Rattle.channel_core.specs.QueueLaws.{ClosesOnlySo, is_commanding, may_close, sent_by, sent_in}
+use Rattle.channel_core.specs.QueueLaws.{is_commanding, may_close, sent_by, sent_in}
 use Rattle.channel_core.specs.Runs.{Call as EndCall, Unheld, after_call, sending, some_progress, taking}
 use Rattle.channel_core.specs.Taking.{closes, next_taken}
 use Rattle.channel_core.specs.Wire.{hello, locator, said}
@@ -25,8 +25,8 @@ use Rattle.agent_node.specs.AgentLaws.{Asked, asked, asked_by, read, tokens}
 use Rattle.agent_node.specs.Runs.{Past, answer_calls, answer_of, event_call, run_of, with_calls}
 use Rattle.agent_node.proofs.Calls.{end_more, plain_more, run_more, said_unless, sendings, sendings_asked, sendings_plain, sendings_said, sendings_state, sent_of, sent_of_more}
 use Rattle.agent_node.proofs.Histories.{executed_more, opens_more, sent_more, told_live}
-use Rattle.agent_node.proofs.Standing.{ClosedTakesNone}
 use Rattle.agent_node.proofs.Tokens.{Uses, as_messages, caller_messages, caller_unheld, event_unheld, events_messages, messages_more, say, uses_caller, uses_events, uses_more, uses_none}
+use Rattle.agent_node.proofs.Standing.{closed_takes_none, run_closes}
 
 -- ---- What a channel was told, and what it asked
 
@@ -94,13 +94,13 @@ one_plain : (call : EndCall Unit) (past : Past) → is_commanding call ≡ false
 one_plain call past isnt none = plain_more (call ∷ []) past none (ap (λ b. b || false) isnt)
 
 -- that sends and takes nothing, and doesn't close
-pub follows_quiet : ((past : Past) → ClosesOnlySo (run_of past)) → (images : List Image) (history : List Input) (call : EndCall Unit) (past : Past) → may_close call ≡ false → is_commanding call ≡ false → sent_by call (run_of past).end ≡ []
+pub follows_quiet : (images : List Image) (history : List Input) (call : EndCall Unit) (past : Past) → may_close call ≡ false → is_commanding call ≡ false → sent_by call (run_of past).end ≡ []
     → (after_call call (run_of past)).past.taken ≡ (run_of past).past.taken → Follows images history past → Follows images history (with_calls (call ∷ []) past)
-follows_quiet law images history call past staying isnt silent idle f = record {
+follows_quiet images history call past staying isnt silent idle f = record {
   told = told_same images history past.number past.position (sent_of past) (sent_of (with_calls (call ∷ []) past)) (asked (run_of past)) (asked (run_of (with_calls (call ∷ []) past)))
       (is_closed (run_of past).end.state) (is_closed (run_of (with_calls (call ∷ []) past)).end.state) (one_sent call past silent)
       (ap asked (run_more (call ∷ []) past) ∙ ap (flat_map asked_by) idle)
-      (ap (λ e. is_closed e.state) (end_more (call ∷ []) past) ∙ (law past).by_others call staying) f.told;
+      (ap (λ e. is_closed e.state) (end_more (call ∷ []) past) ∙ (run_closes past).by_others call staying) f.told;
   plain = one_plain call past isnt f.plain;
 }
 
@@ -124,17 +124,17 @@ taking_end : (past : Past) → is_closed (run_of (with_taking past)).end.state �
 taking_end past = ap (λ e. is_closed e.state) (end_more (taking ∷ []) past)
 
 -- an open end closes with what it takes
-pub taking_open : ((past : Past) → ClosesOnlySo (run_of past)) → (past : Past) → is_closed (run_of past).end.state ≡ false → is_closed (run_of (with_taking past)).end.state ≡ closes (next_taken (run_of past).end).0
-taking_open law past opened = taking_end past ∙ (law past).by_taking opened
+pub taking_open : (past : Past) → is_closed (run_of past).end.state ≡ false → is_closed (run_of (with_taking past)).end.state ≡ closes (next_taken (run_of past).end).0
+taking_open past opened = taking_end past ∙ (run_closes past).by_taking opened
 
 -- a closed one stays so
-pub taking_closed : ClosedTakesNone → (past : Past) → is_closed (run_of past).end.state ≡ true → is_closed (run_of (with_taking past)).end.state ≡ true
-taking_closed law past closed = taking_end past ∙ ap (λ p. is_closed p.1.state) (law past closed) ∙ closed
+pub taking_closed : (past : Past) → is_closed (run_of past).end.state ≡ true → is_closed (run_of (with_taking past)).end.state ≡ true
+taking_closed past closed = taking_end past ∙ ap (λ p. is_closed p.1.state) (closed_takes_none past closed) ∙ closed
 
 -- an entry that asks nothing and closes nothing changes nothing
-pub follows_taking : ((past : Past) → ClosesOnlySo (run_of past)) → ClosedTakesNone → (images : List Image) (history : List Input) (past : Past) → asked_next (next_taken (run_of past).end).0 ≡ [] → closes (next_taken (run_of past).end).0 ≡ false
+pub follows_taking : (images : List Image) (history : List Input) (past : Past) → asked_next (next_taken (run_of past).end).0 ≡ [] → closes (next_taken (run_of past).end).0 ≡ false
     → Follows images history past → Follows images history (with_taking past)
-follows_taking law none_taken images history past asks staying f = record {
+follows_taking images history past asks staying f = record {
   told = told_same images history past.number past.position (sent_of past) (sent_of (with_taking past)) (asked (run_of past)) (asked (run_of (with_taking past)))
       (is_closed (run_of past).end.state) (is_closed (run_of (with_taking past)).end.state) (taking_sent past)
       (taking_asked past ∙ ap (λ cs. asked (run_of past) ++ cs) asks ∙ append-nil (asked (run_of past))) (by_flag (is_closed (run_of past).end.state) refl) f.told;
@@ -142,8 +142,8 @@ follows_taking law none_taken images history past asks staying f = record {
 }
   where
     by_flag : (flag : Bool) → is_closed (run_of past).end.state ≡ flag → is_closed (run_of (with_taking past)).end.state ≡ is_closed (run_of past).end.state
-    by_flag true closed = taking_closed none_taken past closed ∙ sym closed
-    by_flag false opened = taking_open law past opened ∙ staying ∙ sym opened
+    by_flag true closed = taking_closed past closed ∙ sym closed
+    by_flag false opened = taking_open past opened ∙ staying ∙ sym opened
 
 -- ---- It hears events
 

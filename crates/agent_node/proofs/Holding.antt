@@ -3,9 +3,7 @@ use Rattle.std.proofs.Common.{◌≡◌, ℕ, ◌+◌, ◌==◌, Bool, true, fal
 use Rattle.std.specs.List.{AllByRecursion, filter}
 use Rattle.std.proofs.lemmas.Bool.{or_parts}
 use Rattle.channel_core.specs.Closing.{is_closed}
-use Rattle.channel_core.specs.QueueLaws.{ClosesOnlySo, QueuesItsMessages}
 use Rattle.channel_core.specs.Runs.{Call as EndCall}
-use Rattle.command_tables.specs.Reading.{IsReading, reading_of}
 use Rattle.target_contexts.specs.declared.process.Image.{Image}
 use Rattle.target_hub.specs.History.{IsAllowed, IsLegal, closes as input_closes, input_after, inputs_after, is_live, opens as input_opens, was_closed, was_opened}
 use Rattle.target_hub.specs.HubValue.{new_target}
@@ -23,19 +21,11 @@ use Rattle.agent_node.proofs.Differing.{Differ, all_apart, differ_mapped, differ
 use Rattle.agent_node.proofs.Following.{Follows, first_said, follows_heard}
 use Rattle.agent_node.proofs.Histories.{closed_more, executed_more, inputs_more, legal_more, length_more, live_same, nothing_sent, opened_more, opens_last, sent_more, told_live}
 use Rattle.agent_node.proofs.Numbering.{IsOrdered, with_number_has, with_number_ordered}
-use Rattle.agent_node.proofs.Standing.{ClosedTakesNone, Stands, past_number, stand_kept, stand_more}
+use Rattle.agent_node.proofs.Standing.{Stands, past_number, stand_kept, stand_more}
 use Rattle.agent_node.proofs.Tokens.{Uses, as_messages, hello_messages, uses_hello}
 use Rattle.list_laws.proofs.Flags.{or_false, or_true}
 use Rattle.list_laws.proofs.AllLists.{all_push as all_more}
 use Rattle.list_laws.proofs.Numbers.{other_number as other_way}
-
--- the laws of the crates below
-pub record Laws : Type 0 where
-  pub fresh : (past : Past) → (run_of past).end.is_spent ≡ false
-  pub takes_none : ClosedTakesNone
-  pub closes : (past : Past) → ClosesOnlySo (run_of past)
-  pub messages : QueuesItsMessages Unit
-  pub reads : (service name body : List ℕ) → IsReading service name (reading_of service name body)
 
 -- a channel that wasn't opened wasn't closed, and executes nothing
 pub record IsStrange (k : ℕ) (history : List Input) : Type 0 where

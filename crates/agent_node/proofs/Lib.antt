@@ -12,3 +12,4 @@ pub mod Turning
 pub mod Truth
 pub mod Told
 pub mod Strangers
+pub mod TheLaws

@@ -15,7 +15,7 @@ use Rattle.agent_node.specs.declared.channel.Channel.{Channel}
 use Rattle.agent_node.proofs.Calls.{end_more, ends, ends_append, sendings_none}
 use Rattle.agent_node.proofs.Following.{answers_calls, events_calls}
 use Rattle.agent_node.proofs.Places.{at, next_end}
-use Rattle.agent_node.proofs.Standing.{ClosedTakesNone, IsGone, Match, Stands, stand_mapped}
+use Rattle.agent_node.proofs.Standing.{IsGone, Match, Stands, closed_takes_none, run_unspent, stand_mapped}
 use Rattle.agent_node.proofs.Tokens.{caller_unheld, event_unheld}
 
 -- ---- One channel
@@ -53,8 +53,8 @@ gone_same calls past same gone =
 
 -- ---- The calls
 
-pub taking_gone : ClosedTakesNone → KeepsGone (with_calls (taking ∷ []))
-taking_gone law past gone = gone_same (taking ∷ []) past (ap (λ p. p.1) (law past gone.closed)) gone
+pub taking_gone : KeepsGone (with_calls (taking ∷ []))
+taking_gone past gone = gone_same (taking ∷ []) past (ap (λ p. p.1) (closed_takes_none past gone.closed)) gone
 
 pub taking_does : DoesCalls next_end (taking ∷ [])
 taking_does past = refl
@@ -65,14 +65,14 @@ ending_gone past gone = gone_same (ending ∷ []) past (same (run_of past).end g
     same : (e : End) → is_closed e.state ≡ true → end_ended e ≡ e
     same e closed = rw closed refl
 
-pub ending_does : ((past : Past) → (run_of past).end.is_spent ≡ false) → DoesCalls (λ end. unless_spent end end (end_ended end)) (ending ∷ [])
-ending_does fresh past = ap (λ b. cond b (run_of past).end (end_ended (run_of past).end)) (fresh past)
+pub ending_does : DoesCalls (λ end. unless_spent end end (end_ended end)) (ending ∷ [])
+ending_does past = ap (λ b. cond b (run_of past).end (end_ended (run_of past).end)) (run_unspent past)
 
 pub giving_gone : KeepsGone (with_calls (putting_out ∷ []))
 giving_gone past gone = record { closed = ap (λ e. is_closed e.state) (end_more (putting_out ∷ []) past) ∙ gone.closed; empty = ap (λ e. e.queued) (end_more (putting_out ∷ []) past) ∙ ap (drop 1) gone.empty }
 
-pub giving_does : ((past : Past) → (run_of past).end.is_spent ≡ false) → DoesCalls (λ end. unless_spent end end (record end { queued = drop 1 end.queued })) (putting_out ∷ [])
-giving_does fresh past = ap (λ b. cond b (run_of past).end (record (run_of past).end { queued = drop 1 (run_of past).end.queued })) (fresh past)
+pub giving_does : DoesCalls (λ end. unless_spent end end (record end { queued = drop 1 end.queued })) (putting_out ∷ [])
+giving_does past = ap (λ b. cond b (run_of past).end (record (run_of past).end { queued = drop 1 (run_of past).end.queued })) (run_unspent past)
 
 -- ---- A piece, for an open end
 

@@ -4,12 +4,15 @@ use Rattle.std.proofs.Common.{◌≡◌, ℕ, ◌≤◌, ◌==◌, Bool, true, f
 use Rattle.std.specs.List.{AllByRecursion, filter}
 use Rattle.std.proofs.lemmas.Bool.{or_parts}
 use Rattle.channel_core.specs.Closing.{has_queued, is_closed}
+use Rattle.channel_core.specs.QueueLaws.{ClosesOnlySo}
 use Rattle.channel_core.specs.Taking.{next_taken}
 use Rattle.channel_core.specs.declared.held.Outgoing.{Outgoing}
+use Rattle.target_hub.specs.Sent.{agent_services}
 use Rattle.agent_node.specs.AgentLaws.{IsEndOf}
 use Rattle.agent_node.specs.Channels.{channel_end, end_in, is_kept, is_open}
 use Rattle.agent_node.specs.Runs.{Past, next_of, run_of}
 use Rattle.agent_node.specs.declared.channel.Channel.{Channel}
+use Rattle.channel_core.proofs.TheLaws.{closes_only_so, spends_nothing, takes_nothing_closed}
 use Rattle.agent_node.proofs.Differing.{Differ, all_apart, has}
 use Rattle.agent_node.proofs.Places.{channel_number, found, none_found, place_found, taken_of}
 use Rattle.list_laws.proofs.Flags.{not_false}
@@ -87,24 +90,31 @@ channels_differ (forgotten past cs pasts gone rest) d = channels_differ rest d.1
 
 -- ---- What is taken next
 
-abbrev pub ClosedTakesNone : Type 0
-ClosedTakesNone = (past : Past) → is_closed (run_of past).end.state ≡ true → next_taken (run_of past).end ≡ (None, (run_of past).end)
+-- what is always so of an end of an agent
+pub run_unspent : (past : Past) → (run_of past).end.is_spent ≡ false
+run_unspent past = spends_nothing agent_services (Some past.position) past.calls
 
-pub next_found : ClosedTakesNone → (k : ℕ) → {cs : List Channel} {pasts : List Past} → Stands cs pasts → Differ past_number pasts → taken_of (found k cs) ≡ next_of pasts k
-next_found law k no_more d = refl
-next_found law k (shown c past cs pasts number end rest) d =
-    ap (λ n. taken_of (cond (n == k) (Some c) (found k cs))) number ∙ by_flag (past.number == k) (next_found law k rest d.1)
+pub run_closes : (past : Past) → ClosesOnlySo (run_of past)
+run_closes past = closes_only_so agent_services (Some past.position) past.calls
+
+pub closed_takes_none : (past : Past) → is_closed (run_of past).end.state ≡ true → next_taken (run_of past).end ≡ (None, (run_of past).end)
+closed_takes_none past = takes_nothing_closed agent_services (Some past.position) past.calls
+
+pub next_found : (k : ℕ) → {cs : List Channel} {pasts : List Past} → Stands cs pasts → Differ past_number pasts → taken_of (found k cs) ≡ next_of pasts k
+next_found k no_more d = refl
+next_found k (shown c past cs pasts number end rest) d =
+    ap (λ n. taken_of (cond (n == k) (Some c) (found k cs))) number ∙ by_flag (past.number == k) (next_found k rest d.1)
   where
     by_flag : (flag : Bool) → taken_of (found k cs) ≡ next_of pasts k → taken_of (cond flag (Some c) (found k cs)) ≡ cond flag (next_taken (run_of past).end).0 (next_of pasts k)
     by_flag true later = ap (λ e. (next_taken e).0) end
     by_flag false later = later
-next_found law k (forgotten past cs pasts gone rest) d = by_flag (past.number == k) refl (next_found law k rest d.1)
+next_found k (forgotten past cs pasts gone rest) d = by_flag (past.number == k) refl (next_found k rest d.1)
   where
     by_flag : (flag : Bool) → (past.number == k) ≡ flag → taken_of (found k cs) ≡ next_of pasts k → taken_of (found k cs) ≡ cond flag (next_taken (run_of past).end).0 (next_of pasts k)
     by_flag true is later =
         let same : past.number ≡ k = eqb-true past.number k is in
         let P : ℕ → Type 0 = λ n. has past_number n pasts ≡ false in
-        ap taken_of (none_found k cs (none_stands k rest (subst P same d.0))) ∙ sym (ap (λ p. p.0) (law past gone.closed))
+        ap taken_of (none_found k cs (none_stands k rest (subst P same d.0))) ∙ sym (ap (λ p. p.0) (closed_takes_none past gone.closed))
     by_flag false is later = later
 
 -- each past of the number takes it

@@ -24,10 +24,11 @@ use Rattle.agent_node.specs.Channels.{End, changed, is_kept, new_channel, told_a
 use Rattle.agent_node.specs.Numbers.{has_number, with_number}
 use Rattle.agent_node.specs.Runs.{AgentRun, Call, Past, after_all, after_call, bytes_end, comes, event_call, gives, hearing, input_if, no_calls, on_number, on_one, on_open, opened_by, opens, run_of, ticked_by as pasts_ticked, ticks, turns, unless_over, with_calls}
 use Rattle.agent_node.specs.declared.channel.Channel.{Channel}
+use Rattle.channel_core.proofs.TheLaws.{queues_its_messages}
 use Rattle.agent_node.proofs.Differing.{all_mapped}
 use Rattle.agent_node.proofs.Following.{Follows, first_said, follows_heard, follows_quiet}
 use Rattle.agent_node.proofs.Histories.{legal_none, live_same}
-use Rattle.agent_node.proofs.Holding.{Holds, Laws, holds_input, holds_opened, holds_quiet, namesakes, on_number_keeps, on_open_keeps}
+use Rattle.agent_node.proofs.Holding.{Holds, holds_input, holds_opened, holds_quiet, namesakes, on_number_keeps, on_open_keeps}
 use Rattle.agent_node.proofs.Matching.{ending_does, ending_gone, giving_does, giving_gone, stand_heard, stand_one, stand_open}
 use Rattle.agent_node.proofs.Places.{at, changed_map}
 use Rattle.agent_node.proofs.Standing.{Stands, channels_differ, ends_stand, no_more}
@@ -47,10 +48,10 @@ instruction_left thread target = refl
 -- ---- A call of one channel that is no input
 
 -- it changes the channel, and the past by these calls
-one_changed : Laws → (images : List Image) (history : List Input) (k : ℕ) (change : End → End) (g : Past → Past) (a : AgentValue) (pasts : List Past) → ((past : Past) → (g past).number ≡ past.number)
+one_changed : (images : List Image) (history : List Input) (k : ℕ) (change : End → End) (g : Past → Past) (a : AgentValue) (pasts : List Past) → ((past : Past) → (g past).number ≡ past.number)
     → Stands (map (at k change) a.channels) (map g pasts) → ((past : Past) → Follows images history past → Follows images history (g past)) → Holds images a history pasts
     → Holds images (record a { channels = changed k change a.channels }) (history ++ []) (map g pasts)
-one_changed laws images history k change g a pasts keeps stands follows h =
+one_changed images history k change g a pasts keeps stands follows h =
     let P : List Channel → Type 0 = λ cs. Holds images (record a { channels = cs }) (history ++ []) (map g pasts) in
     let now : AgentValue = record a { channels = map (at k change) a.channels } in
     subst P (sym (changed_map k change a.channels (channels_differ h.stands h.differ)))
@@ -58,42 +59,42 @@ one_changed laws images history k change g a pasts keeps stands follows h =
     (holds_quiet images a history pasts (map g pasts) (map (at k change) a.channels) stands (namesakes g keeps pasts)
     (all_mapped (Follows images history) g pasts (all_then (Follows images history) (λ past. Follows images history (g past)) follows pasts h.each)) h))
 
-follows_one : Laws → (images : List Image) (history : List Input) (k : ℕ) (call : EndCall Unit) → ((past : Past) → Follows images history past → Follows images history (with_calls (call ∷ []) past))
+follows_one : (images : List Image) (history : List Input) (k : ℕ) (call : EndCall Unit) → ((past : Past) → Follows images history past → Follows images history (with_calls (call ∷ []) past))
     → (past : Past) → Follows images history past → Follows images history (on_number k (call ∷ []) past)
-follows_one laws images history k call follows past f = by_flag (past.number == k)
+follows_one images history k call follows past f = by_flag (past.number == k)
   where
     by_flag : (flag : Bool) → Follows images history (cond flag (with_calls (call ∷ []) past) past)
     by_flag true = follows past f
     by_flag false = f
 
-follows_open : Laws → (images : List Image) (history : List Input) (k : ℕ) (piece : List ℕ) (past : Past) → Follows images history past → Follows images history (on_open k (delivering piece None ∷ []) past)
-follows_open laws images history k piece past f = by_flag (past.number == k) (is_closed (run_of past).end.state)
+follows_open : (images : List Image) (history : List Input) (k : ℕ) (piece : List ℕ) (past : Past) → Follows images history past → Follows images history (on_open k (delivering piece None ∷ []) past)
+follows_open images history k piece past f = by_flag (past.number == k) (is_closed (run_of past).end.state)
   where
     by_flag : (flag over : Bool) → Follows images history (cond flag (unless_over over (delivering piece None ∷ []) past) past)
     by_flag true true = f
-    by_flag true false = follows_quiet laws.closes images history (delivering piece None) past refl refl refl refl f
+    by_flag true false = follows_quiet images history (delivering piece None) past refl refl refl refl f
     by_flag false over = f
 
-holds_delivered : Laws → (images : List Image) (history : List Input) (k : ℕ) (piece : List ℕ) (a : AgentValue) (pasts : List Past) → Holds images a history pasts
+holds_delivered : (images : List Image) (history : List Input) (k : ℕ) (piece : List ℕ) (a : AgentValue) (pasts : List Past) → Holds images a history pasts
     → Holds images (delivered k piece a) (history ++ []) (map (on_open k (delivering piece None ∷ [])) pasts)
 unfolding delivered
-holds_delivered laws images history k piece a pasts h =
-    one_changed laws images history k (unless_closed (end_delivered piece None)) (on_open k (delivering piece None ∷ [])) a pasts (on_open_keeps k (delivering piece None ∷ [])) (stand_open k piece h.stands)
-    (follows_open laws images history k piece) h
+holds_delivered images history k piece a pasts h =
+    one_changed images history k (unless_closed (end_delivered piece None)) (on_open k (delivering piece None ∷ [])) a pasts (on_open_keeps k (delivering piece None ∷ [])) (stand_open k piece h.stands)
+    (follows_open images history k piece) h
 
-holds_ended : Laws → (images : List Image) (history : List Input) (k : ℕ) (a : AgentValue) (pasts : List Past) → Holds images a history pasts → Holds images (ended k a) (history ++ []) (on_one k (ending ∷ []) pasts)
+holds_ended : (images : List Image) (history : List Input) (k : ℕ) (a : AgentValue) (pasts : List Past) → Holds images a history pasts → Holds images (ended k a) (history ++ []) (on_one k (ending ∷ []) pasts)
 unfolding ended
-holds_ended laws images history k a pasts h =
-    one_changed laws images history k (λ end. unless_spent end end (end_ended end)) (on_number k (ending ∷ [])) a pasts (on_number_keeps k (ending ∷ []))
-    (stand_one k (λ end. unless_spent end end (end_ended end)) (ending ∷ []) (ending_does laws.fresh) ending_gone h.stands)
-    (follows_one laws images history k ending (λ past f. follows_quiet laws.closes images history ending past refl refl refl refl f)) h
+holds_ended images history k a pasts h =
+    one_changed images history k (λ end. unless_spent end end (end_ended end)) (on_number k (ending ∷ [])) a pasts (on_number_keeps k (ending ∷ []))
+    (stand_one k (λ end. unless_spent end end (end_ended end)) (ending ∷ []) ending_does ending_gone h.stands)
+    (follows_one images history k ending (λ past f. follows_quiet images history ending past refl refl refl refl f)) h
 
-holds_given : Laws → (images : List Image) (history : List Input) (k : ℕ) (a : AgentValue) (pasts : List Past) → Holds images a history pasts → Holds images (after_giving k a) (history ++ []) (on_one k (putting_out ∷ []) pasts)
+holds_given : (images : List Image) (history : List Input) (k : ℕ) (a : AgentValue) (pasts : List Past) → Holds images a history pasts → Holds images (after_giving k a) (history ++ []) (on_one k (putting_out ∷ []) pasts)
 unfolding after_giving
-holds_given laws images history k a pasts h =
-    one_changed laws images history k (λ end. unless_spent end end (record end { queued = drop 1 end.queued })) (on_number k (putting_out ∷ [])) a pasts (on_number_keeps k (putting_out ∷ []))
-    (stand_one k (λ end. unless_spent end end (record end { queued = drop 1 end.queued })) (putting_out ∷ []) (giving_does laws.fresh) giving_gone h.stands)
-    (follows_one laws images history k putting_out (λ past f. follows_quiet laws.closes images history putting_out past refl refl refl refl f)) h
+holds_given images history k a pasts h =
+    one_changed images history k (λ end. unless_spent end end (record end { queued = drop 1 end.queued })) (on_number k (putting_out ∷ [])) a pasts (on_number_keeps k (putting_out ∷ []))
+    (stand_one k (λ end. unless_spent end end (record end { queued = drop 1 end.queued })) (putting_out ∷ []) giving_does giving_gone h.stands)
+    (follows_one images history k putting_out (λ past f. follows_quiet images history putting_out past refl refl refl refl f)) h
 
 -- ---- A channel opens
 
@@ -152,17 +153,17 @@ holds_ticked images history thread a pasts h = ticked_full (is_full a) images hi
 abbrev pub HoldsRun : List Image → AgentRun → Type 0
 HoldsRun images r = Holds images r.agent r.history r.channels
 
-holds_called : Laws → (images : List Image) (call : Call) (r : AgentRun) → HoldsRun images r → HoldsRun images (after_call call r)
-holds_called laws images (opens k) r h = holds_opening images r.history k r.agent r.channels h
-holds_called laws images (comes k piece) r h = holds_delivered laws images r.history k piece r.agent r.channels h
-holds_called laws images (bytes_end k) r h = holds_ended laws images r.history k r.agent r.channels h
-holds_called laws images (turns k) r h = holds_turned laws images r.history k r.agent r.channels h
-holds_called laws images (ticks thread) r h = holds_ticked images r.history thread r.agent r.channels h
-holds_called laws images (gives k) r h = holds_given laws images r.history k r.agent r.channels h
+holds_called : (images : List Image) (call : Call) (r : AgentRun) → HoldsRun images r → HoldsRun images (after_call call r)
+holds_called images (opens k) r h = holds_opening images r.history k r.agent r.channels h
+holds_called images (comes k piece) r h = holds_delivered images r.history k piece r.agent r.channels h
+holds_called images (bytes_end k) r h = holds_ended images r.history k r.agent r.channels h
+holds_called images (turns k) r h = holds_turned images r.history k r.agent r.channels h
+holds_called images (ticks thread) r h = holds_ticked images r.history thread r.agent r.channels h
+holds_called images (gives k) r h = holds_given images r.history k r.agent r.channels h
 
-pub holds_all : Laws → (images : List Image) (calls : List Call) (r : AgentRun) → HoldsRun images r → HoldsRun images (after_all calls r)
-holds_all laws images [] r h = h
-holds_all laws images (call ∷ calls) r h = holds_all laws images calls (after_call call r) (holds_called laws images call r h)
+pub holds_all : (images : List Image) (calls : List Call) (r : AgentRun) → HoldsRun images r → HoldsRun images (after_all calls r)
+holds_all images [] r h = h
+holds_all images (call ∷ calls) r h = holds_all images calls (after_call call r) (holds_called images call r h)
 
 pub holds_first : (images : List Image) → HoldsRun images (no_calls images)
 unfolding first_target
@@ -181,24 +182,24 @@ holds_first images = record {
 
 -- ---- The law
 
-follows_history : Laws → (images : List Image) (history : List Input) (past : Past) → Follows images history past → FollowsHistory images history past
+follows_history : (images : List Image) (history : List Input) (past : Past) → Follows images history past → FollowsHistory images history past
 unfolding first_said
-follows_history laws images history past f = record {
+follows_history images history past f = record {
   opened = f.told.opened;
   live = f.told.live;
-  told = laws.messages agent_services (Some past.position) past.calls f.plain ∙ f.told.told;
+  told = queues_its_messages agent_services (Some past.position) past.calls f.plain ∙ f.told.told;
   executed = f.told.executed;
 }
 
-pub tells_the_truth : Laws → AgentTellsTheTruth
-tells_the_truth laws images calls =
+pub tells_the_truth : AgentTellsTheTruth
+tells_the_truth images calls =
     let r = after_all calls (no_calls images) in
-    let h = holds_all laws images calls (no_calls images) (holds_first images) in
+    let h = holds_all images calls (no_calls images) (holds_first images) in
     record {
       target = h.target;
       position = h.position;
       legal = h.legal;
-      channels = all_then (Follows images r.history) (FollowsHistory images r.history) (follows_history laws images r.history) r.channels h.each;
+      channels = all_then (Follows images r.history) (FollowsHistory images r.history) (follows_history images r.history) r.channels h.each;
       ends = ends_stand h.stands h.differ;
       opened = h.opened;
     }

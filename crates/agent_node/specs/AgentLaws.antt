@@ -35,11 +35,7 @@ asked_in _ = []
 
 abbrev pub asked_by : Taken Unit → List Asked
 asked_by (taken.Command incoming) = asked_in (reading incoming.raw)
-asked_by (taken.Hello incoming) = []
-asked_by (taken.Event incoming) = []
-asked_by (taken.Progress token incoming) = []
-asked_by (taken.Final tag incoming) = []
-asked_by (taken.Closed cause) = []
+asked_by _ = []
 
 abbrev pub asked : Run Unit → List Asked
 asked r = flat_map asked_by r.past.taken

@@ -1,3 +1,4 @@
+-- The node of an agent as contracts see it.
 use Rattle.std.specs.Prelude.{ℕ, Bool, List}
 use Rattle.agent_node.specs.NumbersValue.{NumbersValue}
 use Rattle.agent_node.specs.declared.channel.Channel.{Channel}

@@ -1,3 +1,4 @@
+-- The numbers of the channels of an agent, as contracts see them.
 use Rattle.std.specs.Prelude.{List, Option}
 use Rattle.agent_node.specs.declared.numbers.Span.{Span}
 

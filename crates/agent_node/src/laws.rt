@@ -7,21 +7,9 @@ ghost use Rattle.agent_node.specs.Strangers.{NoStrangersAfterAnyCalls};
 /// channel is live until its end closes.
 pub fn an_agent_tells_the_truth()
     ensures { AgentTellsTheTruth }
-{
-    command_tables::readings_are_legal();
-    channel_core::calls_with_memory_spend_nothing::<()>();
-    channel_core::a_closed_end_takes_nothing::<()>();
-    channel_core::an_end_closes_only_so::<()>();
-    channel_core::only_what_is_sent_is_queued::<()>();
-}
+{}
 
 /// The law that an agent has no channel under a number that it didn't open.
 pub fn an_agent_has_no_strangers()
     ensures { NoStrangersAfterAnyCalls }
-{
-    command_tables::readings_are_legal();
-    channel_core::calls_with_memory_spend_nothing::<()>();
-    channel_core::a_closed_end_takes_nothing::<()>();
-    channel_core::an_end_closes_only_so::<()>();
-    channel_core::only_what_is_sent_is_queued::<()>();
-}
+{}

@@ -49,7 +49,8 @@ fn tell(
     channels: &mut Vec<Channel>,
 ) -> Result<(), AllocError>
     requires { IsWellFormed (event written.now.service written.now.name written.now.body) }
-    ensures { OnOk result (channels.new.items ≡ map (λ channel. with_end (queued (event written.now.service written.now.name written.now.body) (Some position) channel.end) channel) channels.old.items) }
+    ensures { OnOk result (channels.new.items
+        ≡ map (λ channel. with_end (queued (event written.now.service written.now.name written.now.body) (Some position) channel.end) channel) channels.old.items) }
 {
     for channel in channels.iter_mut() {
         hear(channel, written, position)?;
@@ -60,7 +61,8 @@ fn tell(
 /// A channel hears an event, if it is live.
 fn hear(channel: &mut Channel, written: &WrittenEvent, position: u64) -> Result<(), AllocError>
     requires { IsWellFormed (event written.now.service written.now.name written.now.body) }
-    ensures { OnOk result (channel.new ≡ with_end (queued (event written.now.service written.now.name written.now.body) (Some position) channel.old.end) channel.old) }
+    ensures { OnOk result (channel.new
+        ≡ with_end (queued (event written.now.service written.now.name written.now.body) (Some position) channel.old.end) channel.old) }
 {
     channel.end.send_event(
         written.service.as_bytes(),

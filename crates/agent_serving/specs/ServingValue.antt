@@ -1,3 +1,4 @@
+-- An agent that is served, with its wires, as contracts see it.
 use Rattle.std.specs.Prelude.{List}
 use Rattle.agent_node.specs.AgentValue.{AgentValue}
 use Rattle.serving_wires.specs.Row.{Row}

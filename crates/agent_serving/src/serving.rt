@@ -94,8 +94,10 @@ impl Serving {
     /// Puts what is queued, wire by wire in the order of the lines, and shuts and forgets the lines that are done with.
     pub fn flush<W: Wires>(&mut self, wires: &mut W) -> Result<(), AllocError>
         ensures agent { self.new.agent ≡ self.old.agent }
-        ensures ok { OnOk result (Makes (FlushesKept of_line self.old.lines self.new.lines) (W.told wires.old) (W.told wires.new) (W.faults wires.old) (W.faults wires.new)) }
-        ensures err { OnErr result (Makes (GivesUpAll of_line self.old.lines) (W.told wires.old) (W.told wires.new) (W.faults wires.old) (W.faults wires.new)) }
+        ensures ok { OnOk result (Makes (FlushesKept of_line self.old.lines self.new.lines)
+            (W.seen wires.old) (W.seen wires.new)) }
+        ensures err { OnErr result (Makes (GivesUpAll of_line self.old.lines)
+            (W.seen wires.old) (W.seen wires.new)) }
         ensures numbers { W.unused wires.new ≡ W.unused wires.old }
     {
         flush_rows(&mut self.lines, wires)

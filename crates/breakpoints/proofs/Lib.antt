@@ -5,3 +5,4 @@ pub mod Written
 pub mod Fresh
 pub mod Runs
 pub mod Hits
+pub mod TheLaws

@@ -7,7 +7,7 @@ use Rattle.command_tables.specs.declared.reading.Reading.{Reading}
 use Rattle.command_tables.specs.declared.reading.Reading.TheVariants as readings
 use Rattle.knowledge.specs.Facts.{AreSame, Facts, context_is, state_is, register_is, byte_is, properties_are, status_is, nothing}
 use Rattle.knowledge.specs.KnowledgeValue.{KnowledgeValue, blocks_learned, empty, facts_of}
-use Rattle.knowledge.specs.Laws.{AreKnown, BlocksAreLearned, BlocksStaySame, FactsStaySame, blocks_with}
+use Rattle.knowledge.specs.Laws.{AreKnown, blocks_with}
 use Rattle.knowledge.specs.Learning.{Message, answer_taken, bad_event_taken, other_taken, learn, learn_all, learned}
 use Rattle.reply_tables.specs.Answers.{answer_read, known_or_bad}
 use Rattle.reply_tables.specs.declared.replies.ReadAnswer.TheVariants as read
@@ -17,6 +17,7 @@ use Rattle.cache_learning.specs.Kept.{KeepsToo, KeptIsLearned, Learns, blocks_fr
 use Rattle.cache_learning.specs.Lessons.{answer_by, answer_message, final_message}
 use Rattle.knowledge.proofs.Same.{same_then}
 use Rattle.knowledge.proofs.Cache.{learn_all-append}
+use Rattle.knowledge.proofs.TheLaws.{blocks_are_learned, blocks_stay_same, facts_stay_same}
 
 same_as : {known other : Facts} → known ≡ other → AreSame known other
 same_as {known} {other} is = subst (AreSame known) is (record {
@@ -36,14 +37,14 @@ blocks_more (first ∷ messages) message known blocks = blocks_more messages mes
 
 -- ---- what is learned of a message is kept of it
 
-pub kept_too : FactsStaySame → BlocksStaySame → (message : Message) (before now : KnowledgeValue)
+pub kept_too : (message : Message) (before now : KnowledgeValue)
     → AreSame (facts_of now) (learn message (facts_of before)) → now.blocks ≡ blocks_learned message before → KeepsToo message before now
-kept_too facts_stay blocks_stay message before now facts blocks messages keeps =
+kept_too message before now facts blocks messages keeps =
     let known : Facts = learned messages in
     record {
       facts = subst (AreSame (facts_of now)) (sym (learn_all-append messages message nothing))
-          (same_then facts (facts_stay message (facts_of before) known keeps.facts));
-      blocks = blocks ∙ blocks_stay message (facts_of before) known before.blocks keeps.facts
+          (same_then facts (facts_stay_same message (facts_of before) known keeps.facts));
+      blocks = blocks ∙ blocks_stay_same message (facts_of before) known before.blocks keeps.facts
           ∙ ap (blocks_with message known) keeps.blocks
           ∙ sym (blocks_more messages message nothing []);
     }
@@ -117,10 +118,10 @@ answer_bad command body is = by (answer_read command body) is
     by None is = refl
     by (Some other) is = cc
 
-pub answer_kept : FactsStaySame → BlocksStaySame → {T E : Type 0} (result : Result T E) (message other : Message) (before now : KnowledgeValue) → message ≡ other
+pub answer_kept : {T E : Type 0} (result : Result T E) (message other : Message) (before now : KnowledgeValue) → message ≡ other
     → OnOk result (AreSame (facts_of now) (learn message (facts_of before))) → OnOk result (now.blocks ≡ blocks_learned message before) → OnOk result (KeepsToo other before now)
-answer_kept facts_stay blocks_stay (Ok value) message other before now is facts blocks = kept_as is (kept_too facts_stay blocks_stay message before now facts blocks)
-answer_kept facts_stay blocks_stay (Err error) message other before now is facts blocks = tt
+answer_kept (Ok value) message other before now is facts blocks = kept_as is (kept_too message before now facts blocks)
+answer_kept (Err error) message other before now is facts blocks = tt
 
 -- a command that isn't read
 pub unread : (reading : Reading) (body : List ℕ) → (reading ≡ readings.Unknown) ⊎ ((index : ℕ) × (code : ℕ) × (reading ≡ readings.Bad index code))
@@ -130,17 +131,17 @@ unread reading body (inr (index, code, is)) = ap (λ r. final_message (Some r) b
 
 -- ---- the law
 
-blocks_known : BlocksAreLearned → (messages : List Message) (known : Facts) (blocks : List Block) → AreKnown blocks known
+blocks_known : (messages : List Message) (known : Facts) (blocks : List Block) → AreKnown blocks known
     → AreKnown (blocks_from messages known blocks) (learn_all messages known)
-blocks_known law [] known blocks before = before
-blocks_known law (message ∷ messages) known blocks before =
-    blocks_known law messages (learn message known) (blocks_with message known blocks) (law message known blocks before)
+blocks_known [] known blocks before = before
+blocks_known (message ∷ messages) known blocks before =
+    blocks_known messages (learn message known) (blocks_with message known blocks) (blocks_are_learned message known blocks before)
 
-pub kept_is_learned : BlocksAreLearned → KeptIsLearned
-kept_is_learned law messages (context_is id context) is = is
-kept_is_learned law messages (state_is process thread state) is = is
-kept_is_learned law messages (register_is process thread index value) is = is
-kept_is_learned law messages (byte_is process place byte) is =
-    blocks_known law messages nothing [] (λ p a b any. absurd (both_ways _ refl any)) process place byte is
-kept_is_learned law messages (properties_are id properties) is = is
-kept_is_learned law messages (status_is id status) is = is
+pub kept_is_learned : KeptIsLearned
+kept_is_learned messages (context_is id context) is = is
+kept_is_learned messages (state_is process thread state) is = is
+kept_is_learned messages (register_is process thread index value) is = is
+kept_is_learned messages (byte_is process place byte) is =
+    blocks_known messages nothing [] (λ p a b any. absurd (both_ways _ refl any)) process place byte is
+kept_is_learned messages (properties_are id properties) is = is
+kept_is_learned messages (status_is id status) is = is

@@ -3,7 +3,6 @@ use Rattle.std.proofs.Common.{◌≡◌, ℕ, true, List, refl, sym, ◌∙◌, 
 use Rattle.std.specs.Prelude.{Some, option_map, option_and_then, bytes_eq, decimal}
 use Rattle.tcf_values.specs.Cut.{cut_of}
 use Rattle.tcf_values.specs.CutLaws.{cut_found}
-use Rattle.tcf_values.specs.Ids.{ContextRoundTrip}
 use Rattle.tcf_values.specs.Number.{number_of}
 use Rattle.tcf_values.specs.OptionLaws.{and_then_found}
 use Rattle.line_words.specs.Words.{spaced, is_word, both, word_of}
@@ -33,10 +32,10 @@ GoodBytes b = IsProcess b.0 × GoodRange b.1
 abbrev bytes_text : List ℕ × (ℕ × ℕ) → List ℕ
 bytes_text b = spaced b.0 (range_text b.1)
 
-bytes_exact : ContextRoundTrip → IsExact (List ℕ × (ℕ × ℕ)) bytes_of GoodBytes bytes_text
-bytes_exact law =
+bytes_exact : IsExact (List ℕ × (ℕ × ℕ)) bytes_of GoodBytes bytes_text
+bytes_exact =
     both_exact (List ℕ) (ℕ × ℕ) process_of (both (number_of 0 65535) (number_of 1 65536)) IsProcess GoodRange itself range_text
-    (process_exact law) process_words range_exact
+    process_exact process_words range_exact
 
 -- ---- What is read is spelled so
 
@@ -47,9 +46,9 @@ by_word : (make : List ℕ → CachedWhat) (word own rest : List ℕ) (what : Ca
 by_word make word own rest what good spells same e =
     made (List ℕ) CachedWhat word_of (Passes is_word) itself make IsAsked cached_spelling word own rest what word_exact good spells same e
 
-behind_found : ContextRoundTrip → (word rest : List ℕ) (what : CachedWhat) → cached_behind word rest ≡ Some what → SpellsCached (spaced word rest) what
+behind_found : (word rest : List ℕ) (what : CachedWhat) → cached_behind word rest ≡ Some what → SpellsCached (spaced word rest) what
 unfolding cached_behind
-behind_found law word rest what e =
+behind_found word rest what e =
     elim (two_ways (bytes_eq word context_word) (option_map (λ id. Context id) (word_of rest)) _ what e) [
       | inl w ↦ by_word (λ id. Context id) word context_word rest what (λ y g. g) (λ y. refl) w.0 w.1
       | inr e ↦ elim (two_ways (bytes_eq word state_word) (option_map (λ id. State id) (word_of rest)) _ what e) [
@@ -62,7 +61,7 @@ behind_found law word rest what e =
               | inl w ↦ by_word (λ id. Status id) word status_word rest what (λ y g. g) (λ y. refl) w.0 w.1
               | inr e ↦
                   let g = guarded (bytes_eq word bytes_word) (option_map asking_bytes (bytes_of rest)) what e in
-                  made (List ℕ × (ℕ × ℕ)) CachedWhat bytes_of GoodBytes bytes_text asking_bytes IsAsked cached_spelling word bytes_word rest what (bytes_exact law)
+                  made (List ℕ × (ℕ × ℕ)) CachedWhat bytes_of GoodBytes bytes_text asking_bytes IsAsked cached_spelling word bytes_word rest what bytes_exact
                   (λ y g. (g.0, g.1.0.1, g.1.1.0, g.1.1.1)) (λ y. refl) g.0 g.1
             ]
           ]
@@ -70,32 +69,32 @@ behind_found law word rest what e =
       ]
     ]
 
-cached_found : ContextRoundTrip → (text : List ℕ) (what : CachedWhat) → cached_of text ≡ Some what → SpellsCached text what
-cached_found law text what e =
+cached_found : (text : List ℕ) (what : CachedWhat) → cached_of text ≡ Some what → SpellsCached text what
+cached_found text what e =
     let m = and_then_found (λ parts. cached_behind parts.0 parts.1) (cut_of 32 text) what e in
-    subst (λ t. SpellsCached t what) (sym (cut_found 32 text m.0 m.1)) (behind_found law m.0.0 m.0.1 what m.2)
+    subst (λ t. SpellsCached t what) (sym (cut_found 32 text m.0 m.1)) (behind_found m.0.0 m.0.1 what m.2)
 
 -- ---- What is spelled so is read
 
 asked_cut : (text word rest : List ℕ) → cut_of 32 text ≡ Some (word, rest) → cached_of text ≡ cached_behind word rest
 asked_cut text word rest e = ap (option_and_then (λ parts. cached_behind parts.0 parts.1)) e
 
-cached_there : ContextRoundTrip → (what : CachedWhat) → IsAsked what → cached_of (cached_spelling what) ≡ Some what
+cached_there : (what : CachedWhat) → IsAsked what → cached_of (cached_spelling what) ≡ Some what
 unfolding cached_behind context_word state_word register_word properties_word status_word bytes_word
-cached_there law (Context id) good =
+cached_there (Context id) good =
     asked_cut (cached_spelling (Context id)) context_word id refl ∙ ap (option_map (λ i. Context i)) (word_exact.there id good)
-cached_there law (State id) good =
+cached_there (State id) good =
     asked_cut (cached_spelling (State id)) state_word id refl ∙ ap (option_map (λ i. State i)) (word_exact.there id good)
-cached_there law (Register id) good =
+cached_there (Register id) good =
     asked_cut (cached_spelling (Register id)) register_word id refl ∙ ap (option_map (λ i. Register i)) (word_exact.there id good)
-cached_there law (Properties id) good =
+cached_there (Properties id) good =
     asked_cut (cached_spelling (Properties id)) properties_word id refl ∙ ap (option_map (λ i. Properties i)) (word_exact.there id good)
-cached_there law (Status id) good =
+cached_there (Status id) good =
     asked_cut (cached_spelling (Status id)) status_word id refl ∙ ap (option_map (λ i. Status i)) (word_exact.there id good)
-cached_there law (Bytes id addr size) good =
+cached_there (Bytes id addr size) good =
     asked_cut (cached_spelling (Bytes id addr size)) bytes_word (bytes_text (id, (addr, size))) refl
-    ∙ ap (option_map asking_bytes) ((bytes_exact law).there (id, (addr, size)) (good.0, ((omega arith, good.1), (good.2, good.3))))
+    ∙ ap (option_map asking_bytes) (bytes_exact.there (id, (addr, size)) (good.0, ((omega arith, good.1), (good.2, good.3))))
 
-pub cached_round_trip : ContextRoundTrip → CachedRoundTrip
-cached_round_trip law text what =
-    (cached_found law text what, λ spells. subst (λ t. cached_of t ≡ Some what) (sym spells.1) (cached_there law what spells.0))
+pub cached_round_trip : CachedRoundTrip
+cached_round_trip text what =
+    (cached_found text what, λ spells. subst (λ t. cached_of t ≡ Some what) (sym spells.1) (cached_there what spells.0))

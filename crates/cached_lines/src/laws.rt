@@ -1,11 +1,7 @@
 //! What the definitions of these lines mean, as a law: a function that does nothing, with a contract.
 ghost use Rattle.cached_lines.specs.Reading.{CachedRoundTrip};
 
-use tcf_values::context_round_trip;
-
 /// The law that what is asked is read exactly where the text is its spelling, and it has a form.
 pub fn cached_round_trip()
     ensures { CachedRoundTrip }
-{
-    context_round_trip();
-}
+{}

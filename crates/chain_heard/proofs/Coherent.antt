@@ -4,7 +4,7 @@ use Rattle.std.specs.Prelude.{decimal, option_and_then}
 use Rattle.std.specs.List.{AllByRecursion}
 use Rattle.std.proofs.lemmas.List.{append_assoc}
 use Rattle.std.proofs.lemmas.List.Elements.{filter-append}
-use Rattle.cache_learning.specs.Kept.{KeptIsLearned, kept}
+use Rattle.cache_learning.specs.Kept.{kept}
 use Rattle.channel_core.specs.Arrivals.{Spoken}
 use Rattle.channel_core.specs.Wire.{locator}
 use Rattle.client_log.specs.Lessons as log_lessons
@@ -28,6 +28,7 @@ use Rattle.chain_heard.specs.Heard.{asked_as, heard_in}
 use Rattle.chain_told.specs.Told.{AreToldRightly, AreTrueAt, IsToldRightly, command_under, lesson, lessons, mark_of}
 use Rattle.value_node.specs.Store as value
 use Rattle.value_node.specs.Deeds.{command_asked}
+use Rattle.cache_learning.proofs.TheLaws.{kept_is_learned}
 use Rattle.chain_heard.proofs.Filtered.{last_mark_told}
 use Rattle.chain_heard.proofs.Heard.{FrontOf, front_of, none_asked, own_no_command, own_readable, taken_lines}
 use Rattle.chain_heard.proofs.Known.{Counted}
@@ -44,11 +45,11 @@ use Rattle.chain_through.proofs.OwnTold.{IsUnmarked}
 
 -- ---- what is kept is a part of what was learned
 
-kept_holds : KeptIsLearned → (messages : List Message) (target : Target) → Holds (learned messages) target → Holds (kept messages) target
-kept_holds law messages target true_then = record {
-  facts = λ fact known. true_then.facts fact (law messages fact known);
+kept_holds : (messages : List Message) (target : Target) → Holds (learned messages) target → Holds (kept messages) target
+kept_holds messages target true_then = record {
+  facts = λ fact known. true_then.facts fact (kept_is_learned messages fact known);
   grounded = true_then.grounded;
-  still = λ process addr byte known. true_then.still process addr byte (law messages (byte_is process addr byte) known);
+  still = λ process addr byte known. true_then.still process addr byte (kept_is_learned messages (byte_is process addr byte) known);
 }
 
 -- ---- the last message
@@ -105,14 +106,14 @@ reached_by images history commands all heard rest messages right split are (last
 
 -- ---- a front of the log
 
-then_true : KeptIsLearned → (images : List Image) (history : List Input) (commands : List Asked) (front : List LogLine) (heard : List Spoken) → AreTyped images
+then_true : (images : List Image) (history : List Input) (commands : List Asked) (front : List LogLine) (heard : List Spoken) → AreTyped images
     → learned (log_lessons.lessons front) ≡ learned (lessons commands heard) → Reached images history commands heard (filter tells front) → IsTrueThen front images history
-then_true law images history commands front heard typed same reached = record {
+then_true images history commands front heard typed same reached = record {
   holds = λ position is.
       let mark : mark_of heard ≡ Some position = reached.marked position (last_mark_told front ∙ is) in
       let here : AreTrueAt images history (Some position) (learned (lessons commands heard)) =
       subst (λ m. AreTrueAt images history m (learned (lessons commands heard))) mark reached.true_here in
-      kept_holds law (log_lessons.lessons front) (target_at images history position)
+      kept_holds (log_lessons.lessons front) (target_at images history position)
       (subst (λ known. Holds known (target_at images history position)) (sym same) (here.1 typed));
   empty = λ without. by_mark (mark_of heard) refl (λ position is. without position (sym (last_mark_told front) ∙ reached.last position is));
 }
@@ -120,7 +121,7 @@ then_true law images history commands front heard typed same reached = record {
     by_mark : (mark : Option ℕ) → mark_of heard ≡ mark → ((position : ℕ) → mark_of heard ≡ Some position → ⊥) → IsPart (kept (log_lessons.lessons front)) nothing
     by_mark None is none =
         let here : IsPart (learned (lessons commands heard)) nothing = subst (λ m. AreTrueAt images history m (learned (lessons commands heard))) is reached.true_here in
-        λ fact known. subst (λ facts. IsPart facts nothing) (sym same) here fact (law (log_lessons.lessons front) fact known)
+        λ fact known. subst (λ facts. IsPart facts nothing) (sym same) here fact (kept_is_learned (log_lessons.lessons front) fact known)
     by_mark (Some position) is none = absurd (none position is)
 
 answering : (c : ClientValue) (p : Past) → TellsPast c p → Once false c.log → length p.commands < 2 ^ 64 → Answering c.log
@@ -132,8 +133,8 @@ answering c p past once few = record {
 told_parts : (log front back : List LogLine) → front ++ back ≡ log → filter tells log ≡ filter tells front ++ filter tells back
 told_parts log front back whole = ap (filter tells) (sym whole) ∙ filter-append tells front back
 
-pub heard_coherent : KeptIsLearned → HeardIsCoherent
-heard_coherent law images history k position c p typed past once shown heard = record {
+pub heard_coherent : HeardIsCoherent
+heard_coherent images history k position c p typed past once shown heard = record {
   shown = shown;
   always = λ front back whole.
       let commands : List Asked = map asked_as p.commands in
@@ -142,7 +143,7 @@ heard_coherent law images history k position c p typed past once shown heard = r
       lines_cut heard.heard (filter tells front) (filter tells back) (subst (AreLinesOf heard.heard) (told_parts c.log front back whole) are) in
       let alike : AreAlike (log_lessons.lessons front) (lessons (map asked_as (accepted c.log)) cut.front) =
       front_taught c.log front back (answering c p past once heard.few) whole cut.front cut.first in
-      then_true law images history commands front cut.front typed (alike nothing ∙ ap (λ cs. learned (lessons (map asked_as cs) cut.front)) past.commands)
+      then_true images history commands front cut.front typed (alike nothing ∙ ap (λ cs. learned (lessons (map asked_as cs) cut.front)) past.commands)
       (reached_by images history commands heard.heard cut.front cut.rest (filter tells front) heard.told cut.split cut.first (ending cut.front));
 }
 
@@ -192,15 +193,15 @@ all_leave commands [] all = refl
 all_leave commands (s ∷ heard) all = both_leave (lesson commands s.message) (lessons commands heard) all.0 (all_leave commands heard all.1)
 
 -- where nothing was learned, and the last message has no position
-nothing_true : KeptIsLearned → (images : List Image) (history : List Input) (front : List LogLine) → LeavesNothing (log_lessons.lessons front)
+nothing_true : (images : List Image) (history : List Input) (front : List LogLine) → LeavesNothing (log_lessons.lessons front)
     → ((position : ℕ) → last_mark front ≡ Some (Some position) → ⊥) → IsTrueThen front images history
-nothing_true law images history front none unmarked = record {
+nothing_true images history front none unmarked = record {
   holds = λ position is. absurd (unmarked position is);
-  empty = λ without. subst (IsPart (kept (log_lessons.lessons front))) none (law (log_lessons.lessons front));
+  empty = λ without. subst (IsPart (kept (log_lessons.lessons front))) none (kept_is_learned (log_lessons.lessons front));
 }
 
-pub no_target_coherent : KeptIsLearned → NoTargetHeardIsCoherent
-no_target_coherent law images history c p past once shown heard = record {
+pub no_target_coherent : NoTargetHeardIsCoherent
+no_target_coherent images history c p past once shown heard = record {
   shown = shown;
   always = λ front back whole.
       let f : FrontOf (heard_in p) heard.own = front_of (heard_in p) heard.own heard.told in
@@ -221,6 +222,6 @@ no_target_coherent law images history c p past once shown heard = record {
       front_taught c.log front back (answering c p past once heard.few) whole cut.front cut.first in
       let none : LeavesNothing (log_lessons.lessons front) =
       alike nothing ∙ ap (λ cs. learned (lessons (map asked_as cs) cut.front)) past.commands ∙ all_leave (map asked_as p.commands) cut.front teach in
-      nothing_true law images history front none
+      nothing_true images history front none
       (λ position is. last_bare (filter tells front) position (bare_lines cut.front (filter tells front) bare cut.first) (last_mark_told front ∙ is));
 }

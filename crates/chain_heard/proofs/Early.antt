@@ -6,7 +6,8 @@ use Rattle.std.proofs.lemmas.List.Elements.{filter-append}
 use Rattle.target_contexts.specs.declared.process.Image.{Image}
 use Rattle.target_hub.specs.History.{IsLegal, input_after, inputs_after, is_live}
 use Rattle.target_hub.specs.HubValue.{new_target}
-use Rattle.target_hub.specs.Ordered.{IsPrefixOf}
+use Rattle.list_laws.specs.Fronts.{IsFront}
+use Rattle.list_laws.proofs.Splits.{CutAt, cut_at, cut_past, cut_within, filter_mapped}
 use Rattle.target_hub.specs.Received.{answer_of, is_owed, is_through_number, told_of}
 use Rattle.target_hub.specs.Sent.{Told, event_at, executed_by, executed_on, final_at, hello_at, progress_at, sent, sent_after, told_by, told_while_live, unknown_at}
 use Rattle.target_hub.specs.declared.input.Input.{Input}
@@ -17,10 +18,9 @@ use Rattle.tcf_text.specs.Lines.{Accepted, mark_of}
 use Rattle.tcf_text.specs.declared.log.LogLine.{LogLine}
 use Rattle.tcf_text.specs.declared.log.LogLine.TheVariants as lines
 use Rattle.chain_heard.proofs.Flags.{flag_of, flags_of, flags_sent}
-use Rattle.chain_told.proofs.Agents.Lists.{CutAt, all_test, cut_at, cut_past, cut_within, filter_mapped}
 use Rattle.chain_heard.proofs.Placed.{RisingLines}
 use Rattle.chain_heard.proofs.Elements.{all_cuts, mapped_length, filter_length}
-use Rattle.list_laws.proofs.AllLists.{all_append, all_filter, all_weaker, all_at}
+use Rattle.list_laws.proofs.AllLists.{all_append, all_filter, all_weaker, all_at, all_test}
 
 -- ---- behind a position
 
@@ -118,7 +118,7 @@ cut_counted position told first second rest up over (cut_past (w ∷ ws) is furt
 
 -- of what is told the answers up to a position are those to commands that are executed up to it
 pub early_answers : (images : List Image) (history first second : List Input) (k position : ℕ) (told : List Told) → IsLegal images history → history ≡ first ++ second → length first ≡ position
-    → AllByRecursion (λ now. position_of now ≤ position) told → IsPrefixOf (filter is_owed told) (filter is_owed (sent images k history))
+    → AllByRecursion (λ now. position_of now ≤ position) told → IsFront (filter is_owed told) (filter is_owed (sent images k history))
     → answers_in told ≤ length (filter flag_of (executed_on k first))
 early_answers images history first second k position told legal split long up front =
     let one : List Told = sent images k first in
@@ -126,7 +126,7 @@ early_answers images history first second k position told legal split long up fr
     let legal_here : IsLegal images first = legal_front images first second (subst (IsLegal images) split legal) in
     let parts : sent images k history ≡ one ++ two = ap (λ (h : List Input). sent images k h) split ∙ sent_parts k first second [] (new_target images) in
     let whole : filter is_owed told ++ front.0 ≡ filter is_owed one ++ filter is_owed two =
-    front.1 ∙ ap (filter is_owed) parts ∙ filter-append is_owed one two in
+    sym front.1 ∙ ap (filter is_owed) parts ∙ filter-append is_owed one two in
     let low : position + 1 ≤ length first + 1 = omega arith in
     let over = all_filter (λ now. position + 1 ≤ position_of now) is_owed two (after_all k second first (inputs_after first (new_target images)) (position + 1) low) in
     let less : length (filter goes (filter is_owed told)) ≤ length (filter goes (filter is_owed one)) =

@@ -4,7 +4,7 @@ use Rattle.std.specs.Prelude.{All}
 use Rattle.std.specs.List.{AllByRecursion, Contains}
 use Rattle.std.proofs.lemmas.List.{append_assoc}
 use Rattle.std.proofs.lemmas.List.Elements.{filter-append}
-use Rattle.target_hub.specs.Ordered.{IsPrefixOf}
+use Rattle.list_laws.specs.Fronts.{IsFront}
 
 -- ---- what holds of each
 
@@ -96,15 +96,15 @@ pub filter_length : {A : Type 0} → (p : A → Bool) (xs ys zs : List A) → xs
 filter_length p xs ys zs split = length_front (filter p xs) (filter p ys) (filter p zs) (sym (filter-append p xs ys) ∙ ap (filter p) split)
 
 -- of two fronts the shorter one is a front of the other
-pub shorter_front : {A : Type 0} → (xs ys us vs : List A) → xs ++ us ≡ ys ++ vs → length ys ≤ length xs → IsPrefixOf ys xs
+pub shorter_front : {A : Type 0} → (xs ys us vs : List A) → xs ++ us ≡ ys ++ vs → length ys ≤ length xs → IsFront ys xs
 shorter_front xs [] us vs split less = (xs, refl)
 shorter_front [] (y ∷ ys) us vs split less = absurd (omega arith)
 shorter_front (x ∷ xs) (y ∷ ys) us vs split less =
     let head : x ≡ y = cc in
     let tail : xs ++ us ≡ ys ++ vs = cc in
     let within : length ys ≤ length xs = omega arith in
-    let more : IsPrefixOf ys xs = shorter_front xs ys us vs tail within in
-    (more.0, ap₂ (λ a l. a ∷ l) (sym head) more.1)
+    let more : IsFront ys xs = shorter_front xs ys us vs tail within in
+    (more.0, ap₂ (λ a l. a ∷ l) head more.1)
 
 -- of fewer elements fewer pass a test
 pub fewer : {A : Type 0} → (p q : A → Bool) (xs : List A) → length (filter p (filter q xs)) ≤ length (filter p xs)

@@ -5,12 +5,13 @@ use Rattle.channel_core.specs.Closing.{is_closed}
 use Rattle.channel_core.specs.EndValue.{EndValue}
 use Rattle.channel_core.specs.Sending.{last_token, most_pending, refusal_of}
 use Rattle.channel_core.specs.declared.sending.SendRefusal.{SendRefusal}
-use Rattle.client_node.specs.Runs.{Call, LogTellsPast, Past, asks, bytes_end, closes, comes, commands_in, commands_on, gives, no_past, opens, past_of, remembered, sends, turns, unless_refused}
+use Rattle.client_node.specs.Runs.{Call, Past, asks, bytes_end, closes, comes, commands_in, commands_on, gives, no_past, opens, past_of, remembered, sends, turns, unless_refused}
 use Rattle.tcf_message.specs.Message.{most_body}
 use Rattle.tcf_text.specs.Lines.{Accepted}
 use Rattle.tcf_text.specs.Once.{numbers}
 use Rattle.chain_heard.specs.Heard.{CommandsAreFew}
 use Rattle.value_node.proofs.CallAdds.{not_spent, below_last}
+use Rattle.client_node.proofs.TheLaws.{log_tells_past}
 
 past_push : (calls : List Call) (call : Call) (p : Past) → past_of (calls ++ call ∷ []) p ≡ remembered call (past_of calls p)
 past_push [] call p = refl
@@ -59,12 +60,12 @@ step_few closes channel commands few counted = same_few commands [] refl few
 step_few gives channel commands few counted = same_few commands [] refl few
 step_few (asks what) channel commands few counted = same_few commands [] refl few
 
-few_from : LogTellsPast → (done calls : List Call) (p : Past) → p ≡ past_of done no_past → length p.commands < 2 ^ 64 → length (past_of calls p).commands < 2 ^ 64
-few_from law done [] p made few = few
-few_from law done (call ∷ calls) p made few =
+few_from : (done calls : List Call) (p : Past) → p ≡ past_of done no_past → length p.commands < 2 ^ 64 → length (past_of calls p).commands < 2 ^ 64
+few_from done [] p made few = few
+few_from done (call ∷ calls) p made few =
     let next : remembered call p ≡ past_of (done ++ call ∷ []) no_past = ap (remembered call) made ∙ sym (past_push done call no_past) in
-    let counted : AreCounted (remembered call p).commands = subst (λ (q : Past). AreCounted q.commands) (sym next) (law (done ++ call ∷ [])).counted in
-    few_from law (done ++ call ∷ []) calls (remembered call p) next (step_few call p.client.channel p.commands few counted)
+    let counted : AreCounted (remembered call p).commands = subst (λ (q : Past). AreCounted q.commands) (sym next) (log_tells_past (done ++ call ∷ [])).counted in
+    few_from (done ++ call ∷ []) calls (remembered call p) next (step_few call p.client.channel p.commands few counted)
 
-pub commands_few : LogTellsPast → CommandsAreFew
-commands_few law calls = let none : length no_past.commands < 2 ^ 64 = omega arith in few_from law [] calls no_past refl none
+pub commands_few : CommandsAreFew
+commands_few calls = let none : length no_past.commands < 2 ^ 64 = omega arith in few_from [] calls no_past refl none

@@ -5,12 +5,12 @@ use Rattle.std.specs.List.{AllByRecursion, flat_map, list_any}
 use Rattle.std.proofs.lemmas.List.{append_assoc, append-nil, map-append}
 use Rattle.std.proofs.lemmas.List.Concat.{flat_map-append}
 use Rattle.std.proofs.lemmas.List.Elements.{filter-append}
-use Rattle.channel_core.specs.Arrivals.{IsFront, Spoken}
+use Rattle.channel_core.specs.Arrivals.{Spoken}
 use Rattle.channel_core.specs.Wire.{hello, locator}
 use Rattle.client_node.specs.Runs.{is_hello, tells}
 use Rattle.target_contexts.specs.declared.process.Image.{Image}
 use Rattle.target_hub.specs.History.{IsLegal}
-use Rattle.target_hub.specs.Ordered.{AllCame, FollowsTarget, IsPrefixOf, IsSubsequenceOf, OpensAt, through}
+use Rattle.target_hub.specs.Ordered.{AllCame, FollowsTarget, OpensAt, through}
 use Rattle.target_hub.specs.Received.{answer_of, goes_through, is_owed, is_through_number, read, received, told_of}
 use Rattle.target_hub.specs.Sent.{Told, agent_services, event_at, executed_on, final_at, hello_at, progress_at, sent, unknown_at}
 use Rattle.target_hub.specs.declared.input.Input.{Input}
@@ -25,12 +25,13 @@ use Rattle.chain_heard.specs.Heard.{asked_as, through_of}
 use Rattle.chain_told.specs.Told as told
 use Rattle.chain_told.specs.Told.{AreToldRightly, IsOpen, IsOwed, IsToldRightly, command_under, is_any_storable, is_ended, owed_at, owed_in}
 use Rattle.chain_told.specs.Sent.{bare, owed_by}
-use Rattle.chain_through.proofs.Fronts.{front_whole}
+use Rattle.list_laws.specs.Fronts.{IsFront, IsSubsequenceOf}
+use Rattle.list_laws.proofs.Fronts.{front_whole, behind_subsequence, front_first, front_rest, no_front}
+use Rattle.list_laws.proofs.Splits.{filter_mapped}
 use Rattle.chain_heard.proofs.Filtered.{flat_told, from_behind, from_hello_told, silent_answer, silent_bare, silent_told}
 use Rattle.chain_heard.proofs.Flags.{flag_of}
 use Rattle.chain_heard.proofs.Known.{Counted, counted_few, known_number}
 use Rattle.chain_heard.proofs.Lines.{AreFew, AreLinesOf, IsLineOf, IsOfFew, messages_cut, says_event, says_final, says_hello, says_progress, says_unknown}
-use Rattle.chain_told.proofs.Agents.Lists.{behind_subsequence, filter_mapped, front_first, front_rest, no_front}
 use Rattle.chain_heard.proofs.Marks.{Rising, greeting, none_owed, own_unmarked}
 use Rattle.chain_heard.proofs.Numbers.{InParts, in_parts, left_through, numbers_below, numbers_from}
 use Rattle.chain_heard.proofs.Own.{no_answers_bare, own_answers, own_ended, own_open}
@@ -60,7 +61,7 @@ pub record Hears (log : List LogLine) (images : List Image) (history : List Inpu
   pub lines_are : AreLinesOf heard (filter tells log)
   pub owed : IsFront (owed_in (map asked_as (answered ++ later)) heard) (owed_by images k history)
   pub asked : IsSubsequenceOf (executed_on k history) (map read later)
-  pub goes : IsPrefixOf (through_of (executed_on k history)) (through_of (map read later))
+  pub goes : IsFront (through_of (executed_on k history)) (through_of (map read later))
 
 -- the lines of what value-adds said, and those behind the target's Hello
 pub record Shape (messages : List LogLine) (own rest : List Spoken) (position : ℕ) : Type 0 where
@@ -120,13 +121,13 @@ bare_one : (one other : Told) → IsGood one → IsGood other → bare one ≡ b
 bare_one one other good also same =
     let some : Some one ≡ Some other = sym (unbare one good) ∙ ap (λ (s : Spoken). unbare_of s.message s.mark) same ∙ unbare other also in cc
 
-bare_front : (xs ys : List Told) → AllByRecursion IsGood xs → AllByRecursion IsGood ys → IsPrefixOf (map bare xs) (map bare ys) → IsPrefixOf xs ys
+bare_front : (xs ys : List Told) → AllByRecursion IsGood xs → AllByRecursion IsGood ys → IsFront (map bare xs) (map bare ys) → IsFront xs ys
 bare_front [] ys good also front = (ys, refl)
 bare_front (x ∷ xs) [] good also front = absurd (no_front (bare x) (map bare xs) front)
 bare_front (x ∷ xs) (y ∷ ys) good also front =
     let same = bare_one x y good.0 also.0 (front_first (bare x) (bare y) (map bare xs) (map bare ys) front) in
     let more = bare_front xs ys good.1 also.1 (front_rest (bare x) (bare y) (map bare xs) (map bare ys) front) in
-    (more.0, ap₂ (λ a l. a ∷ l) same more.1)
+    (more.0, ap₂ (λ a l. a ∷ l) (sym same) more.1)
 
 all_good : (xs : List Told) → AllByRecursion IsPlain xs → AllByRecursion IsGood (filter is_owed xs)
 all_good xs plain =
@@ -256,7 +257,7 @@ owed_told log images history k position answered later hears shape =
 
 pub told_front : (log : List LogLine) (images : List Image) (history : List Input) (k position : ℕ) (answered later : List Accepted)
     → (hears : Hears log images history k position answered later) (shape : Shape (filter tells log) hears.own hears.rest position)
-    → IsPrefixOf (filter is_owed (told_in (answered ++ later) position shape.behind)) (filter is_owed (sent images k history))
+    → IsFront (filter is_owed (told_in (answered ++ later) position shape.behind)) (filter is_owed (sent images k history))
 told_front log images history k position answered later hears shape =
     let all : List Accepted = answered ++ later in
     let starts : Begins images history k position = begins images history k position hears.legal hears.opened in
@@ -264,7 +265,7 @@ told_front log images history k position answered later hears shape =
     bare_front (filter is_owed (told_in all position shape.behind)) (filter is_owed (sent images k history))
     (all_good (told_in all position shape.behind) (tt, lines_plain all hears.rest shape.behind shape.behind_are))
     (all_good (sent images k history) (subst (AllByRecursion IsPlain) (sym starts.first) (tt, climbs_plain position starts.rest starts.climbs)))
-    (hears.owed.0, ap (λ l. l ++ hears.owed.0) (sym owed) ∙ sym hears.owed.1)
+    (hears.owed.0, hears.owed.1 ∙ ap (λ l. l ++ hears.owed.0) owed)
 
 -- and all of it, where all that is owed was heard
 told_all : (log : List LogLine) (images : List Image) (history : List Input) (k position : ℕ) (answered later : List Accepted)
@@ -273,7 +274,7 @@ told_all : (log : List LogLine) (images : List Image) (history : List Input) (k 
     → filter is_owed (told_in (answered ++ later) position shape.behind) ≡ filter is_owed (sent images k history)
 told_all log images history k position answered later hears shape all =
     let front = told_front log images history k position answered later hears shape in
-    front_whole bare (filter is_owed (told_in (answered ++ later) position shape.behind)) (filter is_owed (sent images k history)) (front.0, sym front.1)
+    front_whole bare (filter is_owed (told_in (answered ++ later) position shape.behind)) (filter is_owed (sent images k history)) front
     (sym (owed_told log images history k position answered later hears shape) ∙ all)
 
 -- ---- the answers so far
@@ -395,10 +396,10 @@ follows log images history k position answered later hears =
     let commands_are : map read answered ++ map read later ≡ map read (accepted log) = sym (map-append read answered later) ∙ ap (map read) (sym hears.commands) in
     record {
       told =
-          subst (λ told. IsPrefixOf (filter is_owed told) (filter is_owed (sent images k history))) (sym told_is)
+          subst (λ told. IsFront (filter is_owed told) (filter is_owed (sent images k history))) (sym told_is)
           (told_front log images history k position answered later hears shape);
-      executed = subst (IsPrefixOf (filter flag_of (executed_on k history))) asked_is hears.goes;
-      answers = (numbers (filter goes_through turn.rest), ap (λ l. l ++ numbers (filter goes_through turn.rest)) answers_are ∙ parts);
+      executed = subst (IsFront (filter flag_of (executed_on k history))) asked_is hears.goes;
+      answers = (numbers (filter goes_through turn.rest), sym (ap (λ l. l ++ numbers (filter goes_through turn.rest)) answers_are ∙ parts));
       accepted = subst (IsSubsequenceOf (executed_on k history)) commands_are (behind_subsequence (executed_on k history) (map read later) (map read answered) hears.asked);
     }
 

@@ -13,7 +13,7 @@ use Rattle.command_tables.specs.declared.reading.Reading.TheVariants as readings
 use Rattle.knowledge.specs.Learning.{learned}
 use Rattle.target_contexts.specs.declared.process.Image.{Image}
 use Rattle.target_hub.specs.Fresh.{AreBehind, Fresh, FreshLine, IsFresh, IsStorable, barriers_below, barriers_on, is_barrier}
-use Rattle.target_hub.specs.Ordered.{IsPrefixOf, through}
+use Rattle.target_hub.specs.Ordered.{through}
 use Rattle.target_hub.specs.Received.{goes_through, is_owed, read, told_of}
 use Rattle.target_hub.specs.Sent.{ReadCommand, Told, agent_services, executed_on, hello_at, sent}
 use Rattle.target_hub.specs.declared.input.Input.{Input}
@@ -26,7 +26,7 @@ use Rattle.tcf_values.specs.declared.command.Command.{Command}
 use Rattle.value_node.specs.Asked.{Asked}
 use Rattle.chain_heard.specs.Heard.{HeardIsFresh, NoTargetHeardIsFresh, asked_as}
 use Rattle.chain_told.specs.Told as told
-use Rattle.chain_told.specs.Told.{AnswersRightly, AreEndedBefore, AreTrueAt, ComesInTurn, IsAnswered, IsOpen, IsOwed, IsToldRightly, bars, command_under, is_ended, is_storable, is_stored, lessons, mark_of as mark_told}
+use Rattle.chain_told.specs.Told.{AreEndedBefore, AreTrueAt, IsAnswered, IsOpen, IsOwed, IsToldRightly, bars, command_under, is_ended, is_storable, is_stored, lessons, mark_of as mark_told}
 use Rattle.value_node.specs.Barriers as value
 use Rattle.value_node.specs.Barriers.{command_in}
 use Rattle.value_node.specs.Deeds.{command_asked}
@@ -36,7 +36,9 @@ use Rattle.chain_heard.proofs.Followed.{Hears, Shape, answers_behind, shape_of, 
 use Rattle.chain_heard.proofs.Heard.{Hearing, HearsNothing, hearing, hears_nothing, its_channel, of_nothing, of_target}
 use Rattle.chain_heard.proofs.Known.{Counted, Place, number_is, one_place, under}
 use Rattle.chain_heard.proofs.Lines.{AreLinesOf, AtLine, IsLineOf, at_line, line_mark, messages_cut, says_event, says_final, says_hello, says_progress, says_unknown}
-use Rattle.chain_told.proofs.Agents.Lists.{filter_mapped, filter_nothing, front_filter, front_of_front}
+use Rattle.list_laws.specs.Fronts.{IsFront}
+use Rattle.list_laws.proofs.Splits.{filter_mapped, filter_nothing}
+use Rattle.list_laws.proofs.Fronts.{front_filter, front_then}
 use Rattle.chain_heard.proofs.Marks.{Rising, greeting, mark_now, own_unmarked}
 use Rattle.chain_heard.proofs.Placed.{IsBare, RisingLines, bare_lines, rising_lines}
 use Rattle.chain_heard.proofs.Turns.{IsEndedIf, IsThroughOpen, Turn, ended_before, later_numbers}
@@ -100,7 +102,7 @@ none_below number before rest ended none =
 -- what is answered so far was executed up to the position
 are_behind : (history first second : List Input) (k number : ℕ) (log : List LogLine) (done rest later : List Accepted) (before : List Spoken) → through log ≡ filter goes_through later
     → later ≡ done ++ rest → history ≡ first ++ second → AllByRecursion (IsBelowEnded number before) rest → AllByRecursion (IsThroughOpen before) rest
-    → IsPrefixOf (filter flag_of (executed_on k history)) (filter flag_of (map read later)) → length (filter goes_through done) ≤ length (filter flag_of (executed_on k first))
+    → IsFront (filter flag_of (executed_on k history)) (filter flag_of (map read later)) → length (filter goes_through done) ≤ length (filter flag_of (executed_on k first))
     → barriers_below number log ≤ barriers_on k first
 are_behind history first second k number log done rest later before through_is parts split ended none goes enough =
     let d : List Accepted = filter goes_through done in
@@ -119,11 +121,11 @@ are_behind history first second k number log done rest later before through_is p
     let executed : filter flag_of (executed_on k history) ≡ x ++ z =
     ap (λ inputs. filter flag_of (executed_on k inputs)) split ∙ ap (filter flag_of) (executed_parts k first second) ∙ filter-append flag_of (executed_on k first) (executed_on k second) in
     let both : x ++ (z ++ goes.0) ≡ map read d ++ map read e =
-    sym (append_assoc x z goes.0) ∙ ap (λ l. l ++ goes.0) (sym executed) ∙ goes.1 ∙ filter_mapped flag_of read later ∙ ap (map read) whole ∙ map-append read d e in
+    sym (append_assoc x z goes.0) ∙ ap (λ l. l ++ goes.0) (sym executed) ∙ sym goes.1 ∙ filter_mapped flag_of read later ∙ ap (map read) whole ∙ map-append read d e in
     let long : length (map read d) ≡ length d = mapped_length read d in
     let within : length (map read d) ≤ length x = omega arith in
-    let front : IsPrefixOf (map read d) x = shorter_front x (map read d) (z ++ goes.0) (map read e) both within in
-    let less : length (filter barrier (map read d)) ≤ length (filter barrier x) = filter_length barrier (map read d) front.0 x front.1 in
+    let front : IsFront (map read d) x = shorter_front x (map read d) (z ++ goes.0) (map read e) both within in
+    let less : length (filter barrier (map read d)) ≤ length (filter barrier x) = filter_length barrier (map read d) front.0 x (sym front.1) in
     let least : length (filter barrier x) ≤ barriers_on k first = fewer barrier flag_of (executed_on k first) in
     omega arith
 
@@ -194,10 +196,10 @@ behind_at log images history k position answered later hears before told more s 
     (line_mark s.message s.mark line.0 line.1.2 ∙ ap (λ m. Some m) mark) in
     let all_told = told_in all position shape.behind in
     let first_told = told_in all position cut.front in
-    let front : IsPrefixOf first_told all_told =
-    (flat_map (told_of all) cut.rest, ap (λ l. told_of_hello position ∷ l) (sym (flat_map-append (told_of all) cut.front cut.rest) ∙ ap (flat_map (told_of all)) (sym cut.split))) in
-    let owed : IsPrefixOf (filter is_owed first_told) (filter is_owed (sent images k history)) =
-    front_of_front (filter is_owed first_told) (filter is_owed all_told) (filter is_owed (sent images k history)) (front_filter is_owed first_told all_told front)
+    let front : IsFront first_told all_told =
+    (flat_map (told_of all) cut.rest, ap (λ l. told_of_hello position ∷ l) (ap (flat_map (told_of all)) cut.split ∙ flat_map-append (told_of all) cut.front cut.rest)) in
+    let owed : IsFront (filter is_owed first_told) (filter is_owed (sent images k history)) =
+    front_then (filter is_owed first_told) (filter is_owed all_told) (filter is_owed (sent images k history)) (front_filter is_owed first_told all_told front)
     (told_front log images history k position answered later hears shape) in
     let early : answers_in first_told ≤ length (filter flag_of (executed_on k (take place history))) =
     early_answers images history (take place history) (drop place history) k place first_told hears.legal (sym (take-append-drop place history)) (length-take-le place history within)

@@ -2,12 +2,12 @@
 use Rattle.std.proofs.Common.{◌≡◌, ℕ, ◌<◌, ◌^◌, inl, inr, Bool, true, false, true≢false, List, [], ◌∷◌, ◌++◌, length, map, filter, Option, Some, None, Ok, refl, ap, ap₂, sym, ◌∙◌, subst, arith}
 use Rattle.std.specs.List.{AllByRecursion, Contains, list_any, range_with_len}
 use Rattle.std.proofs.lemmas.Bool.Decides.{eqb_tells}
-use Rattle.channel_core.specs.Arrivals.{IsFront, Spoken}
+use Rattle.channel_core.specs.Arrivals.{Spoken, comes_as}
 use Rattle.channel_core.specs.declared.held.Incoming.{Incoming}
 use Rattle.client_node.specs.ClientValue.{ClientValue}
 use Rattle.client_node.specs.Runs.{Past, TellsPast, tells}
 use Rattle.target_contexts.specs.declared.process.Image.{Image}
-use Rattle.target_hub.specs.Ordered.{AllCame, FollowsTarget, IsChannelOf, IsPlaced, IsPrefixOf, OpensAt, Ordered, hello_position}
+use Rattle.target_hub.specs.Ordered.{AllCame, FollowsTarget, IsChannelOf, IsPlaced, OpensAt, Ordered, hello_position}
 use Rattle.target_hub.specs.Sent.{agent_services, executed_on}
 use Rattle.target_hub.specs.declared.input.Input.{Input}
 use Rattle.target_hub.specs.declared.input.Input.TheVariants.{Opened}
@@ -19,14 +19,15 @@ use Rattle.tcf_text.specs.declared.log.LogLine.{LogLine}
 use Rattle.value_node.specs.Asked.{Asked}
 use Rattle.value_node.specs.OwnMessages.{BeginsWithHello, IsOwn, OwnStep, a_hello, a_result, an_unknown}
 use Rattle.chain_heard.specs.Heard.{Heard, HeardAll, HeardAmongIsOrdered, HeardIsOrdered, HeardNoTarget, NoTargetHeardIsOrdered, asked_as, heard_in, incoming, messages_of}
-use Rattle.chain_told.specs.TellsOn.{comes_as}
 use Rattle.chain_told.specs.Sent.{owed_by}
 use Rattle.chain_told.specs.Told.{AreToldRightly, owed_in}
 use Rattle.chain_heard.proofs.Filtered.{each_placed, from_hello_told, from_none, hello_position_told}
 use Rattle.chain_heard.proofs.Followed.{Hears, came_all, follows, from_is, shape_of}
 use Rattle.chain_heard.proofs.Known.{Counted}
 use Rattle.chain_heard.proofs.Lines.{AreLinesOf, IsFew, IsNoCommand, lines_heard}
-use Rattle.chain_told.proofs.Agents.Lists.{front_first, front_rest, in_one, no_front}
+use Rattle.list_laws.specs.Fronts.{IsFront}
+use Rattle.list_laws.proofs.Fronts.{front_first, front_rest, no_front}
+use Rattle.list_laws.proofs.Contained.{in_one}
 use Rattle.chain_heard.proofs.Marks.{Greeted, HeardSo, heard_so, no_command_heard, nothing_heard, own_unmarked, target_heard}
 use Rattle.chain_heard.proofs.Numbers.{lines_few}
 use Rattle.chain_heard.proofs.Placed.{IsBare, bare_first_placed, bare_lines, begins_front, greets_first, no_placed, rising_lines, told_behind_placed}
@@ -203,7 +204,7 @@ pub record FrontOf (xs : List Incoming) (own : List Spoken) : Type 0 where
   pub split : own ≡ heard ++ rest
   pub are : xs ≡ map comes_as heard
 
-pub front_of : (xs : List Incoming) (own : List Spoken) → IsPrefixOf xs (map incoming (messages_of own)) → FrontOf xs own
+pub front_of : (xs : List Incoming) (own : List Spoken) → IsFront xs (map incoming (messages_of own)) → FrontOf xs own
 front_of [] own front = record { heard = []; rest = own; split = refl; are = refl }
 front_of (x ∷ xs) [] front = absurd (no_front x xs front)
 front_of (x ∷ xs) (s ∷ own) front =

@@ -15,3 +15,4 @@ pub mod Early
 pub mod Fresh
 pub mod Lessons
 pub mod Coherent
+pub mod TheLaws

@@ -4,7 +4,7 @@ use Rattle.std.specs.Prelude.{IsSome, bytes_eq}
 use Rattle.std.specs.Option.{IsSomeAnd}
 use Rattle.std.specs.List.{AllByRecursion}
 use Rattle.std.proofs.lemmas.List.{append_assoc, append-nil}
-use Rattle.channel_core.specs.Arrivals.{IsFront, Spoken}
+use Rattle.channel_core.specs.Arrivals.{Spoken}
 use Rattle.channel_core.specs.Wire.{Said, answers, asks, event_said, goes_on, greets, hello, locator, said_by, tells}
 use Rattle.client_node.specs.Runs.{is_hello}
 use Rattle.target_contexts.specs.declared.process.Image.{Image}
@@ -22,7 +22,8 @@ use Rattle.chain_told.specs.Told.{AreToldRightly, ComesAt, ComesBehind, IsOwed, 
 use Rattle.chain_told.specs.Sent.{bare, owed_by}
 use Rattle.chain_through.specs.Through.{IsMarked}
 use Rattle.chain_heard.proofs.Lines.{IsNoCommand, hello_is}
-use Rattle.chain_told.proofs.Agents.Lists.{cut_at, cut_past, cut_within, CutAt}
+use Rattle.list_laws.specs.Fronts.{IsFront}
+use Rattle.list_laws.proofs.Splits.{cut_at, cut_past, cut_within, CutAt}
 use Rattle.chain_told.proofs.Agents.Sending.{Begins, begins}
 use Rattle.chain_told.proofs.Agents.Placed.{mark_pushed}
 use Rattle.chain_through.proofs.OwnTold.{IsUnmarked}

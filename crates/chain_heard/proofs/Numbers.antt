@@ -12,7 +12,7 @@ use Rattle.tcf_text.specs.Once.{AnswersPending, IsPending, numbers}
 use Rattle.tcf_text.specs.declared.log.LogLine.{LogLine}
 use Rattle.tcf_text.specs.declared.log.LogLine.TheVariants as lines
 use Rattle.chain_heard.proofs.Lines.{AreFew, IsFew}
-use Rattle.chain_told.proofs.Agents.Lists.{filter_each, filter_nothing}
+use Rattle.list_laws.proofs.Splits.{filter_each, filter_nothing}
 use Rattle.list_laws.proofs.AllLists.{all_filter, all_weaker}
 use Rattle.list_laws.proofs.Flags.{or_true}
 

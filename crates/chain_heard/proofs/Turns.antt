@@ -21,7 +21,7 @@ use Rattle.chain_told.specs.Told as told
 use Rattle.chain_told.specs.Told.{AreEndedBefore, AreToldRightly, ComesInTurn, IsAnswered, IsOpen, IsOwed, IsToldRightly, command_under, ends, is_ended}
 use Rattle.chain_heard.proofs.Known.{Counted, IsKnown, Place, counted_few, known_at, known_number, number_is, through_same, under}
 use Rattle.chain_heard.proofs.Lines.{AreFew, AreLinesOf, IsLineOf, IsOfFew, says_event, says_final, says_hello, says_progress, says_unknown}
-use Rattle.chain_told.proofs.Agents.Lists.{filter_nothing}
+use Rattle.list_laws.proofs.Splits.{filter_nothing}
 use Rattle.chain_heard.proofs.Marks.{Rising}
 use Rattle.chain_heard.proofs.Numbers.{InParts, in_parts, numbers_from}
 use Rattle.chain_heard.proofs.Elements.{all_cuts, InOne, in_first, in_second, in_one_of}

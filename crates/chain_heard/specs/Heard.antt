@@ -3,9 +3,8 @@ use Rattle.std.specs.Prelude.{ℕ, ◌≡◌, ◌^◌, ◌<◌, Bool, true, fals
 use Rattle.std.specs.List.{AllByRecursion, Contains, flat_map, list_any}
 use Rattle.chain_told.specs.Sent.{owed_by}
 use Rattle.chain_through.specs.Through.{ComeDown}
-use Rattle.chain_told.specs.TellsOn.{comes_as}
 use Rattle.chain_told.specs.Told.{AreToldRightly, owed_in}
-use Rattle.channel_core.specs.Arrivals.{IsFront, Spoken}
+use Rattle.channel_core.specs.Arrivals.{Spoken, comes_as}
 pub use Rattle.channel_core.specs.ReceivingLaws.{incoming_of}
 use Rattle.channel_core.specs.declared.held.Incoming.{Incoming}
 use Rattle.client_node.specs.ClientValue.{ClientValue}
@@ -13,7 +12,7 @@ use Rattle.client_node.specs.Runs.{Call, Past, TellsPast, no_past, past_of}
 use Rattle.target_contexts.specs.declared.process.Image.{Image}
 use Rattle.target_hub.specs.History.{IsLegal}
 use Rattle.target_hub.specs.Fresh.{Fresh}
-use Rattle.target_hub.specs.Ordered.{IsPrefixOf, IsSubsequenceOf, OpensAt, Ordered}
+use Rattle.target_hub.specs.Ordered.{OpensAt, Ordered}
 use Rattle.target_hub.specs.Received.{read}
 use Rattle.target_hub.specs.Sent.{ReadCommand, executed_on, is_through}
 use Rattle.target_hub.specs.declared.input.Input.{Input}
@@ -23,6 +22,7 @@ use Rattle.tcf_text.specs.Lines.{Accepted}
 use Rattle.tcf_text.specs.Once.{Once, is_end}
 use Rattle.value_node.specs.Asked.{Asked}
 use Rattle.value_node.specs.OwnMessages.{BeginsWithHello, IsOwn}
+use Rattle.list_laws.specs.Fronts.{IsFront, IsSubsequenceOf}
 
 -- ---- what a client heard
 
@@ -74,7 +74,7 @@ pub record Heard (images : List Image) (history : List Input) (k position : ℕ)
   pub told : AreToldRightly images history (map asked_as p.commands) heard
   pub owed : IsFront (owed_in (map asked_as p.commands) heard) (owed_by images k history)
   pub asked : IsSubsequenceOf (executed_on k history) (map read later)
-  pub through : IsPrefixOf (through_of (executed_on k history)) (through_of (map read later))
+  pub through : IsFront (through_of (executed_on k history)) (through_of (map read later))
   -- nothing is executed before the target's Hello was taken
   pub greeted_first : IsFront heard own → executed_on k history ≡ []
   pub few : length p.commands < 2 ^ 64  -- so no two tokens are the same
@@ -86,7 +86,7 @@ pub record HeardNoTarget (p : Past) : Type 0 where
   pub left : List Asked
   pub is_own : IsOwn (map asked_as p.commands) own left
   pub begins : BeginsWithHello own
-  pub told : IsPrefixOf (heard_in p) (map incoming (messages_of own))
+  pub told : IsFront (heard_in p) (map incoming (messages_of own))
   pub readable : AreReadable (messages_of own)
   pub few : length p.commands < 2 ^ 64
 

@@ -2,9 +2,6 @@
 ghost use Rattle.chain_heard.specs.Coherent.{HeardIsCoherent, NoTargetHeardIsCoherent};
 ghost use Rattle.chain_heard.specs.Heard.{CommandsAreFew, HeardAmongIsOrdered, HeardIsFresh, HeardIsOrdered, NoTargetHeardIsFresh, NoTargetHeardIsOrdered};
 
-use cache_learning::what_is_kept_was_learned;
-use client_node::the_log_tells_what_was_taken;
-
 /// The law that the log of a client follows the history of the target, where its messages are, in order, what the value-adds
 /// on the way said themselves and then messages with positions, each told rightly, which are, but for answers to storable commands,
 /// a front of what the history owes to its channel; and the commands that the channel executes are, in order, some of those that
@@ -24,9 +21,7 @@ pub fn no_target_heard_is_ordered()
 /// The law that a client has accepted fewer than 2^64 commands, whatever its calls.
 pub fn commands_are_few()
     ensures { CommandsAreFew }
-{
-    the_log_tells_what_was_taken();
-}
+{}
 
 /// The law that each answer with a position to a storable command, of the target or from a store on the way, is what the target
 /// answers at that position, which comes behind all commands before it that may change the target.
@@ -40,6 +35,4 @@ pub fn what_was_heard_is_fresh()
 pub fn what_was_heard_is_true()
     ensures heard { HeardIsCoherent }
     ensures no_target { NoTargetHeardIsCoherent }
-{
-    what_is_kept_was_learned();
-}
+{}

@@ -4,17 +4,18 @@ use Rattle.std.specs.List.{AllByRecursion, flat_map, list_any}
 use Rattle.chain_route.specs.Carrying.{AllCarry, GivesAll, HaveConnected, IsDead, IsUnused, Made, end_of, past_of, value_of}
 use Rattle.chain_route.specs.Runs.{Talk}
 use Rattle.chain_route.specs.declared.hop.Hop.{Hop}
-use Rattle.channel_core.specs.Arrivals.{AreSpoken, IsFront, Spoken, arrived, bytes_of, messages_in, queue_of}
+use Rattle.channel_core.specs.Arrivals.{AreSpoken, Spoken, arrived, bytes_of, messages_in, queue_of, all_said}
 use Rattle.channel_core.specs.Closing.{is_closed}
 use Rattle.channel_core.specs.QueueLaws.{is_message}
 use Rattle.channel_core.specs.Receiving.{is_over}
 use Rattle.channel_core.specs.ReceivingLaws.{incoming_of}
 use Rattle.channel_core.specs.Wire.{end_of_stream}
 use Rattle.channel_laws.specs.Hop.{HopStands}
-use Rattle.channel_laws.specs.Meeting.{AnswersAll, Side, all_said, as_comes, run_of}
+use Rattle.channel_laws.specs.Meeting.{AnswersAll, Side, as_comes, run_of}
 use Rattle.chain_quiet.specs.Stuck.{IsChannel, IsReadable, end_of_side, last_is_live, side_above, side_below, unmarked}
 use Rattle.value_node.specs.Runs.{after_all, below, no_calls}
 use Rattle.node_answers.specs.Waiting.{LeavesUnanswered}
+use Rattle.list_laws.specs.Fronts.{IsFront}
 
 -- ---- the agent's side
 

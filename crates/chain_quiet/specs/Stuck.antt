@@ -4,8 +4,8 @@ use Rattle.std.specs.List.{AllByRecursion, list_any}
 use Rattle.chain_route.specs.Carrying.{AllCarry, End, Made, end_of, past_of, value_of}
 use Rattle.chain_route.specs.Runs.{Talk}
 use Rattle.chain_route.specs.declared.hop.Hop.{Hop}
-use Rattle.chain_through.specs.Through.{AllTakeAll, AreBound, TakesAllOf, all_said}
-use Rattle.channel_core.specs.Arrivals.{AreSpoken, IsFront, Marked, Spoken, arrived, bytes_of}
+use Rattle.chain_route.specs.Taking.{AllTakeAll, AreBound, TakesAllOf}
+use Rattle.channel_core.specs.Arrivals.{AreSpoken, Marked, Spoken, arrived, bytes_of, all_said}
 use Rattle.channel_core.specs.Closing.{is_closed}
 use Rattle.channel_core.specs.QueueLaws.{is_message}
 use Rattle.channel_core.specs.ReceivingLaws.{SendsReadable}
@@ -19,6 +19,7 @@ use Rattle.tcf_message.specs.Message.{IsWellFormed, event}
 use Rattle.value_node.specs.ForwardedValue.{ForwardedValue}
 use Rattle.value_node.specs.Runs.{above, below, upper_after}
 use Rattle.value_node.specs.Value.{awaits, value_services}
+use Rattle.list_laws.specs.Fronts.{IsFront}
 
 -- ---- an end
 

@@ -2,33 +2,13 @@
 ghost use Rattle.chain_quiet.specs.Hops.{EachHopStands};
 ghost use Rattle.chain_quiet.specs.Stuck.{StillWaysAreUnstuck};
 
-use value_node::Forwarded;
-
 /// The law that nothing is stuck, where no byte is in flight on any hop and no entry waits at any end: at the upper end of each
 /// value-add that is open, and at the client's, each command that was accepted was answered, none is held, and commands go out.
 /// And where all value-adds are bound and the client's end is open, the client took all that the first value-add said, each
 /// value-add took all that the next one said, and the last one all that the agent said.
 pub fn nothing_is_stuck<T>()
     ensures { StillWaysAreUnstuck T }
-{
-    channel_core::what_is_queued_goes_out_in_order::<T>();
-    channel_core::what_is_queued_goes_out_in_order::<()>();
-    channel_core::what_is_queued_goes_out_in_order::<Forwarded>();
-    channel_core::only_what_is_sent_is_queued::<T>();
-    channel_core::only_what_is_sent_is_queued::<Forwarded>();
-    channel_laws::an_end_that_is_over_stays_so::<T>();
-    channel_laws::an_end_that_is_over_stays_so::<Forwarded>();
-    channel_laws::the_end_of_a_queue_is_heard::<T>();
-    channel_laws::the_end_of_a_queue_is_heard::<Forwarded>();
-    channel_laws::two_ends_rest_together::<T, ()>();
-    channel_laws::two_ends_rest_together::<Forwarded, ()>();
-    channel_laws::an_answered_end_is_free::<T, ()>();
-    channel_laws::an_answered_end_is_free::<Forwarded, ()>();
-    channel_laws::what_comes_is_numbered::<(), T>();
-    channel_laws::what_comes_is_numbered::<(), Forwarded>();
-    value_node::a_value_add_relays();
-    node_answers::a_value_add_answers_all();
-}
+{}
 
 /// The law that each live hop of a way stands as the two ends of a hop do, whatever has come and been taken: what an open end
 /// took and what is under way to it is what the other one queued; each command that is pending and not held is under way, or taken
@@ -40,25 +20,4 @@ pub fn nothing_is_stuck<T>()
 /// was made is live, and the end below these hops was never used.
 pub fn each_hop_stands<T>()
     ensures { EachHopStands T }
-{
-    channel_core::what_is_queued_goes_out_in_order::<T>();
-    channel_core::what_is_queued_goes_out_in_order::<()>();
-    channel_core::what_is_queued_goes_out_in_order::<Forwarded>();
-    channel_core::what_is_queued_can_be_read::<T>();
-    channel_core::what_is_queued_can_be_read::<()>();
-    channel_core::what_is_queued_can_be_read::<Forwarded>();
-    channel_core::what_was_queued_is_received::<T>();
-    channel_core::what_was_queued_is_received::<()>();
-    channel_core::what_was_queued_is_received::<Forwarded>();
-    channel_laws::an_end_that_is_over_stays_so::<T>();
-    channel_laws::an_end_that_is_over_stays_so::<()>();
-    channel_laws::an_end_that_is_over_stays_so::<Forwarded>();
-    channel_laws::the_end_of_a_queue_is_heard::<T>();
-    channel_laws::the_end_of_a_queue_is_heard::<Forwarded>();
-    channel_laws::a_live_hop_stands::<T, ()>();
-    channel_laws::a_live_hop_stands::<Forwarded, ()>();
-    channel_laws::what_comes_is_numbered::<(), T>();
-    channel_laws::what_comes_is_numbered::<(), Forwarded>();
-    value_node::a_value_add_relays();
-    node_answers::what_a_value_add_has_not_answered();
-}
+{}

@@ -2,10 +2,11 @@
 use Rattle.std.proofs.Common.{◌≡◌, Bool, true, false, List, [], ◌∷◌, ◌++◌, Option, Some, None, refl, sym, ap, ◌∙◌, subst, append_assoc, append-nil}
 use Rattle.std.specs.Prelude.{IsSome, is_some, not, option_map, unwrap_or}
 use Rattle.channel_core.specs.Beginning.{new_end}
-use Rattle.value_node.specs.RelayLaws.{AfterAllCalls, EndsAreRuns}
+use Rattle.value_node.specs.RelayLaws.{EndsAreRuns}
 use Rattle.value_node.specs.Runs.{Call, LowerCall, Past, UpperCall, ValueRun, after_all, after_call, no_calls, only_if, own_by, passing_by, upper_by, with_calls}
 use Rattle.value_node.specs.Value.{value_services}
 use Rattle.chain_route.specs.Carrying.{End, Made, end_above, end_below, past_of}
+use Rattle.value_node.proofs.TheLaws.{ends_are_runs}
 use Rattle.chain_route.proofs.EndCalls.{AreIdle, end_by, idle_end}
 use Rattle.chain_route.proofs.Flows.{Tip, used}
 
@@ -102,32 +103,31 @@ some_by (Some calls) more is = is
 
 -- ---- Both ends, with one call more
 
-module _ (runs : AfterAllCalls EndsAreRuns) where
-  pub facts_of : (m : Made) → EndsAreRuns (run_of m)
-  facts_of m = runs m.peer m.calls
+pub facts_of : (m : Made) → EndsAreRuns (run_of m)
+facts_of m = ends_are_runs m.peer m.calls
 
-  pub below_added : (call : Call) (m : Made) → Adds call (run_of m) → end_below (past_of (with_call call m)) ≡ lower_end (lower_calls (past_of m) ++ lower_added call (run_of m))
-  below_added call m adds =
-      ap (λ r. end_below r.past) (call_run call m) ∙ ap lower_end (lower_more call (run_of m) (facts_of m).unbound adds)
+pub below_added : (call : Call) (m : Made) → Adds call (run_of m) → end_below (past_of (with_call call m)) ≡ lower_end (lower_calls (past_of m) ++ lower_added call (run_of m))
+below_added call m adds =
+    ap (λ r. end_below r.past) (call_run call m) ∙ ap lower_end (lower_more call (run_of m) (facts_of m).unbound adds)
 
-  pub above_added : (call : Call) (m : Made) (calls : List UpperCall) → ConnectedWith (past_of m) calls → Adds call (run_of m)
-      → tip_above (with_call call m) ≡ used (upper_end (calls ++ upper_by call (run_of m).value.relay))
-  above_added call m calls is adds =
-      ap (λ r. tip_of r.past) (call_run call m)
-      ∙ end_of_calls (after_call call (run_of m)).past (calls ++ upper_by call (run_of m).value.relay) (upper_more call (run_of m) calls is adds)
+pub above_added : (call : Call) (m : Made) (calls : List UpperCall) → ConnectedWith (past_of m) calls → Adds call (run_of m)
+    → tip_above (with_call call m) ≡ used (upper_end (calls ++ upper_by call (run_of m).value.relay))
+above_added call m calls is adds =
+    ap (λ r. tip_of r.past) (call_run call m)
+    ∙ end_of_calls (after_call call (run_of m)).past (calls ++ upper_by call (run_of m).value.relay) (upper_more call (run_of m) calls is adds)
 
-  pub still_connected : (call : Call) (m : Made) → Adds call (run_of m) → IsSome (past_of m).connection → IsSome (past_of (with_call call m)).connection
-  still_connected call m adds is =
-      subst (λ p. IsSome p.connection) (sym (ap (λ r. r.past) (call_run call m) ∙ adds)) (some_by (past_of m).connection (upper_by call (run_of m).value.relay) is)
+pub still_connected : (call : Call) (m : Made) → Adds call (run_of m) → IsSome (past_of m).connection → IsSome (past_of (with_call call m)).connection
+still_connected call m adds is =
+    subst (λ p. IsSome p.connection) (sym (ap (λ r. r.past) (call_run call m) ∙ adds)) (some_by (past_of m).connection (upper_by call (run_of m).value.relay) is)
 
-  pub still_unconnected : (call : Call) (m : Made) → Adds call (run_of m) → (past_of m).connection ≡ None → (past_of (with_call call m)).connection ≡ None
-  still_unconnected call m adds is = ap (λ r. r.past.connection) (call_run call m) ∙ upper_none call (run_of m) is adds
+pub still_unconnected : (call : Call) (m : Made) → Adds call (run_of m) → (past_of m).connection ≡ None → (past_of (with_call call m)).connection ≡ None
+still_unconnected call m adds is = ap (λ r. r.past.connection) (call_run call m) ∙ upper_none call (run_of m) is adds
 
-  pub below_same : (call : Call) (m : Made) → Adds call (run_of m) → AreIdle (lower_added call (run_of m)) → end_below (past_of (with_call call m)) ≡ end_below (past_of m)
-  below_same call m adds idle =
-      below_added call m adds ∙ idle_end (new_end value_services None) (lower_calls (past_of m)) (lower_added call (run_of m)) idle
+pub below_same : (call : Call) (m : Made) → Adds call (run_of m) → AreIdle (lower_added call (run_of m)) → end_below (past_of (with_call call m)) ≡ end_below (past_of m)
+below_same call m adds idle =
+    below_added call m adds ∙ idle_end (new_end value_services None) (lower_calls (past_of m)) (lower_added call (run_of m)) idle
 
-  pub above_same : (call : Call) (m : Made) → Adds call (run_of m) → AreIdle (upper_by call (run_of m).value.relay) → tip_above (with_call call m) ≡ tip_above m
-  above_same call m adds idle =
-      ap (λ r. tip_of r.past) (call_run call m) ∙ ap tip_of adds
-      ∙ above_by (past_of m).connection (upper_by call (run_of m).value.relay) idle
+pub above_same : (call : Call) (m : Made) → Adds call (run_of m) → AreIdle (upper_by call (run_of m).value.relay) → tip_above (with_call call m) ≡ tip_above m
+above_same call m adds idle =
+    ap (λ r. tip_of r.past) (call_run call m) ∙ ap tip_of adds
+    ∙ above_by (past_of m).connection (upper_by call (run_of m).value.relay) idle

@@ -1,7 +1,7 @@
 -- Where a value-add waits for a connection, nothing is connected behind the hop above it.
 use Rattle.std.proofs.Common.{◌≡◌, ℕ, zero, suc, ◌+◌, ◌-◌, ◌<◌, Bool, false, List, [], ◌∷◌, length, Some, None, refl, subst, arith}
 use Rattle.std.specs.Prelude.{IsSome, slice_get}
-use Rattle.channel_core.specs.Arrivals.{IsFront, bytes_of}
+use Rattle.channel_core.specs.Arrivals.{bytes_of}
 use Rattle.value_node.specs.Runs.{UpperCall}
 use Rattle.chain_route.specs.Carrying.{Made, end_above, end_below, past_of}
 use Rattle.chain_route.specs.declared.hop.Hop.{Hop}
@@ -10,9 +10,10 @@ use Rattle.chain_route.proofs.Adds.{tip_above}
 use Rattle.chain_route.proofs.Anew.{AreDeadBehind}
 use Rattle.chain_route.proofs.Flows.{HopHolds, Tip, used}
 use Rattle.chain_route.proofs.Reaching.{Awaits, waits_unheard}
-use Rattle.chain_route.proofs.Unheard.{Laws, unheard_unconnected}
+use Rattle.chain_route.proofs.Unheard.{unheard_unconnected}
 use Rattle.chain_route.proofs.Ways.{Way, way_above}
 use Rattle.list_laws.proofs.Flags.{never_true}
+use Rattle.list_laws.specs.Fronts.{IsFront}
 
 abbrev pub Gave : Made → Made → Type 0
 Gave m other = IsFront (end_below (past_of other)).came (bytes_of (end_above (past_of m)).gave)
@@ -63,8 +64,8 @@ nothing_behind (suc at) lower (h ∷ g ∷ f ∷ hops) (x ∷ y ∷ made) agent 
     let rest = nothing_behind at (tip_above x) (g ∷ f ∷ hops) (y ∷ made) agent m there next (omega (arith, more)) (way_above lower h g (f ∷ hops) x y made agent way) in
     record { unreached = rest.unreached; dead = rest.dead }
 
-pub ends_behind : Laws → (at : ℕ) (lower : Tip) (hops : List Hop) (made : List Made) (agent : Tip) (m : Made) → slice_get made at ≡ Some m → Awaits m
+pub ends_behind : (at : ℕ) (lower : Tip) (hops : List Hop) (made : List Made) (agent : Tip) (m : Made) → slice_get made at ≡ Some m → Awaits m
     → at + 1 < length hops - 1 → Way lower hops made agent → EndsBehind at hops agent.is_used
-ends_behind laws at lower hops made agent m there waits more way =
+ends_behind at lower hops made agent m there waits more way =
     nothing_behind at lower hops made agent m there
-    (λ other next. unheard_unconnected laws m other (waits_unheard laws.runs m waits) (gave_next at lower hops made agent m other there next way.all)) more way
+    (λ other next. unheard_unconnected m other (waits_unheard m waits) (gave_next at lower hops made agent m other there next way.all)) more way

@@ -3,7 +3,7 @@ use Rattle.std.proofs.Common.{◌≡◌, ℕ, zero, suc, ◌+◌, ◌-◌, ◌�
 use Rattle.std.specs.List.{AllByRecursion, flat_map}
 use Rattle.std.proofs.lemmas.List.{map-append}
 use Rattle.std.proofs.lemmas.List.Concat.{flat_map-append}
-use Rattle.channel_core.specs.Arrivals.{IsFront, Marked, marked}
+use Rattle.channel_core.specs.Arrivals.{Marked, marked}
 use Rattle.channel_core.specs.declared.held.Outgoing.{Outgoing}
 use Rattle.chain_route.specs.Lane.{arriving, staying}
 use Rattle.list_laws.proofs.Lists.{take_drop}
@@ -40,40 +40,6 @@ arrives_first f count (out ∷ outs) = by_flags (count == 0) (nat_le (length out
 
 pub bytes_more : (f : Option ℕ → Option ℕ) (outs more : List Outgoing) → bytes_by f (outs ++ more) ≡ bytes_by f outs ++ bytes_by f more
 bytes_more f outs more = flat_map-append (λ o. marked o.bytes (f o.mark)) outs more
-
--- ---- Fronts
-
-pub front_same : {A : Type 0} → (front all next : List A) → all ≡ next → IsFront front all → IsFront front next
-front_same front all next same p = (p.0, sym same ∙ p.1)
-
-pub front_more : {A : Type 0} → (front all more : List A) → IsFront front all → IsFront front (all ++ more)
-front_more front all more p = (p.0 ++ more, ap (λ xs. xs ++ more) p.1 ∙ append_assoc front p.0 more)
-
-pub front_then : {A : Type 0} → (xs ys zs : List A) → IsFront xs ys → IsFront ys zs → IsFront xs zs
-front_then xs ys zs p q = (p.0 ++ q.0, q.1 ∙ ap (λ l. l ++ q.0) p.1 ∙ append_assoc xs p.0 q.0)
-
-pub front_map : {A B : Type 0} → (f : A → B) (xs ys : List A) → IsFront xs ys → IsFront (map f xs) (map f ys)
-front_map f xs ys p = (map f p.0, ap (map f) p.1 ∙ map-append f xs p.0)
-
-pub front_flat : {A B : Type 0} → (f : A → List B) (xs ys : List A) → IsFront xs ys → IsFront (flat_map f xs) (flat_map f ys)
-front_flat f xs ys p = (flat_map f p.0, ap (flat_map f) p.1 ∙ flat_map-append f xs p.0)
-
-pub front_none : {A : Type 0} → (xs : List A) → IsFront xs [] → xs ≡ []
-front_none [] p = refl
-front_none (x ∷ xs) p = let whole : [] ≡ x ∷ (xs ++ p.0) = p.1 in absurd cc
-
-pub front_length : {A : Type 0} → (xs ys : List A) → IsFront xs ys → length xs ≤ length ys
-front_length xs ys p = let is : length ys ≡ length xs + length p.0 = ap length p.1 ∙ length-append xs p.0 in omega arith
-
-pub front_each : {A : Type 0} → (P : A → Type 0) (xs ys : List A) → IsFront xs ys → AllByRecursion P ys → AllByRecursion P xs
-front_each P xs ys p each = by_front xs (subst (AllByRecursion P) p.1 each)
-  where
-    by_front : (front : List _) → AllByRecursion P (front ++ p.0) → AllByRecursion P front
-    by_front [] each = tt
-    by_front (x ∷ front) each = (each.0, by_front front each.1)
-
-pub take_front : {A : Type 0} → (n : ℕ) (xs : List A) → IsFront (take n xs) xs
-take_front n xs = (drop n xs, sym (take_drop n xs))
 
 -- ---- One list after the other
 

@@ -19,7 +19,6 @@ use Rattle.chain_route.proofs.Holding.{Holds, agent_tip, client_tip, idle_agent,
 use Rattle.chain_route.proofs.Places.{has_last, last_is}
 use Rattle.chain_route.proofs.Settled.{Settled, delivered_settled, nowhere}
 use Rattle.chain_route.proofs.Settling.{AllSettled, cuts_settled, delivers_settled, hop_settled, joins_settled, reaches_settled, turns_settled}
-use Rattle.chain_route.proofs.Unheard.{Laws}
 use Rattle.chain_route.proofs.Waits.{parts_wait, turn_keeps}
 use Rattle.chain_route.proofs.Ways.{IsMapped, LastDead, get_mapped, last_dead}
 
@@ -40,7 +39,7 @@ unless_settled false other r is same = is
 
 -- ---- Each call
 
-module _ (laws : Laws) {calls : List Call} (r : RouteRun) (h : Holds calls r) (all : IsSettled r) where
+module _ {calls : List Call} (r : RouteRun) (h : Holds calls r) (all : IsSettled r) where
   -- the value-add at a place is one that was made
   made_at : (at : ℕ) (v : ValueValue) → slice_get r.route.adds at ≡ Some v → IsMapped value_of h.made at v
   made_at at v is = get_mapped value_of at h.made v (sym (ap (λ vs. slice_get vs at) h.adds) ∙ is)
@@ -50,12 +49,12 @@ module _ (laws : Laws) {calls : List Call} (r : RouteRun) (h : Holds calls r) (a
   delivered_at side count at v x is s =
       let m = made_at at v is in
       delivered_settled side count (length r.route.hops) at v x
-      (λ parts. subst (λ w. awaits (parts_came side parts w).relay ≡ awaits w.relay) m.value (parts_wait laws.runs laws.closes parts side m.from)) s
+      (λ parts. subst (λ w. awaits (parts_came side parts w).relay ≡ awaits w.relay) m.value (parts_wait parts side m.from)) s
 
   keeps_at : (side : Side) (at : ℕ) (v : ValueValue) → slice_get r.route.adds at ≡ Some v → ((value_turned side v).0 ≡ Connect → ⊥) → awaits (value_turned side v).1.relay ≡ true → awaits v.relay ≡ true
   keeps_at side at v is =
       let m = made_at at v is in
-      subst (λ w. ((value_turned side w).0 ≡ Connect → ⊥) → awaits (value_turned side w).1.relay ≡ true → awaits w.relay ≡ true) m.value (turn_keeps laws.runs laws.closes side m.from)
+      subst (λ w. ((value_turned side w).0 ≡ Connect → ⊥) → awaits (value_turned side w).1.relay ≡ true → awaits w.relay ≡ true) m.value (turn_keeps side m.from)
 
   pub call_settled : (call : Call) → IsSettled (after_call call r)
   call_settled joins =

@@ -21,7 +21,6 @@ use Rattle.chain_route.proofs.Joining.{carried_holds}
 use Rattle.chain_route.proofs.Losses.{loses_same, losses_anew, losses_set, lost_same}
 use Rattle.chain_route.proofs.Moving.{call_value}
 use Rattle.chain_route.proofs.Reaching.{Awaits, above_anew, anew, below_anew, connected_anew, turned_anew}
-use Rattle.chain_route.proofs.Unheard.{Laws}
 use Rattle.chain_route.proofs.Ways.{LastDead, Way, set_mapped}
 use Rattle.list_laws.proofs.Lists.{set_length}
 
@@ -80,7 +79,7 @@ joined_at at route v hop add =
 
 -- ---- The hop begins anew, and so does the upper end below it; nothing is carried yet
 
-module _ (laws : Laws) (at : ℕ) (calls : List Call) (r : RouteRun) (h : Holds calls r) (m : Made) (there : slice_get h.made at ≡ Some m) (waits : Awaits m) (behind : EndsBehind at r.route.hops r.past.is_reached) where
+module _ (at : ℕ) (calls : List Call) (r : RouteRun) (h : Holds calls r) (m : Made) (there : slice_get h.made at ≡ Some m) (waits : Awaits m) (behind : EndsBehind at r.route.hops r.past.is_reached) where
   abbrev peer : List ℕ
   peer = peer_of (suc at) r.route
 
@@ -142,13 +141,13 @@ module _ (laws : Laws) (at : ℕ) (calls : List Call) (r : RouteRun) (h : Holds 
 
   joined_holds : Holds calls (with_route (with_carried Below (suc at) (joined (suc at) (made_at (suc at) r.route))) r)
   joined_holds =
-      let up : Holds calls (with_route (with_carried Above at begun) r) = carried_holds laws.runs Above at calls (with_route begun r) begun_holds in
-      carried_holds laws.runs Below (suc at) calls (with_route (joined (suc at) (made_at (suc at) r.route)) r)
+      let up : Holds calls (with_route (with_carried Above at begun) r) = carried_holds Above at calls (with_route begun r) begun_holds in
+      carried_holds Below (suc at) calls (with_route (joined (suc at) (made_at (suc at) r.route)) r)
       (subst (λ route. Holds calls (with_route route r)) (sym joined_is) up)
 
 -- to the agent, when the caller has it open a channel; else to a value-add that is made anew
-pub connects_kept : Laws → (at : ℕ) (calls : List Call) (r : RouteRun) (h : Holds calls r) (m : Made) → slice_get h.made at ≡ Some m → Awaits m → Holds calls (with_route (connected (at + 1) r.route).1 r)
-connects_kept laws at calls r h m there waits =
+pub connects_kept : (at : ℕ) (calls : List Call) (r : RouteRun) (h : Holds calls r) (m : Made) → slice_get h.made at ≡ Some m → Awaits m → Holds calls (with_route (connected (at + 1) r.route).1 r)
+connects_kept at calls r h m there waits =
     let one : suc at ≡ at + 1 = omega arith in
     subst (λ k. Holds calls (with_route (connected k r.route).1 r)) one (by_flag (nat_lt (suc at) (last_of r.route)) refl)
   where
@@ -156,6 +155,6 @@ connects_kept laws at calls r h m there waits =
         → Holds calls (with_route (cond {A = Bool × RouteValue} flag (false, with_carried Below (suc at) (joined (suc at) (made_at (suc at) r.route))) (true, r.route)).1 r)
     by_flag true is =
         let less = ltb-true (suc at) (last_of r.route) is in
-        let behind = ends_behind laws at (client_tip r.past) r.route.hops h.made (agent_tip r.past) m there waits (omega (arith, less)) h.way in
-        joined_holds laws at calls r h m there waits behind
+        let behind = ends_behind at (client_tip r.past) r.route.hops h.made (agent_tip r.past) m there waits (omega (arith, less)) h.way in
+        joined_holds at calls r h m there waits behind
     by_flag false is = h

@@ -5,7 +5,6 @@ use Rattle.std.specs.List.{AllByRecursion, list_any}
 use Rattle.std.proofs.lemmas.Bool.{eqb-true}
 use Rattle.channel_core.specs.Beginning.{new_end}
 use Rattle.value_node.specs.Passing.{Upper}
-use Rattle.value_node.specs.RelayLaws.{AfterAllCalls, EndsAreRuns}
 use Rattle.value_node.specs.Runs.{Call, bytes_end, called, upper_by, upper_from}
 use Rattle.value_node.specs.Value.{ended, value_services}
 use Rattle.value_node.specs.ValueValue.{ValueValue}
@@ -149,7 +148,7 @@ agent_cut at x r h there live = by_made (slice_get h.made at) refl
         let least = some_within at h.made m is in
         ap agent (ne_eqb at (last_of r.route) (λ last. absurd (omega (arith, last, most, least))))
 
-module _ (runs : AfterAllCalls EndsAreRuns) (calls : List RouteCall) where
+module _ (calls : List RouteCall) where
   -- ---- A quiet call of a value-add
 
   pub quiet_holds : (call : Call) (at : ℕ) (r : RouteRun) (h : Holds calls r) (m : Made) → slice_get h.made at ≡ Some m → Adds call (run_of m)
@@ -161,11 +160,11 @@ module _ (runs : AfterAllCalls EndsAreRuns) (calls : List RouteCall) where
         adds = ap (λ vs. slice_set vs at (called call (value_of m))) h.adds
             ∙ ap (λ v. slice_set (map value_of h.made) at v) (sym (call_value call m)) ∙ set_mapped value_of at h.made next;
         way = record {
-          all = same_ends at (client_tip r.past) r.route.hops h.made (agent_tip r.past) m next there (below_same runs call m adds quiet.below) (above_same runs call m adds quiet.above) h.way.all;
-          connected = connected_set at h.made r.past.is_reached m next there (still_connected runs call m adds) h.way.connected;
+          all = same_ends at (client_tip r.past) r.route.hops h.made (agent_tip r.past) m next there (below_same call m adds quiet.below) (above_same call m adds quiet.above) h.way.all;
+          connected = connected_set at h.made r.past.is_reached m next there (still_connected call m adds) h.way.connected;
           reached = λ is. h.way.reached is ∙ ap (λ n. n + 1) (sym (set_length at h.made next));
           unreached = h.way.unreached;
-          unconnected = λ more. last_kept at h.made m next there (still_unconnected runs call m adds) (h.way.unconnected (omega (arith, more, set_length at h.made next)));
+          unconnected = λ more. last_kept at h.made m next there (still_unconnected call m adds) (h.way.unconnected (omega (arith, more, set_length at h.made next)));
         };
         unmade = λ is. ap (λ ms. slice_set ms at next) (h.unmade is);
         unjoined = h.unjoined;
@@ -187,15 +186,15 @@ module _ (runs : AfterAllCalls EndsAreRuns) (calls : List RouteCall) where
   -- above it, where it has connected
   above_ends : (m : Made) → IsSome (past_of m).connection → tip_above (with_call (bytes_end Above) m) ≡ grown losing (tip_above m)
   above_ends m some =
-      let has = has_upper runs m some in
-      above_added runs (bytes_end Above) m has.calls has.connection refl
+      let has = has_upper m some in
+      above_added (bytes_end Above) m has.calls has.connection refl
       ∙ ap (λ u. used (upper_end (has.calls ++ upper_from (bytes_end Above) (value_of m).relay u))) has.upper
       ∙ ap used (lost_end (new_end value_services None) has.calls)
       ∙ ap (grown losing) (sym (end_of_calls (past_of m) has.calls has.connection))
 
   -- below it
   below_ends : (m : Made) → end_below (past_of (with_call (bytes_end Below) m)) ≡ losing (end_below (past_of m))
-  below_ends m = below_added runs (bytes_end Below) m refl ∙ lost_end (new_end value_services None) (lower_calls (past_of m))
+  below_ends m = below_added (bytes_end Below) m refl ∙ lost_end (new_end value_services None) (lower_calls (past_of m))
 
   -- ---- A hop that is live is cut, and lost to both its ends
 
@@ -205,7 +204,7 @@ module _ (runs : AfterAllCalls EndsAreRuns) (calls : List RouteCall) where
   first_cut lower x hops (m ∷ made) agent live all =
       let v = (value_of m).relay in (
         subst (λ e. HopHolds no_hop (grown losing lower) (used e)) (sym (below_ends m)) (cut_carries x lower (used (end_below (past_of m))) all.0),
-        subst (λ t. EachCarries t hops made agent) (sym (above_same runs (bytes_end Below) m refl (idle_above v v.upper))) all.1,
+        subst (λ t. EachCarries t hops made agent) (sym (above_same (bytes_end Below) m refl (idle_above v v.upper))) all.1,
       )
   first_cut lower x [] [] agent live all = cut_carries x lower agent all
   first_cut lower x (h ∷ hops) [] agent live all = absurd (not_live x live all.0)
@@ -221,7 +220,7 @@ module _ (runs : AfterAllCalls EndsAreRuns) (calls : List RouteCall) where
       let is_m : m ≡ y = cc in
       let is_hop : g ≡ x = cc in
       let connected = subst (λ z. IsSome (past_of z).connection) is_m some in (
-        subst (λ e. HopHolds h lower (used e)) (sym (below_same runs (bytes_end Above) y refl tt)) all.0,
+        subst (λ e. HopHolds h lower (used e)) (sym (below_same (bytes_end Above) y refl tt)) all.0,
         subst (λ t. EachCarries t (no_hop ∷ hops) (ends_at Below zero made) (cut_above (slice_get made zero) agent)) (sym (above_ends y connected))
             (first_cut (tip_above y) g hops made agent (ap (λ z. z.is_live) is_hop ∙ live) all.1),
       )
@@ -252,8 +251,8 @@ module _ (runs : AfterAllCalls EndsAreRuns) (calls : List RouteCall) where
           let next = with_call (bytes_end side) m in
           subst (Keeps is_reached made) (sym (one_ends side at made m is)) (record {
             size = set_length at made next;
-            connected = connected_set at made is_reached m next is (still_connected runs (bytes_end side) m refl);
-            unconnected = last_kept at made m next is (still_unconnected runs (bytes_end side) m refl);
+            connected = connected_set at made is_reached m next is (still_connected (bytes_end side) m refl);
+            unconnected = last_kept at made m next is (still_unconnected (bytes_end side) m refl);
             losses = losses_set calls at made m next is (loses m);
           })
 

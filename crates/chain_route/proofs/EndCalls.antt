@@ -17,12 +17,8 @@ use Rattle.list_laws.proofs.Flags.{or_false, or_true}
 abbrev pub IsIdle : {T : Type 0} → Call T → Type 0
 IsIdle (delivering piece mark) = ⊥
 IsIdle ending = ⊥
-IsIdle taking = Unit {0}
-IsIdle (commanding service name body tag mark) = Unit {0}
-IsIdle (sending message mark) = Unit {0}
 IsIdle putting_out = ⊥
-IsIdle closing = Unit {0}
-IsIdle draining = Unit {0}
+IsIdle _ = Unit {0}
 
 abbrev pub AreIdle : {T : Type 0} → List (Call T) → Type 0
 AreIdle calls = AllByRecursion IsIdle calls

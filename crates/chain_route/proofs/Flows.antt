@@ -1,6 +1,6 @@
 -- What happens on a hop: it carries on.
 use Rattle.std.proofs.Common.{◌≡◌, ℕ, Bool, true, false, cond, List, [], ◌++◌, refl, sym, ap, ◌∙◌, subst, append_assoc, append-nil}
-use Rattle.channel_core.specs.Arrivals.{IsFront, Marked, bytes_of}
+use Rattle.channel_core.specs.Arrivals.{Marked, bytes_of}
 use Rattle.channel_core.specs.declared.held.Outgoing.{Outgoing}
 use Rattle.value_node.specs.declared.states.Side.{Side}
 use Rattle.value_node.specs.declared.states.Side.TheVariants.{Below, Above}
@@ -8,8 +8,10 @@ use Rattle.chain_route.specs.Carrying.{End, IsDead}
 use Rattle.chain_route.specs.Hop.{arrived_at, connected, lane_to, no_hop, sent_down, sent_from, sent_up}
 use Rattle.chain_route.specs.Lane.{arriving, staying}
 use Rattle.chain_route.specs.declared.hop.Hop.{Hop}
-use Rattle.chain_route.proofs.Bytes.{arrives_first, bytes_more, front_more, front_same}
+use Rattle.chain_route.proofs.Bytes.{arrives_first, bytes_more}
 use Rattle.list_laws.proofs.Flags.{not_both}
+use Rattle.list_laws.specs.Fronts.{IsFront}
+use Rattle.list_laws.proofs.Fronts.{front_more, front_same}
 
 abbrev pub fresh_end : End
 fresh_end = record { gave = []; came = []; is_lost = false }

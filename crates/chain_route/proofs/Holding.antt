@@ -3,7 +3,6 @@
 use Rattle.std.proofs.Common.{◌≡◌, ◌<◌, ℕ, Bool, true, false, List, [], length, map, Option, Some, None, refl, sym, ap, ◌∙◌, subst, arith}
 use Rattle.std.specs.Prelude.{slice_get, slice_set}
 use Rattle.std.specs.List.{AllByRecursion}
-use Rattle.value_node.specs.RelayLaws.{AfterAllCalls, EndsAreRuns}
 use Rattle.value_node.specs.ValueValue.{ValueValue}
 use Rattle.value_node.specs.declared.states.Side.{Side}
 use Rattle.chain_route.specs.Carrying.{AllLoseByCuts, IsGoneBy, IsUnused, LosesByCut, Made, end_of, value_of}
@@ -111,5 +110,5 @@ module _ (side : Side) (at : ℕ) (change : Pair → Pair) (calls : List Call) w
 
 -- ---- Bytes arrive at a value-add
 
-pub delivers_holds : AfterAllCalls EndsAreRuns → (side : Side) (at count : ℕ) (calls : List Call) (r : RouteRun) → Holds calls r → Holds calls (with_route (delivered_at side at count r.route) r)
-delivers_holds runs side at count calls r h = on_pair_holds side at (delivered side count) calls r (λ m hop has_end. delivered_step runs side count m hop has_end) h
+pub delivers_holds : (side : Side) (at count : ℕ) (calls : List Call) (r : RouteRun) → Holds calls r → Holds calls (with_route (delivered_at side at count r.route) r)
+delivers_holds side at count calls r h = on_pair_holds side at (delivered side count) calls r (λ m hop has_end. delivered_step side count m hop has_end) h

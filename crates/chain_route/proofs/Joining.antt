@@ -1,7 +1,6 @@
 -- The client connects, and the agent is reached: a way carries on.
 use Rattle.std.proofs.Common.{◌≡◌, ℕ, ◌-◌, ◌<◌, nat_lt, Bool, true, false, cond, List, [], ◌∷◌, length, refl, sym, ap, ◌∙◌, subst, arith, ltb-true}
 use Rattle.std.specs.List.{AllByRecursion}
-use Rattle.value_node.specs.RelayLaws.{AfterAllCalls, EndsAreRuns}
 use Rattle.value_node.specs.ValueValue.{ValueValue}
 use Rattle.value_node.specs.declared.states.Side.{Side}
 use Rattle.value_node.specs.declared.states.Side.TheVariants.{Below}
@@ -18,8 +17,8 @@ use Rattle.chain_route.proofs.Flows.{HopHolds, begun_carries, fresh_end, used}
 use Rattle.chain_route.proofs.Holding.{Holds, agent_tip, client_tip, on_pair_holds, unreached_agent, with_route}
 use Rattle.chain_route.proofs.Stepping.{carried_step}
 
-pub carried_holds : AfterAllCalls EndsAreRuns → (side : Side) (at : ℕ) (calls : List Call) (r : RouteRun) → Holds calls r → Holds calls (with_route (with_carried side at r.route) r)
-carried_holds runs side at calls r h = on_pair_holds side at (carried side) calls r (λ m hop has_end. carried_step runs side m hop) h
+pub carried_holds : (side : Side) (at : ℕ) (calls : List Call) (r : RouteRun) → Holds calls r → Holds calls (with_route (with_carried side at r.route) r)
+carried_holds side at calls r h = on_pair_holds side at (carried side) calls r (λ m hop has_end. carried_step side m hop) h
 
 -- ---- The client connects
 
@@ -83,12 +82,12 @@ first_made calls (x ∷ g ∷ hops) adds p none unwanted more h =
     both : {b : Bool} → b ≡ true → b ≡ false → ⊥
     both is isnt = let no : true ≡ false = sym is ∙ isnt in cc
 
-pub joins_kept : AfterAllCalls EndsAreRuns → (calls : List Call) (r : RouteRun) → r.past.is_joined ≡ false → r.past.is_wanted ≡ false → Holds calls r → Holds calls (joined_by (connected 0 r.route) r.past)
-joins_kept runs calls r none unwanted h = by_flag (nat_lt 0 (last_of r.route)) refl
+pub joins_kept : (calls : List Call) (r : RouteRun) → r.past.is_joined ≡ false → r.past.is_wanted ≡ false → Holds calls r → Holds calls (joined_by (connected 0 r.route) r.past)
+joins_kept calls r none unwanted h = by_flag (nat_lt 0 (last_of r.route)) refl
   where
     r1 : RouteRun
     r1 = record { route = joined 0 (made_at 0 r.route); past = joins_now r.past }
 
     by_flag : (flag : Bool) → nat_lt 0 (last_of r.route) ≡ flag → Holds calls (joined_by (cond flag (false, with_carried Below 0 (joined 0 (made_at 0 r.route))) (true, r.route)) r.past)
-    by_flag true is = carried_holds runs Below 0 calls r1 (first_made calls r.route.hops r.route.adds r.past none unwanted (ltb-true 0 (last_of r.route) is) h)
+    by_flag true is = carried_holds Below 0 calls r1 (first_made calls r.route.hops r.route.adds r.past none unwanted (ltb-true 0 (last_of r.route) is) h)
     by_flag false is = wanted_holds calls r none h

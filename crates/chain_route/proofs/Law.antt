@@ -3,7 +3,6 @@ use Rattle.std.proofs.Common.{◌≡◌, ℕ, zero, suc, ◌||◌, Bool, true, f
 use Rattle.std.specs.List.{AllByRecursion, list_any}
 use Rattle.std.proofs.lemmas.Bool.{or_left, or_right}
 use Rattle.channel_core.specs.declared.held.Outgoing.{Outgoing}
-use Rattle.value_node.specs.RelayLaws.{AfterAllCalls, EndsAreRuns}
 use Rattle.value_node.specs.declared.states.Side.{Side}
 use Rattle.chain_route.specs.Carrying.{Carries, CarriesAfterAllCalls, IsDead, is_cut_of}
 use Rattle.chain_route.specs.Hop.{no_hop}
@@ -18,7 +17,6 @@ use Rattle.chain_route.proofs.Holding.{Holds, delivers_holds}
 use Rattle.chain_route.proofs.Joining.{joins_kept}
 use Rattle.chain_route.proofs.Reached.{reaches_kept}
 use Rattle.chain_route.proofs.Turned.{turns_kept}
-use Rattle.chain_route.proofs.Unheard.{Laws}
 use Rattle.chain_route.proofs.Ways.{LastDead}
 
 -- ---- A new way
@@ -61,27 +59,24 @@ new_settled adds = record { fits = omega arith; each = λ i v there. absurd cc }
 
 -- ---- Each call of them
 
-module _ (laws : Laws) (calls : List Call) where
-  runs : AfterAllCalls EndsAreRuns
-  runs = laws.runs
-
+module _ (calls : List Call) where
   joins_holds : (r : RouteRun) → Holds calls r → Holds calls (after_call joins r)
   joins_holds r h = by_flags r.past.is_wanted r.past.is_joined refl refl
     where
       by_flags : (wanted joined : Bool) → r.past.is_wanted ≡ wanted → r.past.is_joined ≡ joined → Holds calls (cond (wanted || joined) r (joined_by (connected 0 r.route) r.past))
       by_flags true joined is also = h
       by_flags false true is also = h
-      by_flags false false is also = joins_kept runs calls r also is h
+      by_flags false false is also = joins_kept calls r also is h
 
   reaches_holds : (did : Bool) (r : RouteRun) → Holds calls r → Holds calls (after_call (reaches did) r)
   reaches_holds did r h = by_flag (is_waiting r) refl
     where
       by_flag : (flag : Bool) → is_waiting r ≡ flag → Holds calls (cond flag (record { route = reached did r.route; past = reached_past did r.past }) r)
-      by_flag true is = reaches_kept laws did calls r is h
+      by_flag true is = reaches_kept did calls r is h
       by_flag false is = h
 
   turns_holds : (side : Side) (at : ℕ) (r : RouteRun) → Holds calls r → Holds calls (after_call (turns side at) r)
-  turns_holds side at r h = turns_kept laws side at calls r h
+  turns_holds side at r h = turns_kept side at calls r h
 
   sends_up_kept : (outs : List Outgoing) (r : RouteRun) → Holds calls r → Holds calls (after_call (sends_up outs) r)
   sends_up_kept outs r h = by_flag r.past.is_joined refl
@@ -104,9 +99,9 @@ module _ (laws : Laws) (calls : List Call) where
   call_holds (sends_down outs) r among h = sends_down_kept outs r h
   call_holds (arrives_up count) r among h = arrives_up_holds count calls r.route.hops r.route.adds r.past h
   call_holds (arrives_down count) r among h = arrives_down_holds count calls r.route.hops r.route.adds r.past h
-  call_holds (delivers side at count) r among h = delivers_holds runs side at count calls r h
+  call_holds (delivers side at count) r among h = delivers_holds side at count calls r h
   call_holds (turns side at) r among h = turns_holds side at r h
-  call_holds (cuts hop) r among h = cuts_holds runs calls hop r (among hop (eq-eqb hop hop refl)) h
+  call_holds (cuts hop) r among h = cuts_holds calls hop r (among hop (eq-eqb hop hop refl)) h
 
   -- it holds, and nothing is left queued
   record Stands (r : RouteRun) : Type 0 where
@@ -119,7 +114,7 @@ module _ (laws : Laws) (calls : List Call) where
       all_hold rest (after_call call r) (λ hop is. among hop (or_right (is_cut_of hop call) (list_any (is_cut_of hop) rest) is))
       (record {
         holds = call_holds call r (λ hop is. among hop (or_left (is_cut_of hop call) (list_any (is_cut_of hop) rest) is)) s.holds;
-        settled = call_settled laws r s.holds s.settled call;
+        settled = call_settled r s.holds s.settled call;
       })
 
   carries_after : (adds : ℕ) → Carries calls (after_all calls (no_calls adds))
@@ -127,5 +122,5 @@ module _ (laws : Laws) (calls : List Call) where
       let s = all_hold calls (no_calls adds) (λ hop is. is) (record { holds = new_holds calls adds; settled = new_settled adds }) in
       carries_of calls (after_all calls (no_calls adds)) s.holds s.settled
 
-pub carries_after_all : Laws → CarriesAfterAllCalls
-carries_after_all laws adds calls = carries_after laws calls adds
+pub carries_after_all : CarriesAfterAllCalls
+carries_after_all adds calls = carries_after calls adds

@@ -35,3 +35,4 @@ pub mod Connecting
 pub mod Reached
 pub mod Turned
 pub mod Law
+pub mod TheLaws

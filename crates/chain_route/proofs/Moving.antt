@@ -4,7 +4,6 @@ use Rattle.std.specs.Prelude.{IsSome, option_map, slice_get}
 use Rattle.channel_core.specs.Beginning.{new_end}
 use Rattle.channel_core.specs.declared.held.Outgoing.{Outgoing}
 use Rattle.value_node.specs.Passing.{Upper}
-use Rattle.value_node.specs.RelayLaws.{AfterAllCalls, EndsAreRuns}
 use Rattle.value_node.specs.Runs.{Call, UpperCall, below, called, comes, gives, upper_after, upper_from}
 use Rattle.value_node.specs.Value.{given, value_services}
 use Rattle.value_node.specs.ValueValue.{ValueValue}
@@ -106,57 +105,56 @@ pub record HasUpper (m : Made) : Type 0 where
   pub connection : (past_of m).connection ≡ Some calls
   pub upper : (value_of m).relay.upper ≡ Some (upper_after calls).end
 
-module _ (runs : AfterAllCalls EndsAreRuns) where
-  pub has_upper : (m : Made) → IsSome (past_of m).connection → HasUpper m
-  has_upper m is = by_connection (past_of m).connection refl is
-    where
-      by_connection : (connection : Option (List UpperCall)) → (past_of m).connection ≡ connection → IsSome connection → HasUpper m
-      by_connection None has is = absurd cc
-      by_connection (Some calls) has is = record {
-        calls = calls;
-        connection = has;
-        upper = (facts_of runs m).upper ∙ ap (option_map (λ xs. (upper_after xs).end)) has;
-      }
+pub has_upper : (m : Made) → IsSome (past_of m).connection → HasUpper m
+has_upper m is = by_connection (past_of m).connection refl is
+  where
+    by_connection : (connection : Option (List UpperCall)) → (past_of m).connection ≡ connection → IsSome connection → HasUpper m
+    by_connection None has is = absurd cc
+    by_connection (Some calls) has is = record {
+      calls = calls;
+      connection = has;
+      upper = (facts_of m).upper ∙ ap (option_map (λ xs. (upper_after xs).end)) has;
+    }
 
-  queue_has_upper : (m : Made) (out : Outgoing) (rest : List Outgoing) → queue_of (value_of m).relay.upper ≡ out ∷ rest → HasUpper m
-  queue_has_upper m out rest is = by_connection (past_of m).connection refl
-    where
-      by_connection : (connection : Option (List UpperCall)) → (past_of m).connection ≡ connection → HasUpper m
-      by_connection None has =
-          let none : (value_of m).relay.upper ≡ None = (facts_of runs m).upper ∙ ap (option_map (λ xs. (upper_after xs).end)) has in
-          let empty : [] ≡ out ∷ rest = sym (ap queue_of none) ∙ is in absurd cc
-      by_connection (Some calls) has = has_upper m (subst IsSome (sym has) refl)
+queue_has_upper : (m : Made) (out : Outgoing) (rest : List Outgoing) → queue_of (value_of m).relay.upper ≡ out ∷ rest → HasUpper m
+queue_has_upper m out rest is = by_connection (past_of m).connection refl
+  where
+    by_connection : (connection : Option (List UpperCall)) → (past_of m).connection ≡ connection → HasUpper m
+    by_connection None has =
+        let none : (value_of m).relay.upper ≡ None = (facts_of m).upper ∙ ap (option_map (λ xs. (upper_after xs).end)) has in
+        let empty : [] ≡ out ∷ rest = sym (ap queue_of none) ∙ is in absurd cc
+    by_connection (Some calls) has = has_upper m (subst IsSome (sym has) refl)
 
-  -- ---- A message goes out
+-- ---- A message goes out
 
-  pub gives_moves : (side : Side) (m : Made) (hop : Hop) (out : Outgoing) (rest : List Outgoing) → queued_at side (value_of m) ≡ out ∷ rest
-      → Moves side m (with_call (gives side) m) hop (sent_from side (out ∷ []) hop)
-  gives_moves Below m hop out rest is =
-      let next = with_call (gives Below) m in
-      let v = (value_of m).relay in
-      let queue : (below (past_of m)).end.queued ≡ out ∷ rest = sym (ap (λ e. e.queued) (facts_of runs m).lower) ∙ fresh_queue Below (value_of m) (facts_of runs m).unspent ∙ is in
-      let more : end_at Below next ≡ grown (gave_more (out ∷ [])) (end_at Below m) =
-      ap used (below_added runs (gives Below) m refl ∙ put_end (new_end value_services None) (lower_calls (past_of m)) out rest queue) in
-      record {
-        moved = moved_by Below m next hop (sent_from Below (out ∷ []) hop) (gave_more (out ∷ [])) more (side_given Below (out ∷ []) hop) (dead_given Below (out ∷ []) hop);
-        rests = above_same runs (gives Below) m refl (give_below v v.upper);
-        connected = still_connected runs (gives Below) m refl;
-        unconnected = still_unconnected runs (gives Below) m refl;
-      }
-  gives_moves Above m hop out rest is =
-      let next = with_call (gives Above) m in
-      let v = (value_of m).relay in
-      let on : queue_of v.upper ≡ out ∷ rest = fresh_queue Above (value_of m) (facts_of runs m).unspent ∙ is in
-      let has = queue_has_upper m out rest on in
-      let queue : (upper_after has.calls).end.queued ≡ out ∷ rest = sym (ap queue_of has.upper) ∙ on in
-      let more : end_at Above next ≡ grown (gave_more (out ∷ [])) (end_at Above m) =
-      above_added runs (gives Above) m has.calls has.connection refl
-      ∙ ap (λ u. used (upper_end (has.calls ++ upper_from (gives Above) v u))) has.upper
-      ∙ ap used (put_end (new_end value_services None) has.calls out rest queue)
-      ∙ ap (grown (gave_more (out ∷ []))) (sym (end_of_calls (past_of m) has.calls has.connection)) in
-      record {
-        moved = moved_by Above m next hop (sent_from Above (out ∷ []) hop) (gave_more (out ∷ [])) more (side_given Above (out ∷ []) hop) (dead_given Above (out ∷ []) hop);
-        rests = below_same runs (gives Above) m refl tt;
-        connected = still_connected runs (gives Above) m refl;
-        unconnected = still_unconnected runs (gives Above) m refl;
-      }
+pub gives_moves : (side : Side) (m : Made) (hop : Hop) (out : Outgoing) (rest : List Outgoing) → queued_at side (value_of m) ≡ out ∷ rest
+    → Moves side m (with_call (gives side) m) hop (sent_from side (out ∷ []) hop)
+gives_moves Below m hop out rest is =
+    let next = with_call (gives Below) m in
+    let v = (value_of m).relay in
+    let queue : (below (past_of m)).end.queued ≡ out ∷ rest = sym (ap (λ e. e.queued) (facts_of m).lower) ∙ fresh_queue Below (value_of m) (facts_of m).unspent ∙ is in
+    let more : end_at Below next ≡ grown (gave_more (out ∷ [])) (end_at Below m) =
+    ap used (below_added (gives Below) m refl ∙ put_end (new_end value_services None) (lower_calls (past_of m)) out rest queue) in
+    record {
+      moved = moved_by Below m next hop (sent_from Below (out ∷ []) hop) (gave_more (out ∷ [])) more (side_given Below (out ∷ []) hop) (dead_given Below (out ∷ []) hop);
+      rests = above_same (gives Below) m refl (give_below v v.upper);
+      connected = still_connected (gives Below) m refl;
+      unconnected = still_unconnected (gives Below) m refl;
+    }
+gives_moves Above m hop out rest is =
+    let next = with_call (gives Above) m in
+    let v = (value_of m).relay in
+    let on : queue_of v.upper ≡ out ∷ rest = fresh_queue Above (value_of m) (facts_of m).unspent ∙ is in
+    let has = queue_has_upper m out rest on in
+    let queue : (upper_after has.calls).end.queued ≡ out ∷ rest = sym (ap queue_of has.upper) ∙ on in
+    let more : end_at Above next ≡ grown (gave_more (out ∷ [])) (end_at Above m) =
+    above_added (gives Above) m has.calls has.connection refl
+    ∙ ap (λ u. used (upper_end (has.calls ++ upper_from (gives Above) v u))) has.upper
+    ∙ ap used (put_end (new_end value_services None) has.calls out rest queue)
+    ∙ ap (grown (gave_more (out ∷ []))) (sym (end_of_calls (past_of m) has.calls has.connection)) in
+    record {
+      moved = moved_by Above m next hop (sent_from Above (out ∷ []) hop) (gave_more (out ∷ [])) more (side_given Above (out ∷ []) hop) (dead_given Above (out ∷ []) hop);
+      rests = below_same (gives Above) m refl tt;
+      connected = still_connected (gives Above) m refl;
+      unconnected = still_unconnected (gives Above) m refl;
+    }

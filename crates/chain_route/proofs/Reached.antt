@@ -3,7 +3,7 @@ use Rattle.std.proofs.Common.{◌≡◌, ℕ, zero, suc, ◌+◌, ◌-◌, ◌==
 use Rattle.std.specs.Prelude.{IsSome, slice_get, slice_set}
 use Rattle.std.specs.List.{AllByRecursion}
 use Rattle.channel_core.specs.Wire.{end_of_stream}
-use Rattle.channel_core.specs.Arrivals.{IsFront, bytes_of}
+use Rattle.channel_core.specs.Arrivals.{bytes_of}
 use Rattle.value_node.specs.Runs.{called, connects}
 use Rattle.value_node.specs.ValueValue.{ValueValue}
 use Rattle.value_node.specs.declared.states.Side.TheVariants.{Above}
@@ -25,10 +25,10 @@ use Rattle.chain_route.proofs.Joining.{carried_holds}
 use Rattle.chain_route.proofs.Losses.{loses_same, losses_set, lost_same}
 use Rattle.chain_route.proofs.Moving.{call_value}
 use Rattle.chain_route.proofs.Reaching.{Awaits, above_anew, anew, below_anew, connected_anew, gone_by, opened_carries, reached_all, waits_in}
-use Rattle.chain_route.proofs.Unheard.{Laws}
 use Rattle.chain_route.proofs.Ways.{made_size, set_mapped}
 use Rattle.list_laws.proofs.AllLists.{all_append}
 use Rattle.list_laws.proofs.Lists.{get_within as some_within, get_set, set_length}
+use Rattle.list_laws.specs.Fronts.{IsFront}
 
 -- ---- Straight from the client: nothing was said on the hop, and the agent wasn't reached
 
@@ -78,9 +78,9 @@ all_connected (suc zero) (x ∷ y ∷ made) is_reached m next there size some ha
 all_connected (suc (suc at)) (x ∷ y ∷ made) is_reached m next there size some have = (have.0, all_connected (suc at) (y ∷ made) is_reached m next there (omega (arith, size)) some have.1)
 
 -- what came to the channel that it takes the place of was given by an end that took no Hello
-earlier_gone : Laws → (calls : List Call) (r : RouteRun) (h : Holds calls r) (at : ℕ) (m : Made) → slice_get h.made at ≡ Some m → length r.route.hops ≡ at + 2 → Awaits m
+earlier_gone : (calls : List Call) (r : RouteRun) (h : Holds calls r) (at : ℕ) (m : Made) → slice_get h.made at ≡ Some m → length r.route.hops ≡ at + 2 → Awaits m
     → AllByRecursion IsGoneBy (earlier_of r.past)
-earlier_gone laws calls r h at m there size waits = by_flag r.past.is_reached refl
+earlier_gone calls r h at m there size waits = by_flag r.past.is_reached refl
   where
     last_connected : (i : ℕ) (made : List Made) → slice_get made i ≡ Some m → length made ≡ i + 1 → HaveConnected made true → IsSome (past_of m).connection
     last_connected i [] is few have = absurd cc
@@ -112,11 +112,11 @@ earlier_gone laws calls r h at m there size waits = by_flag r.past.is_reached re
     by_flag true is =
         let some = last_connected at h.made there count (subst (λ b. HaveConnected h.made b) is h.way.connected) in
         let front = last_front at (client_tip r.past) r.route.hops h.made there size h.way.all in
-        all_append IsGoneBy r.past.earlier (r.past.agent.got ∷ []) h.earlier (gone_by laws.runs laws.once m waits some r.past.agent.got front, tt)
+        all_append IsGoneBy r.past.earlier (r.past.agent.got ∷ []) h.earlier (gone_by m waits some r.past.agent.got front, tt)
     by_flag false is = h.earlier
 
 -- the upper end of it begins anew, and its Hello goes up; behind that the end of the stream comes down where the agent refused
-module _ (laws : Laws) (calls : List Call) (r : RouteRun) (h : Holds calls r) (at : ℕ) (m : Made) (there : slice_get h.made at ≡ Some m) (size : length r.route.hops ≡ at + 2) (waits : Awaits m) where
+module _ (calls : List Call) (r : RouteRun) (h : Holds calls r) (at : ℕ) (m : Made) (there : slice_get h.made at ≡ Some m) (size : length r.route.hops ≡ at + 2) (waits : Awaits m) where
   abbrev begun : RouteValue
   begun = begun_at at (value_of m) r.route
 
@@ -163,7 +163,7 @@ module _ (laws : Laws) (calls : List Call) (r : RouteRun) (h : Holds calls r) (a
     wanted = λ is. absurd cc;
     unstarted = λ is. absurd cc;
     started = λ is more. omega (arith, made_count);
-    earlier = earlier_gone laws calls r h at m there size waits;
+    earlier = earlier_gone calls r h at m there size waits;
     losses = losses_set calls at h.made m (anew m) there (loses_same calls at m (anew m) (lost_same connects m refl)) h.losses;
   }
     where
@@ -177,7 +177,7 @@ module _ (laws : Laws) (calls : List Call) (r : RouteRun) (h : Holds calls r) (a
   carried_up = with_carried Above at begun
 
   up_holds : Holds calls (record { route = carried_up; past = p })
-  up_holds = carried_holds laws.runs Above at calls (record { route = begun; past = p }) begun_holds
+  up_holds = carried_holds Above at calls (record { route = begun; past = p }) begun_holds
 
   joined_is : joined (last_of r.route) r.route ≡ carried_up
   joined_is =
@@ -228,12 +228,12 @@ module _ (laws : Laws) (calls : List Call) (r : RouteRun) (h : Holds calls r) (a
 
 -- ---- Both
 
-reaches_by : Laws → (did : Bool) (calls : List Call) (hops : List Hop) (adds : List ValueValue) (p : Past) → is_waiting (record { route = record { hops = hops; adds = adds }; past = p }) ≡ true
+reaches_by : (did : Bool) (calls : List Call) (hops : List Hop) (adds : List ValueValue) (p : Past) → is_waiting (record { route = record { hops = hops; adds = adds }; past = p }) ≡ true
     → Holds calls (record { route = record { hops = hops; adds = adds }; past = p })
     → Holds calls (record { route = reached did (record { hops = hops; adds = adds }); past = reached_past did p })
-reaches_by laws did calls [] adds p waiting h = absurd h.way.all
-reaches_by laws did calls (x ∷ []) adds p waiting h = wanted_reached calls did x adds p waiting h
-reaches_by laws did calls (x ∷ g ∷ hops) adds p waiting h =
+reaches_by did calls [] adds p waiting h = absurd h.way.all
+reaches_by did calls (x ∷ []) adds p waiting h = wanted_reached calls did x adds p waiting h
+reaches_by did calls (x ∷ g ∷ hops) adds p waiting h =
     let at = length hops in
     let r : RouteRun = record { route = record { hops = x ∷ g ∷ hops; adds = adds }; past = p } in
     let last : last_of r.route ≡ suc at = omega arith in
@@ -243,7 +243,7 @@ reaches_by laws did calls (x ∷ g ∷ hops) adds p waiting h =
     ap (λ n. awaits_of (slice_get adds n)) (sym less)
     ∙ sym (ap (λ b. cond b p.is_wanted (awaits_of (slice_get adds (last_of r.route - 1)))) some) ∙ waiting in
     let w = waits_in at h.made (sym (ap (λ vs. awaits_of (slice_get vs at)) h.adds) ∙ waits) in
-    last_reached laws calls r h at w.m w.there (omega arith) w.waits did
+    last_reached calls r h at w.m w.there (omega arith) w.waits did
 
-pub reaches_kept : Laws → (did : Bool) (calls : List Call) (r : RouteRun) → is_waiting r ≡ true → Holds calls r → Holds calls (record { route = reached did r.route; past = reached_past did r.past })
-reaches_kept laws did calls r waiting h = reaches_by laws did calls r.route.hops r.route.adds r.past waiting h
+pub reaches_kept : (did : Bool) (calls : List Call) (r : RouteRun) → is_waiting r ≡ true → Holds calls r → Holds calls (record { route = reached did r.route; past = reached_past did r.past })
+reaches_kept did calls r waiting h = reaches_by did calls r.route.hops r.route.adds r.past waiting h

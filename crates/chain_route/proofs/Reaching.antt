@@ -2,13 +2,11 @@
 use Rattle.std.proofs.Common.{◌≡◌, ℕ, zero, suc, ◌+◌, Bool, true, false, cond, List, [], ◌∷◌, ◌++◌, length, map, take, Option, Some, None, refl, sym, ap, ◌∙◌, subst, arith}
 use Rattle.std.specs.Prelude.{IfSome, IsSome, option_to_list, slice_get, slice_set, unwrap_or}
 use Rattle.std.specs.List.{AllByRecursion, list_any}
-use Rattle.channel_core.specs.Arrivals.{IsFront, bytes_of}
+use Rattle.channel_core.specs.Arrivals.{bytes_of}
 use Rattle.channel_core.specs.Greeting.{is_greeting}
 use Rattle.channel_core.specs.ReceivingLaws.{SendsReadable}
-use Rattle.channel_core.specs.RunLaws.{AfterAllCalls as AfterEndCalls, EndsOnce}
 use Rattle.channel_core.specs.declared.held.Outgoing.{Outgoing}
-use Rattle.value_node.specs.ForwardedValue.{ForwardedValue}
-use Rattle.value_node.specs.RelayLaws.{AfterAllCalls, EndsAreRuns, IsGivenUp, StandsWell}
+use Rattle.value_node.specs.RelayLaws.{IsGivenUp, StandsWell}
 use Rattle.value_node.specs.Runs.{Past, UpperCall, above, connects, reconnected, upper_after}
 use Rattle.value_node.specs.Value.{awaits, is_free, is_opening}
 use Rattle.value_node.specs.declared.relay.Relay.{Relay}
@@ -24,6 +22,7 @@ use Rattle.chain_route.proofs.Anew.{AreDeadBehind, dead_above, fresh_made}
 use Rattle.chain_route.proofs.Flows.{HopHolds, Tip, begun_carries, fresh_end, unused_tip, used}
 use Rattle.chain_route.proofs.Unsent.{unsent_above}
 use Rattle.list_laws.proofs.Flags.{and_parts as both_true}
+use Rattle.list_laws.specs.Fronts.{IsFront}
 
 -- ---- The value-add connects: below nothing changes, and above it begins anew
 
@@ -65,36 +64,35 @@ unbound_by Opening v p is stands = stands.2
 unbound_by Bound v p is stands = absurd cc
 unbound_by Closed v p is stands = absurd cc
 
-module _ (runs : AfterAllCalls EndsAreRuns) where
-  pub waits_unheard : (m : Made) → Awaits m → list_any is_greeting (above (past_of m)).past.taken ≡ false
-  waits_unheard m waits =
-      let facts = facts_of runs m in
-      let v = (value_of m).relay in
-      let opening = (both_true (is_opening v.bind) (is_free v.upper) waits).0 in
-      facts.heard ∙ unbound_by v.bind v (past_of m) opening facts.stands
+pub waits_unheard : (m : Made) → Awaits m → list_any is_greeting (above (past_of m)).past.taken ≡ false
+waits_unheard m waits =
+    let facts = facts_of m in
+    let v = (value_of m).relay in
+    let opening = (both_true (is_opening v.bind) (is_free v.upper) waits).0 in
+    facts.heard ∙ unbound_by v.bind v (past_of m) opening facts.stands
 
-  -- ---- What came to a channel of the agent that is given up
+-- ---- What came to a channel of the agent that is given up
 
-  last_of_all : {A : Type 0} → (P : A → Type 0) (xs : List A) (x : A) → AllByRecursion P (xs ++ x ∷ []) → P x
-  last_of_all P [] x all = all.0
-  last_of_all P (y ∷ xs) x all = last_of_all P xs x all.1
+last_of_all : {A : Type 0} → (P : A → Type 0) (xs : List A) (x : A) → AllByRecursion P (xs ++ x ∷ []) → P x
+last_of_all P [] x all = all.0
+last_of_all P (y ∷ xs) x all = last_of_all P xs x all.1
 
-  pub gone_by : AfterEndCalls {T = ForwardedValue} EndsOnce → (m : Made) → Awaits m → IsSome (past_of m).connection → (got : List Outgoing) → IsFront (bytes_of got) (bytes_of (end_above (past_of m)).gave) → IsGoneBy got
-  gone_by once m waits some got front = by_connection (past_of m).connection refl some
-    where
-      by_connection : (connection : Option (List UpperCall)) → (past_of m).connection ≡ connection → IsSome connection → IsGoneBy got
-      by_connection None is none = absurd cc
-      by_connection (Some calls) is none =
-          let earlier : (past_of (anew m)).earlier ≡ (past_of m).earlier ++ calls ∷ [] =
-          ap (λ p. p.earlier) (past_anew m waits) ∙ ap (λ c. (past_of m).earlier ++ option_to_list c) is in
-          let gone : IsGivenUp calls = last_of_all IsGivenUp (past_of m).earlier calls (subst (AllByRecursion IsGivenUp) earlier (facts_of runs (anew m)).earlier) in
-          record {
-            calls = calls;
-            gone = gone;
-            silent = unsent_above once runs m.peer m.calls calls is gone.unheard;
-            readable = subst (λ c. IfSome c SendsReadable) is (facts_of runs m).above_readable;
-            front = subst (λ c. IsFront (bytes_of got) (bytes_of (upper_after (unwrap_or c [])).past.given)) is front;
-          }
+pub gone_by : (m : Made) → Awaits m → IsSome (past_of m).connection → (got : List Outgoing) → IsFront (bytes_of got) (bytes_of (end_above (past_of m)).gave) → IsGoneBy got
+gone_by m waits some got front = by_connection (past_of m).connection refl some
+  where
+    by_connection : (connection : Option (List UpperCall)) → (past_of m).connection ≡ connection → IsSome connection → IsGoneBy got
+    by_connection None is none = absurd cc
+    by_connection (Some calls) is none =
+        let earlier : (past_of (anew m)).earlier ≡ (past_of m).earlier ++ calls ∷ [] =
+        ap (λ p. p.earlier) (past_anew m waits) ∙ ap (λ c. (past_of m).earlier ++ option_to_list c) is in
+        let gone : IsGivenUp calls = last_of_all IsGivenUp (past_of m).earlier calls (subst (AllByRecursion IsGivenUp) earlier (facts_of (anew m)).earlier) in
+        record {
+          calls = calls;
+          gone = gone;
+          silent = unsent_above m.peer m.calls calls is gone.unheard;
+          readable = subst (λ c. IfSome c SendsReadable) is (facts_of m).above_readable;
+          front = subst (λ c. IsFront (bytes_of got) (bytes_of (upper_after (unwrap_or c [])).past.given)) is front;
+        }
 
 -- ---- The agent is reached by the last value-add
 

@@ -9,7 +9,7 @@ use Rattle.tcf_message.specs.declared.message.MessageFault.{MessageFault}
 use Rattle.value_node.specs.ForwardedValue.{ForwardedValue}
 use Rattle.value_node.specs.Own.{own_reply}
 use Rattle.value_node.specs.Passing.{Lower, Upper}
-use Rattle.value_node.specs.RelayLaws.{AfterAllCalls, EndsAreRuns, StandsWell}
+use Rattle.value_node.specs.RelayLaws.{StandsWell}
 use Rattle.value_node.specs.Runs as value
 use Rattle.value_node.specs.Runs.{Past}
 use Rattle.value_node.specs.Value.{answered, asked, asked_in, awaits, is_free, is_opening, takes_above, takes_below, took_any_above, took_any_below, turned as value_turned, turned_above, turned_below, turned_on, with_lower, with_upper}
@@ -38,7 +38,6 @@ use Rattle.chain_route.proofs.Joining.{carried_holds}
 use Rattle.chain_route.proofs.Losses.{loses_same, lost_same}
 use Rattle.chain_route.proofs.Reaching.{waits_in}
 use Rattle.chain_route.proofs.Settled.{still_free}
-use Rattle.chain_route.proofs.Unheard.{Laws}
 use Rattle.chain_route.proofs.Ways.{IsMapped, get_mapped}
 use Rattle.list_laws.proofs.Lists.{get_set}
 
@@ -142,38 +141,38 @@ stands_free Opening v p stands is = absurd cc
 stands_free Bound v p stands is = absurd cc
 stands_free Closed v p stands is = absurd cc
 
-turn_waits : (side : Side) (m : Made) → AfterAllCalls EndsAreRuns → (value_turned side (value_of m)).0 ≡ Connect → awaits (value_turned side (value_of m)).1.relay ≡ true
-turn_waits Below m runs is = let v = (value_of m).relay in below_waits v (stands_free v.bind v (past_of m) (facts_of runs m).stands) is
-turn_waits Above m runs is = absurd (above_turns (value_of m).relay is)
+turn_waits : (side : Side) (m : Made) → (value_turned side (value_of m)).0 ≡ Connect → awaits (value_turned side (value_of m)).1.relay ≡ true
+turn_waits Below m is = let v = (value_of m).relay in below_waits v (stands_free v.bind v (past_of m) (facts_of m).stands) is
+turn_waits Above m is = absurd (above_turns (value_of m).relay is)
 
 -- ---- A turn
 
-after_turn : Laws → (turn : ValueTurn) (at : ℕ) (calls : List Call) (r : RouteRun) → (turn ≡ Connect → WaitsAt at r.route) → Holds calls r → Holds calls (with_route (connected_after turn at r.route).1 r)
-after_turn laws Nothing at calls r waits h = h
-after_turn laws Took at calls r waits h = h
-after_turn laws Connect at calls r waits h =
-    let w = waits_in at h.made (sym (ap (λ vs. awaits_of (slice_get vs at)) h.adds) ∙ waits refl) in connects_kept laws at calls r h w.m w.there w.waits
+after_turn : (turn : ValueTurn) (at : ℕ) (calls : List Call) (r : RouteRun) → (turn ≡ Connect → WaitsAt at r.route) → Holds calls r → Holds calls (with_route (connected_after turn at r.route).1 r)
+after_turn Nothing at calls r waits h = h
+after_turn Took at calls r waits h = h
+after_turn Connect at calls r waits h =
+    let w = waits_in at h.made (sym (ap (λ vs. awaits_of (slice_get vs at)) h.adds) ∙ waits refl) in connects_kept at calls r h w.m w.there w.waits
 
-made_turns : Laws → (side : Side) (at : ℕ) (calls : List Call) (r : RouteRun) (h : Holds calls r) (m : Made) → slice_get h.made at ≡ Some m → slice_get r.route.adds at ≡ Some (value_of m)
+made_turns : (side : Side) (at : ℕ) (calls : List Call) (r : RouteRun) (h : Holds calls r) (m : Made) → slice_get h.made at ≡ Some m → slice_get r.route.adds at ≡ Some (value_of m)
     → Holds calls (with_route (turn_put side at (Some (value_of m)) r.route).1 r)
-made_turns laws side at calls r h m there add_is =
+made_turns side at calls r h m there add_is =
     let next = value_turned side (value_of m) in
     let call = value.turns side in
     let r1 = with_add at next.1 r in
-    let h1 : Holds calls r1 = quiet_holds laws.runs calls call at r h m there refl (turn_is_quiet side (run_of m).value.relay) (loses_same calls at m (with_call call m) (lost_same call m refl)) in
+    let h1 : Holds calls r1 = quiet_holds calls call at r h m there refl (turn_is_quiet side (run_of m).value.relay) (loses_same calls at m (with_call call m) (lost_same call m refl)) in
     let r2 = with_route (with_carried Below at r1.route) r1 in
     let r3 = with_route (with_carried Above at r2.route) r2 in
-    after_turn laws next.0 at calls r3
-    (λ is. carried_waits Above at r2.route (carried_waits Below at r1.route (set_waits at r.route (value_of m) next.1 add_is (turn_waits side m laws.runs is))))
-    (carried_holds laws.runs Above at calls r2 (carried_holds laws.runs Below at calls r1 h1))
+    after_turn next.0 at calls r3
+    (λ is. carried_waits Above at r2.route (carried_waits Below at r1.route (set_waits at r.route (value_of m) next.1 add_is (turn_waits side m is))))
+    (carried_holds Above at calls r2 (carried_holds Below at calls r1 h1))
 
-pub turns_kept : Laws → (side : Side) (at : ℕ) (calls : List Call) (r : RouteRun) → Holds calls r → Holds calls (with_route (turned side at r.route).1 r)
-turns_kept laws side at calls r h = by_add (slice_get r.route.adds at) refl
+pub turns_kept : (side : Side) (at : ℕ) (calls : List Call) (r : RouteRun) → Holds calls r → Holds calls (with_route (turned side at r.route).1 r)
+turns_kept side at calls r h = by_add (slice_get r.route.adds at) refl
   where
     by_made : (v : ValueValue) → slice_get r.route.adds at ≡ Some v → IsMapped value_of h.made at v → Holds calls (with_route (turn_put side at (Some v) r.route).1 r)
     by_made v is m =
         subst (λ x. Holds calls (with_route (turn_put side at (Some x) r.route).1 r)) m.value
-        (made_turns laws side at calls r h m.from m.there (is ∙ ap Some (sym m.value)))
+        (made_turns side at calls r h m.from m.there (is ∙ ap Some (sym m.value)))
 
     by_add : (add : Option ValueValue) → slice_get r.route.adds at ≡ add → Holds calls (with_route (turn_put side at add r.route).1 r)
     by_add None is = h

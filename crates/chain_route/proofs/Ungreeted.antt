@@ -14,9 +14,9 @@ use Rattle.channel_core.specs.Laws.{listed}
 use Rattle.channel_core.specs.Level.{is_due, level_of, leveled}
 use Rattle.channel_core.specs.Receiving.{came_by, counted, delivered, entered, heard, is_over, item_came, stopped_by}
 use Rattle.channel_core.specs.ReceivingLaws.{incoming_of}
-use Rattle.channel_core.specs.RunLaws.{AfterAllCalls, EndsOnce}
-use Rattle.channel_core.specs.Runs.{Call, Run, after_call, after_calls, begun, closing, commanding, delivering, draining, ending, putting_out, refusal_to, sending, taking, unless_refused}
-use Rattle.channel_core.specs.Sending.{commanded, made, sent_or_held}
+use Rattle.channel_core.specs.RunLaws.{EndsOnce}
+use Rattle.channel_core.specs.Runs.{Call, Run, after_call, after_calls, begun, closing, commanding, delivering, draining, ending, putting_out, sending, taking, unless_refused}
+use Rattle.channel_core.specs.Sending.{commanded, made, sent_or_held, refusal_to}
 use Rattle.channel_core.specs.Taking.{is_early, judged_by, message_taken, next_taken, stop_taken, taken_as, taken_from}
 use Rattle.channel_core.specs.Wire.{Said, answers, asks, goes_on, greets, said_in, tells}
 use Rattle.channel_core.specs.declared.held.Arrived.{Arrived}
@@ -34,6 +34,7 @@ use Rattle.stream_escape.specs.declared.stream.Item.TheVariants as items
 use Rattle.stream_escape.specs.declared.stream.StreamFault.{StreamFault}
 use Rattle.tcf_message.specs.Message.{MessageValue, command, event, final, flow, not_known, progress, reading}
 use Rattle.tcf_message.specs.declared.message.MessageFault.{MessageFault}
+use Rattle.channel_core.proofs.TheLaws.{ends_once}
 use Rattle.chain_route.proofs.EndCalls.{calls_more}
 use Rattle.channel_core.proofs.Waiting.{IsUngreeted, not_live, opening_or}
 
@@ -161,14 +162,14 @@ unheard_called putting_out r once u = same_taken r (after_call putting_out r) re
 unheard_called closing r once u = same_taken r (after_call closing r) refl (λ w. either_waits (is_closed r.end.state) r.end _ w tt) u
 unheard_called draining r once u = same_taken r (after_call draining r) refl (λ w. either_waits (is_closed r.end.state) _ r.end w w) u
 
-module _ {T : Type 0} (once : AfterAllCalls {T = T} EndsOnce) (hello : List ℕ) (mark : Option ℕ) where
+module _ {T : Type 0} (hello : List ℕ) (mark : Option ℕ) where
   abbrev run_of : List (Call T) → Run T
   run_of calls = after_calls calls (begun (new_end hello mark))
 
   unheard_from : (before calls : List (Call T)) → Unheard (run_of before) → Unheard (run_of (before ++ calls))
   unheard_from before [] u = subst (λ cs. Unheard (run_of cs)) (sym (append-nil before)) u
   unheard_from before (call ∷ calls) u =
-      let next : Unheard (after_call call (run_of before)) = unheard_called call (run_of before) (once hello mark before) u in
+      let next : Unheard (after_call call (run_of before)) = unheard_called call (run_of before) (ends_once hello mark before) u in
       subst (λ cs. Unheard (run_of cs)) (append_assoc before (call ∷ []) calls)
       (unheard_from (before ++ call ∷ []) calls (subst (λ r. Unheard r) (sym (calls_more before (call ∷ []) (begun (new_end hello mark)))) next))
 

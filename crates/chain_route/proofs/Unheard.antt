@@ -2,14 +2,13 @@
 use Rattle.std.proofs.Common.{◌≡◌, ℕ, Bool, true, false, cond, List, [], ◌∷◌, ◌++◌, map, filter, Option, Some, None, refl, sym, ap, ◌∙◌, subst, arith, append_assoc, append-nil}
 use Rattle.std.specs.Prelude.{IfSome, Ok, unwrap_or}
 use Rattle.std.specs.List.{AllByRecursion, flat_map, list_any}
-use Rattle.channel_core.specs.Arrivals.{AreSpoken, IsFront, Spoken, arrived, bytes_of, enters, marked, messages_in, queue_of}
+use Rattle.channel_core.specs.Arrivals.{AreSpoken, Spoken, arrived, bytes_of, enters, marked, messages_in, queue_of}
 use Rattle.channel_core.specs.Beginning.{new_end}
 use Rattle.channel_core.specs.Farewell.{leaving_behind}
-use Rattle.channel_core.specs.Greeting.{WaitsForHello, is_greeting}
+use Rattle.channel_core.specs.Greeting.{is_greeting}
 use Rattle.channel_core.specs.Laws.{listed}
-use Rattle.channel_core.specs.QueueLaws.{ClosesOnlySo}
-use Rattle.channel_core.specs.ReceivingLaws.{QueuesReadable, ReceivesInOrder, SendsReadable, WhereAQueueComes, incoming_of, received}
-use Rattle.channel_core.specs.RunLaws.{AfterAllCalls as AfterEndCalls, EndsOnce, QueuesInOrder, is_command}
+use Rattle.channel_core.specs.ReceivingLaws.{SendsReadable, incoming_of, received}
+use Rattle.channel_core.specs.RunLaws.{is_command}
 use Rattle.channel_core.specs.Runs.{Call, Run, after_call, after_calls, begun, closing, commanding, delivering, draining, ending, putting_out, sending, taking}
 use Rattle.channel_core.specs.Taking.{next_taken}
 use Rattle.channel_core.specs.Wire.{hello, locator, said}
@@ -17,29 +16,18 @@ use Rattle.channel_core.specs.declared.held.Incoming.{Incoming}
 use Rattle.channel_core.specs.declared.held.Outgoing.{Outgoing}
 use Rattle.channel_core.specs.declared.taking.Taken.{Taken}
 use Rattle.channel_core.specs.declared.taking.Taken.TheVariants as taken
-use Rattle.tcf_message.specs.Fault.{IsReadBack}
 use Rattle.tcf_message.specs.Message.{IsWellFormed, MessageValue, command, event, final, flow, not_known, progress, reading, spelling}
-use Rattle.value_node.specs.ForwardedValue.{ForwardedValue}
-use Rattle.value_node.specs.OwnLaws.{ConnectsWhenAsked}
-use Rattle.value_node.specs.RelayLaws.{AfterAllCalls, EndsAreRuns, asked_by, asked_in}
+use Rattle.value_node.specs.RelayLaws.{asked_by, asked_in}
 use Rattle.value_node.specs.Runs.{UpperCall, above, below, below_until_bound, upper_after}
 use Rattle.value_node.specs.Value.{value_services}
 use Rattle.chain_route.specs.Carrying.{Made, end_above, end_below, past_of}
+use Rattle.channel_core.proofs.TheLaws.{queues_in_order, queues_readable, receives_in_order, waits_for_hello}
+use Rattle.tcf_message.proofs.TheLaws.{read_back}
+use Rattle.value_node.proofs.TheLaws.{connects_when_asked}
 use Rattle.chain_route.proofs.Adds.{facts_of}
-use Rattle.chain_route.proofs.Bytes.{front_each, front_flat, front_same, front_then}
+use Rattle.list_laws.specs.Fronts.{IsFront}
+use Rattle.list_laws.proofs.Fronts.{front_each, front_flat, front_same, front_then}
 use Rattle.chain_route.proofs.EndCalls.{calls_more}
-
--- the laws that this stands on
-pub record Laws : Type 0 where
-  pub runs : AfterAllCalls EndsAreRuns
-  pub connects : AfterAllCalls ConnectsWhenAsked
-  pub waits : AfterEndCalls {T = ForwardedValue} WaitsForHello
-  pub once : AfterEndCalls {T = ForwardedValue} EndsOnce
-  pub closes : AfterEndCalls {T = ForwardedValue} ClosesOnlySo
-  pub in_order : AfterEndCalls {T = ForwardedValue} QueuesInOrder
-  pub readable : QueuesReadable ForwardedValue
-  pub receives : WhereAQueueComes {T = Unit} ReceivesInOrder
-  pub read_back : IsReadBack
 
 pub value_hello : IsWellFormed (event locator hello value_services)
 unfolding locator hello value_services
@@ -49,11 +37,7 @@ value_hello = ((refl, refl), omega arith)
 
 abbrev IsNoCommand : MessageValue → Type 0
 IsNoCommand (command token service name body) = ⊥
-IsNoCommand (final token body) = Unit {0}
-IsNoCommand (progress token body) = Unit {0}
-IsNoCommand (not_known token) = Unit {0}
-IsNoCommand (event service name body) = Unit {0}
-IsNoCommand (flow level) = Unit {0}
+IsNoCommand _ = Unit {0}
 
 none_said : (m : MessageValue) (mark : Option ℕ) (rest : List Outgoing) → filter is_command (said m mark ∷ rest) ≡ [] → IsNoCommand m × (filter is_command rest ≡ [])
 none_said (command token service name body) mark rest none = absurd cc
@@ -84,12 +68,12 @@ unasked (not_known token) mark none = refl
 unasked (event service name body) mark none = refl
 unasked (flow level) mark none = refl
 
-messages_unasked : IsReadBack → (spoken : List Spoken) → AreSpoken spoken → AllByRecursion SaysNone spoken → AllByRecursion IsUnasked (messages_in spoken)
-messages_unasked read [] formed none = tt
-messages_unasked read (s ∷ spoken) formed none = by_flag (enters s.message) (messages_unasked read spoken formed.1 none.1)
+messages_unasked : (spoken : List Spoken) → AreSpoken spoken → AllByRecursion SaysNone spoken → AllByRecursion IsUnasked (messages_in spoken)
+messages_unasked [] formed none = tt
+messages_unasked (s ∷ spoken) formed none = by_flag (enters s.message) (messages_unasked spoken formed.1 none.1)
   where
     first : IsUnasked (record { raw = spelling s.message; mark = s.mark })
-    first = ap (asked_in s.mark) (read.1 s.message formed.0) ∙ unasked s.message s.mark none.0
+    first = ap (asked_in s.mark) (read_back.1 s.message formed.0) ∙ unasked s.message s.mark none.0
 
     into : Spoken → Incoming
     into x = record { raw = spelling x.message; mark = x.mark }
@@ -141,12 +125,12 @@ pub record SaysNoCommand (m : Made) : Type 0 where
   pub given : IsFront (bytes_of (end_above (past_of m)).gave) (bytes_of (queue_of spoken is_ended))
   pub none : AllByRecursion SaysNone spoken
 
-says_none : Laws → (m : Made) → list_any is_greeting (above (past_of m)).past.taken ≡ false → SaysNoCommand m
-says_none laws m unheard =
+says_none : (m : Made) → list_any is_greeting (above (past_of m)).past.taken ≡ false → SaysNoCommand m
+says_none m unheard =
     let calls = unwrap_or (past_of m).connection [] in
     let r = upper_after calls in
-    let read = laws.readable value_services None calls value_hello (readable_by (past_of m).connection (facts_of laws.runs m).above_readable) in
-    let order : r.past.given ++ r.end.queued ≡ r.past.queued = laws.in_order value_services None calls in
+    let read = queues_readable value_services None calls value_hello (readable_by (past_of m).connection (facts_of m).above_readable) in
+    let order : r.past.given ++ r.end.queued ≡ r.past.queued = queues_in_order value_services None calls in
     let gave : IsFront r.past.given r.past.queued = (r.end.queued, sym order) in
     let queue = queue_of read.spoken read.is_ended in
     record {
@@ -155,7 +139,7 @@ says_none laws m unheard =
       formed = read.well_formed;
       given = front_same (bytes_of r.past.given) (bytes_of r.past.queued) (bytes_of queue) (ap bytes_of read.queue)
           (front_flat (λ o. marked o.bytes o.mark) r.past.given r.past.queued gave);
-      none = none_spoken read.spoken (leaving_behind read.is_ended) (sym (ap (filter is_command) read.queue) ∙ laws.waits value_services None calls unheard);
+      none = none_spoken read.spoken (leaving_behind read.is_ended) (sym (ap (filter is_command) read.queue) ∙ waits_for_hello value_services None calls unheard);
     }
 
 -- what it took until it was bound is a front of what it received
@@ -168,17 +152,17 @@ until_front m =
     front_then (flat_map incoming_of first.past.taken) (flat_map incoming_of (below p).past.taken) (received (below p))
     (front_flat incoming_of first.past.taken (below p).past.taken later) (map (λ a. a.incoming) (below p).end.inbox, refl)
 
-pub unheard_unconnected : Laws → (m other : Made) → list_any is_greeting (above (past_of m)).past.taken ≡ false
+pub unheard_unconnected : (m other : Made) → list_any is_greeting (above (past_of m)).past.taken ≡ false
     → IsFront (end_below (past_of other)).came (bytes_of (end_above (past_of m)).gave) → (past_of other).connection ≡ None
-unheard_unconnected laws m other unheard front =
-    let said_none = says_none laws m unheard in
+unheard_unconnected m other unheard front =
+    let said_none = says_none m unheard in
     let p = past_of other in
     let calls = p.until_bound ++ p.since_bound in
     let queue = queue_of said_none.spoken said_none.is_ended in
     let came : IsFront (arrived calls) (bytes_of queue) = front_then (arrived calls) (bytes_of (end_above (past_of m)).gave) (bytes_of queue) front said_none.given in
-    let order = laws.receives value_services None calls said_none.spoken said_none.is_ended said_none.formed came in
-    let all : AllByRecursion IsUnasked (messages_in said_none.spoken) = messages_unasked laws.read_back said_none.spoken said_none.formed said_none.none in
+    let order = receives_in_order value_services None calls said_none.spoken said_none.is_ended said_none.formed came in
+    let all : AllByRecursion IsUnasked (messages_in said_none.spoken) = messages_unasked said_none.spoken said_none.formed said_none.none in
     let got : AllByRecursion IsUnasked (received (below p)) = front_each IsUnasked (received (below p)) (messages_in said_none.spoken) order.front all in
     let until : AllByRecursion IsUnasked (flat_map incoming_of (below_until_bound p).past.taken) =
     front_each IsUnasked (flat_map incoming_of (below_until_bound p).past.taken) (received (below p)) (until_front other) got in
-    (laws.connects other.peer other.calls).unconnected (none_asked (below_until_bound p).past.taken until)
+    (connects_when_asked other.peer other.calls).unconnected (none_asked (below_until_bound p).past.taken until)

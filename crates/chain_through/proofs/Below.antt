@@ -5,8 +5,7 @@ use Rattle.std.specs.List.{AllByRecursion, filter, flat_map}
 use Rattle.std.proofs.lemmas.List.{map-append}
 use Rattle.std.proofs.lemmas.List.Concat.{flat_map-append}
 use Rattle.tcf_message.specs.Message.{IsWellFormed, command, event, reading}
-use Rattle.tcf_message.specs.Fault.{IsReadBack}
-use Rattle.channel_core.specs.Arrivals.{AreSpoken, IsFront, Spoken, arrived, bytes_of, marked, messages_in, queue_of}
+use Rattle.channel_core.specs.Arrivals.{AreSpoken, Spoken, arrived, bytes_of, marked, messages_in, queue_of}
 use Rattle.channel_core.specs.Beginning.{new_end}
 use Rattle.channel_core.specs.QueueLaws.{is_message}
 use Rattle.channel_core.specs.ReceivingLaws.{incoming_of}
@@ -25,9 +24,13 @@ use Rattle.chain_route.specs.Carrying.{End, Made, end_above, end_below, past_of}
 use Rattle.chain_told.specs.Told.{numbered}
 use Rattle.chain_told.specs.TellsOn.{tells}
 use Rattle.chain_through.specs.Calling.{Calls, all_asking, entering, greeting}
+use Rattle.channel_core.proofs.TheLaws.{receives_in_order}
+use Rattle.tcf_message.proofs.TheLaws.{read_back}
+use Rattle.value_node.proofs.TheLaws.{answers_itself, passes_all_on}
 use Rattle.chain_through.proofs.Above.{asked_written, hello_enters, queued_more}
-use Rattle.chain_through.proofs.Fronts.{IsMapped, front_mapped}
-use Rattle.chain_through.proofs.Facts.{Laws, below_read, calls_above, deeds_of, facts_of}
+use Rattle.list_laws.specs.Fronts.{IsFront}
+use Rattle.list_laws.proofs.Fronts.{IsMapped, front_mapped, front_each, front_flat, front_same, front_then}
+use Rattle.chain_through.proofs.Facts.{below_read, calls_above, deeds_of, facts_of}
 use Rattle.chain_through.proofs.Hearing.{AreReadable}
 use Rattle.chain_told.proofs.Numbered.{numbered_parts, under}
 use Rattle.chain_through.proofs.Owning.{own_spelled}
@@ -35,7 +38,6 @@ use Rattle.chain_through.proofs.Queues.{entering_formed, queue_messages}
 use Rattle.chain_through.proofs.Spelling.{AreSpelled, IsSpelled, one_said, said_so, same_said}
 use Rattle.chain_through.proofs.Taking.{IsWritten, all_written, asked_of, calls_fit, come_as, commands_in, commands_read, received_front, taken_split}
 use Rattle.chain_through.proofs.Telling.{tells_spelled, told_said}
-use Rattle.chain_route.proofs.Bytes.{front_each, front_flat, front_same, front_then}
 use Rattle.chain_route.proofs.Adds.{run_of}
 use Rattle.list_laws.proofs.AllLists.{all_append}
 
@@ -154,92 +156,91 @@ pub record SaysBelow (m : Made) (come : List Spoken) (down : List Spoken) : Type
   pub readable : AreReadable heard
   pub says : down ≡ own.own ++ tells (deeds_of m)
 
-are_readable : IsReadBack → (heard : List Spoken) → AreSpoken heard → AreReadable heard
-are_readable back [] formed = tt
-are_readable back (s ∷ heard) formed = (back.1 s.message formed.0, are_readable back heard formed.1)
+are_readable : (heard : List Spoken) → AreSpoken heard → AreReadable heard
+are_readable [] formed = tt
+are_readable (s ∷ heard) formed = (read_back.1 s.message formed.0, are_readable heard formed.1)
 
-module _ (laws : Laws) where
-  pub took : (lower : End) (m : Made) (commands : List Asked) → IsFront (end_below (past_of m)).came (bytes_of lower.gave) → (calls : Calls commands lower.gave)
-      → Took (past_of m) commands (length (entering calls.spoken) - 1)
-  took lower m commands comes calls =
-      let p = past_of m in
-      let r = below p in
-      let all = p.until_bound ++ p.since_bound in
-      let queue = queue_of calls.spoken calls.is_ended in
-      let gave : IsFront (bytes_of lower.gave) (bytes_of queue) = front_flat (λ o. marked o.bytes o.mark) lower.gave queue calls.front in
-      let came : IsFront (arrived all) (bytes_of queue) = front_then (arrived all) (bytes_of lower.gave) (bytes_of queue) comes gave in
-      let order = laws.lower_receives value_services None all calls.spoken calls.is_ended calls.formed came in
-      let got : IsFront (flat_map incoming_of r.past.taken) (messages_in calls.spoken) = received_front r (messages_in calls.spoken) order.front in
-      let commands_got : IsFront (commands_in (flat_map incoming_of r.past.taken)) (commands_in (messages_in calls.spoken)) =
-      front_flat (λ i. asked_in i.mark (reading i.raw)) (flat_map incoming_of r.past.taken) (messages_in calls.spoken) got in
-      let asked : IsFront (commands_in (flat_map incoming_of r.past.taken)) (asked_of (entering calls.spoken)) =
-      front_same (commands_in (flat_map incoming_of r.past.taken)) (commands_in (messages_in calls.spoken)) (asked_of (entering calls.spoken))
-      (commands_read laws.read_back (entering calls.spoken) (entering_formed calls.spoken calls.formed)) commands_got in
-      let fits : flat_map asked_by r.past.taken ≡ commands_in (flat_map incoming_of r.past.taken) = calls_fit all (begun (new_end value_services None)) refl in
-      let split : flat_map asked_by r.past.taken ≡ asked_until p ++ asked_since p =
-      ap (flat_map asked_by) (taken_split p.until_bound p.since_bound (begun (new_end value_services None))) ∙ flat_map-append asked_by (below_until_bound p).past.taken (below_since_bound p).past.taken in
-      took_so p (entering calls.spoken) commands (called_asks (entering calls.spoken) calls.services commands calls.says)
-      (asked.0, asked.1 ∙ ap (λ cs. cs ++ asked.0) (sym fits ∙ split))
+pub took : (lower : End) (m : Made) (commands : List Asked) → IsFront (end_below (past_of m)).came (bytes_of lower.gave) → (calls : Calls commands lower.gave)
+    → Took (past_of m) commands (length (entering calls.spoken) - 1)
+took lower m commands comes calls =
+    let p = past_of m in
+    let r = below p in
+    let all = p.until_bound ++ p.since_bound in
+    let queue = queue_of calls.spoken calls.is_ended in
+    let gave : IsFront (bytes_of lower.gave) (bytes_of queue) = front_flat (λ o. marked o.bytes o.mark) lower.gave queue calls.front in
+    let came : IsFront (arrived all) (bytes_of queue) = front_then (arrived all) (bytes_of lower.gave) (bytes_of queue) comes gave in
+    let order = receives_in_order value_services None all calls.spoken calls.is_ended calls.formed came in
+    let got : IsFront (flat_map incoming_of r.past.taken) (messages_in calls.spoken) = received_front r (messages_in calls.spoken) order.front in
+    let commands_got : IsFront (commands_in (flat_map incoming_of r.past.taken)) (commands_in (messages_in calls.spoken)) =
+    front_flat (λ i. asked_in i.mark (reading i.raw)) (flat_map incoming_of r.past.taken) (messages_in calls.spoken) got in
+    let asked : IsFront (commands_in (flat_map incoming_of r.past.taken)) (asked_of (entering calls.spoken)) =
+    front_same (commands_in (flat_map incoming_of r.past.taken)) (commands_in (messages_in calls.spoken)) (asked_of (entering calls.spoken))
+    (commands_read (entering calls.spoken) (entering_formed calls.spoken calls.formed)) commands_got in
+    let fits : flat_map asked_by r.past.taken ≡ commands_in (flat_map incoming_of r.past.taken) = calls_fit all (begun (new_end value_services None)) refl in
+    let split : flat_map asked_by r.past.taken ≡ asked_until p ++ asked_since p =
+    ap (flat_map asked_by) (taken_split p.until_bound p.since_bound (begun (new_end value_services None))) ∙ flat_map-append asked_by (below_until_bound p).past.taken (below_since_bound p).past.taken in
+    took_so p (entering calls.spoken) commands (called_asks (entering calls.spoken) calls.services commands calls.says)
+    (asked.0, asked.1 ∙ ap (λ cs. cs ++ asked.0) (sym fits ∙ split))
 
-  written_until : (m : Made) → AllByRecursion IsWritten (asked_until (past_of m))
-  written_until m = all_written laws.read_back (below_until_bound (past_of m)).past.taken
+written_until : (m : Made) → AllByRecursion IsWritten (asked_until (past_of m))
+written_until m = all_written (below_until_bound (past_of m)).past.taken
 
-  -- all that it says is what it queued
-  pub says_queued : (m : Made) → map said_so (entering (below_read laws m).spoken) ≡ filter is_message (below (past_of m)).past.queued
-  says_queued m = let can = below_read laws m in sym (queue_messages can.spoken can.is_ended) ∙ ap (filter is_message) (sym can.queue)
+-- all that it says is what it queued
+pub says_queued : (m : Made) → map said_so (entering (below_read m).spoken) ≡ filter is_message (below (past_of m)).past.queued
+says_queued m = let can = below_read m in sym (queue_messages can.spoken can.is_ended) ∙ ap (filter is_message) (sym can.queue)
 
-  -- what it says itself begins with its Hello
-  pub own_greets : (m : Made) → Greets (laws.answers m.peer m.calls).own
-  own_greets m =
-      let own = laws.answers m.peer m.calls in
-      let front : IsFront (said_so (greeting value_services) ∷ []) (below_until_bound (past_of m)).past.queued = queued_more (past_of m).until_bound (begun (new_end value_services None)) in
-      first_greets own.own (filter is_message front.0) (own_spelled (asked_until (past_of m)) own.left own.own (written_until m) own.is_own)
-      (sym own.queue ∙ ap (filter is_message) front.1 ∙ hello_enters value_services front.0)
+-- what it says itself begins with its Hello
+pub own_greets : (m : Made) → Greets (answers_itself m.peer m.calls).own
+own_greets m =
+    let own = answers_itself m.peer m.calls in
+    let front : IsFront (said_so (greeting value_services) ∷ []) (below_until_bound (past_of m)).past.queued = queued_more (past_of m).until_bound (begun (new_end value_services None)) in
+    first_greets own.own (filter is_message front.0) (own_spelled (asked_until (past_of m)) own.left own.own (written_until m) own.is_own)
+    (sym own.queue ∙ ap (filter is_message) front.1 ∙ hello_enters value_services front.0)
 
-  pub says_below : (m : Made) (come : List Spoken) (is_ended : Bool) → AreSpoken come → IsFront (end_above (past_of m)).came (bytes_of (queue_of come is_ended)) → SaysBelow m (entering come) (entering (below_read laws m).spoken)
-  says_below m come is_ended formed came =
-      let p = past_of m in
-      let deeds = deeds_of m in
-      let r = above p in
-      let can = below_read laws m in
-      let own = laws.answers m.peer m.calls in
-      let order = laws.upper_receives value_services None (calls_above m) come is_ended formed came in
-      let got : IsFront (flat_map incoming_of r.past.taken) (messages_in come) = received_front r (messages_in come) order.front in
-      let h : IsMapped come_as (entering come) (flat_map incoming_of r.past.taken) = front_mapped come_as (entering come) (flat_map incoming_of r.past.taken) got in
-      let heard_formed : AreSpoken h.origin = front_each (λ s. IsWellFormed s.message) h.origin (entering come) h.front (entering_formed come formed) in
-      let readable = are_readable laws.read_back h.origin heard_formed in
-      let passes = laws.passes m.peer m.calls in
-      let are : heard_in deeds ≡ map come_as h.origin = passes.heard ∙ h.are in
-      let said_are : map said_so (entering can.spoken) ≡ map said_so (own.own ++ tells deeds) =
-      says_queued m ∙ passes.told ∙ ap (λ os. os ++ told_from [] deeds) own.queue ∙ ap (λ os. map said_so own.own ++ os) (told_said [] deeds)
-      ∙ sym (map-append said_so own.own (tells deeds)) in
-      let says : entering can.spoken ≡ own.own ++ tells deeds =
-      same_said (entering can.spoken) (own.own ++ tells deeds) (entering_formed can.spoken can.well_formed)
-      (all_append (λ s. IsSpelled s.message) own.own (tells deeds) (own_spelled (asked_until p) own.left own.own (written_until m) own.is_own)
-      (tells_spelled [] deeds h.origin tt (asked_written laws m) are heard_formed readable)) said_are in
-      record {
-        own = own;
-        own_formed = front_each (λ s. IsWellFormed s.message) own.own (entering can.spoken) (tells deeds, says) (entering_formed can.spoken can.well_formed);
-        greets = own_greets m;
-        heard = h.origin;
-        front = h.front;
-        are = are;
-        formed = heard_formed;
-        readable = readable;
-        says = says;
-      }
+pub says_below : (m : Made) (come : List Spoken) (is_ended : Bool) → AreSpoken come → IsFront (end_above (past_of m)).came (bytes_of (queue_of come is_ended)) → SaysBelow m (entering come) (entering (below_read m).spoken)
+says_below m come is_ended formed came =
+    let p = past_of m in
+    let deeds = deeds_of m in
+    let r = above p in
+    let can = below_read m in
+    let own = answers_itself m.peer m.calls in
+    let order = receives_in_order value_services None (calls_above m) come is_ended formed came in
+    let got : IsFront (flat_map incoming_of r.past.taken) (messages_in come) = received_front r (messages_in come) order.front in
+    let h : IsMapped come_as (entering come) (flat_map incoming_of r.past.taken) = front_mapped come_as (entering come) (flat_map incoming_of r.past.taken) got in
+    let heard_formed : AreSpoken h.origin = front_each (λ s. IsWellFormed s.message) h.origin (entering come) h.front (entering_formed come formed) in
+    let readable = are_readable h.origin heard_formed in
+    let passes = passes_all_on m.peer m.calls in
+    let are : heard_in deeds ≡ map come_as h.origin = passes.heard ∙ h.are in
+    let said_are : map said_so (entering can.spoken) ≡ map said_so (own.own ++ tells deeds) =
+    says_queued m ∙ passes.told ∙ ap (λ os. os ++ told_from [] deeds) own.queue ∙ ap (λ os. map said_so own.own ++ os) (told_said [] deeds)
+    ∙ sym (map-append said_so own.own (tells deeds)) in
+    let says : entering can.spoken ≡ own.own ++ tells deeds =
+    same_said (entering can.spoken) (own.own ++ tells deeds) (entering_formed can.spoken can.well_formed)
+    (all_append (λ s. IsSpelled s.message) own.own (tells deeds) (own_spelled (asked_until p) own.left own.own (written_until m) own.is_own)
+    (tells_spelled [] deeds h.origin tt (asked_written m) are heard_formed readable)) said_are in
+    record {
+      own = own;
+      own_formed = front_each (λ s. IsWellFormed s.message) own.own (entering can.spoken) (tells deeds, says) (entering_formed can.spoken can.well_formed);
+      greets = own_greets m;
+      heard = h.origin;
+      front = h.front;
+      are = are;
+      formed = heard_formed;
+      readable = readable;
+      says = says;
+    }
 
-  -- where it isn't bound it says nothing but its own
-  pub says_own : (m : Made) → (past_of m).is_bound ≡ false → entering (below_read laws m).spoken ≡ (laws.answers m.peer m.calls).own
-  says_own m unbound =
-      let p = past_of m in
-      let can = below_read laws m in
-      let own = laws.answers m.peer m.calls in
-      let none : p.since_bound ≡ [] = (facts_of laws m).unbound unbound in
-      let calls_are : p.until_bound ++ p.since_bound ≡ p.until_bound = ap (λ cs. p.until_bound ++ cs) none ∙ append-nil p.until_bound in
-      let said_are : map said_so (entering can.spoken) ≡ map said_so own.own =
-      says_queued m ∙ ap (λ cs. filter is_message (lower_after cs).past.queued) calls_are ∙ own.queue in
-      same_said (entering can.spoken) own.own (entering_formed can.spoken can.well_formed) (own_spelled (asked_until p) own.left own.own (written_until m) own.is_own) said_are
+-- where it isn't bound it says nothing but its own
+pub says_own : (m : Made) → (past_of m).is_bound ≡ false → entering (below_read m).spoken ≡ (answers_itself m.peer m.calls).own
+says_own m unbound =
+    let p = past_of m in
+    let can = below_read m in
+    let own = answers_itself m.peer m.calls in
+    let none : p.since_bound ≡ [] = (facts_of m).unbound unbound in
+    let calls_are : p.until_bound ++ p.since_bound ≡ p.until_bound = ap (λ cs. p.until_bound ++ cs) none ∙ append-nil p.until_bound in
+    let said_are : map said_so (entering can.spoken) ≡ map said_so own.own =
+    says_queued m ∙ ap (λ cs. filter is_message (lower_after cs).past.queued) calls_are ∙ own.queue in
+    same_said (entering can.spoken) own.own (entering_formed can.spoken can.well_formed) (own_spelled (asked_until p) own.left own.own (written_until m) own.is_own) said_are
 
-  pub none_since : (m : Made) → (past_of m).is_bound ≡ false → asked_since (past_of m) ≡ []
-  none_since m unbound = ap (λ calls. flat_map asked_by (after_calls calls (begun (below_until_bound (past_of m)).end)).past.taken) ((facts_of laws m).unbound unbound)
+pub none_since : (m : Made) → (past_of m).is_bound ≡ false → asked_since (past_of m) ≡ []
+none_since m unbound = ap (λ calls. flat_map asked_by (after_calls calls (begun (below_until_bound (past_of m)).end)).past.taken) ((facts_of m).unbound unbound)

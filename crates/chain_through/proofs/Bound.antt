@@ -4,7 +4,7 @@ use Rattle.std.specs.Prelude.{IsSome}
 use Rattle.std.specs.List.{AllByRecursion, Contains}
 use Rattle.std.proofs.lemmas.List.{map-append}
 use Rattle.tcf_message.specs.Message.{IsWellFormed}
-use Rattle.channel_core.specs.Arrivals.{AreSpoken, IsFront, Spoken}
+use Rattle.channel_core.specs.Arrivals.{AreSpoken, Spoken, comes_as}
 use Rattle.knowledge.specs.Facts.{IsPart, nothing}
 use Rattle.knowledge.specs.Learning.{learned}
 use Rattle.target_contexts.specs.declared.process.Image.{Image}
@@ -18,15 +18,18 @@ use Rattle.value_node.specs.RelayLaws.{PassesAllOn}
 use Rattle.value_node.specs.Runs.{above}
 use Rattle.chain_route.specs.Carrying.{Made, end_above, past_of, value_of}
 use Rattle.chain_told.specs.Told.{AreToldRightly, AreTrueAt, IsToldRightly, is_ended, is_stored, numbered, owed_at, owed_in}
-use Rattle.chain_told.specs.TellsOn.{Begins, IsWithoutSome, TellsSo, comes_as, tells}
+use Rattle.chain_told.specs.TellsOn.{Begins, IsWithoutSome, TellsSo, tells}
 use Rattle.chain_through.specs.Calling.{entering}
-use Rattle.chain_through.specs.Through.{AreBound, GoUp, IsMarked, KnowsTruth, TakesAll, TakesAllOf, content, is_storable_content}
+use Rattle.chain_through.specs.Through.{GoUp, IsMarked, KnowsTruth, content, is_storable_content}
+use Rattle.chain_told.proofs.TheLaws.{value_add_tells_on}
+use Rattle.value_node.proofs.TheLaws.{answers_rightly, forwards_in_order, knows_what_it_heard, passes_all_on}
 use Rattle.chain_through.proofs.Above.{CallsUp, asked_written}
 use Rattle.chain_through.proofs.Below.{SaysBelow, Took, begins_more}
 use Rattle.chain_through.proofs.Doing.{AnswersStorable, content_numbered, each_deed, few_sent, without_content, without_front, without_then}
-use Rattle.chain_through.proofs.Facts.{Laws, deeds_of}
+use Rattle.chain_through.proofs.Facts.{deeds_of}
 use Rattle.chain_through.proofs.Found.{IsNumbered}
-use Rattle.chain_through.proofs.Fronts.{front_whole}
+use Rattle.list_laws.specs.Fronts.{IsFront}
+use Rattle.list_laws.proofs.Fronts.{front_whole, front_flat, front_more, front_same, front_then}
 use Rattle.chain_through.proofs.Hearing.{kept_true, true_in}
 use Rattle.chain_told.proofs.Numbered.{AreParts, length_numbered, numbered_again, numbered_append, numbered_parts, under}
 use Rattle.chain_through.proofs.Owning.{IsPassed, all_answered, bound_further, own_passed}
@@ -40,9 +43,9 @@ use Rattle.chain_through.proofs.Ways.{Way, WayBound, are_bound, takes_all}
 use Rattle.list_laws.proofs.Lists.{take_drop}
 use Rattle.chain_route.proofs.Adds.{run_of}
 use Rattle.list_laws.proofs.Contained.{contains_cases}
-use Rattle.chain_route.proofs.Bytes.{front_flat, front_more, front_same, front_then}
 use Rattle.value_node.proofs.OwnInOrder.{own_behind, own_then}
 use Rattle.list_laws.proofs.AllLists.{all_append}
+use Rattle.chain_route.specs.Taking.{AreBound, TakesAll, TakesAllOf}
 
 -- ---- Lists
 
@@ -77,7 +80,7 @@ some_mark (Some position) not_none = refl
 
 -- ---- A value-add
 
-module _ (laws : Laws) (images : List Image) (history : List Input) (legal : IsLegal images history) (m : Made) (made : List Made) (commands given rest : List Asked) (said : List Spoken) (count : ℕ)
+module _ (images : List Image) (history : List Input) (legal : IsLegal images history) (m : Made) (made : List Made) (commands given rest : List Asked) (said : List Spoken) (count : ℕ)
     (few : length commands < 2 ^ 64) (took : Took (past_of m) commands count) (given_are : given ≡ took.until ++ (took.since ++ rest)) (given_few : length given < 2 ^ 64) (up : CallsUp m)
     (w : Way images history (sent_in (deeds_of m)) (end_above (past_of m)) up.calls made said) (down : List Spoken) (b : SaysBelow m (entering w.down) down) (bound : (past_of m).is_bound ≡ true) where
   abbrev pub deeds : List Deed
@@ -94,7 +97,7 @@ module _ (laws : Laws) (images : List Image) (history : List Input) (legal : IsL
   since = numbered (own_count + 1) took.since
 
   asked_are : asked_in deeds ≡ since
-  asked_are = sym (laws.forwards m.peer m.calls).asked ∙ took.since_are
+  asked_are = sym (forwards_in_order m.peer m.calls).asked ∙ took.since_are
 
   -- ---- How many they are
 
@@ -110,7 +113,7 @@ module _ (laws : Laws) (images : List Image) (history : List Input) (legal : IsL
   -- ---- What it did
 
   passes : PassesAllOn (run_of m) (deeds_of m)
-  passes = laws.passes m.peer m.calls
+  passes = passes_all_on m.peer m.calls
 
   -- what comes to it is told rightly
   heard_told : AreToldRightly images history (numbered 1 (sent_in deeds)) b.heard
@@ -133,15 +136,15 @@ module _ (laws : Laws) (images : List Image) (history : List Input) (legal : IsL
   marked_place front back (forwards c) are = tt
   marked_place front back (hears incoming) are = tt
   marked_place front back (answers c reply mark) are = some_mark mark (λ none.
-      let r = laws.rightly m.peer m.calls front back c reply mark are in
+      let r = answers_rightly m.peer m.calls front back c reply mark are in
       let true_there = true_in deeds passes.own images history front (answers c reply mark ∷ back) b.heard are b.are b.readable heard_told in
       let nothing_there : IsPart (learned (lessons_in front)) nothing = subst (λ k. AreTrueAt images history k (learned (lessons_in front))) (sym r.marked ∙ none) true_there in
-      nothing_stored laws.same_replies laws.reads_known (lessons_in front) r.store r.command reply r.store_of nothing_there r.answer)
+      nothing_stored (lessons_in front) r.store r.command reply r.store_of nothing_there r.answer)
 
   storable_place : (front back : List Deed) (d : Deed) → deeds ≡ front ++ d ∷ back → AnswersStorable d
   storable_place front back (forwards c) are = tt
   storable_place front back (hears incoming) are = tt
-  storable_place front back (answers c reply mark) are = let r = laws.rightly m.peer m.calls front back c reply mark are in ap is_stored r.read ∙ r.storable
+  storable_place front back (answers c reply mark) are = let r = answers_rightly m.peer m.calls front back c reply mark are in ap is_stored r.read ∙ r.storable
 
   -- ---- What it says itself answers the commands until it was bound
 
@@ -197,7 +200,7 @@ module _ (laws : Laws) (images : List Image) (history : List Input) (legal : IsL
 
     tells_so : TellsSo images history whole b.own.own deeds b.heard
     tells_so =
-        laws.tells_on images history legal whole b.own.own deeds b.heard begins_so (record { own = passes.own; rightly = laws.rightly m.peer m.calls }) (record { are = b.are; readable = b.readable }) sent_small heard_told
+        value_add_tells_on images history legal whole b.own.own deeds b.heard begins_so (record { own = passes.own; rightly = answers_rightly m.peer m.calls }) (record { are = b.are; readable = b.readable }) sent_small heard_told
 
     told_whole : AreToldRightly images history (numbered 1 whole) down
     told_whole before more s split = ⊎_elim
@@ -215,7 +218,7 @@ module _ (laws : Laws) (images : List Image) (history : List Input) (legal : IsL
 
   pub knows_truth : KnowsTruth images history (value_of m)
   knows_truth is =
-      let k = laws.knows m.peer m.calls in
+      let k = knows_what_it_heard m.peer m.calls in
       let store = (run_of m).value.relay.store in
       let there = true_in deeds passes.own images history deeds [] b.heard (sym (append-nil deeds)) b.are b.readable heard_told in
       kept_true images history store.mark (lessons_in deeds) store (k.known is) (subst (λ mark. AreTrueAt images history mark (learned (lessons_in deeds))) (sym (k.marked is)) there)
@@ -225,7 +228,7 @@ module _ (laws : Laws) (images : List Image) (history : List Input) (legal : IsL
   first_own : (over : List Spoken) → AllByRecursion IsMarked over → IsFront (entering w.down) (w.own ++ over) → (over ≡ []) ⊎ (w.left ≡ []) → TellsOwnFirst deeds w.took w.behind w.own over
   first_own over marked front all_left =
       tells_own_first deeds passes.own (each_deed AnswersStorable [] deeds deeds refl storable_place) (each_deed AnswersMarked [] deeds deeds refl marked_place)
-      (λ before more c reply mark are. (laws.rightly m.peer m.calls before more c reply mark are).marked) b.heard b.are b.readable w.took w.behind w.left w.own over w.split w.is_own marked
+      (λ before more c reply mark are. (answers_rightly m.peer m.calls before more c reply mark are).marked) b.heard b.are b.readable w.took w.behind w.left w.own over w.split w.is_own marked
       (front_then b.heard (entering w.down) (w.own ++ over) b.front front) all_left sent_small
 
   pub record ComesFirst : Type 0 where
@@ -296,7 +299,7 @@ module _ (laws : Laws) (images : List Image) (history : List Input) (legal : IsL
   pub own_formed : AreSpoken own
   own_formed =
       all_append (λ s. IsWellFormed s.message) b.own.own (passed since w.own) b.own_formed
-      (subst (λ cs. AreSpoken (passed cs w.own)) asked_are (passed_formed (asked_in deeds) w.own (asked_written laws m) w.own_formed))
+      (subst (λ cs. AreSpoken (passed cs w.own)) asked_are (passed_formed (asked_in deeds) w.own (asked_written m) w.own_formed))
 
   pub begins : BeginsWithHello own
   begins = begins_more b.own.own (passed since w.own) b.greets

@@ -7,7 +7,8 @@ use Rattle.std.proofs.lemmas.List.Elements.{Contains-append_left, Contains-appen
 use Rattle.std.proofs.lemmas.List.Folds.{list_any-append}
 use Rattle.tcf_message.specs.Message.{MessageValue, command, event, final, flow, most_body, not_known, progress, reading}
 use Rattle.tcf_message.specs.declared.message.MessageFault.{MessageFault}
-use Rattle.channel_core.specs.Arrivals.{IsFront}
+use Rattle.list_laws.specs.Fronts.{IsFront}
+use Rattle.list_laws.proofs.Fronts.{front_then}
 use Rattle.channel_core.specs.Beginning.{new_end}
 use Rattle.channel_core.specs.Closing.{is_closed}
 use Rattle.channel_core.specs.Laws.{listed}
@@ -35,12 +36,14 @@ use Rattle.value_node.specs.declared.states.Bind.{Bind}
 use Rattle.value_node.specs.declared.states.Bind.TheVariants.{Bound, Closed, Opening, Unbound}
 use Rattle.value_node.specs.declared.states.Side.TheVariants.{Above, Below}
 use Rattle.chain_route.specs.Carrying.{past_after}
+use Rattle.channel_core.proofs.TheLaws.{closes_only_so, stays_closed}
+use Rattle.channel_laws.proofs.TheLaws.{ends_by_its_calls}
+use Rattle.tcf_message.proofs.TheLaws.{read_back}
+use Rattle.value_node.proofs.TheLaws.{answers_itself, ends_are_runs, forwards_in_order}
 use Rattle.chain_through.proofs.Accepting.{has_upper, none_refused}
-use Rattle.chain_through.proofs.Facts.{Laws}
-use Rattle.chain_through.proofs.OwnClosing.{EndLaws, takes_closing, takes_no_own, uncalled}
+use Rattle.chain_through.proofs.OwnClosing.{takes_closing, takes_no_own, uncalled}
 use Rattle.chain_through.proofs.Taking.{taken_split}
 use Rattle.chain_route.proofs.Adds.{all_more, lower_calls as calls_below}
-use Rattle.chain_route.proofs.Bytes.{front_then}
 use Rattle.chain_route.proofs.EndCalls.{calls_more}
 
 -- ---- The calls of the lower end
@@ -205,171 +208,170 @@ takes_ended calls rest cause took =
     subst (λ entries. Contains entries (taken.Closed cause)) (sym (taken_split calls (taking ∷ rest) start))
     (Contains-append_right (upper_after calls).past.taken (after_calls (taking ∷ rest) (begun e)).past.taken (taken.Closed cause) later)
 
-module _ (laws : Laws) (ends : EndLaws) where
-  turned_above : (r : ValueRun) → EndsAreRuns r → list_any is_closing (added (turns Above) r.value.relay) ≡ true → IsEndedAbove (after_call (turns Above) r).past
-  turned_above r runs some =
-      let v = r.value.relay in
-      ⊎_elim
-      (λ one. let none = either_open (takes_above v.bind) (took_above_below (next_above v.upper) v) (above_open (next_above v.upper) v) in absurd cc)
-      (λ one. let both = either_closes (takes_above v.bind) (passing_from v.upper v.bind) one in by_upper v.upper refl both.0 both.1)
-      (or_cases (list_any is_closing (own_by (turns Above) v)) (list_any is_closing (passing_by (turns Above) v)) (sym (list_any-append is_closing (own_by (turns Above) v) (passing_by (turns Above) v)) ∙ some))
+turned_above : (r : ValueRun) → EndsAreRuns r → list_any is_closing (added (turns Above) r.value.relay) ≡ true → IsEndedAbove (after_call (turns Above) r).past
+turned_above r runs some =
+    let v = r.value.relay in
+    ⊎_elim
+    (λ one. let none = either_open (takes_above v.bind) (took_above_below (next_above v.upper) v) (above_open (next_above v.upper) v) in absurd cc)
+    (λ one. let both = either_closes (takes_above v.bind) (passing_from v.upper v.bind) one in by_upper v.upper refl both.0 both.1)
+    (or_cases (list_any is_closing (own_by (turns Above) v)) (list_any is_closing (passing_by (turns Above) v)) (sym (list_any-append is_closing (own_by (turns Above) v) (passing_by (turns Above) v)) ∙ some))
+  where
+    by_upper : (upper : Option Upper) → r.value.relay.upper ≡ upper → takes_above r.value.relay.bind ≡ true → list_any is_closing (passing_from upper r.value.relay.bind) ≡ true → IsEndedAbove (after_call (turns Above) r).past
+    by_upper None is takes some = absurd cc
+    by_upper (Some e) is takes some =
+        let v = r.value.relay in
+        let p = passes_closing (next_taken e).0 (next_taken e).1 v.bind some in
+        let stands : StandsWell Bound v r.past = subst (λ bind. StandsWell bind v r.past) p.0 runs.stands in
+        let u = has_upper r runs stands.1 in
+        let end = (upper_after u.calls).end in
+        let both : Some e ≡ Some end = sym is ∙ u.upper_is in
+        let same : e ≡ end = cc in
+        let took : (next_taken end).0 ≡ Some (taken.Closed p.1) = ap (λ (x : Upper). (next_taken x).0) (sym same) ∙ p.2 in
+        let rest = took_above_above (next_taken end).0 v.bind in
+        let more : upper_by (turns Above) v ≡ taking ∷ rest = ap (upper_from (turns Above) v) u.upper_is ∙ ap (λ flag. cond flag (taking ∷ rest) []) takes in
+        let connection : option_map (λ calls. calls ++ upper_by (turns Above) v) r.past.connection ≡ Some (u.calls ++ taking ∷ rest) =
+        ap (option_map (λ calls. calls ++ upper_by (turns Above) v)) u.connection_is ∙ ap (λ calls. Some (u.calls ++ calls)) more in
+        record {
+          bound = or_left r.past.is_bound (is_binding (after_call (turns Above) r).value.relay.bind) stands.2;
+          cause = p.1;
+          among = subst (λ c. Contains (upper_after (unwrap_or c [])).past.taken (taken.Closed p.1)) (sym connection) (takes_ended u.calls rest p.1 took);
+          other = takes_no_own value_services None u.calls u.opened p.1 took;
+        }
+
+-- ---- One from below doesn't
+
+-- so few commands were taken
+abbrev IsFew : Past → Type 0
+IsFew p = length (asked_until p) + length (asked_since p) < 2 ^ 64
+
+module _ (peer : List ℕ) (before : List Call) (few : IsFew (past_after peer before)) where
+  abbrev run : ValueRun
+  run = after_all before (no_calls peer)
+
+  abbrev relay : Relay
+  relay = run.value.relay
+
+  quiet_asked : (token service name body : List ℕ) → takes_below relay.bind relay.upper ≡ true → length service + length name + length body ≤ most_body → (bind : Bind) → relay.bind ≡ bind
+      → NoneCloses (asked_below_in bind token service name body relay)
+  quiet_asked token service name body takes short Unbound is = own_open token (own_reply relay.peer service name body)
+  quiet_asked token service name body takes short Opening is = refl
+  quiet_asked token service name body takes short Bound is = by_store (stored_for service name body relay)
     where
-      by_upper : (upper : Option Upper) → r.value.relay.upper ≡ upper → takes_above r.value.relay.bind ≡ true → list_any is_closing (passing_from upper r.value.relay.bind) ≡ true → IsEndedAbove (after_call (turns Above) r).past
-      by_upper None is takes some = absurd cc
-      by_upper (Some e) is takes some =
-          let v = r.value.relay in
-          let p = passes_closing (next_taken e).0 (next_taken e).1 v.bind some in
-          let stands : StandsWell Bound v r.past = subst (λ bind. StandsWell bind v r.past) p.0 runs.stands in
-          let u = has_upper r runs stands.1 in
-          let end = (upper_after u.calls).end in
-          let both : Some e ≡ Some end = sym is ∙ u.upper_is in
-          let same : e ≡ end = cc in
-          let took : (next_taken end).0 ≡ Some (taken.Closed p.1) = ap (λ (x : Upper). (next_taken x).0) (sym same) ∙ p.2 in
-          let rest = took_above_above (next_taken end).0 v.bind in
-          let more : upper_by (turns Above) v ≡ taking ∷ rest = ap (upper_from (turns Above) v) u.upper_is ∙ ap (λ flag. cond flag (taking ∷ rest) []) takes in
-          let connection : option_map (λ calls. calls ++ upper_by (turns Above) v) r.past.connection ≡ Some (u.calls ++ taking ∷ rest) =
-          ap (option_map (λ calls. calls ++ upper_by (turns Above) v)) u.connection_is ∙ ap (λ calls. Some (u.calls ++ calls)) more in
-          record {
-            bound = or_left r.past.is_bound (is_binding (after_call (turns Above) r).value.relay.bind) stands.2;
-            cause = p.1;
-            among = subst (λ c. Contains (upper_after (unwrap_or c [])).past.taken (taken.Closed p.1)) (sym connection) (takes_ended u.calls rest p.1 took);
-            other = takes_no_own ends.upper_calls ends.upper_stays value_services None u.calls u.opened p.1 took;
-          }
+      by_store : (stored : Option (List ℕ)) → NoneCloses (bound_below stored token service name body relay)
+      by_store None = none_refused run (deeds_from before (no_calls peer)) (ends_are_runs peer before) (forwards_in_order peer before) (answers_itself peer before) is takes few service name body short
+      by_store (Some reply) = refl
+  quiet_asked token service name body takes short Closed is = refl
 
-  -- ---- One from below doesn't
+  quiet_read : (raw : List ℕ) → takes_below relay.bind relay.upper ≡ true → (read : Result MessageValue MessageFault) → reading raw ≡ read → NoneCloses (asked_below read relay)
+  quiet_read raw takes (Ok (command token service name body)) is =
+      let says = (read_back.0 raw (command token service name body)).0 is in quiet_asked token service name body takes says.0.1 relay.bind refl
+  quiet_read raw takes (Ok (final token body)) is = refl
+  quiet_read raw takes (Ok (progress token body)) is = refl
+  quiet_read raw takes (Ok (not_known token)) is = refl
+  quiet_read raw takes (Ok (event service name body)) is = refl
+  quiet_read raw takes (Ok (flow level)) is = refl
+  quiet_read raw takes (Err fault) is = refl
 
-  -- so few commands were taken
-  abbrev IsFew : Past → Type 0
-  IsFew p = length (asked_until p) + length (asked_since p) < 2 ^ 64
+  abbrev lower : List LowerCall
+  lower = calls_below run.past
 
-  module _ (peer : List ℕ) (before : List Call) (few : IsFew (past_after peer before)) where
-    abbrev run : ValueRun
-    run = after_all before (no_calls peer)
+  -- what is closed by an entry from below isn't closed by its own side
+  turned_taking : is_closed (lower_after lower).end.state ≡ false → takes_below relay.bind relay.upper ≡ true → (what : Option (Taken Unit)) → (next_taken relay.lower).0 ≡ what
+      → (after_calls (taking ∷ took_below_below what relay) (lower_after lower)).end.state ≡ IsClosed Own → list_any is_closing (took_below_below what relay) ≡ true → ⊥
+  turned_taking opened takes None is closed some = absurd cc
+  turned_taking opened takes (Some (taken.Hello incoming)) is closed some = absurd cc
+  turned_taking opened takes (Some (taken.Command incoming)) is closed some = let none = quiet_read incoming.raw takes (reading incoming.raw) refl in absurd cc
+  turned_taking opened takes (Some (taken.Event incoming)) is closed some = absurd cc
+  turned_taking opened takes (Some (taken.Progress token incoming)) is closed some = absurd cc
+  turned_taking opened takes (Some (taken.Final tag incoming)) is closed some = absurd cc
+  turned_taking opened takes (Some (taken.Closed cause)) is closed some =
+      let same = (ends_are_runs peer before).lower in
+      let took : (next_taken (lower_after lower).end).0 ≡ Some (taken.Closed cause) = ap (λ e. (next_taken e).0) (sym same) ∙ is in
+      takes_closing value_services None lower (closes_only_so value_services None lower) opened cause took (closing ∷ []) closed
 
-    abbrev relay : Relay
-    relay = run.value.relay
+  turned_below : is_closed (lower_after lower).end.state ≡ false → (takes : Bool) → takes_below relay.bind relay.upper ≡ takes
+      → (after_calls (cond takes (taking ∷ took_below_below (next_taken relay.lower).0 relay) []) (lower_after lower)).end.state ≡ IsClosed Own
+      → list_any is_closing (cond takes (taking ∷ took_below_below (next_taken relay.lower).0 relay) []) ≡ true → ⊥
+  turned_below opened true takes closed some = turned_taking opened takes (next_taken relay.lower).0 refl closed some
+  turned_below opened false takes closed some = absurd cc
 
-    quiet_asked : (token service name body : List ℕ) → takes_below relay.bind relay.upper ≡ true → length service + length name + length body ≤ most_body → (bind : Bind) → relay.bind ≡ bind
-        → NoneCloses (asked_below_in bind token service name body relay)
-    quiet_asked token service name body takes short Unbound is = own_open token (own_reply relay.peer service name body)
-    quiet_asked token service name body takes short Opening is = refl
-    quiet_asked token service name body takes short Bound is = by_store (stored_for service name body relay)
-      where
-        by_store : (stored : Option (List ℕ)) → NoneCloses (bound_below stored token service name body relay)
-        by_store None = none_refused laws.upper_sends run (deeds_from before (no_calls peer)) (laws.runs peer before) (laws.forwards peer before) (laws.answers peer before) is takes few service name body short
-        by_store (Some reply) = refl
-    quiet_asked token service name body takes short Closed is = refl
+  -- ---- Each call
 
-    quiet_read : (raw : List ℕ) → takes_below relay.bind relay.upper ≡ true → (read : Result MessageValue MessageFault) → reading raw ≡ read → NoneCloses (asked_below read relay)
-    quiet_read raw takes (Ok (command token service name body)) is =
-        let says = (laws.read_back.0 raw (command token service name body)).0 is in quiet_asked token service name body takes says.0.1 relay.bind refl
-    quiet_read raw takes (Ok (final token body)) is = refl
-    quiet_read raw takes (Ok (progress token body)) is = refl
-    quiet_read raw takes (Ok (not_known token)) is = refl
-    quiet_read raw takes (Ok (event service name body)) is = refl
-    quiet_read raw takes (Ok (flow level)) is = refl
-    quiet_read raw takes (Err fault) is = refl
+  -- by which an open lower end is closed by its own side
+  closed_by : (call : Call) → is_closed (lower_after lower).end.state ≡ false → (after_calls (added call relay) (lower_after lower)).end.state ≡ IsClosed Own → list_any is_closing (added call relay) ≡ true
+      → IsEndedAbove (after_call call run).past
+  closed_by connects opened closed some = absurd cc
+  closed_by (comes Below piece mark) opened closed some = absurd cc
+  closed_by (comes Above piece mark) opened closed some = absurd cc
+  closed_by (bytes_end Below) opened closed some = absurd cc
+  closed_by (bytes_end Above) opened closed some = absurd cc
+  closed_by (turns Below) opened closed some =
+      let calls = own_by (turns Below) relay in
+      let all : calls ++ [] ≡ calls = append-nil calls in
+      absurd (turned_below opened (takes_below relay.bind relay.upper) refl (subst (λ cs. (after_calls cs (lower_after lower)).end.state ≡ IsClosed Own) all closed) (sym (ap (list_any is_closing) all) ∙ some))
+  closed_by (turns Above) opened closed some = turned_above run (ends_are_runs peer before) some
+  closed_by fails opened closed some =
+      let calls = own_by fails relay in
+      let none : list_any is_closing (calls ++ []) ≡ false = ap (list_any is_closing) (append-nil calls) ∙ either_open (awaits relay) (answering relay.redirect redirect_failed) (answering_open relay.redirect redirect_failed) in
+      absurd cc
+  closed_by (gives Below) opened closed some = absurd cc
+  closed_by (gives Above) opened closed some = absurd cc
 
-    abbrev lower : List LowerCall
-    lower = calls_below run.past
+  abbrev ClosesSo : Past → Type 0
+  ClosesSo p = (below p).end.state ≡ IsClosed Own → IsEndedAbove p
 
-    -- what is closed by an entry from below isn't closed by its own side
-    turned_taking : is_closed (lower_after lower).end.state ≡ false → takes_below relay.bind relay.upper ≡ true → (what : Option (Taken Unit)) → (next_taken relay.lower).0 ≡ what
-        → (after_calls (taking ∷ took_below_below what relay) (lower_after lower)).end.state ≡ IsClosed Own → list_any is_closing (took_below_below what relay) ≡ true → ⊥
-    turned_taking opened takes None is closed some = absurd cc
-    turned_taking opened takes (Some (taken.Hello incoming)) is closed some = absurd cc
-    turned_taking opened takes (Some (taken.Command incoming)) is closed some = let none = quiet_read incoming.raw takes (reading incoming.raw) refl in absurd cc
-    turned_taking opened takes (Some (taken.Event incoming)) is closed some = absurd cc
-    turned_taking opened takes (Some (taken.Progress token incoming)) is closed some = absurd cc
-    turned_taking opened takes (Some (taken.Final tag incoming)) is closed some = absurd cc
-    turned_taking opened takes (Some (taken.Closed cause)) is closed some =
-        let same = (laws.runs peer before).lower in
-        let took : (next_taken (lower_after lower).end).0 ≡ Some (taken.Closed cause) = ap (λ e. (next_taken e).0) (sym same) ∙ is in
-        takes_closing ends.lower_calls ends.lower_stays value_services None lower (ends.lower_closes value_services None lower) opened cause took (closing ∷ []) closed
+  step_closes : (call : Call) → ClosesSo run.past → ClosesSo (after_call call run).past
+  step_closes call so closed = by_flag (is_closed (lower_after lower).end.state) refl
+    where
+      calls_are : calls_below (after_call call run).past ≡ lower ++ added call relay
+      calls_are = calls_added call run (ends_are_runs peer before).unbound
 
-    turned_below : is_closed (lower_after lower).end.state ≡ false → (takes : Bool) → takes_below relay.bind relay.upper ≡ takes
-        → (after_calls (cond takes (taking ∷ took_below_below (next_taken relay.lower).0 relay) []) (lower_after lower)).end.state ≡ IsClosed Own
-        → list_any is_closing (cond takes (taking ∷ took_below_below (next_taken relay.lower).0 relay) []) ≡ true → ⊥
-    turned_below opened true takes closed some = turned_taking opened takes (next_taken relay.lower).0 refl closed some
-    turned_below opened false takes closed some = absurd cc
+      closed_now : (lower_after (lower ++ added call relay)).end.state ≡ IsClosed Own
+      closed_now = subst (λ cs. (lower_after cs).end.state ≡ IsClosed Own) calls_are closed
 
-    -- ---- Each call
+      closed_then : (after_calls (added call relay) (lower_after lower)).end.state ≡ IsClosed Own
+      closed_then = ap (λ x. x.end.state) (sym (calls_more lower (added call relay) (begun (new_end value_services None)))) ∙ closed_now
 
-    -- by which an open lower end is closed by its own side
-    closed_by : (call : Call) → is_closed (lower_after lower).end.state ≡ false → (after_calls (added call relay) (lower_after lower)).end.state ≡ IsClosed Own → list_any is_closing (added call relay) ≡ true
-        → IsEndedAbove (after_call call run).past
-    closed_by connects opened closed some = absurd cc
-    closed_by (comes Below piece mark) opened closed some = absurd cc
-    closed_by (comes Above piece mark) opened closed some = absurd cc
-    closed_by (bytes_end Below) opened closed some = absurd cc
-    closed_by (bytes_end Above) opened closed some = absurd cc
-    closed_by (turns Below) opened closed some =
-        let calls = own_by (turns Below) relay in
-        let all : calls ++ [] ≡ calls = append-nil calls in
-        absurd (turned_below opened (takes_below relay.bind relay.upper) refl (subst (λ cs. (after_calls cs (lower_after lower)).end.state ≡ IsClosed Own) all closed) (sym (ap (list_any is_closing) all) ∙ some))
-    closed_by (turns Above) opened closed some = turned_above run (laws.runs peer before) some
-    closed_by fails opened closed some =
-        let calls = own_by fails relay in
-        let none : list_any is_closing (calls ++ []) ≡ false = ap (list_any is_closing) (append-nil calls) ∙ either_open (awaits relay) (answering relay.redirect redirect_failed) (answering_open relay.redirect redirect_failed) in
-        absurd cc
-    closed_by (gives Below) opened closed some = absurd cc
-    closed_by (gives Above) opened closed some = absurd cc
+      by_flag : (flag : Bool) → is_closed (lower_after lower).end.state ≡ flag → IsEndedAbove (after_call call run).past
+      by_flag true is =
+          let runs = ends_are_runs peer before in
+          let still = stays_closed value_services None lower (added call relay) is in
+          let isnt = closed_bind relay.bind relay run.past runs.stands (ap (λ e. is_closed e.state) runs.lower ∙ is) in
+          stays_ended call run isnt (so (sym still.state ∙ closed_then))
+      by_flag false is =
+          let ends_for : EndsFor (lower_after (lower ++ added call relay)) Own = inr (inl closed_now) in
+          let any : list_any is_closing (lower ++ added call relay) ≡ true = (ends_by_its_calls value_services None (lower ++ added call relay)).own ends_for in
+          let none = uncalled value_services None lower is in
+          let some : list_any is_closing (added call relay) ≡ true =
+          ⊎_elim (λ one. absurd cc) (λ one. one) (or_cases (list_any is_closing lower) (list_any is_closing (added call relay)) (sym (list_any-append is_closing lower (added call relay)) ∙ any)) in
+          closed_by call is closed_then some
 
-    abbrev ClosesSo : Past → Type 0
-    ClosesSo p = (below p).end.state ≡ IsClosed Own → IsEndedAbove p
+-- ---- After all calls
 
-    step_closes : (call : Call) → ClosesSo run.past → ClosesSo (after_call call run).past
-    step_closes call so closed = by_flag (is_closed (lower_after lower).end.state) refl
-      where
-        calls_are : calls_below (after_call call run).past ≡ lower ++ added call relay
-        calls_are = calls_added call run (laws.runs peer before).unbound
+abbrev pub AreFew : List ℕ → List Call → Type 0
+AreFew peer calls = (first rest : List Call) → calls ≡ first ++ rest → length (asked_until (past_after peer first)) + length (asked_since (past_after peer first)) < 2 ^ 64
 
-        closed_now : (lower_after (lower ++ added call relay)).end.state ≡ IsClosed Own
-        closed_now = subst (λ cs. (lower_after cs).end.state ≡ IsClosed Own) calls_are closed
+closes_from : (peer : List ℕ) (before calls : List Call) → AreFew peer (before ++ calls) → ((below (past_after peer before)).end.state ≡ IsClosed Own → IsEndedAbove (past_after peer before))
+    → (below (past_after peer (before ++ calls))).end.state ≡ IsClosed Own → IsEndedAbove (past_after peer (before ++ calls))
+closes_from peer before [] few so =
+    subst (λ cs. (below (past_after peer cs)).end.state ≡ IsClosed Own → IsEndedAbove (past_after peer cs)) (sym (append-nil before)) so
+closes_from peer before (call ∷ calls) few so =
+    let all : (before ++ call ∷ []) ++ calls ≡ before ++ call ∷ calls = append_assoc before (call ∷ []) calls in
+    let next = step_closes peer before (few before (call ∷ calls) refl) call so in
+    let later = subst (λ r. (below r.past).end.state ≡ IsClosed Own → IsEndedAbove r.past) (sym (all_more before (call ∷ []) (no_calls peer))) next in
+    subst (λ cs. (below (past_after peer cs)).end.state ≡ IsClosed Own → IsEndedAbove (past_after peer cs)) all
+    (closes_from peer (before ++ call ∷ []) calls (λ first rest is. few first rest (sym all ∙ is)) later)
 
-        closed_then : (after_calls (added call relay) (lower_after lower)).end.state ≡ IsClosed Own
-        closed_then = ap (λ x. x.end.state) (sym (calls_more lower (added call relay) (begun (new_end value_services None)))) ∙ closed_now
+pub closed_so : (peer : List ℕ) (calls : List Call) → AreFew peer calls → (below (past_after peer calls)).end.state ≡ IsClosed Own → IsEndedAbove (past_after peer calls)
+closed_so peer calls few = closes_from peer [] calls few (λ is. absurd cc)
 
-        by_flag : (flag : Bool) → is_closed (lower_after lower).end.state ≡ flag → IsEndedAbove (after_call call run).past
-        by_flag true is =
-            let runs = laws.runs peer before in
-            let still = ends.lower_stays value_services None lower (added call relay) is in
-            let isnt = closed_bind relay.bind relay run.past runs.stands (ap (λ e. is_closed e.state) runs.lower ∙ is) in
-            stays_ended call run isnt (so (sym still.state ∙ closed_then))
-        by_flag false is =
-            let ends_for : EndsFor (lower_after (lower ++ added call relay)) Own = inr (inl closed_now) in
-            let any : list_any is_closing (lower ++ added call relay) ≡ true = (ends.lower_calls value_services None (lower ++ added call relay)).own ends_for in
-            let none = uncalled ends.lower_calls ends.lower_stays value_services None lower is in
-            let some : list_any is_closing (added call relay) ≡ true =
-            ⊎_elim (λ one. absurd cc) (λ one. one) (or_cases (list_any is_closing lower) (list_any is_closing (added call relay)) (sym (list_any-append is_closing lower (added call relay)) ∙ any)) in
-            closed_by call is closed_then some
-
-  -- ---- After all calls
-
-  abbrev pub AreFew : List ℕ → List Call → Type 0
-  AreFew peer calls = (first rest : List Call) → calls ≡ first ++ rest → length (asked_until (past_after peer first)) + length (asked_since (past_after peer first)) < 2 ^ 64
-
-  closes_from : (peer : List ℕ) (before calls : List Call) → AreFew peer (before ++ calls) → ((below (past_after peer before)).end.state ≡ IsClosed Own → IsEndedAbove (past_after peer before))
-      → (below (past_after peer (before ++ calls))).end.state ≡ IsClosed Own → IsEndedAbove (past_after peer (before ++ calls))
-  closes_from peer before [] few so =
-      subst (λ cs. (below (past_after peer cs)).end.state ≡ IsClosed Own → IsEndedAbove (past_after peer cs)) (sym (append-nil before)) so
-  closes_from peer before (call ∷ calls) few so =
-      let all : (before ++ call ∷ []) ++ calls ≡ before ++ call ∷ calls = append_assoc before (call ∷ []) calls in
-      let next = step_closes peer before (few before (call ∷ calls) refl) call so in
-      let later = subst (λ r. (below r.past).end.state ≡ IsClosed Own → IsEndedAbove r.past) (sym (all_more before (call ∷ []) (no_calls peer))) next in
-      subst (λ cs. (below (past_after peer cs)).end.state ≡ IsClosed Own → IsEndedAbove (past_after peer cs)) all
-      (closes_from peer (before ++ call ∷ []) calls (λ first rest is. few first rest (sym all ∙ is)) later)
-
-  pub closed_so : (peer : List ℕ) (calls : List Call) → AreFew peer calls → (below (past_after peer calls)).end.state ≡ IsClosed Own → IsEndedAbove (past_after peer calls)
-  closed_so peer calls few = closes_from peer [] calls few (λ is. absurd cc)
-
-  -- what came to it before is a front of what comes to it
-  pub calls_front : (peer : List ℕ) (before calls : List Call) → IsFront (calls_below (past_after peer before)) (calls_below (past_after peer (before ++ calls)))
-  calls_front peer before [] = ([], ap (λ cs. calls_below (past_after peer cs)) (append-nil before) ∙ sym (append-nil (calls_below (past_after peer before))))
-  calls_front peer before (call ∷ calls) =
-      let r = after_all before (no_calls peer) in
-      let all : (before ++ call ∷ []) ++ calls ≡ before ++ call ∷ calls = append_assoc before (call ∷ []) calls in
-      let one : IsFront (calls_below r.past) (calls_below (past_after peer (before ++ call ∷ []))) =
-      (added call r.value.relay, ap (λ x. calls_below x.past) (all_more before (call ∷ []) (no_calls peer)) ∙ calls_added call r (laws.runs peer before).unbound) in
-      let more = subst (λ cs. IsFront (calls_below (past_after peer (before ++ call ∷ []))) (calls_below (past_after peer cs))) all (calls_front peer (before ++ call ∷ []) calls) in
-      front_then (calls_below r.past) (calls_below (past_after peer (before ++ call ∷ []))) (calls_below (past_after peer (before ++ call ∷ calls))) one more
+-- what came to it before is a front of what comes to it
+pub calls_front : (peer : List ℕ) (before calls : List Call) → IsFront (calls_below (past_after peer before)) (calls_below (past_after peer (before ++ calls)))
+calls_front peer before [] = ([], ap (λ cs. calls_below (past_after peer cs)) (append-nil before) ∙ sym (append-nil (calls_below (past_after peer before))))
+calls_front peer before (call ∷ calls) =
+    let r = after_all before (no_calls peer) in
+    let all : (before ++ call ∷ []) ++ calls ≡ before ++ call ∷ calls = append_assoc before (call ∷ []) calls in
+    let one : IsFront (calls_below r.past) (calls_below (past_after peer (before ++ call ∷ []))) =
+    (added call r.value.relay, ap (λ x. calls_below x.past) (all_more before (call ∷ []) (no_calls peer)) ∙ calls_added call r (ends_are_runs peer before).unbound) in
+    let more = subst (λ cs. IsFront (calls_below (past_after peer (before ++ call ∷ []))) (calls_below (past_after peer cs))) all (calls_front peer (before ++ call ∷ []) calls) in
+    front_then (calls_below r.past) (calls_below (past_after peer (before ++ call ∷ []))) (calls_below (past_after peer (before ++ call ∷ calls))) one more

@@ -1,7 +1,7 @@
 -- What a bound value-add does: the commands that it was asked and sent, until it first answers one from its store and behind that.
 use Rattle.std.proofs.Common.{◌≡◌, ℕ, ◌+◌, ◌≤◌, Bool, true, inl, inr, List, [], ◌∷◌, ◌++◌, length, map, refl, sym, ap, ◌∙◌, subst, arith, append_assoc}
 use Rattle.std.specs.List.{AllByRecursion}
-use Rattle.channel_core.specs.Arrivals.{IsFront}
+use Rattle.list_laws.specs.Fronts.{IsFront}
 use Rattle.value_node.specs.Asked.{Asked}
 use Rattle.value_node.specs.Deeds.{Deed, answers, asked_in, forwards, hears, sent_in}
 use Rattle.chain_told.specs.Told.{is_storable, numbered}

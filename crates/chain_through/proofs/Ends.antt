@@ -5,7 +5,7 @@ use Rattle.std.specs.Prelude.{Contains}
 use Rattle.std.specs.List.{AllByRecursion, filter, flat_map, list_any}
 use Rattle.std.proofs.lemmas.Bool.{or_left, or_right}
 use Rattle.std.proofs.lemmas.List.Elements.{filter-append}
-use Rattle.channel_core.specs.Arrivals.{IsFront, Spoken, arrived, arrived_in, bytes_of, marked as marked_bytes, queue_of}
+use Rattle.channel_core.specs.Arrivals.{Spoken, arrived, arrived_in, bytes_of, marked as marked_bytes, queue_of}
 use Rattle.channel_core.specs.Closing.{is_closed}
 use Rattle.channel_core.specs.Greeting.{is_greeting}
 use Rattle.channel_core.specs.ReceivingLaws.{incoming_of}
@@ -37,22 +37,25 @@ use Rattle.chain_told.specs.Told.{AreToldRightly, IsOpen, IsOwed, numbered}
 use Rattle.chain_through.specs.Calling.{Answering, AskNothing, Calls, IsAnswering, IsAwaited, Says, entering, given_of}
 use Rattle.chain_through.specs.Endings.{AddIsSound, ComesToSoundEnds, EndsSoundly, IsSound}
 use Rattle.chain_through.specs.Through.{IsMarked, IsSaidRightly}
+use Rattle.channel_core.proofs.TheLaws.{ends_fairly, ends_once, queues_in_order, sends_in_order}
+use Rattle.channel_laws.proofs.TheLaws.{ends_by_its_calls}
 use Rattle.chain_through.proofs.Above.{below_gives, calls_on}
 use Rattle.chain_through.proofs.Below.{Took, took}
 use Rattle.chain_through.proofs.ClosingBelow.{AreFew, IsEndedAbove, calls_front, closed_so}
-use Rattle.chain_through.proofs.Facts.{Laws, below_read, calls_above, deeds_of, facts_of}
+use Rattle.chain_through.proofs.Facts.{below_read, calls_above, deeds_of, facts_of}
 use Rattle.chain_through.proofs.Found.{found_number}
 use Rattle.chain_through.proofs.Given.{IsGiven, given_few, given_so}
 use Rattle.chain_through.proofs.Lost.{ended_lost}
 use Rattle.chain_told.proofs.Numbered.{length_numbered}
-use Rattle.chain_through.proofs.OwnClosing.{EndLaws}
 use Rattle.chain_through.proofs.Spelling.{said_so}
 use Rattle.chain_through.proofs.Taking.{come_as}
 use Rattle.chain_through.proofs.Through.{few_above, way, way_down}
 use Rattle.chain_through.proofs.Ways.{calls_few}
 use Rattle.list_laws.proofs.Lists.{take_most, none_last, none_before}
 use Rattle.chain_route.proofs.Adds.{lower_calls as calls_below}
-use Rattle.chain_route.proofs.Bytes.{front_flat, front_then}
+use Rattle.list_laws.specs.Fronts.{IsFront}
+use Rattle.list_laws.proofs.Fronts.{front_flat, front_then}
+use Rattle.chain_through.proofs.Sound.{answered_sound, asked_sound}
 
 -- ---- What is told rightly answers the commands that were sent
 
@@ -137,7 +140,7 @@ record SoundWay (commands : List Asked) (lower : End) (calls : Calls commands lo
   comes : EndsSoundly commands lower calls made agent_ended
   silent : made ≡ [] → comes.is_ended ≡ true → entering comes.down ≡ []
 
-module _ (laws : Laws) (ends : EndLaws) (images : List Image) (history : List Input) (legal : IsLegal images history) where
+module _ (images : List Image) (history : List Input) (legal : IsLegal images history) where
   -- ---- The ends of a value-add
 
   lower_sound : (hop : Hop) (lower : End) (m : Made) (commands : List Asked) → HopCarries hop lower (end_below (past_of m)) → Calls commands lower.gave → IsSound (below (past_of m))
@@ -146,36 +149,36 @@ module _ (laws : Laws) (ends : EndLaws) (images : List Image) (history : List In
       let queue = queue_of calls.spoken calls.is_ended in
       let gave : IsFront (bytes_of lower.gave) (bytes_of queue) = front_flat (λ o. marked_bytes o.bytes o.mark) lower.gave queue calls.front in
       let came : IsFront (arrived all) (bytes_of queue) = front_then (arrived all) (bytes_of lower.gave) (bytes_of queue) carries.up_front gave in
-      ends.lower_asked value_services None all calls.spoken calls.is_ended calls.services commands calls.formed came calls.says
+      asked_sound value_services None all calls.spoken calls.is_ended calls.services commands calls.formed came calls.says
 
   upper_sound : (m : Made) (made : List Made) (agent_ended : Bool) (g : IsGiven (sent_in (deeds_of m)) (end_above (past_of m)).gave)
       → EndsSoundly (sent_in (deeds_of m)) (end_above (past_of m)) g.calls made agent_ended → IsSound (above (past_of m))
   upper_sound m made agent_ended g rest =
       let r = above (past_of m) in
-      let few = given_few r (sent_in (deeds_of m)) (laws.upper_order value_services None (calls_above m)) (laws.upper_sends value_services None (calls_above m)) g in
+      let few = given_few r (sent_in (deeds_of m)) (queues_in_order value_services None (calls_above m)) (sends_in_order value_services None (calls_above m)) g in
       let answering = answering_more (length (entering g.calls.spoken) - 1) (length (sent_of r)) (entering rest.down) few rest.answering in
-      ends.upper_answered value_services None (calls_above m) rest.down rest.is_ended rest.formed rest.comes_down rest.begins answering
+      answered_sound value_services None (calls_above m) rest.down rest.is_ended rest.formed rest.comes_down rest.begins answering
 
   -- ---- The commands that it takes
 
-  few_taken : (hop : Hop) (lower : End) (m : Made) (commands : List Asked) → HopCarries hop lower (end_below (past_of m)) → Calls commands lower.gave → length commands < 2 ^ 64 → AreFew laws ends m.peer m.calls
+  few_taken : (hop : Hop) (lower : End) (m : Made) (commands : List Asked) → HopCarries hop lower (end_below (past_of m)) → Calls commands lower.gave → length commands < 2 ^ 64 → AreFew m.peer m.calls
   few_taken hop lower m commands carries calls few first rest is =
       let p = past_after m.peer first in
       let n : Made = record { peer = m.peer; calls = first } in
-      let front : IsFront (calls_below p) (calls_below (past_of m)) = subst (λ cs. IsFront (calls_below p) (calls_below (past_after m.peer cs))) (sym is) (calls_front laws ends m.peer first rest) in
+      let front : IsFront (calls_below p) (calls_below (past_of m)) = subst (λ cs. IsFront (calls_below p) (calls_below (past_after m.peer cs))) (sym is) (calls_front m.peer first rest) in
       let came : IsFront (arrived (calls_below p)) (arrived (calls_below (past_of m))) = front_flat arrived_in (calls_below p) (calls_below (past_of m)) front in
       let comes = front_then (arrived (calls_below p)) (arrived (calls_below (past_of m))) (bytes_of lower.gave) came carries.up_front in
-      let some = took_few p commands (length (entering calls.spoken) - 1) (took laws lower n commands comes calls) in
+      let some = took_few p commands (length (entering calls.spoken) - 1) (took lower n commands comes calls) in
       let most = calls_few commands lower calls in
       omega arith
 
   -- ---- The end of the stream
 
-  own_closing : (m : Made) → AddIsSound m → (below_read laws m).is_ended ≡ true → (below (past_of m)).end.state ≡ IsClosed Own
+  own_closing : (m : Made) → AddIsSound m → (below_read m).is_ended ≡ true → (below (past_of m)).end.state ≡ IsClosed Own
   own_closing m sound is =
-      let can = below_read laws m in
+      let can = below_read m in
       let r = below (past_of m) in
-      let once = ends.lower_once value_services None (calls_below (past_of m)) in
+      let once = ends_once value_services None (calls_below (past_of m)) in
       ends_own r.end.state r.past.queued can.spoken (can.queue ∙ ap (queue_of can.spoken) is) (can.closed is) once.ends
       (λ number reason closed. sound.lower.protocol number reason (inr (inl closed))) (λ fault closed. sound.lower.stream fault (inr (inl closed)))
 
@@ -184,15 +187,15 @@ module _ (laws : Laws) (ends : EndLaws) (images : List Image) (history : List In
       → (past_of m).is_bound ≡ true → Contains (above (past_of m)).past.taken (taken.Closed Eos) → list_any was_lost_above (m ∷ made) ≡ true
   came_above m (n ∷ made) agent_ended calls rest bound among =
       let from = rest.comes in
-      let fair = ends.upper_causes value_services None (calls_above m) from.down from.is_ended from.formed from.comes_down Eos (inr (inr among)) in
+      let fair = ends_fairly value_services None (calls_above m) from.down from.is_ended from.formed from.comes_down Eos (inr (inr among)) in
       or_right (was_lost_above m) (list_any was_lost_above (n ∷ made)) (from.ended fair.0)
   came_above m [] agent_ended calls rest bound among =
       let r = above (past_of m) in
       let from = rest.comes in
-      let fair = ends.upper_causes value_services None (calls_above m) from.down from.is_ended from.formed from.comes_down Eos (inr (inr among)) in
+      let fair = ends_fairly value_services None (calls_above m) from.down from.is_ended from.formed from.comes_down Eos (inr (inr among)) in
       let none : flat_map incoming_of r.past.taken ≡ [] = none_before (flat_map incoming_of r.past.taken) _ (fair.1 ∙ ap (map come_as) (rest.silent refl fair.0)) in
       let unheard = no_greeting r.past.taken none in
-      let heard : list_any is_greeting r.past.taken ≡ (past_of m).is_bound = (facts_of laws m).heard in
+      let heard : list_any is_greeting r.past.taken ≡ (past_of m).is_bound = (facts_of m).heard in
       absurd cc
 
   goes_down : (m : Made) (made : List Made) (agent_ended : Bool) (calls : Calls (sent_in (deeds_of m)) (end_above (past_of m)).gave) → SoundWay (sent_in (deeds_of m)) (end_above (past_of m)) calls made agent_ended → AddIsSound m → IsEndedAbove (past_of m) → list_any was_lost_above (m ∷ made) ≡ true
@@ -202,7 +205,7 @@ module _ (laws : Laws) (ends : EndLaws) (images : List Image) (history : List In
       by_cause Own among other = absurd (other refl)
       by_cause Eos among other = came_above m made agent_ended calls rest e.bound among
       by_cause Ended among other =
-          or_left (was_lost_above m) (list_any was_lost_above made) (ended_lost m.calls (no_calls m.peer) refl ((ends.upper_calls value_services None (calls_above m)).ended (inr (inr among))))
+          or_left (was_lost_above m) (list_any was_lost_above made) (ended_lost m.calls (no_calls m.peer) refl ((ends_by_its_calls value_services None (calls_above m)).ended (inr (inr among))))
       by_cause (Protocol number reason) among other = absurd (sound.upper.protocol number reason (inr (inr among)))
       by_cause (Stream fault) among other = absurd (sound.upper.stream fault (inr (inr among)))
 
@@ -244,33 +247,33 @@ module _ (laws : Laws) (ends : EndLaws) (images : List Image) (history : List In
   sound_way (m ∷ made) lower agent [] commands said carry calls few says quiet marked rightly begins ended = absurd carry
   sound_way (m ∷ made) lower agent (hop ∷ hops) commands said carry calls few says quiet marked rightly begins ended =
       let p = past_of m in
-      let can = below_read laws m in
+      let can = below_read m in
       let queue = queue_of can.spoken can.is_ended in
-      let up = calls_on laws m hops made agent said carry.1 says quiet in
+      let up = calls_on m hops made agent said carry.1 says quiet in
       let given = given_so (sent_in (deeds_of m)) (end_above p).gave up.calls in
       let few_all = few_taken hop lower m commands carry.0 calls few in
-      let few_up = few_above laws images history legal hop lower m commands carry.0 calls few in
+      let few_up = few_above images history legal hop lower m commands carry.0 calls few in
       let rest = sound_way made (end_above p) agent hops (sent_in (deeds_of m)) said carry.1 given.calls few_up says quiet marked rightly begins ended in
       let sound : AddIsSound m = record {
         lower = lower_sound hop lower m commands carry.0 calls;
         upper = upper_sound m made says.is_ended given rest.comes;
       } in
-      let through = way laws images history legal (m ∷ made) lower agent (hop ∷ hops) commands said carry calls few says quiet marked rightly in
-      let down : through.down ≡ can.spoken = way_down laws images history legal m made lower agent hop hops commands said carry calls few says quiet marked rightly in
+      let through = way images history legal (m ∷ made) lower agent (hop ∷ hops) commands said carry calls few says quiet marked rightly in
+      let down : through.down ≡ can.spoken = way_down images history legal m made lower agent hop hops commands said carry calls few says quiet marked rightly in
       record {
         comes = record {
           adds = (sound, rest.comes.adds);
           down = can.spoken;
           is_ended = can.is_ended;
           formed = can.well_formed;
-          comes_down = front_then lower.came (bytes_of (end_below p).gave) (bytes_of queue) carry.0.down_front (front_flat (λ o. marked_bytes o.bytes o.mark) (end_below p).gave queue (below_gives laws m));
+          comes_down = front_then lower.came (bytes_of (end_below p).gave) (bytes_of queue) carry.0.down_front (front_flat (λ o. marked_bytes o.bytes o.mark) (end_below p).gave queue (below_gives m));
           begins = subst (λ spoken. BeginsWithHello (entering spoken)) down (through.greets begins);
           answering = subst (λ spoken. Answering (length (entering calls.spoken) - 1) (entering spoken)) down (told_answers images history commands calls.spoken (entering through.down) through.told);
-          ended = λ is. goes_down m made says.is_ended given.calls rest sound (closed_so laws ends m.peer m.calls few_all (own_closing m sound is));
+          ended = λ is. goes_down m made says.is_ended given.calls rest sound (closed_so m.peer m.calls few_all (own_closing m sound is));
         };
         silent = λ none is. absurd cc;
       }
 
-pub comes_to_sound_ends : Laws → EndLaws → ComesToSoundEnds
-comes_to_sound_ends laws ends images history legal lower agent hops made commands said carry calls few says quiet marked rightly begins ended =
-    (sound_way laws ends images history legal made lower agent hops commands said carry calls few says quiet marked rightly begins ended).comes
+pub comes_to_sound_ends : ComesToSoundEnds
+comes_to_sound_ends images history legal lower agent hops made commands said carry calls few says quiet marked rightly begins ended =
+    (sound_way images history legal made lower agent hops commands said carry calls few says quiet marked rightly begins ended).comes

@@ -4,7 +4,7 @@ use Rattle.std.specs.List.{filter}
 use Rattle.std.proofs.lemmas.List.{length-map}
 use Rattle.std.proofs.lemmas.List.Elements.{filter-append}
 use Rattle.tcf_message.specs.Message.{IsWellFormed, MessageValue, command, event, final, flow, not_known, progress}
-use Rattle.channel_core.specs.Arrivals.{IsFront, Spoken, enters, queue_of}
+use Rattle.channel_core.specs.Arrivals.{Spoken, enters, queue_of}
 use Rattle.channel_core.specs.RunLaws.{SendsInOrder, is_command, sent_of}
 use Rattle.channel_core.specs.Runs.{Run}
 use Rattle.channel_core.specs.Wire.{end_of_stream}
@@ -14,7 +14,8 @@ use Rattle.chain_through.specs.Calling.{Calls, all_asking, asking, asks, enterin
 use Rattle.chain_through.proofs.Queues.{commanding, queue_commands}
 use Rattle.chain_through.proofs.Spelling.{said_so}
 use Rattle.list_laws.proofs.Lists.{none_before}
-use Rattle.chain_route.proofs.Bytes.{front_each, front_then}
+use Rattle.list_laws.specs.Fronts.{IsFront}
+use Rattle.list_laws.proofs.Fronts.{front_each, front_then}
 
 -- ---- No more is said than was given
 

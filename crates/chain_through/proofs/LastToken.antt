@@ -12,8 +12,8 @@ use Rattle.channel_core.specs.EndValue.{EndValue}
 use Rattle.channel_core.specs.Holding.{is_free, let_out, released, sent_out}
 use Rattle.channel_core.specs.Level.{is_due, level_of, leveled}
 use Rattle.channel_core.specs.Receiving.{came_by, counted, delivered, heard, is_over, item_came, stopped_by}
-use Rattle.channel_core.specs.Runs.{Call, Issued, Run, after_call, after_calls, closing, commanding, delivering, draining, ending, issued, putting_out, refusal_to, sending, taking, unless_refused}
-use Rattle.channel_core.specs.Sending.{commanded}
+use Rattle.channel_core.specs.Runs.{Call, Issued, Run, after_call, after_calls, closing, commanding, delivering, draining, ending, issued, putting_out, sending, taking, unless_refused}
+use Rattle.channel_core.specs.Sending.{commanded, refusal_to}
 use Rattle.channel_core.specs.Taking.{answered, finished, greeted, is_of, judged, number_at, progressed, redirected, state_greeted, stop_taken, taken_as, taken_from}
 use Rattle.channel_core.specs.Wire.{said_in}
 use Rattle.channel_core.specs.declared.held.Arrived.{Arrived}

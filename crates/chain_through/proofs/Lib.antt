@@ -1,4 +1,3 @@
-pub mod Fronts
 pub mod Spelling
 pub mod Queues
 pub mod Found
@@ -27,3 +26,4 @@ pub mod Lost
 pub mod OwnClosing
 pub mod ClosingBelow
 pub mod Ends
+pub mod TheLaws

@@ -1,4 +1,4 @@
--- The laws of how ends end, and what they say of an end that closes by its own side: it was called so while it was open.
+-- What the laws say of an end that closes by its own side: it was called so while it was open.
 use Rattle.std.proofs.Common.{◌≡◌, ℕ, Bool, true, false, cond, inl, inr, List, [], ◌∷◌, ◌++◌, Option, Some, refl, sym, ap, ◌∙◌, subst}
 use Rattle.std.specs.Prelude.{Contains}
 use Rattle.std.specs.List.{list_any}
@@ -10,8 +10,8 @@ use Rattle.channel_core.specs.Closing.{closed_for, closed_own, is_closed}
 use Rattle.channel_core.specs.EndValue.{EndValue}
 use Rattle.channel_core.specs.Laws.{listed}
 use Rattle.channel_core.specs.QueueLaws.{ClosesOnlySo}
-use Rattle.channel_core.specs.ReceivingLaws.{EndsFairly, EndsFor, WhereAQueueComes}
-use Rattle.channel_core.specs.RunLaws.{AfterAllCalls, EndsOnce, StaysClosed}
+use Rattle.channel_core.specs.ReceivingLaws.{EndsFor}
+use Rattle.channel_core.specs.RunLaws.{StaysClosed}
 use Rattle.channel_core.specs.Runs.{Call, Run, after_call, after_calls, begun, closing, commanding, delivering, draining, ending, putting_out, sending, taking}
 use Rattle.channel_core.specs.Taking.{closes, next_taken}
 use Rattle.channel_core.specs.declared.states.Cause.{Cause}
@@ -19,21 +19,10 @@ use Rattle.channel_core.specs.declared.states.Cause.TheVariants.{Own}
 use Rattle.channel_core.specs.declared.states.EndState.TheVariants.{Closed as IsClosed}
 use Rattle.channel_core.specs.declared.taking.Taken.{Taken}
 use Rattle.channel_core.specs.declared.taking.Taken.TheVariants.{Closed}
-use Rattle.channel_laws.specs.Faults.{EndsByItsCalls, is_closing}
-use Rattle.value_node.specs.ForwardedValue.{ForwardedValue}
-use Rattle.chain_through.specs.Endings.{AnsweredIsSound, AskedIsSound}
+use Rattle.channel_laws.specs.Faults.{is_closing}
 use Rattle.chain_route.proofs.EndCalls.{calls_more}
-
-pub record EndLaws : Type 0 where
-  pub lower_asked : AskedIsSound Unit
-  pub upper_answered : AnsweredIsSound ForwardedValue
-  pub lower_calls : EndsByItsCalls Unit
-  pub upper_calls : EndsByItsCalls ForwardedValue
-  pub lower_stays : AfterAllCalls {T = Unit} StaysClosed
-  pub upper_stays : AfterAllCalls {T = ForwardedValue} StaysClosed
-  pub lower_closes : AfterAllCalls {T = Unit} ClosesOnlySo
-  pub lower_once : AfterAllCalls {T = Unit} EndsOnce
-  pub upper_causes : WhereAQueueComes {T = ForwardedValue} EndsFairly
+use Rattle.channel_core.proofs.TheLaws.{stays_closed}
+use Rattle.channel_laws.proofs.TheLaws.{ends_by_its_calls}
 
 -- ---- An end whose side closed it is closed
 
@@ -58,7 +47,7 @@ closed_called (draining ∷ calls) r stays is = closed_called calls (after_call 
 
 -- ---- What an open end takes
 
-module _ {T : Type 0} (by_calls : EndsByItsCalls T) (stays : AfterAllCalls {T = T} StaysClosed) (services : List ℕ) (mark : Option ℕ) (calls : List (Call T)) where
+module _ {T : Type 0} (services : List ℕ) (mark : Option ℕ) (calls : List (Call T)) where
   abbrev now : Run T
   now = after_calls calls (begun (new_end services mark))
 
@@ -66,14 +55,14 @@ module _ {T : Type 0} (by_calls : EndsByItsCalls T) (stays : AfterAllCalls {T = 
   uncalled opened = by_flag (list_any is_closing calls) refl
     where
       by_flag : (flag : Bool) → list_any is_closing calls ≡ flag → list_any is_closing calls ≡ false
-      by_flag true is = let closed : is_closed now.end.state ≡ true = closed_called calls (begun (new_end services mark)) (stays services mark) is in absurd cc
+      by_flag true is = let closed : is_closed now.end.state ≡ true = closed_called calls (begun (new_end services mark)) (stays_closed services mark) is in absurd cc
       by_flag false is = is
 
   -- by what it takes it doesn't end by its own side
   not_own : is_closed now.end.state ≡ false → EndsFor (after_call taking now) Own → ⊥
   not_own opened ends_for =
       let more : after_calls (calls ++ taking ∷ []) (begun (new_end services mark)) ≡ after_call taking now = calls_more calls (taking ∷ []) (begun (new_end services mark)) in
-      let some : list_any is_closing (calls ++ taking ∷ []) ≡ true = (by_calls services mark (calls ++ taking ∷ [])).own (subst (λ (x : Run T). EndsFor x Own) (sym more) ends_for) in
+      let some : list_any is_closing (calls ++ taking ∷ []) ≡ true = (ends_by_its_calls services mark (calls ++ taking ∷ [])).own (subst (λ (x : Run T). EndsFor x Own) (sym more) ends_for) in
       let none : list_any is_closing (calls ++ taking ∷ []) ≡ false = list_any-append is_closing calls (taking ∷ []) ∙ or_from (list_any is_closing calls) false (uncalled opened) refl in
       absurd cc
 
@@ -88,5 +77,5 @@ module _ {T : Type 0} (by_calls : EndsByItsCalls T) (stays : AfterAllCalls {T = 
   takes_closing only opened cause took rest own =
       let next = after_call taking now in
       let closed : is_closed next.end.state ≡ true = only.by_taking opened ∙ ap (λ (x : Option (Taken T)). closes x) took in
-      let stays_so : StaysClosed next = subst (λ (x : Run T). StaysClosed x) (calls_more calls (taking ∷ []) (begun (new_end services mark))) (stays services mark (calls ++ taking ∷ [])) in
+      let stays_so : StaysClosed next = subst (λ (x : Run T). StaysClosed x) (calls_more calls (taking ∷ []) (begun (new_end services mark))) (stays_closed services mark (calls ++ taking ∷ [])) in
       not_own opened (inr (inl (sym (stays_so rest closed).state ∙ own)))

@@ -34,12 +34,9 @@ own_parts commands (s ∷ first) rest left is =
 
 -- the token of an answer is that of a command before this number
 abbrev pub AnswersBelow : ℕ → MessageValue → Type 0
-AnswersBelow number (command token service name body) = Unit {0}
 AnswersBelow number (final token body) = (k : ℕ) × (token ≡ decimal k) × (k < number)
-AnswersBelow number (progress token body) = Unit {0}
 AnswersBelow number (not_known token) = (k : ℕ) × (token ≡ decimal k) × (k < number)
-AnswersBelow number (event service name body) = Unit {0}
-AnswersBelow number (flow level) = Unit {0}
+AnswersBelow number _ = Unit {0}
 
 pub record IsDone (n : ℕ) (commands left : List Asked) (own : List Spoken) : Type 0 where
   pub done : List Asked

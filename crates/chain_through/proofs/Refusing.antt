@@ -19,39 +19,30 @@ use Rattle.channel_core.specs.declared.taking.Taken.{Taken}
 use Rattle.channel_core.specs.declared.taking.Taken.TheVariants as taken
 use Rattle.value_node.specs.ForwardedValue.{ForwardedValue}
 use Rattle.value_node.specs.Passing.{Upper}
-use Rattle.value_node.specs.RelayLaws.{AfterAllCalls, EndsAreRuns}
+use Rattle.value_node.specs.RelayLaws.{EndsAreRuns}
 use Rattle.value_node.specs.Runs.{Call, Past, UpperCall, ValueRun, above, after_all, after_call, asked_above, asked_above_in, bound_above, bytes_end, closing_if, comes, connects, fails, gives, no_calls, reconnected, refusing, stored_for, took_above_above, took_below_above, turns, upper_after, upper_from, upper_on}
 use Rattle.value_node.specs.Value.{awaits, takes_above, takes_below, value_services}
 use Rattle.value_node.specs.declared.relay.Relay.{Relay}
 use Rattle.value_node.specs.declared.states.Bind.{Bind}
 use Rattle.value_node.specs.declared.states.Bind.TheVariants.{Bound, Closed, Opening, Unbound}
 use Rattle.value_node.specs.declared.states.Side.TheVariants.{Above, Below}
+use Rattle.value_node.proofs.TheLaws.{ends_are_runs}
 use Rattle.chain_through.proofs.Taking.{taken_split}
 use Rattle.chain_route.proofs.Adds.{all_more}
 
 -- ---- What is sent, commands aside, and the answers to commands that were taken
 
 abbrev pub sent_with : {T : Type 0} → EndCall T → List Unheld
-sent_with (delivering piece mark) = []
-sent_with ending = []
-sent_with taking = []
-sent_with (commanding service name body tag mark) = []
 sent_with (sending message mark) = message ∷ []
-sent_with putting_out = []
-sent_with closing = []
-sent_with draining = []
+sent_with _ = []
 
 abbrev pub refused_in : Result MessageValue MessageFault → List Unheld
 refused_in (Ok (command token service name body)) = an_unknown token ∷ []
 refused_in _ = []
 
 abbrev pub refused_by : Taken ForwardedValue → List Unheld
-refused_by (taken.Hello incoming) = []
 refused_by (taken.Command incoming) = refused_in (reading incoming.raw)
-refused_by (taken.Event incoming) = []
-refused_by (taken.Progress token incoming) = []
-refused_by (taken.Final tag incoming) = []
-refused_by (taken.Closed cause) = []
+refused_by _ = []
 
 -- the upper end over these calls sends what answers the commands that it takes
 abbrev SendsRefusals : List UpperCall → Run ForwardedValue → Type 0
@@ -60,14 +51,9 @@ SendsRefusals calls r = flat_map sent_with calls ≡ flat_map refused_by r.past.
 -- ---- Calls that neither send nor take
 
 abbrev IsQuiet : UpperCall → Type 0
-IsQuiet (delivering piece mark) = Unit {0}
-IsQuiet ending = Unit {0}
 IsQuiet taking = ⊥
-IsQuiet (commanding service name body tag mark) = Unit {0}
 IsQuiet (sending message mark) = ⊥
-IsQuiet putting_out = Unit {0}
-IsQuiet closing = Unit {0}
-IsQuiet draining = Unit {0}
+IsQuiet _ = Unit {0}
 
 abbrev AreQuiet : List UpperCall → Type 0
 AreQuiet calls = AllByRecursion IsQuiet calls
@@ -84,14 +70,8 @@ quiet_sends (closing ∷ calls) quiet = quiet_sends calls quiet.1
 quiet_sends (draining ∷ calls) quiet = quiet_sends calls quiet.1
 
 abbrev IsUntaking : UpperCall → Type 0
-IsUntaking (delivering piece mark) = Unit {0}
-IsUntaking ending = Unit {0}
 IsUntaking taking = ⊥
-IsUntaking (commanding service name body tag mark) = Unit {0}
-IsUntaking (sending message mark) = Unit {0}
-IsUntaking putting_out = Unit {0}
-IsUntaking closing = Unit {0}
-IsUntaking draining = Unit {0}
+IsUntaking _ = Unit {0}
 
 untaken : (calls : List UpperCall) (r : Run ForwardedValue) → AllByRecursion IsUntaking calls → (after_calls calls r).past.taken ≡ r.past.taken
 untaken [] r each = refl
@@ -240,16 +220,16 @@ step_refuses (turns side) r runs sends = called_refuses (turns side) r.value.rel
 step_refuses fails r runs sends = called_refuses fails r.value.relay r.past.connection r.value.relay.upper runs.upper sends
 step_refuses (gives side) r runs sends = called_refuses (gives side) r.value.relay r.past.connection r.value.relay.upper runs.upper sends
 
-refuses_from : AfterAllCalls EndsAreRuns → (peer : List ℕ) (before calls : List Call) → Refuses (after_all before (no_calls peer)).past.connection → Refuses (after_all (before ++ calls) (no_calls peer)).past.connection
-refuses_from runs peer before [] sends = subst (λ cs. Refuses (after_all cs (no_calls peer)).past.connection) (sym (append-nil before)) sends
-refuses_from runs peer before (call ∷ calls) sends =
+refuses_from : (peer : List ℕ) (before calls : List Call) → Refuses (after_all before (no_calls peer)).past.connection → Refuses (after_all (before ++ calls) (no_calls peer)).past.connection
+refuses_from peer before [] sends = subst (λ cs. Refuses (after_all cs (no_calls peer)).past.connection) (sym (append-nil before)) sends
+refuses_from peer before (call ∷ calls) sends =
     let r = after_all before (no_calls peer) in
-    let next = step_refuses call r (runs peer before) sends in
+    let next = step_refuses call r (ends_are_runs peer before) sends in
     subst (λ cs. Refuses (after_all cs (no_calls peer)).past.connection) (append_assoc before (call ∷ []) calls)
-    (refuses_from runs peer (before ++ call ∷ []) calls (subst (λ x. Refuses x.past.connection) (sym (all_more before (call ∷ []) (no_calls peer))) next))
+    (refuses_from peer (before ++ call ∷ []) calls (subst (λ x. Refuses x.past.connection) (sym (all_more before (call ∷ []) (no_calls peer))) next))
 
-pub sends_refusals : AfterAllCalls EndsAreRuns → (peer : List ℕ) (calls : List Call) → flat_map sent_with (unwrap_or (after_all calls (no_calls peer)).past.connection []) ≡ flat_map refused_by (above (after_all calls (no_calls peer)).past).past.taken
-sends_refusals runs peer calls = refuses_from runs peer [] calls refl
+pub sends_refusals : (peer : List ℕ) (calls : List Call) → flat_map sent_with (unwrap_or (after_all calls (no_calls peer)).past.connection []) ≡ flat_map refused_by (above (after_all calls (no_calls peer)).past).past.taken
+sends_refusals peer calls = refuses_from peer [] calls refl
 
 -- ---- Where it sends nothing but commands
 

@@ -4,12 +4,11 @@ use Rattle.std.proofs.Common.{◌≡◌, ℕ, zero, suc, ◌+◌, ◌-◌, ◌<�
 use Rattle.std.specs.Prelude.{Contains, bytes_eq, decimal}
 use Rattle.std.specs.List.{AllByRecursion, flat_map, list_any, range_with_len}
 use Rattle.std.proofs.lemmas.Bool.{eqb-false}
-use Rattle.tcf_message.specs.Fault.{IsReadBack}
 use Rattle.tcf_message.specs.Message.{IsWellFormed, MessageValue, command, event, final, flow, not_known, progress}
-use Rattle.channel_core.specs.Arrivals.{AreSpoken, IsFront, Spoken, arrived, bytes_of, queue_of}
+use Rattle.channel_core.specs.Arrivals.{AreSpoken, Spoken, arrived, bytes_of, queue_of}
 use Rattle.channel_core.specs.Beginning.{new_end}
-use Rattle.channel_core.specs.ReceivingLaws.{EndsFairly, WhereAQueueComes, incoming_of}
-use Rattle.channel_core.specs.RunLaws.{AfterAllCalls, CountsAnswers, is_answered, sent_of, token_in}
+use Rattle.channel_core.specs.ReceivingLaws.{incoming_of}
+use Rattle.channel_core.specs.RunLaws.{is_answered, sent_of, token_in}
 use Rattle.channel_core.specs.Runs.{Call, Issued, Run, after_calls, begun}
 use Rattle.channel_core.specs.Wire.{Said, answers, asks, event_said, goes_on, greets, hello, is_done, locator, said_by, said_in, said_of, tells}
 use Rattle.channel_core.specs.declared.held.Incoming.{Incoming}
@@ -18,17 +17,21 @@ use Rattle.channel_core.specs.declared.states.Reason.{Reason}
 use Rattle.channel_core.specs.declared.states.Reason.TheVariants.{Early, Grammar, Token}
 use Rattle.channel_core.specs.declared.taking.Taken.{Taken}
 use Rattle.channel_core.specs.declared.taking.Taken.TheVariants as taken
-use Rattle.channel_laws.specs.Faults.{FaultsAreThere, IsAwaited, IsFault, IsUnder}
+use Rattle.channel_laws.specs.Faults.{IsAwaited, IsFault, IsUnder}
 use Rattle.value_node.specs.Asked.{Asked}
 use Rattle.value_node.specs.OwnMessages.{BeginsWithHello}
 use Rattle.chain_told.specs.Told.{ends, is_ended}
 use Rattle.chain_through.specs.Calling as calling
 use Rattle.chain_through.specs.Calling.{Answering, IsAnswering, all_asking, entering, greeting}
 use Rattle.chain_through.specs.Endings.{AnsweredIsSound, AskedIsSound, IsSound}
+use Rattle.channel_core.proofs.TheLaws.{counts_answers, ends_fairly}
+use Rattle.channel_laws.proofs.TheLaws.{faults_are_there}
+use Rattle.tcf_message.proofs.TheLaws.{read_back}
 use Rattle.chain_through.proofs.Queues.{entering_formed}
 use Rattle.chain_through.proofs.Taking.{come_as}
 use Rattle.list_laws.proofs.Flags.{neither}
-use Rattle.chain_route.proofs.Bytes.{front_each}
+use Rattle.list_laws.specs.Fronts.{IsFront}
+use Rattle.list_laws.proofs.Fronts.{front_each}
 
 -- ---- The message that is the fault
 
@@ -66,8 +69,8 @@ each_before : (P : Spoken → Type 0) (before : List Spoken) (here : Spoken) (be
 each_before P [] here behind each = (tt, each.0)
 each_before P (s ∷ before) here behind each = let rest = each_before P before here behind each.1 in ((each.0, rest.0), rest.1)
 
-heard_as : IsReadBack → (s : Spoken) → IsWellFormed s.message → said_in (come_as s).raw ≡ said_by s.message
-heard_as back s formed = ap said_of (back.1 s.message formed)
+heard_as : (s : Spoken) → IsWellFormed s.message → said_in (come_as s).raw ≡ said_by s.message
+heard_as s formed = ap said_of (read_back.1 s.message formed)
 
 -- ---- The first is a Hello
 
@@ -75,14 +78,14 @@ hello_greets : (services : List ℕ) → said_by (event locator hello services) 
 unfolding locator hello
 hello_greets services = refl
 
-first_greets : IsReadBack → (spoken : List Spoken) (messages : List Incoming) (faulty : Incoming) → AreSpoken spoken → BeginsWithHello spoken → IsPlaced spoken messages faulty → messages ≡ [] → said_in faulty.raw ≡ greets
-first_greets back spoken messages faulty formed begins p none = by_before p.before p.are p.taken_are
+first_greets : (spoken : List Spoken) (messages : List Incoming) (faulty : Incoming) → AreSpoken spoken → BeginsWithHello spoken → IsPlaced spoken messages faulty → messages ≡ [] → said_in faulty.raw ≡ greets
+first_greets spoken messages faulty formed begins p none = by_before p.before p.are p.taken_are
   where
     by_before : (before : List Spoken) → spoken ≡ before ++ p.here ∷ p.behind → messages ≡ map come_as before → said_in faulty.raw ≡ greets
     by_before [] are came =
         let greeting_is : BeginsWithHello (p.here ∷ p.behind) = subst BeginsWithHello are begins in
         let formed_here : AreSpoken (p.here ∷ p.behind) = subst AreSpoken are formed in
-        ap (λ (i : Incoming). said_in i.raw) p.is ∙ heard_as back p.here formed_here.0 ∙ ap said_by greeting_is.1 ∙ hello_greets greeting_is.0
+        ap (λ (i : Incoming). said_in i.raw) p.is ∙ heard_as p.here formed_here.0 ∙ ap said_by greeting_is.1 ∙ hello_greets greeting_is.0
     by_before (s ∷ before) are came = let some : [] ≡ come_as s ∷ map come_as before = sym none ∙ came in absurd cc
 
 -- ---- Progress and an answer
@@ -95,7 +98,7 @@ IsAwaitedHere r here = (token : List ℕ) → IsUnder token (said_by here.messag
 abbrev AreAwaited : {T : Type 0} → List Spoken → Run T → Type 0
 AreAwaited spoken r = (before : List Spoken) (here : Spoken) (behind : List Spoken) → spoken ≡ before ++ here ∷ behind → flat_map incoming_of r.past.taken ≡ map come_as before → IsAwaitedHere r here
 
-module _ {T : Type 0} (back : IsReadBack) (faults : WhereAQueueComes {T = T} FaultsAreThere) (causes : WhereAQueueComes {T = T} EndsFairly) (services : List ℕ) (mark : Option ℕ) (calls : List (Call T)) where
+module _ {T : Type 0} (services : List ℕ) (mark : Option ℕ) (calls : List (Call T)) where
   abbrev now : Run T
   now = after_calls calls (begun (new_end services mark))
 
@@ -103,18 +106,18 @@ module _ {T : Type 0} (back : IsReadBack) (faults : WhereAQueueComes {T = T} Fau
       → IsPlaced (entering spoken) (flat_map incoming_of now.past.taken) faulty → IsFault reason faulty now → ⊥
   no_fault spoken (Grammar fault) faulty formed begins awaited p is = is
   no_fault spoken Early faulty formed begins awaited p is =
-      is.1 (first_greets back (entering spoken) (flat_map incoming_of now.past.taken) faulty (entering_formed spoken formed) begins p is.0)
+      is.1 (first_greets (entering spoken) (flat_map incoming_of now.past.taken) faulty (entering_formed spoken formed) begins p is.0)
   no_fault spoken Token faulty formed begins awaited p is =
       let here_formed : IsWellFormed p.here.message = (each_before (λ s. IsWellFormed s.message) p.before p.here p.behind (subst AreSpoken p.are (entering_formed spoken formed))).1 in
-      let same : said_in faulty.raw ≡ said_by p.here.message = ap (λ (i : Incoming). said_in i.raw) p.is ∙ heard_as back p.here here_formed in
+      let same : said_in faulty.raw ≡ said_by p.here.message = ap (λ (i : Incoming). said_in i.raw) p.is ∙ heard_as p.here here_formed in
       is.2 (awaited p.before p.here p.behind p.are p.taken_are is.0 (subst (IsUnder is.0) same is.1))
 
   sound : (spoken : List Spoken) (is_ended : Bool) → AreSpoken spoken → IsFront (arrived calls) (bytes_of (queue_of spoken is_ended)) → BeginsWithHello (entering spoken) → AreAwaited (entering spoken) now → IsSound now
   sound spoken is_ended formed came begins awaited = record {
     protocol = λ number reason is.
-        let there = faults services mark calls spoken is_ended formed came number reason is in
+        let there = faults_are_there services mark calls spoken is_ended formed came number reason is in
         no_fault spoken reason there.faulty formed begins awaited (placed (entering spoken) (flat_map incoming_of now.past.taken) there.behind there.faulty there.place) there.fault;
-    stream = λ fault is. causes services mark calls spoken is_ended formed came (Stream fault) is;
+    stream = λ fault is. ends_fairly services mark calls spoken is_ended formed came (Stream fault) is;
   }
 
 -- ---- Where a Hello and commands come
@@ -144,11 +147,11 @@ called_begins (s ∷ spoken) services more p =
     let one : s ≡ greeting services = cc in
     (services, ap (λ x. x.message) one)
 
-pub asked_sound : {T : Type 0} → IsReadBack → WhereAQueueComes {T = T} FaultsAreThere → WhereAQueueComes {T = T} EndsFairly → AskedIsSound T
-asked_sound {T = T} back faults causes services mark calls spoken is_ended names commands formed came front =
+pub asked_sound : {T : Type 0} → AskedIsSound T
+asked_sound {T = T} services mark calls spoken is_ended names commands formed came front =
     let silent : AllByRecursion AnswersNothing (greeting names ∷ all_asking 1 commands) = (λ token under. under_greets (said_by (event locator hello names)) token (hello_greets names) under, commands_silent 1 commands) in
     let each = front_each AnswersNothing (entering spoken) (greeting names ∷ all_asking 1 commands) front silent in
-    sound back faults causes services mark calls spoken is_ended formed came (called_begins (entering spoken) names (all_asking 1 commands) front)
+    sound services mark calls spoken is_ended formed came (called_begins (entering spoken) names (all_asking 1 commands) front)
     (λ before here behind are taken_are token under. absurd ((each_before AnswersNothing before here behind (subst (AllByRecursion AnswersNothing) are each)).1 token under))
 
 -- ---- Where a Hello and answers come
@@ -169,12 +172,12 @@ none_ends number (not_known token) none = ap (λ b. b || false) none
 none_ends number (event service name body) none = no_event_token number (bytes_eq service locator && bytes_eq name hello)
 none_ends number (flow level) none = refl
 
-others_came : IsReadBack → (number : ℕ) (before : List Spoken) → AreSpoken before → is_ended (decimal number) before ≡ false
+others_came : (number : ℕ) (before : List Spoken) → AreSpoken before → is_ended (decimal number) before ≡ false
     → AllByRecursion (λ i. list_any (is_its number) (token_in (said_in i.raw)) ≡ false) (map come_as before)
-others_came back number [] formed none = tt
-others_came back number (s ∷ before) formed none =
+others_came number [] formed none = tt
+others_came number (s ∷ before) formed none =
     let both = neither (ends (decimal number) s.message) (is_ended (decimal number) before) none in
-    (ap (λ what. list_any (is_its number) (token_in what)) (heard_as back s formed.0) ∙ none_ends number s.message both.0, others_came back number before formed.1 both.1)
+    (ap (λ what. list_any (is_its number) (token_in what)) (heard_as s formed.0) ∙ none_ends number s.message both.0, others_came number before formed.1 both.1)
 
 unanswered : {T : Type 0} → (number : ℕ) (entries : List (Taken T)) → AllByRecursion (λ i. list_any (is_its number) (token_in (said_in i.raw)) ≡ false) (flat_map incoming_of entries) → is_answered entries number ≡ false
 unanswered number [] none = refl
@@ -216,7 +219,7 @@ sent_under from number (suc k) (i ∷ all) counted low high = by_flag (number ==
         let within : number < (from + 1) + length (take k all) = omega arith in
         sent_later i (take k all) number (rest tails above within)
 
-module _ {T : Type 0} (back : IsReadBack) (counts : AfterAllCalls {T = T} CountsAnswers) (services : List ℕ) (mark : Option ℕ) (calls : List (Call T)) where
+module _ {T : Type 0} (services : List ℕ) (mark : Option ℕ) (calls : List (Call T)) where
   abbrev after_these : Run T
   after_these = after_calls calls (begun (new_end services mark))
 
@@ -227,9 +230,9 @@ module _ {T : Type 0} (back : IsReadBack) (counts : AfterAllCalls {T = T} Counts
       let size = length r.past.accepted - length r.end.held in
       let high : a.number ≤ length (sent_of after_these) = a.sent in
       let within : a.number < 1 + length (take size r.past.accepted) = omega arith in
-      let s = sent_under 1 a.number size r.past.accepted (counts services mark calls).tokens a.counted within in
+      let s = sent_under 1 a.number size r.past.accepted (counts_answers services mark calls).tokens a.counted within in
       let open_still : is_ended (decimal a.number) before ≡ false = ap (λ t. is_ended t before) (sym a.numbered) ∙ a.unanswered in
-      let none = unanswered a.number r.past.taken (subst (AllByRecursion (λ i. list_any (is_its a.number) (token_in (said_in i.raw)) ≡ false)) (sym taken_are) (others_came back a.number before formed open_still)) in
+      let none = unanswered a.number r.past.taken (subst (AllByRecursion (λ i. list_any (is_its a.number) (token_in (said_in i.raw)) ≡ false)) (sym taken_are) (others_came a.number before formed open_still)) in
       record {
         command = s.command;
         sent = s.is_sent;
@@ -262,6 +265,6 @@ module _ {T : Type 0} (back : IsReadBack) (counts : AfterAllCalls {T = T} Counts
       by_message (event service name body) formed a under = absurd (event_under (bytes_eq service locator && bytes_eq name hello) token under)
       by_message (flow level) formed a under = absurd a
 
-pub answered_sound : {T : Type 0} → IsReadBack → WhereAQueueComes {T = T} FaultsAreThere → WhereAQueueComes {T = T} EndsFairly → AfterAllCalls {T = T} CountsAnswers → AnsweredIsSound T
-answered_sound back faults causes counts services mark calls spoken is_ended formed came begins answering =
-    sound back faults causes services mark calls spoken is_ended formed came begins (all_awaited back counts services mark calls (entering spoken) (entering_formed spoken formed) answering)
+pub answered_sound : {T : Type 0} → AnsweredIsSound T
+answered_sound services mark calls spoken is_ended formed came begins answering =
+    sound services mark calls spoken is_ended formed came begins (all_awaited services mark calls (entering spoken) (entering_formed spoken formed) answering)

@@ -1,6 +1,7 @@
 -- What was said is a front where it is queued as a front.
 use Rattle.std.proofs.Common.{◌≡◌, List, [], ◌∷◌, ◌++◌, map, sym, ap, ◌∙◌, refl}
-use Rattle.channel_core.specs.Arrivals.{AreSpoken, IsFront, Spoken}
+use Rattle.channel_core.specs.Arrivals.{AreSpoken, Spoken}
+use Rattle.list_laws.specs.Fronts.{IsFront}
 pub use Rattle.channel_laws.proofs.Rest.Spelling.{AreSpelled, IsSpelled, one_said, said_so, same_said}
 
 pub front_said : (xs ys : List Spoken) → AreSpoken xs → AreSpelled ys → IsFront (map said_so xs) (map said_so ys) → IsFront xs ys

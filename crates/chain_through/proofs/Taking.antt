@@ -3,10 +3,9 @@ use Rattle.std.proofs.Common.{◌≡◌, ℕ, Bool, true, false, cond, List, [],
 use Rattle.std.specs.Prelude.{slice_get}
 use Rattle.std.specs.List.{AllByRecursion, flat_map}
 use Rattle.std.proofs.lemmas.List.Concat.{flat_map-append}
-use Rattle.tcf_message.specs.Fault.{IsReadBack}
 use Rattle.tcf_message.specs.Message.{IsWellFormed, MessageValue, command, event, final, flow, not_known, progress, reading, spelling}
 use Rattle.tcf_message.specs.declared.message.MessageFault.{MessageFault}
-use Rattle.channel_core.specs.Arrivals.{AreSpoken, IsFront, Spoken}
+use Rattle.channel_core.specs.Arrivals.{AreSpoken, Spoken}
 use Rattle.channel_core.specs.EndValue.{EndValue}
 use Rattle.channel_core.specs.Laws.{listed}
 use Rattle.channel_core.specs.ReceivingLaws.{incoming_of, received}
@@ -24,6 +23,8 @@ use Rattle.value_node.specs.Asked.{Asked}
 use Rattle.value_node.specs.RelayLaws.{asked_by, asked_in}
 use Rattle.list_laws.proofs.AllLists.{all_append}
 use Rattle.chain_route.proofs.EndCalls.{calls_more}
+use Rattle.list_laws.specs.Fronts.{IsFront}
+use Rattle.tcf_message.proofs.TheLaws.{read_back}
 
 -- ---- Calls, one list after the other
 
@@ -73,21 +74,21 @@ commands_in messages = flat_map (λ i. asked_in i.mark (reading i.raw)) messages
 abbrev pub asked_of : List Spoken → List Asked
 asked_of spoken = flat_map (λ s. asked_in s.mark (Ok s.message)) spoken
 
-pub commands_read : IsReadBack → (spoken : List Spoken) → AreSpoken spoken → commands_in (map come_as spoken) ≡ asked_of spoken
-commands_read back [] each = refl
-commands_read back (s ∷ spoken) each =
-    ap (λ r. asked_in s.mark r ++ commands_in (map come_as spoken)) (back.1 s.message each.0) ∙ ap (λ xs. asked_in s.mark (Ok s.message) ++ xs) (commands_read back spoken each.1)
+pub commands_read : (spoken : List Spoken) → AreSpoken spoken → commands_in (map come_as spoken) ≡ asked_of spoken
+commands_read [] each = refl
+commands_read (s ∷ spoken) each =
+    ap (λ r. asked_in s.mark r ++ commands_in (map come_as spoken)) (read_back.1 s.message each.0) ∙ ap (λ xs. asked_in s.mark (Ok s.message) ++ xs) (commands_read spoken each.1)
 
 -- they were read, so they can be written
 abbrev pub IsWritten : Asked → Type 0
 IsWritten c = IsWellFormed (command c.token c.service c.name c.body)
 
-read_written : IsReadBack → (mark : Option ℕ) (raw : List ℕ) → AllByRecursion IsWritten (asked_in mark (reading raw))
-read_written back mark raw = by_reading (reading raw) refl
+read_written : (mark : Option ℕ) (raw : List ℕ) → AllByRecursion IsWritten (asked_in mark (reading raw))
+read_written mark raw = by_reading (reading raw) refl
   where
     by_reading : (r : Result MessageValue MessageFault) → reading raw ≡ r → AllByRecursion IsWritten (asked_in mark r)
     by_reading (Ok (command token service name body)) is =
-        let says = (back.0 raw (command token service name body)).0 is in (says.0, tt)
+        let says = (read_back.0 raw (command token service name body)).0 is in (says.0, tt)
     by_reading (Ok (final token body)) is = tt
     by_reading (Ok (progress token body)) is = tt
     by_reading (Ok (not_known token)) is = tt
@@ -95,15 +96,15 @@ read_written back mark raw = by_reading (reading raw) refl
     by_reading (Ok (flow level)) is = tt
     by_reading (Err fault) is = tt
 
-pub all_written : {T : Type 0} → IsReadBack → (entries : List (Taken T)) → AllByRecursion IsWritten (flat_map asked_by entries)
-all_written back [] = tt
-all_written back (taken.Command incoming ∷ entries) =
-    all_append IsWritten (asked_in incoming.mark (reading incoming.raw)) (flat_map asked_by entries) (read_written back incoming.mark incoming.raw) (all_written back entries)
-all_written back (taken.Hello incoming ∷ entries) = all_written back entries
-all_written back (taken.Event incoming ∷ entries) = all_written back entries
-all_written back (taken.Progress token incoming ∷ entries) = all_written back entries
-all_written back (taken.Final tag incoming ∷ entries) = all_written back entries
-all_written back (taken.Closed cause ∷ entries) = all_written back entries
+pub all_written : {T : Type 0} → (entries : List (Taken T)) → AllByRecursion IsWritten (flat_map asked_by entries)
+all_written [] = tt
+all_written (taken.Command incoming ∷ entries) =
+    all_append IsWritten (asked_in incoming.mark (reading incoming.raw)) (flat_map asked_by entries) (read_written incoming.mark incoming.raw) (all_written entries)
+all_written (taken.Hello incoming ∷ entries) = all_written entries
+all_written (taken.Event incoming ∷ entries) = all_written entries
+all_written (taken.Progress token incoming ∷ entries) = all_written entries
+all_written (taken.Final tag incoming ∷ entries) = all_written entries
+all_written (taken.Closed cause ∷ entries) = all_written entries
 
 -- ---- What was taken is what its message is
 

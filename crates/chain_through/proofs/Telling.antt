@@ -4,7 +4,7 @@ use Rattle.std.proofs.Common.{◌≡◌, ℕ, suc, ◌+◌, ◌^◌, ◌<◌, �
 use Rattle.std.specs.Prelude.{IsSome}
 use Rattle.std.specs.List.{AllByRecursion}
 use Rattle.std.proofs.lemmas.List.{map-append}
-use Rattle.channel_core.specs.Arrivals.{AreSpoken, IsFront, Spoken}
+use Rattle.channel_core.specs.Arrivals.{AreSpoken, Spoken}
 use Rattle.channel_core.specs.Wire.{said}
 use Rattle.channel_core.specs.declared.held.Incoming.{Incoming}
 use Rattle.tcf_message.specs.Message.{MessageValue, command, event, final, flow, not_known, progress, reading, spelling}
@@ -26,6 +26,7 @@ use Rattle.chain_through.proofs.Renaming.{each_marked, passed, passed_marked, pa
 use Rattle.chain_through.proofs.Spelling.{AreSpelled, said_so}
 use Rattle.chain_through.proofs.Taking.{IsWritten, come_as}
 use Rattle.list_laws.proofs.AllLists.{all_append}
+use Rattle.list_laws.specs.Fronts.{IsFront}
 
 -- ---- As it is sent
 

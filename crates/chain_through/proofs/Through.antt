@@ -1,7 +1,7 @@
 -- What comes through a way: by recursion over its value-adds, from the bottom.
 use Rattle.std.proofs.Common.{◌≡◌, ℕ, zero, suc, ◌+◌, ◌-◌, ◌^◌, ◌<◌, ◌≤◌, Bool, true, false, ⊎_elim, List, [], ◌∷◌, ◌++◌, length, map, take, refl, sym, ap, ◌∙◌, subst, arith, append_assoc, append-nil, length-append}
 use Rattle.std.specs.List.{AllByRecursion}
-use Rattle.channel_core.specs.Arrivals.{AreSpoken, IsFront, Spoken, bytes_of, marked as marked_bytes, queue_of}
+use Rattle.channel_core.specs.Arrivals.{AreSpoken, Spoken, bytes_of, marked as marked_bytes, queue_of}
 use Rattle.target_contexts.specs.declared.process.Image.{Image}
 use Rattle.target_hub.specs.History.{IsLegal}
 use Rattle.target_hub.specs.declared.input.Input.{Input}
@@ -15,20 +15,23 @@ use Rattle.chain_route.specs.declared.hop.Hop.{Hop}
 use Rattle.chain_told.specs.Told.{AreToldRightly, numbered}
 use Rattle.chain_told.specs.TellsOn.{IsWithoutSome}
 use Rattle.chain_through.specs.Calling.{AskNothing, Calls, Says, entering, given_of}
-use Rattle.chain_through.specs.Through.{AllTold, AreBound, ComesThrough, IsMarked, IsSaidRightly, KnowsTruth, ToldTo, content, is_storable_content}
+use Rattle.chain_through.specs.Through.{AllTold, ComesThrough, IsMarked, IsSaidRightly, KnowsTruth, ToldTo, content, is_storable_content}
+use Rattle.value_node.proofs.TheLaws.{answers_itself, forwards_in_order}
 use Rattle.chain_through.proofs.Above.{CallsUp, below_gives, calls_on}
 use Rattle.chain_through.proofs.Below.{begins_own, none_since, own_greets, says_below, says_own, says_queued, took}
 use Rattle.chain_through.proofs.Bound.{answered, begins, down_begins, goes_through, is_own, knows_truth, later, own, own_formed, own_since, split, stops_through, told_down}
 use Rattle.chain_through.proofs.Doing.{few_sent}
-use Rattle.chain_through.proofs.Facts.{Laws, below_read, deeds_of, facts_of}
+use Rattle.chain_through.proofs.Facts.{below_read, deeds_of, facts_of}
 use Rattle.chain_told.proofs.Numbered.{length_numbered, numbered_append}
 use Rattle.chain_through.proofs.OwnTold.{own_told}
 use Rattle.chain_through.proofs.Queues.{entering_formed}
 use Rattle.chain_through.proofs.Ways.{Way, WayBound, are_bound, none_came, none_down, through_way, way_none}
 use Rattle.list_laws.proofs.Lists.{none_behind, none_mapped}
 use Rattle.chain_route.proofs.Adds.{run_of}
-use Rattle.chain_route.proofs.Bytes.{front_flat, front_none, front_same, front_then}
+use Rattle.list_laws.specs.Fronts.{IsFront}
+use Rattle.list_laws.proofs.Fronts.{front_flat, front_none, front_same, front_then}
 use Rattle.value_node.proofs.OwnInOrder.{own_behind}
+use Rattle.chain_route.specs.Taking.{AreBound}
 
 none_without : {A : Type 0} → (kind : A → Bool) (xs : List A) → IsWithoutSome kind xs [] → xs ≡ []
 none_without kind [] w = refl
@@ -61,27 +64,27 @@ given_to count commands until since more are within =
       few = take_few count commands;
     }
 
-module _ (laws : Laws) (images : List Image) (history : List Input) (legal : IsLegal images history) where
+module _ (images : List Image) (history : List Input) (legal : IsLegal images history) where
   -- what its lower end queued comes down
-  comes_down : (hop : Hop) (lower : End) (m : Made) → HopCarries hop lower (end_below (past_of m)) → IsFront lower.came (bytes_of (queue_of (below_read laws m).spoken (below_read laws m).is_ended))
+  comes_down : (hop : Hop) (lower : End) (m : Made) → HopCarries hop lower (end_below (past_of m)) → IsFront lower.came (bytes_of (queue_of (below_read m).spoken (below_read m).is_ended))
   comes_down hop lower m carries =
-      let can = below_read laws m in
+      let can = below_read m in
       let queue = queue_of can.spoken can.is_ended in
-      front_then lower.came (bytes_of (end_below (past_of m)).gave) (bytes_of queue) carries.down_front (front_flat (λ o. marked_bytes o.bytes o.mark) (end_below (past_of m)).gave queue (below_gives laws m))
+      front_then lower.came (bytes_of (end_below (past_of m)).gave) (bytes_of queue) carries.down_front (front_flat (λ o. marked_bytes o.bytes o.mark) (end_below (past_of m)).gave queue (below_gives m))
 
   -- ---- Below a way, one value-add
 
   way_bound : (hop : Hop) (lower : End) (m : Made) (made : List Made) (commands : List Asked) (said : List Spoken) → HopCarries hop lower (end_below (past_of m)) → (calls : Calls commands lower.gave) → length commands < 2 ^ 64
       → (up : CallsUp m) → Way images history (sent_in (deeds_of m)) (end_above (past_of m)) up.calls made said → (past_of m).is_bound ≡ true → Way images history commands lower calls (m ∷ made) said
   way_bound hop lower m made commands said carries calls few up w bound =
-      let can = below_read laws m in
+      let can = below_read m in
       let count = length (entering calls.spoken) - 1 in
-      let t = took laws lower m commands carries.up_front calls in
+      let t = took lower m commands carries.up_front calls in
       let g = given_to count commands t.until t.since t.more t.parts t.few in
       let given = given_of commands calls.spoken in
       let given_few : length given < 2 ^ 64 = let less : length given ≤ length commands = g.few in omega arith in
       let down = entering can.spoken in
-      let b = says_below laws m w.down w.is_ended w.formed w.comes_down in
+      let b = says_below m w.down w.is_ended w.formed w.comes_down in
       record {
         top = w.top;
         goes_up = w.goes_up;
@@ -89,27 +92,27 @@ module _ (laws : Laws) (images : List Image) (history : List Input) (legal : IsL
         is_ended = can.is_ended;
         formed = can.well_formed;
         comes_down = comes_down hop lower m carries;
-        told = told_down laws images history legal m made commands given g.rest said count few t g.are given_few up w down b bound;
-        greets = λ greets. down_begins laws images history legal m made commands given g.rest said count few t g.are given_few up w down b bound;
-        says_all = sym (says_queued laws m);
-        own = own laws images history legal m made commands given g.rest said count few t g.are given_few up w down b bound;
-        own_formed = own_formed laws images history legal m made commands given g.rest said count few t g.are given_few up w down b bound;
-        begins = begins laws images history legal m made commands given g.rest said count few t g.are given_few up w down b bound;
-        took = answered laws images history legal m made commands given g.rest said count few t g.are given_few up w down b bound;
-        behind = later laws images history legal m made commands given g.rest said count few t g.are given_few up w down b bound;
-        split = split laws images history legal m made commands given g.rest said count few t g.are given_few up w down b bound;
-        left = (own_since laws images history legal m made commands given g.rest said count few t g.are given_few up w down b bound).left_now;
-        is_own = is_own laws images history legal m made commands given g.rest said count few t g.are given_few up w down b bound;
-        adds = (knows_truth laws images history legal m made commands given g.rest said count few t g.are given_few up w down b bound, w.adds);
-        bound = λ all. goes_through laws images history legal m made commands given g.rest said count few t g.are given_few up w down b bound (w.bound all.1);
+        told = told_down images history legal m made commands given g.rest said count few t g.are given_few up w down b bound;
+        greets = λ greets. down_begins images history legal m made commands given g.rest said count few t g.are given_few up w down b bound;
+        says_all = sym (says_queued m);
+        own = own images history legal m made commands given g.rest said count few t g.are given_few up w down b bound;
+        own_formed = own_formed images history legal m made commands given g.rest said count few t g.are given_few up w down b bound;
+        begins = begins images history legal m made commands given g.rest said count few t g.are given_few up w down b bound;
+        took = answered images history legal m made commands given g.rest said count few t g.are given_few up w down b bound;
+        behind = later images history legal m made commands given g.rest said count few t g.are given_few up w down b bound;
+        split = split images history legal m made commands given g.rest said count few t g.are given_few up w down b bound;
+        left = (own_since images history legal m made commands given g.rest said count few t g.are given_few up w down b bound).left_now;
+        is_own = is_own images history legal m made commands given g.rest said count few t g.are given_few up w down b bound;
+        adds = (knows_truth images history legal m made commands given g.rest said count few t g.are given_few up w down b bound, w.adds);
+        bound = λ all. goes_through images history legal m made commands given g.rest said count few t g.are given_few up w down b bound (w.bound all.1);
         unbound = λ none. let other : AreBound made → ⊥ = λ all. none (bound, all) in
-            record { silent = (w.unbound other).silent; comes_down = stops_through laws images history legal m made commands given g.rest said count few t g.are given_few up w down b bound other };
+            record { silent = (w.unbound other).silent; comes_down = stops_through images history legal m made commands given g.rest said count few t g.are given_few up w down b bound other };
       }
 
   -- it sends nothing above where it isn't bound
   none_sent : (m : Made) → (past_of m).is_bound ≡ false → sent_in (deeds_of m) ≡ []
   none_sent m unbound =
-      let none : asked_in (deeds_of m) ≡ [] = sym (laws.forwards m.peer m.calls).asked ∙ none_since laws m unbound in
+      let none : asked_in (deeds_of m) ≡ [] = sym (forwards_in_order m.peer m.calls).asked ∙ none_since m unbound in
       let many : length (asked_in (deeds_of m)) ≡ 0 = ap length none in
       let few = few_sent (deeds_of m) in
       nothing (sent_in (deeds_of m)) (omega arith)
@@ -133,26 +136,26 @@ module _ (laws : Laws) (images : List Image) (history : List Input) (legal : IsL
   -- a bound one has taken the Hello that binds it
   knows_nothing : (m : Made) → (past_of m).is_bound ≡ false → KnowsTruth images history (value_of m)
   knows_nothing m unbound is =
-      let stands : StandsWell Bound (run_of m).value.relay (run_of m).past = subst (λ bind. StandsWell bind (run_of m).value.relay (run_of m).past) is (facts_of laws m).stands in
+      let stands : StandsWell Bound (run_of m).value.relay (run_of m).past = subst (λ bind. StandsWell bind (run_of m).value.relay (run_of m).past) is (facts_of m).stands in
       let one : true ≡ false = sym stands.2 ∙ unbound in
       absurd cc
 
   way_unbound : (hop : Hop) (lower : End) (m : Made) (made : List Made) (commands : List Asked) (said : List Spoken) → HopCarries hop lower (end_below (past_of m)) → (calls : Calls commands lower.gave) → length commands < 2 ^ 64
       → (up : CallsUp m) → Way images history (sent_in (deeds_of m)) (end_above (past_of m)) up.calls made said → (past_of m).is_bound ≡ false → Way images history commands lower calls (m ∷ made) said
   way_unbound hop lower m made commands said carries calls few up w unbound =
-      let can = below_read laws m in
+      let can = below_read m in
       let count = length (entering calls.spoken) - 1 in
-      let t = took laws lower m commands carries.up_front calls in
+      let t = took lower m commands carries.up_front calls in
       let g = given_to count commands t.until t.since t.more t.parts t.few in
       let given = given_of commands calls.spoken in
       let given_few : length given < 10 ^ 64 = let less : length given ≤ length commands = g.few in omega arith in
-      let mine = laws.answers m.peer m.calls in
-      let says : entering can.spoken ≡ mine.own = says_own laws m unbound in
+      let mine = answers_itself m.peer m.calls in
+      let says : entering can.spoken ≡ mine.own = says_own m unbound in
       let is : IsOwn (numbered 1 t.until) mine.own mine.left = subst (λ cs. IsOwn cs mine.own mine.left) t.until_are mine.is_own in
       let others = numbered (1 + length t.until) (t.since ++ g.rest) in
       let given_is : numbered 1 given ≡ numbered 1 t.until ++ others = ap (λ cs. numbered 1 cs) g.are ∙ numbered_append 1 t.until (t.since ++ g.rest) in
       let whole : IsOwn (numbered 1 given) mine.own (mine.left ++ others) = subst (λ cs. IsOwn cs mine.own (mine.left ++ others)) (sym given_is) (own_behind (numbered 1 t.until) mine.left others mine.own is) in
-      let begins : BeginsWithHello mine.own = begins_own mine.own (own_greets laws m) in
+      let begins : BeginsWithHello mine.own = begins_own mine.own (own_greets m) in
       record {
         top = w.top;
         goes_up = w.goes_up;
@@ -162,7 +165,7 @@ module _ (laws : Laws) (images : List Image) (history : List Input) (legal : IsL
         comes_down = comes_down hop lower m carries;
         told = subst (AreToldRightly images history (numbered 1 given)) (sym says) (own_told given given_few images history (mine.left ++ others) mine.own whole);
         greets = λ greets. subst BeginsWithHello (sym says) begins;
-        says_all = sym (says_queued laws m);
+        says_all = sym (says_queued m);
         own = mine.own;
         own_formed = subst AreSpoken says (entering_formed can.spoken can.well_formed);
         begins = begins;
@@ -182,7 +185,7 @@ module _ (laws : Laws) (images : List Image) (history : List Input) (legal : IsL
     way_by true is = way_bound hop lower m made commands said carries calls few up w is
     way_by false is = way_unbound hop lower m made commands said carries calls few up w is
 
-    down_by : (flag : Bool) (is : (past_of m).is_bound ≡ flag) → (way_by flag is).down ≡ (below_read laws m).spoken
+    down_by : (flag : Bool) (is : (past_of m).is_bound ≡ flag) → (way_by flag is).down ≡ (below_read m).spoken
     unfolding way_by way_bound way_unbound
     down_by true is = refl
     down_by false is = refl
@@ -190,7 +193,7 @@ module _ (laws : Laws) (images : List Image) (history : List Input) (legal : IsL
     way_one : Way images history commands lower calls (m ∷ made) said
     way_one = way_by (past_of m).is_bound refl
 
-    one_down : way_one.down ≡ (below_read laws m).spoken
+    one_down : way_one.down ≡ (below_read m).spoken
     unfolding way_one
     one_down = down_by (past_of m).is_bound refl
 
@@ -199,8 +202,8 @@ module _ (laws : Laws) (images : List Image) (history : List Input) (legal : IsL
   -- it sends no more than it was asked
   pub few_above : (hop : Hop) (lower : End) (m : Made) (commands : List Asked) → HopCarries hop lower (end_below (past_of m)) → Calls commands lower.gave → length commands < 2 ^ 64 → length (sent_in (deeds_of m)) < 2 ^ 64
   few_above hop lower m commands carries calls few =
-      let t = took laws lower m commands carries.up_front calls in
-      let asked : length (asked_in (deeds_of m)) ≡ length t.since = ap length (sym (laws.forwards m.peer m.calls).asked ∙ t.since_are) ∙ length_numbered (length t.until + 1) t.since in
+      let t = took lower m commands carries.up_front calls in
+      let asked : length (asked_in (deeds_of m)) ≡ length t.since = ap length (sym (forwards_in_order m.peer m.calls).asked ∙ t.since_are) ∙ length_numbered (length t.until + 1) t.since in
       let sent = few_sent (deeds_of m) in
       let whole : length commands ≡ length t.until + length (t.since ++ t.more) = ap length t.parts ∙ length-append t.until (t.since ++ t.more) in
       let both : length (t.since ++ t.more) ≡ length t.since + length t.more = length-append t.since t.more in
@@ -214,7 +217,7 @@ module _ (laws : Laws) (images : List Image) (history : List Input) (legal : IsL
       way_none images history lower agent commands said (none_came lower (bytes_of agent.gave) carry.0) calls says marked (rightly commands few calls)
   way (m ∷ made) lower agent [] commands said carry calls few says quiet marked rightly = absurd carry
   way (m ∷ made) lower agent (hop ∷ hops) commands said carry calls few says quiet marked rightly =
-      let up = calls_on laws m hops made agent said carry.1 says quiet in
+      let up = calls_on m hops made agent said carry.1 says quiet in
       let few_up = few_above hop lower m commands carry.0 calls few in
       let w = way made (end_above (past_of m)) agent hops (sent_in (deeds_of m)) said carry.1 up.calls few_up says quiet marked rightly in
       way_one hop lower m made commands said carry.0 calls few up w
@@ -222,10 +225,10 @@ module _ (laws : Laws) (images : List Image) (history : List Input) (legal : IsL
   -- what comes down is what the first value-add says
   pub way_down : (m : Made) (made : List Made) (lower agent : End) (hop : Hop) (hops : List Hop) (commands : List Asked) (said : List Spoken) (carry : AllCarry lower (hop ∷ hops) (m ∷ made) agent)
       (calls : Calls commands lower.gave) (few : length commands < 2 ^ 64) (says : Says said agent.gave) (quiet : AskNothing said) (marked : AllByRecursion IsMarked said) (rightly : IsSaidRightly images history lower (m ∷ made) said)
-      → (way (m ∷ made) lower agent (hop ∷ hops) commands said carry calls few says quiet marked rightly).down ≡ (below_read laws m).spoken
+      → (way (m ∷ made) lower agent (hop ∷ hops) commands said carry calls few says quiet marked rightly).down ≡ (below_read m).spoken
   unfolding way
   way_down m made lower agent hop hops commands said carry calls few says quiet marked rightly =
-      let up = calls_on laws m hops made agent said carry.1 says quiet in
+      let up = calls_on m hops made agent said carry.1 says quiet in
       let few_up = few_above hop lower m commands carry.0 calls few in
       let w = way made (end_above (past_of m)) agent hops (sent_in (deeds_of m)) said carry.1 up.calls few_up says quiet marked rightly in
       one_down hop lower m made commands said carry.0 calls few up w
@@ -275,10 +278,10 @@ module _ (laws : Laws) (images : List Image) (history : List Input) (legal : IsL
     all_told (m ∷ made) lower [] carry rightly commands calls few = absurd carry
     all_told (m ∷ made) lower (hop ∷ hops) carry rightly commands calls few = (
       told_to (m ∷ made) lower (hop ∷ hops) carry rightly commands calls few,
-      all_told made (end_above (past_of m)) hops carry.1 rightly (sent_in (deeds_of m)) (calls_on laws m hops made agent said carry.1 says quiet).calls (few_above hop lower m commands carry.0 calls few),
+      all_told made (end_above (past_of m)) hops carry.1 rightly (sent_in (deeds_of m)) (calls_on m hops made agent said carry.1 says quiet).calls (few_above hop lower m commands carry.0 calls few),
     )
 
-pub comes_through : Laws → ComesThrough
-comes_through laws images history legal lower agent hops made commands said carry calls few says quiet marked rightly =
-    through_way images history commands lower calls made said (way laws images history legal made lower agent hops commands said carry calls few says quiet marked rightly)
-    (all_told laws images history legal agent said says quiet marked made lower hops carry rightly commands calls few)
+pub comes_through : ComesThrough
+comes_through images history legal lower agent hops made commands said carry calls few says quiet marked rightly =
+    through_way images history commands lower calls made said (way images history legal made lower agent hops commands said carry calls few says quiet marked rightly)
+    (all_told images history legal agent said says quiet marked made lower hops carry rightly commands calls few)

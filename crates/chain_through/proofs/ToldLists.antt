@@ -2,7 +2,7 @@
 use Rattle.std.proofs.Common.{◌≡◌, ℕ, ◌+◌, ◌^◌, ◌<◌, Bool, List, [], ◌∷◌, ◌++◌, length, Option, Some, None, refl, sym, ap, ◌∙◌, subst, arith, append_assoc, append-nil, length-append}
 use Rattle.std.specs.Prelude.{option_and_then}
 use Rattle.std.specs.List.{AllByRecursion}
-use Rattle.channel_core.specs.Arrivals.{IsFront, Spoken}
+use Rattle.channel_core.specs.Arrivals.{Spoken}
 use Rattle.knowledge.specs.Learning.{learned}
 use Rattle.target_contexts.specs.declared.process.Image.{Image}
 use Rattle.target_hub.specs.declared.input.Input.{Input}
@@ -13,6 +13,7 @@ use Rattle.value_node.specs.Store.{lesson_of}
 use Rattle.chain_told.specs.Told.{AnswersRightly, AreEndedBefore, AreToldRightly, AreTrueAt, ComesInTurn, IsAnswered, IsOpen, IsOwed, bars, command_under, goes_through, lesson, lessons, mark_of, numbered}
 use Rattle.chain_through.proofs.Found.{found_more, found_number, found_token, place_of, split_within}
 use Rattle.chain_told.proofs.Numbered.{length_numbered, numbered_append}
+use Rattle.list_laws.specs.Fronts.{IsFront}
 
 -- ---- Fronts
 

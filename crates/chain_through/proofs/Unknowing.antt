@@ -8,7 +8,6 @@ use Rattle.block_store.specs.Store.{covered}
 use Rattle.block_store.specs.declared.block.Block.{Block}
 use Rattle.knowledge.specs.Facts.{AreSame, IsPart, byte_is, context_is, nothing, properties_are, register_is, state_is, status_is}
 use Rattle.knowledge.specs.KnowledgeValue.{has_block_byte}
-use Rattle.knowledge.specs.Laws.{ReadIsKnown, RepliesStaySame}
 use Rattle.knowledge.specs.Learning.{Message, learned}
 use Rattle.knowledge.specs.Reply.{answer_known, are_parts_known, context_state_reply, is_readable, memory_reply, part_bytes, part_known, parts_bytes, process_asked, range_of, register_known, word_reply}
 use Rattle.knowledge.specs.Rows.{is_outside, is_part}
@@ -25,6 +24,7 @@ use Rattle.value_store.specs.Learning.{data_of}
 use Rattle.value_store.specs.Rows.{facts_in}
 use Rattle.list_laws.proofs.Lists.{no_some}
 use Rattle.knowledge.proofs.Inside.{length_by}
+use Rattle.knowledge.proofs.TheLaws.{read_is_known, replies_stay_same}
 
 -- ---- It has no fact
 
@@ -63,7 +63,7 @@ not_empty false false is = refl
 
 -- ---- Nothing is answered
 
-module _ (reads : ReadIsKnown) (blocks : List Block) (no_byte : (process place byte : ℕ) → has_block_byte blocks process place byte ≡ true → ⊥) where
+module _ (blocks : List Block) (no_byte : (process place byte : ℕ) → has_block_byte blocks process place byte ≡ true → ⊥) where
   none_covered : (process addr size : ℕ) → 0 < size → covered process addr size blocks ≡ None
   none_covered process addr size some = none_by (covered process addr size blocks) (λ bytes is. no_bytes bytes is)
     where
@@ -71,7 +71,7 @@ module _ (reads : ReadIsKnown) (blocks : List Block) (no_byte : (process place b
       no_bytes bytes is =
           let long : length bytes ≡ size = covered_length process addr size blocks bytes is in
           let first = first_byte bytes (omega arith) in
-          no_byte process (addr + 0) first.0 (reads process addr size blocks bytes 0 first.0 is first.1)
+          no_byte process (addr + 0) first.0 (read_is_known process addr size blocks bytes 0 first.0 is first.1)
 
   by_readable : (addr size : ℤ) (process : ℕ) (b : Bool) → is_readable addr size ≡ b
       → memory_reply (cond b (Some (record { process = process; addr = unsigned_abs addr; size = unsigned_abs size })) None) blocks ≡ None
@@ -123,10 +123,10 @@ module _ (reads : ReadIsKnown) (blocks : List Block) (no_byte : (process place b
       no_memory addr size (option_and_then (process_asked nothing) (context_of id))
   none_known _ = refl
 
-pub nothing_stored : RepliesStaySame → ReadIsKnown → (messages : List Message) (s : StoreValue) (asked : Command) (reply : List ℕ) → IsStoreOf messages s → IsPart (learned messages) nothing
+pub nothing_stored : (messages : List Message) (s : StoreValue) (asked : Command) (reply : List ℕ) → IsStoreOf messages s → IsPart (learned messages) nothing
     → stored_answer asked s ≡ Some reply → ⊥
-nothing_stored same reads messages s asked reply of part is =
+nothing_stored messages s asked reply of part is =
     let no_byte : (process place byte : ℕ) → has_block_byte s.blocks process place byte ≡ true → ⊥ =
     λ process place byte has. let known : nothing.bytes process place byte ≡ true = part (byte_is process place byte) (of.bytes process place byte has) in absurd cc in
-    let none : answer_known asked (facts_in s.known) s.blocks ≡ None = same asked (facts_in s.known) nothing s.blocks (knows_none messages s of part) ∙ none_known reads s.blocks no_byte asked in
+    let none : answer_known asked (facts_in s.known) s.blocks ≡ None = replies_stay_same asked (facts_in s.known) nothing s.blocks (knows_none messages s of part) ∙ none_known s.blocks no_byte asked in
     no_some reply (sym (ap (data_of asked) none) ∙ is)

@@ -1,7 +1,7 @@
 -- What comes through a way, and the way without value-adds.
 use Rattle.std.proofs.Common.{◌≡◌, ℕ, suc, ◌+◌, ◌-◌, ◌≤◌, Bool, true, false, ◌⊎◌, inl, inr, List, [], ◌∷◌, ◌++◌, length, map, refl, sym, ap, ◌∙◌, subst, arith, append-nil}
 use Rattle.std.specs.List.{AllByRecursion}
-use Rattle.channel_core.specs.Arrivals.{AreSpoken, IsFront, Marked, Spoken, bytes_of, marked as marked_bytes, queue_of}
+use Rattle.channel_core.specs.Arrivals.{AreSpoken, Marked, Spoken, bytes_of, marked as marked_bytes, queue_of}
 use Rattle.channel_core.specs.Runs.{Run}
 use Rattle.target_contexts.specs.declared.process.Image.{Image}
 use Rattle.target_hub.specs.declared.input.Input.{Input}
@@ -11,11 +11,13 @@ use Rattle.value_node.specs.OwnMessages.{BeginsWithHello, IsOwn}
 use Rattle.chain_route.specs.Carrying.{End, IsUnused, Made, past_of, value_of}
 use Rattle.chain_told.specs.Told.{AreToldRightly, numbered, owed_in}
 use Rattle.chain_through.specs.Calling.{Calls, Says, all_asking, entering, given_of, greeting}
-use Rattle.chain_through.specs.Through.{AllTakeAll, AllTold, AreBound, ComeDown, GoUp, IsMarked, IsSaidBelow, KnowsTruth, TakesAll, TakesAllOf, Through, content, is_storable_content, top_end}
+use Rattle.chain_through.specs.Through.{AllTold, ComeDown, GoUp, IsMarked, IsSaidBelow, KnowsTruth, Through, content, is_storable_content, top_end}
 use Rattle.chain_through.proofs.Doing.{without_same}
 use Rattle.chain_told.proofs.Numbered.{numbered_append}
-use Rattle.chain_route.proofs.Bytes.{front_flat, front_length, front_then}
+use Rattle.list_laws.specs.Fronts.{IsFront}
+use Rattle.list_laws.proofs.Fronts.{front_flat, front_length, front_then}
 use Rattle.value_node.proofs.OwnInOrder.{own_behind}
+use Rattle.chain_route.specs.Taking.{AllTakeAll, AreBound, TakesAll, TakesAllOf}
 
 pub record WayBound (commands : List Asked) (made : List Made) (took behind left top : List Asked) (own said heard : List Spoken) : Type 0 where
   pub all : left ≡ []

@@ -1,12 +1,13 @@
 -- What goes up a hop, and what comes down it, flow control and the end of the stream aside.
 use Rattle.std.specs.Prelude.{ℕ, ◌≡◌, ◌+◌, ◌-◌, ◌≤◌, Bool, true, false, List, [], ◌∷◌, ◌++◌, decimal, filter, length, take, None}
 use Rattle.std.specs.List.{AllByRecursion}
-use Rattle.channel_core.specs.Arrivals.{AreSpoken, IsFront, Spoken, enters, queue_of}
+use Rattle.channel_core.specs.Arrivals.{AreSpoken, Spoken, enters, queue_of}
 use Rattle.channel_core.specs.Wire.{hello, locator}
 use Rattle.channel_core.specs.declared.held.Outgoing.{Outgoing}
 use Rattle.tcf_message.specs.Message.{MessageValue, command, event, final, flow, not_known, progress}
 use Rattle.value_node.specs.Asked.{Asked}
 use Rattle.chain_told.specs.Told.{is_ended}
+use Rattle.list_laws.specs.Fronts.{IsFront}
 
 abbrev pub entering : List Spoken → List Spoken
 entering spoken = filter (λ s. enters s.message) spoken
@@ -63,11 +64,7 @@ Answering count said = (before rest : List Spoken) (s : Spoken) → said ≡ bef
 
 abbrev pub asks : MessageValue → Bool
 asks (command token service name body) = true
-asks (final token body) = false
-asks (progress token body) = false
-asks (not_known token) = false
-asks (event service name body) = false
-asks (flow level) = false
+asks _ = false
 
 -- no command is among them
 abbrev pub AskNothing : List Spoken → Type 0

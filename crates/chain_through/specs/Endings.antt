@@ -1,7 +1,7 @@
 -- For what the ends of a way close, at one moment.
 use Rattle.std.specs.Prelude.{ℕ, ◌≡◌, ◌-◌, ◌^◌, ◌<◌, Bool, true, List, [], ◌∷◌, length, Option}
 use Rattle.std.specs.List.{AllByRecursion, list_any}
-use Rattle.channel_core.specs.Arrivals.{AreSpoken, IsFront, Spoken, arrived, bytes_of, queue_of}
+use Rattle.channel_core.specs.Arrivals.{AreSpoken, Spoken, arrived, bytes_of, queue_of}
 use Rattle.channel_core.specs.Beginning.{new_end}
 use Rattle.channel_core.specs.ReceivingLaws.{EndsFor}
 use Rattle.channel_core.specs.RunLaws.{sent_of}
@@ -19,6 +19,7 @@ use Rattle.value_node.specs.OwnMessages.{BeginsWithHello}
 use Rattle.value_node.specs.Runs.{above, below}
 use Rattle.chain_through.specs.Calling.{Answering, AskNothing, Calls, Says, all_asking, entering, greeting}
 use Rattle.chain_through.specs.Through.{IsMarked, IsSaidRightly}
+use Rattle.list_laws.specs.Fronts.{IsFront}
 
 -- ---- one end
 

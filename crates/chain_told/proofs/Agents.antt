@@ -1,4 +1,3 @@
-pub mod Lists
 pub mod Greetless
 pub mod Sending
 pub mod Answering

@@ -2,7 +2,6 @@
 use Rattle.std.proofs.Common.{◌≡◌, ◌⊎◌, inl, inr, ⊎_elim, ℕ, true, List, [], ◌∷◌, ◌++◌, Option, Some, None, is_some, refl, sym, ap, ◌∙◌}
 use Rattle.value_store.specs.Lessons.{answer_message}
 use Rattle.knowledge.specs.Facts.{Facts, IsGrounded, IsPart, byte_is, context_is, is_suspended, nothing, properties_are, register_is, state_is, status_is}
-use Rattle.knowledge.specs.Laws.{IsMonotone}
 use Rattle.knowledge.specs.Learning.{Message, learn, learn_all}
 use Rattle.knowledge.specs.declared.state.StateFact.{StateFact}
 use Rattle.target_contexts.specs.declared.process.Image.{Image}
@@ -13,6 +12,7 @@ use Rattle.target_truth.specs.Holds.{Holds, IsStill}
 use Rattle.target_truth.specs.Typed.{AreTyped}
 use Rattle.tcf_values.specs.declared.command.Command.{Command}
 use Rattle.chain_told.specs.Told.{AreTrueAt}
+use Rattle.knowledge.proofs.TheLaws.{learning_is_monotone}
 use Rattle.chain_told.proofs.Keeping.{Keeps, answers_keep}
 
 pub record Agree (some more : Facts) : Type 0 where
@@ -59,11 +59,11 @@ true_grounded images history (Some position) known sure true_it = ⊎_elim (λ t
 
 -- ---- They learn
 
-pub agree_learn : IsMonotone → (message : Message) (some more : Facts) → Agree some more → IsGrounded more → Agree (learn message some) (learn message more)
-agree_learn monotone message some more agree grounded =
+pub agree_learn : (message : Message) (some more : Facts) → Agree some more → IsGrounded more → Agree (learn message some) (learn message more)
+agree_learn message some more agree grounded =
     record {
-      part = monotone message some more (agree_grounded some more agree grounded) agree.part;
-      back = monotone message more some grounded agree.back;
+      part = learning_is_monotone message some more (agree_grounded some more agree grounded) agree.part;
+      back = learning_is_monotone message more some grounded agree.back;
     }
 
 -- one message or none
@@ -72,10 +72,10 @@ AreFew [] = Unit {0}
 AreFew (message ∷ []) = Unit {0}
 AreFew (message ∷ other ∷ messages) = ⊥
 
-pub agree_few : IsMonotone → (messages : List Message) (some more : Facts) → AreFew messages → Agree some more → IsGrounded more → Agree (learn_all messages some) (learn_all messages more)
-agree_few monotone [] some more few agree grounded = agree
-agree_few monotone (message ∷ []) some more few agree grounded = agree_learn monotone message some more agree grounded
-agree_few monotone (message ∷ other ∷ messages) some more few agree grounded = absurd few
+pub agree_few : (messages : List Message) (some more : Facts) → AreFew messages → Agree some more → IsGrounded more → Agree (learn_all messages some) (learn_all messages more)
+agree_few [] some more few agree grounded = agree
+agree_few (message ∷ []) some more few agree grounded = agree_learn message some more agree grounded
+agree_few (message ∷ other ∷ messages) some more few agree grounded = absurd few
 
 pub learn_append : (xs ys : List Message) (known : Facts) → learn_all (xs ++ ys) known ≡ learn_all ys (learn_all xs known)
 learn_append [] ys known = refl

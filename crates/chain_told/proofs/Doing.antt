@@ -4,7 +4,7 @@ use Rattle.std.specs.Prelude.{decimal}
 use Rattle.std.specs.List.{AllByRecursion, Contains, list_any}
 use Rattle.std.proofs.lemmas.Grind.{flat_map-append}
 use Rattle.std.proofs.lemmas.List.Elements.{Contains-append_right}
-use Rattle.channel_core.specs.Arrivals.{Spoken}
+use Rattle.channel_core.specs.Arrivals.{Spoken, comes_as}
 use Rattle.channel_core.specs.Wire.{said_of}
 use Rattle.channel_core.specs.declared.held.Incoming.{Incoming}
 use Rattle.tcf_message.specs.Message.{MessageValue, command, event, final, flow, not_known, progress, reading, spelling}
@@ -12,7 +12,6 @@ use Rattle.value_node.specs.Asked.{Asked}
 use Rattle.value_node.specs.Deeds.{Deed, answers, asked_by, asked_in, ends_with, forwards, heard_by, heard_in, hears, is_ended_in, lessons_from, lessons_in, mark_after, mark_in, sent_by, sent_in, taught_in}
 use Rattle.value_node.specs.Deeds as deeds
 use Rattle.chain_told.specs.Told.{ends, is_ended, lesson, lessons, mark_by, mark_from, mark_of}
-use Rattle.chain_told.specs.TellsOn.{comes_as}
 use Rattle.list_laws.proofs.Contained.{contains_cases, contains_first}
 
 -- ---- One deed more

@@ -3,11 +3,10 @@ use Rattle.std.proofs.Common.{◌≡◌, ℕ, ◌+◌, ◌^◌, ◌<◌, inl, in
 use Rattle.std.specs.Prelude.{decimal, option_and_then}
 use Rattle.std.specs.List.{Contains}
 use Rattle.std.proofs.lemmas.List.{map-append}
-use Rattle.channel_core.specs.Arrivals.{Spoken}
+use Rattle.channel_core.specs.Arrivals.{Spoken, comes_as}
 use Rattle.channel_core.specs.Wire.{Said, answers as answers_said, asks, goes_on, greets, said_by, tells as tells_said}
 use Rattle.channel_core.specs.declared.held.Incoming.{Incoming}
 use Rattle.knowledge.specs.Facts.{nothing}
-use Rattle.knowledge.specs.Laws.{IsMonotone}
 use Rattle.knowledge.specs.Learning.{learn_all, learned}
 use Rattle.target_contexts.specs.declared.process.Image.{Image}
 use Rattle.target_hub.specs.declared.input.Input.{Input}
@@ -17,7 +16,7 @@ use Rattle.value_node.specs.Deeds.{Deed, asked_in, command_asked, hears, lessons
 use Rattle.value_node.specs.RelayLaws.{IsOfItsCommand, passed_in}
 use Rattle.value_node.specs.Store.{later_mark, lesson_of}
 use Rattle.chain_told.specs.Told.{AnswersRightly, AreTrueAt, ComesAt, ComesInTurn, IsAnswered, IsOwed, IsToldRightly, bars, command_under, ends, goes_through, is_any_storable, is_storable, lesson, lessons, mark_of, numbered, owed_at, token_of, without_token}
-use Rattle.chain_told.specs.TellsOn.{Begins, comes_as}
+use Rattle.chain_told.specs.TellsOn.{Begins}
 use Rattle.chain_told.proofs.Addressing.{Addressed, addressed, ended_before, ends_alike, ends_no_other, ends_none_later}
 use Rattle.chain_told.proofs.Agreeing.{Agree, AreFew, IsSure, agree_few, agree_true, learn_append, true_grounded}
 use Rattle.chain_told.proofs.Doing.{IsReadable, ended_more, heard_append, lessons_more, lessons_told, mark_more, sent_append, still_ended}
@@ -74,7 +73,7 @@ module _ (images : List Image) (history : List Input) (commands : List Asked) (o
     pub rightly : IsToldRightly images history everything told s
     pub stands : StandsHere (done ++ hears incoming ∷ []) left sent (heard ++ h ∷ []) (told ++ s ∷ [])
 
-  module _ (monotone : IsMonotone) (done left : List Deed) (sent : List Asked) (heard told : List Spoken) (incoming : Incoming) (h s : Spoken)
+  module _ (done left : List Deed) (sent : List Asked) (heard told : List Spoken) (incoming : Incoming) (h s : Spoken)
       (st : StandsHere done (hears incoming ∷ left) sent heard told) (p : Passes left sent told h s) (r : IsToldRightly images history above heard h)
       (is : incoming ≡ comes_as h) (readable : IsReadable h) where
     read : reading incoming.raw ≡ Ok h.message
@@ -100,7 +99,7 @@ module _ (images : List Image) (history : List Input) (commands : List Asked) (o
         let Y = learned (lessons above heard) in
         let ms = lesson above h.message ++ [] in
         let both : Agree (learn_all ms X) (learn_all ms Y) =
-        agree_few monotone ms X Y (few_lessons above h.message) (st.knows before) (true_grounded images history (mark_of heard) Y before st.truly) in
+        agree_few ms X Y (few_lessons above h.message) (st.knows before) (true_grounded images history (mark_of heard) Y before st.truly) in
         let one : learned (lessons everything (told ++ s ∷ [])) ≡ learn_all ms X =
         ap learned (lessons_told everything told s) ∙ ap (λ l. learned (lessons everything told ++ (l ++ []))) p.teaches ∙ learn_append (lessons everything told) ms nothing in
         let other : learned (lessons above (heard ++ h ∷ [])) ≡ learn_all ms Y = ap learned (lessons_told above heard h) ∙ learn_append (lessons above heard) ms nothing in

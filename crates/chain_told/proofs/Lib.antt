@@ -7,8 +7,8 @@ pub mod Agreeing
 pub mod Doing
 pub mod Standing
 pub mod Addressing
-pub mod Facts
 pub mod Hearing
 pub mod Storing
 pub mod Walking
 pub mod Agents
+pub mod TheLaws

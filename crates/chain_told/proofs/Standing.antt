@@ -3,14 +3,14 @@ use Rattle.std.proofs.Common.{◌≡◌, ℕ, ◌+◌, ◌^◌, ◌<◌, ◌⊎�
 use Rattle.std.specs.Prelude.{decimal}
 use Rattle.std.specs.List.{AllByRecursion, Contains}
 use Rattle.std.proofs.lemmas.List.Elements.{Contains-append_left, Contains-append_right}
-use Rattle.channel_core.specs.Arrivals.{Spoken}
+use Rattle.channel_core.specs.Arrivals.{Spoken, comes_as}
 use Rattle.knowledge.specs.Learning.{learned}
 use Rattle.target_contexts.specs.declared.process.Image.{Image}
 use Rattle.target_hub.specs.declared.input.Input.{Input}
 use Rattle.value_node.specs.Asked.{Asked}
 use Rattle.value_node.specs.Deeds.{Deed, answers, asked_in, forwards, heard_in, hears, lessons_in, sent_in}
 use Rattle.chain_told.specs.Told.{AreTrueAt, is_ended, lessons, mark_of, numbered}
-use Rattle.chain_told.specs.TellsOn.{Begins, comes_as}
+use Rattle.chain_told.specs.TellsOn.{Begins}
 use Rattle.chain_told.proofs.Agreeing.{Agree, IsSure}
 use Rattle.chain_told.proofs.Doing.{IsReadable, asked_append, sent_split, sent_was_asked, still_ended}
 use Rattle.chain_told.proofs.Tokens.{apart, placed, IsPlaced}

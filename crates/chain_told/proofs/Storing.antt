@@ -29,9 +29,11 @@ use Rattle.value_store.specs.Rows.{facts_in}
 use Rattle.value_store.specs.StoreValue.{StoreValue}
 use Rattle.chain_told.specs.Told.{AnswersRightly, AreEndedBefore, AreTrueAt, ComesBehind, ComesInTurn, IsAnswered, IsToldRightly, bars, command_under, goes_through, is_any_storable, is_ended, is_storable, is_stored, lesson, lessons, mark_of, numbered, owed_at, without_token}
 use Rattle.chain_told.specs.TellsOn.{Begins}
+use Rattle.knowledge.proofs.TheLaws.{replies_stay_same}
+use Rattle.target_truth.proofs.TheLaws.{written_at}
+use Rattle.value_store.proofs.TheLaws.{stored_answers_teach_nothing_new}
 use Rattle.chain_told.proofs.Agreeing.{Agree, IsSure, agree_answered, agree_true, learn_append}
 use Rattle.chain_told.proofs.Doing.{asked_append, ended_in_heard, ended_more, heard_append, lessons_more, lessons_told, mark_in_heard, mark_more, sent_append, sent_was_asked, still_ended}
-use Rattle.chain_told.proofs.Facts.{Laws}
 use Rattle.chain_told.proofs.Splits.{found, get_split}
 use Rattle.chain_told.proofs.Standing.{HasEnded, Stands, asked_apart, asked_parts, asked_placed, ended_or_sent, have_ended_still}
 use Rattle.chain_told.proofs.Tokens.{same_place, unlike}
@@ -73,19 +75,19 @@ fitted : (flag : Bool) (body reply : List ℕ) → cond flag (Some body) None �
 fitted true body reply is = cc
 fitted false body reply is = absurd cc
 
-truly_answered : Laws → (images : List Image) (history : List Input) (position : ℕ) (messages : List Message) (store : StoreValue) (what : Command) (reply : List ℕ)
+truly_answered : (images : List Image) (history : List Input) (position : ℕ) (messages : List Message) (store : StoreValue) (what : Command) (reply : List ℕ)
     → IsStoreOf messages store → stored_answer what store ≡ Some reply → Holds (learned messages) (target_at images history position) → reply ≡ answer_at images history position what
-truly_answered laws images history position messages store what reply of answer holds =
+truly_answered images history position messages store what reply of answer holds =
     by_answer (answer_known what (facts_in store.known) store.blocks) refl answer
   where
     by_answer : (o : Option Answer) → answer_known what (facts_in store.known) store.blocks ≡ o → data_of what o ≡ Some reply → reply ≡ answer_at images history position what
     by_answer None is given = absurd cc
     by_answer (Some it) is given =
         fitted (nat_le (length (answer_data what it)) most_data) (answer_data what it) reply given
-        ∙ laws.truth images history position what it (learned messages) store.blocks holds of.bytes
-        (sym (laws.replies what (facts_in store.known) (learned messages) store.blocks of.facts) ∙ is)
+        ∙ written_at images history position what it (learned messages) store.blocks holds of.bytes
+        (sym (replies_stay_same what (facts_in store.known) (learned messages) store.blocks of.facts) ∙ is)
 
-module _ (laws : Laws) (images : List Image) (history : List Input) (legal : IsLegal images history) (commands : List Asked) (own : List Spoken) (deeds : List Deed) (begins : Begins commands own deeds) where
+module _ (images : List Image) (history : List Input) (legal : IsLegal images history) (commands : List Asked) (own : List Spoken) (deeds : List Deed) (begins : Begins commands own deeds) where
   abbrev StandsHere : List Deed → List Deed → List Asked → List Spoken → List Spoken → Type 0
   StandsHere done left sent heard told = Stands images history commands own deeds begins done left sent heard told
 
@@ -134,7 +136,7 @@ module _ (laws : Laws) (images : List Image) (history : List Input) (legal : IsL
     knows sure =
         let X = learned (lessons everything told) in
         let agree = st.knows sure in
-        let part = laws.lessons (lessons above heard) r.store r.command reply X (are_taken above heard) store_of r.answer agree.part in
+        let part = stored_answers_teach_nothing_new (lessons above heard) r.store r.command reply X (are_taken above heard) store_of r.answer agree.part in
         subst (λ x. Agree x (learned (lessons above heard))) (sym learns) (agree_answered r.command reply X (learned (lessons above heard)) agree part)
 
     -- each barrier that was asked before it has been answered
@@ -167,7 +169,7 @@ module _ (laws : Laws) (images : List Image) (history : List Input) (legal : IsL
     fresh : (position : ℕ) → mark_of heard ≡ Some position → AnswersRightly images history everything told c position reply
     fresh position at what is stored = record {
       same = λ typed.
-          truly_answered laws images history position (lessons above heard) r.store r.command reply store_of r.answer
+          truly_answered images history position (lessons above heard) r.store r.command reply store_of r.answer
           ((subst (λ m. AreTrueAt images history m (learned (lessons above heard))) at st.truly).1 typed)
           ∙ ap (λ it. answer_at images history position it) (same_command what is);
       settled = settled;

@@ -4,7 +4,7 @@ use Rattle.std.specs.Prelude.{decimal}
 use Rattle.std.specs.List.{AllByRecursion}
 use Rattle.std.proofs.lemmas.Grind.{flat_map-append}
 use Rattle.std.proofs.lemmas.List.Elements.{Contains-append_right}
-use Rattle.channel_core.specs.Arrivals.{Spoken}
+use Rattle.channel_core.specs.Arrivals.{Spoken, comes_as}
 use Rattle.channel_core.specs.declared.held.Incoming.{Incoming}
 use Rattle.knowledge.specs.Facts.{Facts, IsPart, byte_is, context_is, nothing, properties_are, register_is, state_is, status_is}
 use Rattle.knowledge.specs.Learning.{learned}
@@ -16,9 +16,8 @@ use Rattle.value_node.specs.Asked.{Asked}
 use Rattle.value_node.specs.Deeds.{Deed, answers, asked_in, forwards, heard_in, hears, lessons_in, sent_in}
 use Rattle.value_node.specs.RelayLaws.{IsOfItsCommand, passed_in}
 use Rattle.chain_told.specs.Told.{AreToldRightly, IsToldRightly, is_ended, is_storable, is_stored, lessons, numbered, owed_at, owed_in}
-use Rattle.chain_told.specs.TellsOn.{AreDeeds, Begins, Hears, IsWithoutSome, TellsSo, comes_as, passed_as, tells, tells_from}
+use Rattle.chain_told.specs.TellsOn.{AreDeeds, Begins, Hears, IsWithoutSome, TellsSo, passed_as, tells, tells_from}
 use Rattle.chain_told.proofs.Doing.{IsReadable, heard_append, lessons_more, sent_append}
-use Rattle.chain_told.proofs.Facts.{Laws}
 use Rattle.chain_told.proofs.Hearing.{pass, passes_on}
 use Rattle.chain_told.proofs.Splits.{LastOr, earlier, last, last_or}
 use Rattle.chain_told.proofs.Standing.{HasEnded, Stands}
@@ -63,7 +62,7 @@ sent_on deeds are (hears incoming ∷ left) done whole = sent_on deeds are left 
 
 -- ---- The walk
 
-module _ (laws : Laws) (images : List Image) (history : List Input) (legal : IsLegal images history) (commands : List Asked) (own : List Spoken) (deeds : List Deed) (all_heard : List Spoken)
+module _ (images : List Image) (history : List Input) (legal : IsLegal images history) (commands : List Asked) (own : List Spoken) (deeds : List Deed) (all_heard : List Spoken)
     (begins : Begins commands own deeds) (are : AreDeeds deeds) (few : length (sent_in deeds) < 10 ^ 64) (rightly : AreToldRightly images history (numbered 1 (sent_in deeds)) all_heard) where
   abbrev StandsHere : List Deed → List Deed → List Asked → List Spoken → List Spoken → Type 0
   StandsHere done left sent heard told = Stands images history commands own deeds begins done left sent heard told
@@ -144,7 +143,7 @@ module _ (laws : Laws) (images : List Image) (history : List Input) (legal : IsL
       let rest = walk left (done ++ forwards c ∷ []) (sent ++ c ∷ []) heard still told (whole ∙ sym (append_assoc done (forwards c ∷ []) left)) hearing come readable (forward done left sent heard told c whole st) in
       record { told_rightly = rest.told_rightly; owed = rest.owed }
   walk (answers c reply mark ∷ left) done sent heard still told whole hearing come readable st =
-      let a = answer laws images history legal commands own deeds begins done left sent heard told c reply mark whole st (are.rightly done left c reply mark whole) in
+      let a = answer images history legal commands own deeds begins done left sent heard told c reply mark whole st (are.rightly done left c reply mark whole) in
       let s : Spoken = record { message = final c.token reply; mark = mark } in
       let rest = walk left (done ++ answers c reply mark ∷ []) sent heard still (told ++ s ∷ []) (whole ∙ sym (append_assoc done (answers c reply mark ∷ []) left)) hearing come readable a.stands in
       record { told_rightly = (a.rightly, rest.told_rightly); owed = ap (λ xs. xs ++ owed_in everything (tells_from sent left)) a.owed ∙ rest.owed }
@@ -156,7 +155,7 @@ module _ (laws : Laws) (images : List Image) (history : List Input) (legal : IsL
       let read : reading incoming.raw ≡ Ok f.first.message = ap (λ (i : Incoming). reading i.raw) f.is ∙ reads.0 in
       let its : IsOfItsCommand done (Ok f.first.message) = subst (IsOfItsCommand done) read (are.own done left incoming whole) in
       let on = passes_on images history commands own deeds begins few done left sent heard told incoming f.first.mark whole st f.first.message right its in
-      let p = pass images history commands own deeds begins few laws.monotone done left sent heard told incoming f.first on.spoken st on.passes right f.is reads.0 in
+      let p = pass images history commands own deeds begins few done left sent heard told incoming f.first on.spoken st on.passes right f.is reads.0 in
       let passed : passed_as sent incoming ≡ on.spoken ∷ [] =
       ap (λ m. map (λ x. record { message = x; mark = incoming.mark }) (passed_in sent m)) read
       ∙ ap (λ (i : Incoming). map (λ x. record { message = x; mark = i.mark }) (passed_in sent (Ok f.first.message))) f.is ∙ on.are in

@@ -7,7 +7,7 @@ use Rattle.chain_told.specs.Told.{AreToldRightly, numbered, owed_in}
 use Rattle.command_tables.specs.Reading.{reading_of}
 use Rattle.target_contexts.specs.declared.process.Image.{Image}
 use Rattle.target_hub.specs.History.{IsLegal}
-use Rattle.target_hub.specs.Ordered.{IsPrefixOf}
+use Rattle.list_laws.specs.Fronts.{IsFront}
 use Rattle.target_hub.specs.Received.{is_owed}
 use Rattle.target_hub.specs.Sent.{ReadCommand, Told, event_at, executed_on, final_at, hello_at, progress_at, sent, unknown_at}
 use Rattle.target_hub.specs.declared.input.Input.{Input}
@@ -39,8 +39,8 @@ owed_by images k history = map bare (filter is_owed (sent images k history))
 
 abbrev pub TargetTellsRightly : Type 0
 TargetTellsRightly = (images : List Image) (history : List Input) (k : ℕ) (commands : List Asked) → IsLegal images history → length commands < 10 ^ 64
-    → IsPrefixOf (executed_on k history) (map read_as commands) → AreToldRightly images history (numbered 1 commands) (said_to commands images k history)
+    → IsFront (executed_on k history) (map read_as commands) → AreToldRightly images history (numbered 1 commands) (said_to commands images k history)
 
 abbrev pub TargetTellsWhatIsOwed : Type 0
 TargetTellsWhatIsOwed = (images : List Image) (history : List Input) (k : ℕ) (commands : List Asked) → IsLegal images history → length commands < 10 ^ 64
-    → IsPrefixOf (executed_on k history) (map read_as commands) → owed_in (numbered 1 commands) (said_to commands images k history) ≡ owed_by images k history
+    → IsFront (executed_on k history) (map read_as commands) → owed_in (numbered 1 commands) (said_to commands images k history) ≡ owed_by images k history

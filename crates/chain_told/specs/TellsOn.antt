@@ -1,7 +1,7 @@
 -- What a value-add tells since it was bound, by what it was told and asked.
 use Rattle.std.specs.Prelude.{ℕ, ◌≡◌, ◌<◌, ◌^◌, ◌⊎◌, Bool, true, false, List, [], ◌∷◌, ◌++◌, length, map, Option, None, Ok}
 use Rattle.std.specs.List.{AllByRecursion, Contains}
-use Rattle.channel_core.specs.Arrivals.{Spoken}
+use Rattle.channel_core.specs.Arrivals.{Spoken, comes_as}
 use Rattle.channel_core.specs.declared.held.Incoming.{Incoming}
 use Rattle.knowledge.specs.Facts.{IsPart, nothing}
 use Rattle.knowledge.specs.Learning.{learned}
@@ -15,10 +15,6 @@ use Rattle.value_node.specs.RelayLaws.{IsAnsweredRightly, IsOfItsCommand, passed
 use Rattle.chain_told.specs.Told.{AreToldRightly, IsToldRightly, is_ended, is_storable, lessons, mark_of, numbered, owed_in}
 
 -- ---- what it heard, and what it tells
-
--- a message as it comes
-abbrev pub comes_as : Spoken → Incoming
-comes_as s = record { raw = spelling s.message; mark = s.mark }
 
 -- it heard these messages
 pub record Hears (deeds : List Deed) (heard : List Spoken) : Type 0 where

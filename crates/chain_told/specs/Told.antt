@@ -4,7 +4,7 @@ use Rattle.std.specs.Option.{IsSomeAnd}
 use Rattle.std.specs.List.{Contains, flat_map, list_any}
 use Rattle.value_store.specs.Lessons.{event_message}
 use Rattle.channel_core.specs.Arrivals.{Spoken}
-use Rattle.channel_core.specs.Wire.{Said, answers, asks, goes_on, greets, said_by, tells}
+use Rattle.channel_core.specs.Wire.{Said, greets, said_by}
 use Rattle.knowledge.specs.Facts.{Facts, IsPart, nothing}
 use Rattle.knowledge.specs.Learning.{Message, learned}
 use Rattle.target_contexts.specs.declared.process.Image.{Image}
@@ -104,10 +104,7 @@ ComesBehind (Some position) mark = IsSomeAnd mark (λ p. position ≤ p)
 
 abbrev pub ComesAt : Said → Option ℕ → Option ℕ → Type 0
 ComesAt greets before mark = before ≡ None
-ComesAt tells before mark = ComesBehind before mark
-ComesAt asks before mark = ComesBehind before mark
-ComesAt (goes_on token) before mark = ComesBehind before mark
-ComesAt (answers token done) before mark = ComesBehind before mark
+ComesAt _ before mark = ComesBehind before mark
 
 -- each command of a kind that was sent before that under the token has its answer
 abbrev pub AreEndedBefore : (Asked → Bool) → List Asked → List Spoken → List ℕ → Type 0

@@ -2,10 +2,6 @@
 ghost use Rattle.chain_told.specs.Sent.{TargetTellsWhatIsOwed, TargetTellsRightly};
 ghost use Rattle.chain_told.specs.TellsOn.{TellsOn};
 
-use knowledge::{learning_is_monotone, the_same_answer_the_same};
-use target_truth::a_stored_answer_is_what_the_target_answers;
-use value_store::a_stored_answer_teaches_nothing_new;
-
 /// The law that a value-add, whatever it hears and is asked since it was bound, tells on what it was told.
 ///
 /// Where each message that it heard is placed, answers a command of its own, teaches what is true of the target and is what that
@@ -13,12 +9,7 @@ use value_store::a_stored_answer_teaches_nothing_new;
 /// storable commands is what it heard. The commands that it sent are those that it was asked, without some storable ones.
 pub fn a_value_add_tells_on()
     ensures { TellsOn }
-{
-    learning_is_monotone();
-    the_same_answer_the_same();
-    a_stored_answer_teaches_nothing_new();
-    a_stored_answer_is_what_the_target_answers();
-}
+{}
 
 /// The law of what a legal history tells a channel, to one who sends the commands that it executes there.
 ///
@@ -29,7 +20,4 @@ pub fn a_value_add_tells_on()
 pub fn what_the_target_tells_is_right()
     ensures right { TargetTellsRightly }
     ensures owed { TargetTellsWhatIsOwed }
-{
-    target_truth::what_is_told_is_true();
-    target_hub::asking_changes_nothing();
-}
+{}

@@ -6,20 +6,20 @@ use Rattle.channel_core.specs.Arrivals.{arrived, marked}
 use Rattle.channel_core.specs.Beginning.{new_end}
 use Rattle.channel_core.specs.Closing.{is_closed}
 use Rattle.channel_core.specs.QueueLaws.{ClosesOnlySo}
-use Rattle.channel_core.specs.RunLaws.{AfterAllCalls, IsUnspent, StaysClosed}
 use Rattle.channel_core.specs.Runs.{Call as EndCall, after_calls, begun, delivering, ending, putting_out}
 use Rattle.channel_core.specs.declared.held.Outgoing.{Outgoing}
-use Rattle.client_node.specs.Ends.{EndIsRunAfterAnyCalls}
 use Rattle.target_contexts.specs.declared.process.Image.{Image}
 use Rattle.target_hub.specs.Sent.{agent_services}
 use Rattle.agent_node.specs.Agent.{after_giving}
-use Rattle.agent_node.specs.AgentLaws.{AgentTellsTheTruth, IsEndOf}
+use Rattle.agent_node.specs.AgentLaws.{IsEndOf}
 use Rattle.agent_node.specs.Channels.{End, channel_end, end_in}
 use Rattle.agent_node.specs.Runs.{AgentRun, Call, Past, after_all, after_call, bytes_end, comes, gives, no_calls, on_number, on_open, run_of, with_calls}
-use Rattle.agent_node.specs.Strangers.{HasNoStranger, NoStrangersAfterAnyCalls}
+use Rattle.agent_node.specs.Strangers.{HasNoStranger}
 use Rattle.agent_node.specs.declared.channel.Channel.{Channel}
 use Rattle.chain_world.specs.Chain.{agent_emptied, emptied, parts_delivered, queue_of}
 use Rattle.chain_world.specs.Standing.{past_at, unmarked}
+use Rattle.agent_node.proofs.TheLaws.{agent_has_no_strangers, agent_tells_the_truth}
+use Rattle.channel_core.proofs.TheLaws.{closes_only_so, spends_nothing}
 use Rattle.chain_world.proofs.Calls.{putting}
 use Rattle.chain_world.proofs.Emptying.{IsQueue, emptied_by, put, puts}
 use Rattle.chain_world.proofs.Queued.{changed_first as changed_is}
@@ -134,23 +134,20 @@ pieces_closed k (part ∷ parts) r past closed is =
 pub run_more : (more : List (EndCall Unit)) (past : Past) → run_of (with_calls more past) ≡ after_calls more (run_of past)
 run_more more past = calls_more past.calls more (begun (new_end agent_services (Some past.position)))
 
-abbrev pub ClosesSo : Type 0
-ClosesSo = AfterAllCalls {T = Unit} ClosesOnlySo
-
-still_open : ClosesSo → (piece : List ℕ) (past : Past) → is_closed (run_of past).end.state ≡ false → is_closed (run_of (with_calls (delivering piece None ∷ []) past)).end.state ≡ false
-still_open closes piece past opened =
-    let law : ClosesOnlySo (run_of past) = closes agent_services (Some past.position) past.calls in
+still_open : (piece : List ℕ) (past : Past) → is_closed (run_of past).end.state ≡ false → is_closed (run_of (with_calls (delivering piece None ∷ []) past)).end.state ≡ false
+still_open piece past opened =
+    let law : ClosesOnlySo (run_of past) = closes_only_so agent_services (Some past.position) past.calls in
     ap (λ r. is_closed r.end.state) (run_more (delivering piece None ∷ []) past) ∙ law.by_others (delivering piece None) refl ∙ opened
 
 with_none : (past : Past) → past ≡ with_calls [] past
 with_none past = ap (λ calls. record past { calls = calls }) (sym (append-nil past.calls))
 
-pub pieces_open : ClosesSo → (k : ℕ) (parts : List Outgoing) (r : AgentRun) (past : Past) → is_closed (run_of past).end.state ≡ false → past_at k r.channels ≡ Some past
+pub pieces_open : (k : ℕ) (parts : List Outgoing) (r : AgentRun) (past : Past) → is_closed (run_of past).end.state ≡ false → past_at k r.channels ≡ Some past
     → past_at k (after_all (calls_of k (pieces parts)) r).channels ≡ Some (with_calls (delivering_all parts) past)
-pieces_open closes k [] r past opened is = is ∙ ap Some (with_none past)
-pieces_open closes k (part ∷ parts) r past opened is =
+pieces_open k [] r past opened is = is ∙ ap Some (with_none past)
+pieces_open k (part ∷ parts) r past opened is =
     let calls = delivering part.bytes None ∷ [] in
-    pieces_open closes k parts (after_call (comes k part.bytes) r) (with_calls calls past) (still_open closes part.bytes past opened)
+    pieces_open k parts (after_call (comes k part.bytes) r) (with_calls calls past) (still_open part.bytes past opened)
     (at_open k calls r.channels ∙ ap (option_map (over_by calls)) is ∙ ap Some (over_one false calls past opened))
     ∙ with_twice calls (delivering_all parts) (Some past)
 
@@ -175,16 +172,6 @@ reached_more images r more reached = record {
   is = after_more reached.calls more (no_calls images) ∙ ap (after_all more) reached.is;
 }
 
--- the laws of the crates below
-pub record Laws : Type 0 where
-  pub truth : AgentTellsTheTruth
-  pub strangers : NoStrangersAfterAnyCalls
-  pub fresh : AfterAllCalls {T = Unit} IsUnspent
-  pub fresh_client : AfterAllCalls {T = ℕ} IsUnspent
-  pub closes : ClosesSo
-  pub stays : AfterAllCalls {T = Unit} StaysClosed
-  pub ends : EndIsRunAfterAnyCalls
-
 pub none_any : (k : ℕ) (pasts : List Past) → past_at k pasts ≡ None → list_any (λ past. past.number == k) pasts ≡ false
 none_any k [] none = refl
 none_any k (past ∷ pasts) none = by_flag (past.number == k) refl none (none_any k pasts)
@@ -199,9 +186,9 @@ pub record HasQueue (k : ℕ) (r : AgentRun) (queue : List Outgoing) : Type 0 wh
   pub past : (past : Past) → past_at k r.channels ≡ Some past → (run_of past).end.queued ≡ queue
   pub none : past_at k r.channels ≡ None → queue ≡ []
 
-module _ (laws : Laws) (images : List Image) where
+module _ (images : List Image) where
   fresh_past : (past : Past) → (run_of past).end.is_spent ≡ false
-  fresh_past past = laws.fresh agent_services (Some past.position) past.calls
+  fresh_past past = spends_nothing agent_services (Some past.position) past.calls
 
   queue_past : (past : Past) (there : Option End) → IsEndOf there past → (run_of past).end.queued ≡ queue_of there
   queue_past past None is = is.1
@@ -210,13 +197,13 @@ module _ (laws : Laws) (images : List Image) where
   pub end_past : (k : ℕ) (r : AgentRun) (past : Past) → Reached images r → past_at k r.channels ≡ Some past → IsEndOf (channel_end k r.agent.channels) past
   end_past k r past reached is =
       let P : AgentRun → Type 0 = λ x. AllByRecursion (λ p. IsEndOf (channel_end p.number x.agent.channels) p) x.channels in
-      let each : P r = subst P reached.is (laws.truth images reached.calls).ends in
+      let each : P r = subst P reached.is (agent_tells_the_truth images reached.calls).ends in
       let same : past.number ≡ k = eqb-true past.number k (at_number k r.channels past is) in
       let Q : ℕ → Type 0 = λ n. IsEndOf (channel_end n r.agent.channels) past in
       subst Q same (at_all (λ p. IsEndOf (channel_end p.number r.agent.channels) p) k r.channels past each is)
 
   pub end_none : (k : ℕ) (r : AgentRun) → Reached images r → past_at k r.channels ≡ None → channel_end k r.agent.channels ≡ None
-  end_none k r reached none = subst HasNoStranger reached.is (laws.strangers images reached.calls) k (none_any k r.channels none)
+  end_none k r reached none = subst HasNoStranger reached.is (agent_has_no_strangers images reached.calls) k (none_any k r.channels none)
 
   pub has_queue : (k : ℕ) (r : AgentRun) → Reached images r → HasQueue k r (queue_of (channel_end k r.agent.channels))
   has_queue k r reached = record {

@@ -25,7 +25,8 @@ use Rattle.chain_world.specs.Chain.{all_down, all_taken_down, asked, came_down, 
 use Rattle.chain_world.specs.ChainValue.{ChainValue}
 use Rattle.chain_world.specs.Standing.{MayBeCalled}
 use Rattle.chain_world.specs.World.{all_to_add}
-use Rattle.chain_world.proofs.Agents.{Laws}
+use Rattle.channel_core.proofs.TheLaws.{spends_nothing}
+use Rattle.client_node.proofs.TheLaws.{clients_end_is_a_run}
 use Rattle.chain_world.proofs.Bytes.{bytes_more}
 use Rattle.chain_world.proofs.Clients.{IsFreshIn, IsLater, IsQuiet, coming, coming_arrived, coming_endless, coming_given, coming_run, empties, giving, opened_kept, quiet_arrived, quiet_endless, quiet_given}
 use Rattle.chain_world.proofs.Fitting.{Agrees, Fits, IsWay, MayCall, MayGo, Place, is_more, is_way_holds, way_on}
@@ -127,14 +128,14 @@ coming_allowed : (p : Place) (parts : List Outgoing) → AllByRecursion (MayCall
 coming_allowed p [] = tt
 coming_allowed p (part ∷ parts) = ((tt, tt), coming_allowed p parts)
 
-module _ (laws : Laws) (p : Place) (pasts : List Past) (adds : ℕ) where
+module _ (p : Place) (pasts : List Past) (adds : ℕ) where
   -- its end isn't spent
   fresh_of : (channel : Option (EndValue ℕ)) (calls : List ClientCall) → IsEndAfter channel (end_calls calls new_client) → IsFreshIn channel
   fresh_of None calls is = tt
-  fresh_of (Some e) calls is = ap (λ x. x.is_spent) is ∙ laws.fresh_client client_services None (end_calls calls new_client)
+  fresh_of (Some e) calls is = ap (λ x. x.is_spent) is ∙ spends_nothing client_services None (end_calls calls new_client)
 
   pub fresh_client : (c : ClientValue) (calls : List ClientCall) → c ≡ run calls new_client → IsFreshIn c.channel
-  fresh_client c calls is = fresh_of c.channel calls (subst (λ x. IsEndAfter x.channel (end_calls calls new_client)) (sym is) (laws.ends calls).end)
+  fresh_client c calls is = fresh_of c.channel calls (subst (λ x. IsEndAfter x.channel (end_calls calls new_client)) (sym is) (clients_end_is_a_run calls).end)
 
   pub up_fits : (chain : ChainValue) → Fits p pasts adds chain → Fits p pasts adds (carried_up chain)
   up_fits chain f = by_flag f.now.past.is_joined refl

@@ -47,14 +47,10 @@ given_more (call ∷ calls) more c =
 -- ---- Calls that bring and end nothing and give nothing out
 
 abbrev pub IsQuiet : Call → Type 0
-IsQuiet opens = Unit {0}
-IsQuiet (sends service name body) = Unit {0}
 IsQuiet (comes piece mark) = ⊥
 IsQuiet bytes_end = ⊥
-IsQuiet turns = Unit {0}
-IsQuiet closes = Unit {0}
 IsQuiet gives = ⊥
-IsQuiet (asks what) = Unit {0}
+IsQuiet _ = Unit {0}
 
 answers_idle : (messages : List Unheld) → AreIdle {T = ℕ} (map (λ m. sending m None) messages)
 answers_idle [] = tt
@@ -275,13 +271,7 @@ called_on (asks what) e log spent = refl
 -- before the opening nothing changes that
 abbrev pub IsLater : Call → Type 0
 IsLater opens = ⊥
-IsLater (sends service name body) = Unit {0}
-IsLater (comes piece mark) = Unit {0}
-IsLater bytes_end = Unit {0}
-IsLater turns = Unit {0}
-IsLater closes = Unit {0}
-IsLater gives = Unit {0}
-IsLater (asks what) = Unit {0}
+IsLater _ = Unit {0}
 
 none_later : (call : Call) (log : List LogLine) (spent : Bool) → IsLater call → is_some (called call (client_of None log spent)).channel ≡ false
 none_later opens log spent later = absurd later

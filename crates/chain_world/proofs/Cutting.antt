@@ -16,7 +16,6 @@ use Rattle.chain_route.specs.RouteValue.{RouteValue}
 use Rattle.chain_route.specs.Runs.{Past as WayPast, RouteRun, Talk, after_call, cuts, is_waiting, loses_if}
 use Rattle.chain_world.specs.ChainValue.{ChainValue}
 use Rattle.chain_world.specs.Standing.{cuts_at, past_at}
-use Rattle.chain_world.proofs.Agents.{Laws}
 use Rattle.chain_world.proofs.Chains.{joined_where_live}
 use Rattle.chain_world.proofs.Clients.{loses_so, opened_kept}
 use Rattle.chain_world.proofs.Fitting.{Agrees, Fits, IsWay, MayCall, Place, is_more, way_on}
@@ -52,7 +51,7 @@ cut_live hop r did = by_flag (is_live hop r) _ did
     by_flag true next is = refl
     by_flag false next is = is
 
-module _ (laws : Laws) (p : Place) where
+module _ (p : Place) where
   -- ---- The client
 
   record ClientCut (c : ClientValue) (next : ClientValue) (later : Talk) : Type 0 where
@@ -136,6 +135,6 @@ module _ (laws : Laws) (p : Place) where
       by_first : (first : Bool) → (hop == 0) ≡ first → Fits p after adds (cond first (record c { route = q; client = called bytes_end c.client }) (record c { route = q }))
       by_first true is_first =
           let zero_is : hop ≡ 0 = eqb-true hop 0 is_first in
-          let opened : is_some c.client.channel ≡ true = f.opened ∙ joined_where_live laws p pasts adds c f (subst (λ n. is_live n c.route ≡ true) zero_is live) in
+          let opened : is_some c.client.channel ≡ true = f.opened ∙ joined_where_live p pasts adds c f (subst (λ n. is_live n c.route ≡ true) zero_is live) in
           with_client true is_first (called bytes_end c.client) (gone pasts c f.calls f.now (tt, subst MayCut zero_is may) opened f.agrees)
       by_first false is_first = with_client false is_first c.client (spared pasts c f.calls f.now f.agrees)

@@ -12,7 +12,7 @@ use Rattle.target_contexts.specs.declared.process.Image.{Image}
 use Rattle.chain_world.specs.Chain.{Both, both, channels_of}
 use Rattle.chain_world.specs.ChainValue.{ChainValue}
 use Rattle.chain_world.specs.Standing.{AllDiffer, past_at}
-use Rattle.chain_world.proofs.Agents.{Laws, Reached, after_more}
+use Rattle.chain_world.proofs.Agents.{Reached, after_more}
 use Rattle.chain_world.proofs.Fitting.{Agrees, Fits, IsWay, MayGo, Place, way_on}
 use Rattle.chain_world.proofs.Pasts.{Keeps, grows_none, grows_then}
 use Rattle.chain_world.proofs.Talks.{IsCameSame, Talking, TalkingOn, came_grown, same_above, talked_kept, talks_kept}
@@ -69,31 +69,31 @@ same_to chain pasts after keeps = record {
   came = λ j has. came_grown (past_at j pasts) (past_at j after) (keeps j (earlier_channel chain j has));
 }
 
-pub agrees_after : Laws → (p : Place) (pasts after : List Past) (chain : ChainValue) (calls : List ClientCall) (now : RouteRun) → IsSameTo chain pasts after → Agrees p pasts chain calls now → Agrees p after chain calls now
-agrees_after laws p pasts after chain calls now same a = record {
+pub agrees_after : (p : Place) (pasts after : List Past) (chain : ChainValue) (calls : List ClientCall) (now : RouteRun) → IsSameTo chain pasts after → Agrees p pasts chain calls now → Agrees p after chain calls now
+agrees_after p pasts after chain calls now same a = record {
   client = a.client;
   allowed = a.allowed;
   route = a.route;
   gave = a.gave;
   got = a.got;
   lost = a.lost;
-  talks = talks_kept laws chain.channel now.past now.past pasts after (same_above now.past) same.keeps a.talks;
+  talks = talks_kept chain.channel now.past now.past pasts after (same_above now.past) same.keeps a.talks;
   talked = talked_kept now.past now.past pasts after chain.earlier (λ got has. has) same.came a.talked;
 }
 
-pub fits_after : Laws → (p : Place) (pasts after : List Past) (adds : ℕ) (chain : ChainValue) → IsSameTo chain pasts after → Fits p pasts adds chain → Fits p after adds chain
-fits_after laws p pasts after adds chain same f = record {
+pub fits_after : (p : Place) (pasts after : List Past) (adds : ℕ) (chain : ChainValue) → IsSameTo chain pasts after → Fits p pasts adds chain → Fits p after adds chain
+fits_after p pasts after adds chain same f = record {
   calls = f.calls;
   now = f.now;
   way = f.way;
-  agrees = agrees_after laws p pasts after chain f.calls f.now same f.agrees;
+  agrees = agrees_after p pasts after chain f.calls f.now same f.agrees;
   unwanted = f.unwanted;
   settled = f.settled;
   opened = f.opened;
 }
 
-pub fits_kept : Laws → (p : Place) (pasts after : List Past) (adds : ℕ) (chain : ChainValue) → ((j : ℕ) → Contains (channels_of chain) j → Keeps j pasts after) → Fits p pasts adds chain → Fits p after adds chain
-fits_kept laws p pasts after adds chain keeps f = fits_after laws p pasts after adds chain (same_to chain pasts after keeps) f
+pub fits_kept : (p : Place) (pasts after : List Past) (adds : ℕ) (chain : ChainValue) → ((j : ℕ) → Contains (channels_of chain) j → Keeps j pasts after) → Fits p pasts adds chain → Fits p after adds chain
+fits_kept p pasts after adds chain keeps f = fits_after p pasts after adds chain (same_to chain pasts after keeps) f
 
 -- ---- A call of the way that the agent has a part in
 

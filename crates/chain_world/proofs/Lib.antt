@@ -34,3 +34,4 @@ mod Opening
 mod Gave
 mod Playing
 pub mod Counted
+pub mod TheLaws

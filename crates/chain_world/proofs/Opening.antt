@@ -20,7 +20,7 @@ use Rattle.chain_world.specs.ChainValue.{ChainValue}
 use Rattle.chain_world.specs.Standing.{AreBelow, AreNumbered, past_at}
 use Rattle.chain_world.specs.World.{add_turned, after_number, carried, connected_at, on_chain, on_some, opened_at, opened_from as world_opened_from, opening, reached_at, reached_by, reached_from, reached_if, reached_with, with_chain, with_input, with_route}
 use Rattle.chain_world.specs.WorldValue.{WorldValue}
-use Rattle.chain_world.proofs.Agents.{Laws, Reached, reached_more}
+use Rattle.chain_world.proofs.Agents.{Reached, reached_more}
 use Rattle.chain_world.proofs.Chains.{client_agrees, inside_agrees, inside_fits, up_fits}
 use Rattle.chain_world.proofs.Fitting.{Agrees, AllFit, Fits, IsWay, is_way_holds, place_of, way_on}
 use Rattle.chain_world.proofs.Lists.{set_twice}
@@ -72,7 +72,7 @@ next_below k numbers below = by_flag (nat_lt (k + 1) (2 ^ 64))
     by_flag true = below
     by_flag false = tt
 
-module _ (laws : Laws) (plans : List Plan) (images : List Image) (adds : List ℕ) where
+module _ (plans : List Plan) (images : List Image) (adds : List ℕ) where
   -- ---- The way of a chain has reached the agent
 
   module _ (at : ℕ) (c d : ChainValue) (w : WorldValue) (s : Standing plans images adds w) (there : slice_get w.chains at ≡ Some c) (same : channels_of d ≡ channels_of c)
@@ -93,8 +93,8 @@ module _ (laws : Laws) (plans : List Plan) (images : List Image) (adds : List �
         let changed : on_chain none_reached at middle ≡ with_chain at next w =
         ap (λ o. on_some none_reached at o middle) found ∙ ap (λ chains. record w { chains = chains }) (set_twice at w.chains d next) in
         let fits : (pasts : List Past) (count : ℕ) → Fits (place_of plans at) pasts count c → Fits (place_of plans at) pasts count next =
-        λ pasts count f. up_fits laws (place_of plans at) pasts count (reached_chain None false d) (reached_fits (place_of plans at) pasts pasts count d None false refl (λ j has. refl) (waits pasts count f)) in
-        subst (Standing plans images adds) (sym changed) (chain_stands laws plans images adds at c next w there (append-nil (channels_of d) ∙ same) fits s)
+        λ pasts count f. up_fits (place_of plans at) pasts count (reached_chain None false d) (reached_fits (place_of plans at) pasts pasts count d None false refl (λ j has. refl) (waits pasts count f)) in
+        subst (Standing plans images adds) (sym changed) (chain_stands plans images adds at c next w there (append-nil (channels_of d) ∙ same) fits s)
 
     module _ (k : ℕ) (is : w.next ≡ Some k) where
       numbered : AreNumbered (Some k) s.run.channels (all_channels w.chains)
@@ -116,7 +116,7 @@ module _ (laws : Laws) (plans : List Plan) (images : List Image) (adds : List �
       fits did =
           let came : (j : ℕ) → Contains (channels_of d) j → IsCameSame s.run.channels (after did) j =
           λ j has. came_grown (past_at j s.run.channels) (past_at j (after did)) (opened_keeps did k s.run.agent s.run.channels j (below j (subst (λ ks. Contains ks j) same has))) in
-          up_fits laws (place_of plans at) (after did) here.count (reached_chain (Some k) did d)
+          up_fits (place_of plans at) (after did) here.count (reached_chain (Some k) did d)
           (reached_fits (place_of plans at) s.run.channels (after did) here.count d (Some k) did (begins_by did k s.run.agent s.run.channels none) came (waits s.run.channels here.count here.fits))
 
       more : (did : Bool) → HasMore k c (next_of did)
@@ -130,7 +130,7 @@ module _ (laws : Laws) (plans : List Plan) (images : List Image) (adds : List �
 
       chains : (did : Bool) → AllFit plans (after did) 0 adds (slice_set w.chains at (next_of did))
       chains did =
-          set_stands laws plans s.run.channels (after did) adds w.chains at here.count c (next_of did) numbered.differ there here.there
+          set_stands plans s.run.channels (after did) adds w.chains at here.count c (next_of did) numbered.differ there here.there
           (λ j has apart. opened_keeps did k s.run.agent s.run.channels j (each_all (λ i. i < k) (all_channels w.chains) numbered.below j has)) (fits did) s.chains
 
       numbered_so : (did : Bool) → AreNumbered (after_number k) (after did) (all_channels (slice_set w.chains at (next_of did)))
@@ -156,7 +156,7 @@ module _ (laws : Laws) (plans : List Plan) (images : List Image) (adds : List �
           let changed : reached_with k at middle ≡ made (slice_set w.chains at (next_of did)) = ap (λ o. reached_from k at o middle) found ∙ ap made (set_twice at w.chains d (next_of did)) in
           let P : AgentValue → Type 0 = λ x. Standing plans images adds (opened_world (agent_opened k x).0 (agent_opened k x).1) in
           let so : P w.agent = subst P s.agent (opened_so (agent_opened k s.run.agent).0 (agent_opened k s.run.agent).1 (reached_more images s.run (opens k ∷ []) s.reached)) in
-          subst (Standing plans images adds) (sym changed) (carried_stands laws plans images adds (opened_world did a) so)
+          subst (Standing plans images adds) (sym changed) (carried_stands plans images adds (opened_world did a) so)
 
     by_next : (next : Option ℕ) → w.next ≡ next → Standing plans images adds (reached_by next at middle)
     by_next None is = refused_stands
@@ -245,8 +245,8 @@ module _ (laws : Laws) (plans : List Plan) (images : List Image) (adds : List �
         by_pair : (x : Bool × RouteValue) → connected 0 c.route ≡ x → Standing plans images adds (reached_if at (opened_by x asked) w)
         by_pair (true, q) is = reached_stands at c (record asked { route = q }) w s there refl (connects q is)
         by_pair (false, q) is =
-            chain_stands laws plans images adds at c (carried_up (record asked { route = q })) w there refl
-            (λ pasts count f. up_fits laws (place_of plans at) pasts count (record asked { route = q }) (joined_fits q is pasts count f)) s
+            chain_stands plans images adds at c (carried_up (record asked { route = q })) w there refl
+            (λ pasts count f. up_fits (place_of plans at) pasts count (record asked { route = q }) (joined_fits q is pasts count f)) s
 
   pub opened_stands : (at : ℕ) (w : WorldValue) → Standing plans images adds w → Standing plans images adds (opened_at at w)
   opened_stands at w s = by_place (slice_get w.chains at) refl
@@ -285,7 +285,7 @@ module _ (laws : Laws) (plans : List Plan) (images : List Image) (adds : List �
 
       by_pair : (c : ChainValue) (x : Bool × RouteValue) → slice_get w.chains at ≡ Some c → way_turned side add c.route ≡ x → Standing plans images adds (reached_if at (with_route x c) w)
       by_pair c (true, q) there is = reached_stands at c (record c { route = q }) w s there refl (waits c q is)
-      by_pair c (false, q) there is = chain_stands laws plans images adds at c (record c { route = q }) w there refl (turned c q is) s
+      by_pair c (false, q) there is = chain_stands plans images adds at c (record c { route = q }) w there refl (turned c q is) s
 
       by_place : (there : Option ChainValue) → slice_get w.chains at ≡ there → Standing plans images adds (add_turned at add side there w)
       by_place None is = s

@@ -8,7 +8,6 @@ use Rattle.agent_node.specs.Runs.{Past}
 use Rattle.chain_world.specs.Chain.{channels_of}
 use Rattle.chain_world.specs.ChainValue.{ChainValue}
 use Rattle.chain_world.specs.Standing.{AllDiffer}
-use Rattle.chain_world.proofs.Agents.{Laws}
 use Rattle.chain_world.proofs.Fitting.{AllFit, Fits, Place, place_of}
 use Rattle.chain_world.proofs.Keeping.{fits_kept}
 use Rattle.chain_world.proofs.Numbers.{all_channels, at_contains, differ_parts}
@@ -49,43 +48,43 @@ pub stands_at : (plans : List Plan) (pasts : List Past) (adds : List ℕ) (chain
 stands_at plans pasts adds chains at c is all = subst (λ p. StandsAt p pasts adds at c) (first_place plans at) (from_stands plans pasts 0 adds chains at c is all)
 
 -- all of them, while the agent's channels are the same to them
-pub each_kept : Laws → (plans : List Plan) (pasts after : List Past) (from : ℕ) (adds : List ℕ) (chains : List ChainValue) → ((j : ℕ) → Contains (all_channels chains) j → Keeps j pasts after) → AllFit plans pasts from adds chains
+pub each_kept : (plans : List Plan) (pasts after : List Past) (from : ℕ) (adds : List ℕ) (chains : List ChainValue) → ((j : ℕ) → Contains (all_channels chains) j → Keeps j pasts after) → AllFit plans pasts from adds chains
     → AllFit plans after from adds chains
-each_kept laws plans pasts after from [] [] keeps all = tt
-each_kept laws plans pasts after from [] (x ∷ chains) keeps all = absurd all
-each_kept laws plans pasts after from (n ∷ adds) [] keeps all = absurd all
-each_kept laws plans pasts after from (n ∷ adds) (x ∷ chains) keeps all =
+each_kept plans pasts after from [] [] keeps all = tt
+each_kept plans pasts after from [] (x ∷ chains) keeps all = absurd all
+each_kept plans pasts after from (n ∷ adds) [] keeps all = absurd all
+each_kept plans pasts after from (n ∷ adds) (x ∷ chains) keeps all =
     let p = place_of plans from in (
-      fits_kept laws p pasts after n x (λ j has. keeps j (Contains-append_left (channels_of x) (all_channels chains) j has)) all.0,
-      each_kept laws plans pasts after (suc from) adds chains (λ j has. keeps j (Contains-append_right (channels_of x) (all_channels chains) j has)) all.1,
+      fits_kept p pasts after n x (λ j has. keeps j (Contains-append_left (channels_of x) (all_channels chains) j has)) all.0,
+      each_kept plans pasts after (suc from) adds chains (λ j has. keeps j (Contains-append_right (channels_of x) (all_channels chains) j has)) all.1,
     )
 
 -- the one at a place changes, and the agent goes on for it
-from_set : Laws → (plans : List Plan) (pasts after : List Past) (from : ℕ) (adds : List ℕ) (chains : List ChainValue) (at count : ℕ) (c next : ChainValue) → AllDiffer (all_channels chains) → slice_get chains at ≡ Some c
+from_set : (plans : List Plan) (pasts after : List Past) (from : ℕ) (adds : List ℕ) (chains : List ChainValue) (at count : ℕ) (c next : ChainValue) → AllDiffer (all_channels chains) → slice_get chains at ≡ Some c
     → slice_get adds at ≡ Some count → ((j : ℕ) → Contains (all_channels chains) j → (Contains (channels_of c) j → ⊥) → Keeps j pasts after) → Fits (place_of plans (from_place from at)) after count next
     → AllFit plans pasts from adds chains → AllFit plans after from adds (slice_set chains at next)
-from_set laws plans pasts after from [] [] at count c next differ is there keeps f all = tt
-from_set laws plans pasts after from [] (x ∷ chains) at count c next differ is there keeps f all = absurd all
-from_set laws plans pasts after from (n ∷ adds) [] at count c next differ is there keeps f all = absurd all
-from_set laws plans pasts after from (n ∷ adds) (x ∷ chains) zero count c next differ is there keeps f all =
+from_set plans pasts after from [] [] at count c next differ is there keeps f all = tt
+from_set plans pasts after from [] (x ∷ chains) at count c next differ is there keeps f all = absurd all
+from_set plans pasts after from (n ∷ adds) [] at count c next differ is there keeps f all = absurd all
+from_set plans pasts after from (n ∷ adds) (x ∷ chains) zero count c next differ is there keeps f all =
     let same : x ≡ c = cc in
     let counted : count ≡ n = cc in
     let p = place_of plans from in
     let parts = differ_parts (channels_of x) (all_channels chains) differ in (
       subst (λ m. Fits p after m next) counted f,
-      each_kept laws plans pasts after (suc from) adds chains
+      each_kept plans pasts after (suc from) adds chains
           (λ j has. keeps j (Contains-append_right (channels_of x) (all_channels chains) j has) (λ own. parts.apart j (subst (λ y. Contains (channels_of y) j) (sym same) own) has)) all.1,
     )
-from_set laws plans pasts after from (n ∷ adds) (x ∷ chains) (suc at) count c next differ is there keeps f all =
+from_set plans pasts after from (n ∷ adds) (x ∷ chains) (suc at) count c next differ is there keeps f all =
     let p = place_of plans from in
     let parts = differ_parts (channels_of x) (all_channels chains) differ in (
-      fits_kept laws p pasts after n x
+      fits_kept p pasts after n x
           (λ j has. keeps j (Contains-append_left (channels_of x) (all_channels chains) j has) (λ own. parts.apart j has (at_contains chains at c j is own))) all.0,
-      from_set laws plans pasts after (suc from) adds chains at count c next parts.second is there (λ j has apart. keeps j (Contains-append_right (channels_of x) (all_channels chains) j has) apart) f all.1,
+      from_set plans pasts after (suc from) adds chains at count c next parts.second is there (λ j has apart. keeps j (Contains-append_right (channels_of x) (all_channels chains) j has) apart) f all.1,
     )
 
-pub set_stands : Laws → (plans : List Plan) (pasts after : List Past) (adds : List ℕ) (chains : List ChainValue) (at count : ℕ) (c next : ChainValue) → AllDiffer (all_channels chains) → slice_get chains at ≡ Some c
+pub set_stands : (plans : List Plan) (pasts after : List Past) (adds : List ℕ) (chains : List ChainValue) (at count : ℕ) (c next : ChainValue) → AllDiffer (all_channels chains) → slice_get chains at ≡ Some c
     → slice_get adds at ≡ Some count → ((j : ℕ) → Contains (all_channels chains) j → (Contains (channels_of c) j → ⊥) → Keeps j pasts after) → Fits (place_of plans at) after count next
     → AllFit plans pasts 0 adds chains → AllFit plans after 0 adds (slice_set chains at next)
-set_stands laws plans pasts after adds chains at count c next differ is there keeps f all =
-    from_set laws plans pasts after 0 adds chains at count c next differ is there keeps (subst (λ p. Fits p after count next) (sym (first_place plans at)) f) all
+set_stands plans pasts after adds chains at count c next differ is there keeps f all =
+    from_set plans pasts after 0 adds chains at count c next differ is there keeps (subst (λ p. Fits p after count next) (sym (first_place plans at)) f) all

@@ -20,7 +20,7 @@ use Rattle.chain_world.specs.ChainValue.{ChainValue}
 use Rattle.chain_world.specs.Standing.{AreNumbered, StandsAfterEverySchedule, closes_at, cuts_at, past_at}
 use Rattle.chain_world.specs.World.{IsPlayable, add_rounded, add_turned, adds_in, adds_rounded, agent_taken, agent_turned, all_round_down, all_to_add, delivered_at, new_chains, new_world, on_chain, played, repeated, round_all, round_at, round_from, round_of, rounded_down, rounded_up, rounds, run, tick_of, turn_of_add, turn_of_agent, turned_at, turned_down_at, turned_up_at, waiting_at_add, waiting_in_chain, with_agent}
 use Rattle.chain_world.specs.WorldValue.{WorldValue}
-use Rattle.chain_world.proofs.Agents.{Laws, Reached, has_queue}
+use Rattle.chain_world.proofs.Agents.{Reached, has_queue}
 use Rattle.chain_world.proofs.Chains.{all_fits, all_to_add_fits, asked_fits, closed_fits, delivered_fits, delivers_fits, fresh_client, sent_fits, turned_fits}
 use Rattle.chain_world.proofs.Clients.{IsFreshIn}
 use Rattle.chain_world.proofs.Fitting.{AllFit, Fits, GaveOut, place_of}
@@ -80,7 +80,7 @@ turns_channels (suc n) c = turns_channels n (turned_down c)
 taken_channels : (c : ChainValue) → channels_of (all_taken_down (all_down c)) ≡ channels_of c
 taken_channels c = turns_channels (waiting_on (all_down c).client.channel) (all_down c) ∙ pieces_channels (size_in (flight_down c.route)) c
 
-module _ (laws : Laws) (plans : List Plan) (images : List Image) (adds : List ℕ) where
+module _ (plans : List Plan) (images : List Image) (adds : List ℕ) where
   abbrev Holds : WorldValue → Type 0
   Holds w = Standing plans images adds w × GaveAll w
 
@@ -91,14 +91,14 @@ module _ (laws : Laws) (plans : List Plan) (images : List Image) (adds : List �
   -- ---- A step of one chain
 
   agent_step : (step : ChainValue → AgentValue → Both) (at : ℕ) → IsMove images (place_of plans at) step → IsGiving step → (w : WorldValue) → Holds w → Holds (with_agent step at w)
-  agent_step step at move gives w s = (with_agent_stands laws plans images adds step at move w s.0, with_agent_gives step at gives w s.1)
+  agent_step step at move gives w s = (with_agent_stands plans images adds step at move w s.0, with_agent_gives step at gives w s.1)
 
   chain_step : (change : ChainValue → ChainValue) (at : ℕ) → ((pasts : List Past) (count : ℕ) (c : ChainValue) → Fits (place_of plans at) pasts count c → Fits (place_of plans at) pasts count (change c))
       → IsGivingUp change → ((c : ChainValue) → channels_of (change c) ≡ channels_of c) → (w : WorldValue) → Holds w → Holds (on_chain change at w)
-  chain_step change at fits gives same w s = (on_chain_stands laws plans images adds change at fits same w s.0, on_chain_gives change at gives w s.1)
+  chain_step change at fits gives same w s = (on_chain_stands plans images adds change at fits same w s.0, on_chain_gives change at gives w s.1)
 
   add_step : (at add : ℕ) (side : Side) (w : WorldValue) → Holds w → Holds (add_turned at add side (slice_get w.chains at) w)
-  add_step at add side w s = (add_stands laws plans images adds at add side w s.0, add_gives at add side w s.1)
+  add_step at add side w s = (add_stands plans images adds at add side w s.0, add_gives at add side w s.1)
 
   -- ---- Pieces
 
@@ -106,11 +106,11 @@ module _ (laws : Laws) (plans : List Plan) (images : List Image) (adds : List �
   under_fits at hop count pasts n c f = by_flag (hop == 0)
     where
       by_flag : (flag : Bool) → Fits (place_of plans at) pasts n (cond flag (delivered_down count c) (record c { route = way_delivered Above (hop - 1) count c.route }))
-      by_flag true = delivered_fits laws (place_of plans at) pasts n count c f
+      by_flag true = delivered_fits (place_of plans at) pasts n count c f
       by_flag false = delivers_fits (place_of plans at) pasts n Above (hop - 1) count c f
 
   delivered_stands : (at hop : ℕ) (up : Bool) (count : ℕ) (w : WorldValue) → Holds w → Holds (delivered_at at hop up count w)
-  delivered_stands at hop true count w s = agent_step (delivered_over hop count) at (over_move laws images (place_of plans at) hop count) (over_gives hop count) w s
+  delivered_stands at hop true count w s = agent_step (delivered_over hop count) at (over_move images (place_of plans at) hop count) (over_gives hop count) w s
   delivered_stands at hop false count w s = chain_step (delivered_under hop count) at (under_fits at hop count) (under_gives hop count) (under_channels hop count) w s
 
   -- ---- Turns
@@ -123,7 +123,7 @@ module _ (laws : Laws) (plans : List Plan) (images : List Image) (adds : List �
       by_place (Some c) =
           let k = turning c.earlier c.channel w.agent in
           let next = turned_on k w.agent in
-          (carried_stands laws plans images adds _ (turn_stands laws plans images adds k w s.0), input_gives next.0 (record w { agent = next.1 }) s.1.clients)
+          (carried_stands plans images adds _ (turn_stands plans images adds k w s.0), input_gives next.0 (record w { agent = next.1 }) s.1.clients)
 
   up_stands : (at node : ℕ) (w : WorldValue) → Holds w → Holds (turned_up_at at node w)
   up_stands at node w s =
@@ -136,7 +136,7 @@ module _ (laws : Laws) (plans : List Plan) (images : List Image) (adds : List �
   down_stands : (at node : ℕ) (w : WorldValue) → Holds w → Holds (turned_down_at at node w)
   down_stands at node w s =
       either (node == 0) (on_chain turned_down at w) (add_turned at (node - 1) Above (slice_get w.chains at) w)
-      (chain_step turned_down at (turned_fits laws (place_of plans at)) turned_gives (λ c. refl) w s) (add_step at (node - 1) Above w s)
+      (chain_step turned_down at (turned_fits (place_of plans at)) turned_gives (λ c. refl) w s) (add_step at (node - 1) Above w s)
 
   turned_stands : (at node : ℕ) (up : Bool) (w : WorldValue) → Holds w → Holds (turned_at at node up w)
   turned_stands at node true w s = up_stands at node w s
@@ -164,7 +164,7 @@ module _ (laws : Laws) (plans : List Plan) (images : List Image) (adds : List �
 
   round_up_stands : (at : ℕ) (w : WorldValue) → Holds w → Holds (rounded_up at w)
   round_up_stands at w s =
-      let n = adds_in (slice_get w.chains at) in agent_step all_up at (all_up_move laws images (place_of plans at)) all_up_gives (adds_rounded n 0 at w) (ups_stand n 0 at w s)
+      let n = adds_in (slice_get w.chains at) in agent_step all_up at (all_up_move images (place_of plans at)) all_up_gives (adds_rounded n 0 at w) (ups_stand n 0 at w s)
 
   taken_stands : (at : ℕ) (w : WorldValue) → Holds w → Holds (agent_taken at w)
   taken_stands at w s = repeated_stands (waiting_in_chain (slice_get w.chains at) w) (turn_of_agent at) (agent_stands at) w s
@@ -173,7 +173,7 @@ module _ (laws : Laws) (plans : List Plan) (images : List Image) (adds : List �
   round_of_stands at w s =
       let up = rounded_up at w in
       let taken = agent_taken at up in
-      chain_step (λ c. all_taken_down (all_down c)) at (all_fits laws (place_of plans at)) taken_gives taken_channels (all_round_down at taken)
+      chain_step (λ c. all_taken_down (all_down c)) at (all_fits (place_of plans at)) taken_gives taken_channels (all_round_down at taken)
       (downs_stand (adds_in (slice_get taken.chains at)) at taken (taken_stands at up (round_up_stands at w s)))
 
   round_at_stands : (at : ℕ) (w : WorldValue) → Holds w → Holds (round_at at w)
@@ -194,19 +194,19 @@ module _ (laws : Laws) (plans : List Plan) (images : List Image) (adds : List �
   -- ---- Every step
 
   played_stands : (plan : Plan) → IsAmong plans plan → IsPlayable plan → (w : WorldValue) → Holds w → Holds (played plan w)
-  played_stands (opens at) among playable w s = (opened_stands laws plans images adds at w s.0, opened_gives at w s.1)
+  played_stands (opens at) among playable w s = (opened_stands plans images adds at w s.0, opened_gives at w s.1)
   played_stands (send at service name body) among playable w s =
-      chain_step (sent service name body) at (λ pasts n c f. sent_fits laws (place_of plans at) pasts n service name body c playable f) (sent_gives service name body) (λ c. refl) w s
+      chain_step (sent service name body) at (λ pasts n c f. sent_fits (place_of plans at) pasts n service name body c playable f) (sent_gives service name body) (λ c. refl) w s
   played_stands (deliver at hop up count) among playable w s = delivered_stands at hop up count w s
   played_stands (turn at node up) among playable w s = turned_stands at node up w s
   played_stands (tick thread) among playable w s =
-      let next = ticked thread w.agent in (tick_stands laws plans images adds thread w s.0, input_gives (tick_of next.0 thread) (record w { agent = next.1 }) s.1.clients)
+      let next = ticked thread w.agent in (tick_stands plans images adds thread w s.0, input_gives (tick_of next.0 thread) (record w { agent = next.1 }) s.1.clients)
   played_stands (close at) among playable w s =
       let may = among.closing at (eq-eqb at at refl) in
-      chain_step closed at (λ pasts n c f. closed_fits laws (place_of plans at) pasts n c may f) closed_gives (λ c. refl) w s
+      chain_step closed at (λ pasts n c f. closed_fits (place_of plans at) pasts n c may f) closed_gives (λ c. refl) w s
   played_stands (cut_plan at hop) among playable w s =
       let is : cuts_at at hop (cut_plan at hop) ≡ true = ap (λ b. b && (hop == hop)) (eq-eqb at at refl) ∙ eq-eqb hop hop refl in
-      agent_step (cut hop) at (cut_move laws images (place_of plans at) hop (among.cutting at hop is)) (cut_gives hop) w s
+      agent_step (cut hop) at (cut_move images (place_of plans at) hop (among.cutting at hop is)) (cut_gives hop) w s
   played_stands (cached at what) among playable w s =
       chain_step (asked what) at (λ pasts n c f. asked_fits (place_of plans at) pasts n what c f) (asked_gives what) (λ c. refl) w s
   played_stands (rounds_plan count) among playable w s = rounds_stand count w s
@@ -254,7 +254,7 @@ first_stands plans images adds = record {
 
 -- ---- Each world
 
-module _ (laws : Laws) (images : List Image) where
+module _ (images : List Image) where
   gave_client : (channel : Option (EndValue ℕ)) → IsFreshIn channel → queue_of channel ≡ [] → IfSome channel (λ e. e.queued ≡ [])
   gave_client None fresh none = tt
   gave_client (Some e) fresh none = sym (ap (λ b. cond b [] e.queued) fresh) ∙ none
@@ -264,7 +264,7 @@ module _ (laws : Laws) (images : List Image) where
     where
       by_past : (there : Option Past) → past_at k r.channels ≡ there → IfSome there (λ p. (run_of p).end.queued ≡ [])
       by_past None is = tt
-      by_past (Some past) is = (has_queue laws images k r reached).past past is ∙ none
+      by_past (Some past) is = (has_queue images k r reached).past past is ∙ none
 
   gave_out : (plans : List Plan) (r : AgentRun) (agent : AgentValue) (at : ℕ) (adds : List ℕ) (chains : List ChainValue) → Reached images r → r.agent ≡ agent
       → AllFit plans r.channels at adds chains → AllByRecursion ClientGave chains → AllByRecursion (AgentGave agent) chains → AllByRecursion (GaveOut r.channels) chains
@@ -273,15 +273,15 @@ module _ (laws : Laws) (images : List Image) where
   gave_out plans r agent at (n ∷ adds) [] reached same all clients agents = absurd all
   gave_out plans r agent at (n ∷ adds) (c ∷ chains) reached same all clients agents = (
     record {
-      client = gave_client c.client.channel (fresh_client laws (place_of plans at) r.channels n c.client all.0.calls all.0.agrees.client) clients.0;
+      client = gave_client c.client.channel (fresh_client (place_of plans at) r.channels n c.client all.0.calls all.0.agrees.client) clients.0;
       agent = λ k is. gave_agent k r reached (subst (λ a. NoneAt a k) (sym same) (agents.0 k is));
     },
     gave_out plans r agent (suc at) adds chains reached same all.1 clients.1 agents.1,
   )
 
-pub always_stands : Laws → StandsAfterEverySchedule
-always_stands laws images adds plans playable =
+pub always_stands : StandsAfterEverySchedule
+always_stands images adds plans playable =
     let first = new_world images adds in
     let w = run plans first in
-    let h : Standing plans images adds w × GaveAll w = run_stands laws plans images adds plans (all_among plans) playable first (first_stands plans images adds, first_gave first adds refl) in
-    stands_so plans images adds w h.0 (gave_out laws images plans h.0.run w.agent 0 adds w.chains h.0.reached h.0.agent h.0.chains h.1.clients h.1.agents)
+    let h : Standing plans images adds w × GaveAll w = run_stands plans images adds plans (all_among plans) playable first (first_stands plans images adds, first_gave first adds refl) in
+    stands_so plans images adds w h.0 (gave_out images plans h.0.run w.agent 0 adds w.chains h.0.reached h.0.agent h.0.chains h.1.clients h.1.agents)

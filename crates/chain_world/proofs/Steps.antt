@@ -21,7 +21,7 @@ use Rattle.chain_route.specs.Runs.{RouteRun, Talk, arrives_up, gets, gives, send
 use Rattle.chain_world.specs.Chain.{Both, all_dropped, all_up, both, came_up, carried_down, carried_from, channels_of, client_cut, cut, cut_by, delivered_over, delivered_to, delivered_up, ended_from, parts_delivered, pieces_up, queue_of, takes_up}
 use Rattle.chain_world.specs.ChainValue.{ChainValue}
 use Rattle.chain_world.specs.Standing.{AllDiffer, cuts_at, came_to, past_at}
-use Rattle.chain_world.proofs.Agents.{Laws, Reached, Touch, an_end, calls_of, gifts, gifts_emptied, gifts_past, has_queue, leaves_others, pieces, pieces_agent, pieces_closed, pieces_none, pieces_open, reached_more}
+use Rattle.chain_world.proofs.Agents.{Reached, Touch, an_end, calls_of, gifts, gifts_emptied, gifts_past, has_queue, leaves_others, pieces, pieces_agent, pieces_closed, pieces_none, pieces_open, reached_more}
 use Rattle.chain_world.proofs.Chains.{delivers_fits}
 use Rattle.chain_world.proofs.Cutting.{cut_fits}
 use Rattle.chain_world.proofs.Fitting.{Fits, Place}
@@ -83,7 +83,7 @@ one_of k channels has j one = elim (first_or k [] j one) as (λ _. Contains chan
   | inr none ↦ absurd (none_in j none)
 ]
 
-module _ (laws : Laws) (images : List Image) (p : Place) where
+module _ (images : List Image) (p : Place) where
   all_drop : (channels : List ℕ) (r : AgentRun) → Reached images r → Dropped r channels
   all_drop [] r reached = record { next = r; goes = goes_none r []; agent = refl; others = λ j apart. refl; came = λ j. refl }
   all_drop (k ∷ channels) r reached =
@@ -94,7 +94,7 @@ module _ (laws : Laws) (images : List Image) (p : Place) where
         next = rest.next;
         goes = goes_then r next rest.next (k ∷ channels) (goes_of r next (k ∷ []) (k ∷ channels) (one_of k (k ∷ channels) (here k channels)) (touched k (gifts queue) r))
             (goes_of next rest.next channels (k ∷ channels) (λ j has. later k channels j has) rest.goes);
-        agent = rest.agent ∙ ap (all_dropped channels) (gifts_emptied k queue r (has_queue laws images k r reached).is);
+        agent = rest.agent ∙ ap (all_dropped channels) (gifts_emptied k queue r (has_queue images k r reached).is);
         others = λ j apart. rest.others j (λ has. apart (later k channels j has)) ∙ (leaves_others k (gifts queue) r).others j (λ same. apart (subst (Contains (k ∷ channels)) (sym same) (here k channels)));
         came = λ j. rest.came j ∙ came_gifts k j queue r;
       }
@@ -105,8 +105,8 @@ module _ (laws : Laws) (images : List Image) (p : Place) where
   queued_at k r reached = by_past (past_at k r.channels) refl
     where
       by_past : (there : Option Past) → past_at k r.channels ≡ there → HasQueued there (queue_of (channel_end k r.agent.channels))
-      by_past None is = (has_queue laws images k r reached).none is
-      by_past (Some past) is = (has_queue laws images k r reached).past past is
+      by_past None is = (has_queue images k r reached).none is
+      by_past (Some past) is = (has_queue images k r reached).past past is
 
   gives_move : (r : AgentRun) (adds : ℕ) (c : ChainValue) → Reached images r → Fits p r.channels adds c → Moved p r adds (channels_of c) (carried_from c.channel c r.agent)
   gives_move r adds c reached f = by_channel c.channel refl
@@ -121,7 +121,7 @@ module _ (laws : Laws) (images : List Image) (p : Place) where
           record {
             next = next;
             goes = goes_of r next (k ∷ []) (channels_of c) (one_of k (channels_of c) (own_channel c k is)) (touched k (gifts queue) r);
-            agent = gifts_emptied k queue r (has_queue laws images k r reached).is;
+            agent = gifts_emptied k queue r (has_queue images k r reached).is;
             channels_are = refl;
             fits = agent_fits p r.channels next.channels adds c k f (sends_down queue) (sent_down queue) (gives queue f.now.past.agent) is tt
                 (ap (λ b. cond {A = RouteRun} b (record { route = sent_down queue f.now.route; past = past }) f.now) reaches)
@@ -139,7 +139,7 @@ module _ (laws : Laws) (images : List Image) (p : Place) where
         came = λ j has. d.came j;
       } in
       let goes : Goes r d.next (channels_of c) = goes_of r d.next c.earlier (channels_of c) (earlier_channel c) d.goes in
-      let first : Fits p d.next.channels adds c = fits_after laws p r.channels d.next.channels adds c same f in
+      let first : Fits p d.next.channels adds c = fits_after p r.channels d.next.channels adds c same f in
       let m : Moved p d.next adds (channels_of c) (carried_from c.channel c (all_dropped c.earlier r.agent)) =
       subst (λ a. Moved p d.next adds (channels_of c) (carried_from c.channel c a)) d.agent (gives_move d.next adds c (reached_goes images r d.next (channels_of c) reached goes) first) in
       record { next = m.next; goes = goes_then r d.next m.next (channels_of c) goes m.goes; agent = m.agent; channels_are = m.channels_are; fits = m.fits }
@@ -173,10 +173,10 @@ module _ (laws : Laws) (images : List Image) (p : Place) where
           by_last : (last : Bool) → (hop == last_of q) ≡ last → (channel : Option ℕ) → c.channel ≡ channel → Moved p r adds (channels_of c) (both (client_cut hop d) (cond last (ended_from channel r.agent) r.agent))
           by_last false is_last channel there =
               still p r adds (channels_of c) (client_cut hop d) channels_are
-              (cut_fits laws p r.channels r.channels adds hop c q false may is (ap (λ n. hop == n) (sym last_is) ∙ is_last) (λ k on. refl) (λ j has. refl) f (hop == 0) refl)
+              (cut_fits p r.channels r.channels adds hop c q false may is (ap (λ n. hop == n) (sym last_is) ∙ is_last) (λ k on. refl) (λ j has. refl) f (hop == 0) refl)
           by_last true is_last None there =
               still p r adds (channels_of c) (client_cut hop d) channels_are
-              (cut_fits laws p r.channels r.channels adds hop c q true may is (ap (λ n. hop == n) (sym last_is) ∙ is_last) (λ k on. absurd (none-some k (sym there ∙ on))) (λ j has. refl) f (hop == 0) refl)
+              (cut_fits p r.channels r.channels adds hop c q true may is (ap (λ n. hop == n) (sym last_is) ∙ is_last) (λ k on. absurd (none-some k (sym there ∙ on))) (λ j has. refl) f (hop == 0) refl)
           by_last true is_last (Some k) there =
               let next = agent_call (bytes_end k) r in
               record {
@@ -184,7 +184,7 @@ module _ (laws : Laws) (images : List Image) (p : Place) where
                 goes = goes_of r next (k ∷ []) (channels_of c) (one_of k (channels_of c) (own_channel c k there)) (touched k (an_end ∷ []) r);
                 agent = refl;
                 channels_are = channels_are;
-                fits = cut_fits laws p r.channels next.channels adds hop c q true may is (ap (λ n. hop == n) (sym last_is) ∙ is_last) (λ j on. ended_past k j r (same_Some j k (sym on ∙ there))) (λ j has. came_ended k j r) f (hop == 0) refl;
+                fits = cut_fits p r.channels next.channels adds hop c q true may is (ap (λ n. hop == n) (sym last_is) ∙ is_last) (λ j on. ended_past k j r (same_Some j k (sym on ∙ there))) (λ j has. came_ended k j r) f (hop == 0) refl;
               }
 
   -- ---- What is in flight comes up
@@ -197,7 +197,7 @@ module _ (laws : Laws) (images : List Image) (p : Place) where
     where
       by_state : (past : Past) (flag : Bool) → is_closed (run_of past).end.state ≡ flag → past_at k r.channels ≡ Some past → Talking (Some past) talk → TalkingThen k r parts talk
       by_state past true is there t = subst (λ o. Talking o (gets parts talk)) (sym (pieces_closed k parts r past is there)) (talks_dropped parts (Some past) talk (ap not is) t)
-      by_state past false is there t = subst (λ o. Talking o (gets parts talk)) (sym (pieces_open laws.closes k parts r past is there)) (talks_taken parts past talk is t)
+      by_state past false is there t = subst (λ o. Talking o (gets parts talk)) (sym (pieces_open k parts r past is there)) (talks_taken parts past talk is t)
 
       by_past : (there : Option Past) → past_at k r.channels ≡ there → Talking there talk → TalkingThen k r parts talk
       by_past None is t = subst (λ o. Talking o (gets parts talk)) (sym (pieces_none k parts r is)) (talks_dropped parts None talk refl t)

@@ -2,7 +2,7 @@
 use Rattle.std.proofs.Common.{◌≡◌, ℕ, Bool, true, false, not, ◌||◌, List, [], ◌∷◌, ◌++◌, Option, Some, None, refl, sym, ap, ◌∙◌, subst, append-nil, ◌⊎◌, inl, inr, cond}
 use Rattle.std.specs.Prelude.{option_map}
 use Rattle.std.specs.List.{AllByRecursion, Contains, list_any}
-use Rattle.channel_core.specs.Arrivals.{IsFront, Marked, arrived}
+use Rattle.channel_core.specs.Arrivals.{Marked, arrived}
 use Rattle.channel_core.specs.Closing.{is_closed}
 use Rattle.channel_core.specs.Receiving.{is_over, with_last}
 use Rattle.channel_core.specs.Runs.{Call as EndCall, Run, after_call, after_calls, delivering, ending, putting_out}
@@ -14,12 +14,14 @@ use Rattle.agent_node.specs.Runs.{Past, run_of, with_calls}
 use Rattle.chain_route.specs.Runs.{Past as WayPast, Talk, gets, gives}
 use Rattle.target_hub.specs.Sent.{agent_services}
 use Rattle.chain_world.specs.Standing.{Loses, Talked, came_to, given_to, is_taking, past_at, unmarked}
-use Rattle.chain_world.proofs.Agents.{Laws, delivering_all, delivering_arrived, run_more}
+use Rattle.channel_core.proofs.TheLaws.{stays_closed}
+use Rattle.chain_world.proofs.Agents.{delivering_all, delivering_arrived, run_more}
 use Rattle.chain_world.proofs.Bytes.{unmarked_more}
 use Rattle.chain_world.proofs.Calls.{all_put, endings_more, idle_endless, putting, putting_arrived, putting_endless}
 use Rattle.chain_world.proofs.Numbers.{later}
 use Rattle.chain_world.proofs.Pasts.{Grows, Keeps}
-use Rattle.chain_route.proofs.Bytes.{front_more, front_same}
+use Rattle.list_laws.specs.Fronts.{IsFront}
+use Rattle.list_laws.proofs.Fronts.{front_more, front_same}
 use Rattle.chain_route.proofs.EndCalls.{AreIdle, arrived_more, idle_arrived, idle_given}
 use Rattle.list_laws.proofs.Flags.{or_false as or_none, or_true as or_yes}
 use Rattle.list_laws.proofs.Contained.{contains_first as here}
@@ -52,30 +54,30 @@ lost_more calls None talk later none same lost = tt
 lost_more calls (Some past) talk later none same lost =
     same ∙ lost ∙ sym (endings_more past.calls calls ∙ ap (λ b. list_any is_ending past.calls || b) none ∙ or_none (list_any is_ending past.calls))
 
-open_before : Laws → (calls : List (EndCall Unit)) (past : Past) → is_taking (Some (with_calls calls past)) ≡ true → is_taking (Some past) ≡ true
-open_before laws calls past takes = by_flag (is_closed (run_of past).end.state) refl
+open_before : (calls : List (EndCall Unit)) (past : Past) → is_taking (Some (with_calls calls past)) ≡ true → is_taking (Some past) ≡ true
+open_before calls past takes = by_flag (is_closed (run_of past).end.state) refl
   where
     by_flag : (flag : Bool) → is_closed (run_of past).end.state ≡ flag → not flag ≡ true
     by_flag true is =
-        let same = (laws.stays agent_services (Some past.position) past.calls calls is).state in
+        let same = (stays_closed agent_services (Some past.position) past.calls calls is).state in
         let closed : is_closed (run_of (with_calls calls past)).end.state ≡ true = ap (λ r. is_closed r.end.state) (run_more calls past) ∙ ap is_closed same ∙ is in
         sym (ap not closed) ∙ takes
     by_flag false is = refl
 
-taking_before : Laws → (calls : List (EndCall Unit)) (before : Option Past) → is_taking (option_map (with_calls calls) before) ≡ true → is_taking before ≡ true
-taking_before laws calls None takes = takes
-taking_before laws calls (Some past) takes = open_before laws calls past takes
+taking_before : (calls : List (EndCall Unit)) (before : Option Past) → is_taking (option_map (with_calls calls) before) ≡ true → is_taking before ≡ true
+taking_before calls None takes = takes
+taking_before calls (Some past) takes = open_before calls past takes
 
 pub came_grown : (before after : Option Past) → Grows before after → came_to after ≡ came_to before
 came_grown before after grows = ap came_to grows.2 ∙ came_more grows.0 (idle_arrived grows.0 grows.1) before
 
-pub talks_grown : Laws → (before after : Option Past) (talk : Talk) → Grows before after → Talking before talk → Talking after talk
-talks_grown laws before after talk grows t =
+pub talks_grown : (before after : Option Past) (talk : Talk) → Grows before after → Talking before talk → Talking after talk
+talks_grown before after talk grows t =
     subst (λ past. Talking past talk) (sym grows.2)
     (record {
       gave = t.gave ∙ sym (given_idle grows.0 grows.1 before);
       lost = lost_more grows.0 before talk talk (idle_endless grows.0 grows.1) refl t.lost;
-      came = λ takes. t.came (taking_before laws grows.0 before takes) ∙ sym (came_more grows.0 (idle_arrived grows.0 grows.1) before);
+      came = λ takes. t.came (taking_before grows.0 before takes) ∙ sym (came_more grows.0 (idle_arrived grows.0 grows.1) before);
       front = subst (λ bs. IsFront bs (unmarked talk.got)) (sym (came_more grows.0 (idle_arrived grows.0 grows.1) before)) t.front;
     })
 
@@ -186,10 +188,10 @@ pub talks_same : (channel : Option ℕ) (p q : WayPast) (pasts : List Past) → 
 talks_same None p q pasts same t = none_same p q same.reached (ap (λ talk. talk.gave) same.agent) t
 talks_same (Some k) p q pasts same t = (same.reached ∙ t.0, subst (Talking (past_at k pasts)) (sym same.agent) t.1)
 
-pub talks_kept : Laws → (channel : Option ℕ) (p q : WayPast) (pasts after : List Past) → IsSameAbove p q → ((j : ℕ) → channel ≡ Some j → Keeps j pasts after) → TalkingOn channel p pasts → TalkingOn channel q after
-talks_kept laws None p q pasts after same keeps t = talks_same None p q after same t
-talks_kept laws (Some k) p q pasts after same keeps t =
-    (same.reached ∙ t.0, subst (Talking (past_at k after)) (sym same.agent) (talks_grown laws (past_at k pasts) (past_at k after) p.agent (keeps k refl) t.1))
+pub talks_kept : (channel : Option ℕ) (p q : WayPast) (pasts after : List Past) → IsSameAbove p q → ((j : ℕ) → channel ≡ Some j → Keeps j pasts after) → TalkingOn channel p pasts → TalkingOn channel q after
+talks_kept None p q pasts after same keeps t = talks_same None p q after same t
+talks_kept (Some k) p q pasts after same keeps t =
+    (same.reached ∙ t.0, subst (Talking (past_at k after)) (sym same.agent) (talks_grown (past_at k pasts) (past_at k after) p.agent (keeps k refl) t.1))
 
 abbrev pub IsCameSame : List Past → List Past → ℕ → Type 0
 IsCameSame pasts after j = came_to (past_at j after) ≡ came_to (past_at j pasts)

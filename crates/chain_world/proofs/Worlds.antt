@@ -18,7 +18,7 @@ use Rattle.chain_world.specs.ChainValue.{ChainValue}
 use Rattle.chain_world.specs.Standing.{AllDiffer, AllStand, AreNumbered, Stands}
 use Rattle.chain_world.specs.World.{All, all_carried, carried, on_chain, on_some, tick_of, ticked_in, with_agent, with_both, with_chain, with_input, with_some}
 use Rattle.chain_world.specs.WorldValue.{WorldValue}
-use Rattle.chain_world.proofs.Agents.{Laws, Reached, reached_more}
+use Rattle.chain_world.proofs.Agents.{Reached, reached_more}
 use Rattle.chain_world.proofs.Fitting.{AllFit, Fits, GaveOut, all_stand, place_of}
 use Rattle.chain_world.proofs.Keeping.{Goes, IsMove, Moved, fits_kept, goes_none, goes_of, goes_then, reached_goes}
 use Rattle.chain_world.proofs.Numbers.{all_channels, at_differ, differ_parts, set_channels}
@@ -66,7 +66,7 @@ stands_so plans images adds w s gave =
       numbered = subst (λ x. AreNumbered w.next x.channels (all_channels w.chains)) (sym is) s.numbered;
     }
 
-module _ (laws : Laws) (plans : List Plan) (images : List Image) (adds : List ℕ) where
+module _ (plans : List Plan) (images : List Image) (adds : List ℕ) where
   -- ---- A step of one chain
 
   placed : (step : ChainValue → AgentValue → Both) (at : ℕ) → IsMove images (place_of plans at) step → (c : ChainValue) (w : WorldValue) → slice_get w.chains at ≡ Some c → Standing plans images adds w → Standing plans images adds (with_both at (step c w.agent) w)
@@ -79,7 +79,7 @@ module _ (laws : Laws) (plans : List Plan) (images : List Image) (adds : List �
         reached = reached_goes images s.run m.next (channels_of c) s.reached m.goes;
         agent = m.agent;
         history = m.goes.history ∙ s.history;
-        chains = set_stands laws plans s.run.channels m.next.channels adds w.chains at here.count c (step c w.agent).chain s.numbered.differ is here.there (λ j has apart. m.goes.others j apart) m.fits s.chains;
+        chains = set_stands plans s.run.channels m.next.channels adds w.chains at here.count c (step c w.agent).chain s.numbered.differ is here.there (λ j has apart. m.goes.others j apart) m.fits s.chains;
         numbered = numbered_after w.next s.run.channels m.next.channels (all_channels w.chains) (all_channels (slice_set w.chains at (step c w.agent).chain)) m.goes.numbers
             (set_channels w.chains at c (step c w.agent).chain is m.channels_are) s.numbered;
       }
@@ -101,7 +101,7 @@ module _ (laws : Laws) (plans : List Plan) (images : List Image) (adds : List �
         reached = s.reached;
         agent = s.agent;
         history = s.history;
-        chains = set_stands laws plans s.run.channels s.run.channels adds w.chains at here.count c next s.numbered.differ is here.there (λ j has apart. keeps_same j s.run.channels s.run.channels refl) (fits s.run.channels here.count here.fits) s.chains;
+        chains = set_stands plans s.run.channels s.run.channels adds w.chains at here.count c next s.numbered.differ is here.there (λ j has apart. keeps_same j s.run.channels s.run.channels refl) (fits s.run.channels here.count here.fits) s.chains;
         numbered = numbered_after w.next s.run.channels s.run.channels (all_channels w.chains) (all_channels (slice_set w.chains at next)) refl (set_channels w.chains at c next is same) s.numbered;
       }
 
@@ -130,8 +130,8 @@ module _ (laws : Laws) (plans : List Plan) (images : List Image) (adds : List �
       let p = place_of plans from in
       let parts = differ_parts (channels_of c) (all_channels chains) differ in
       let b = carried_down c r.agent in
-      let m : Moved p r n (channels_of c) b = carry_move laws images p r n c reached parts.first all.0 in
-      let rest : AllFit plans m.next.channels (suc from) counts chains = each_kept laws plans r.channels m.next.channels (suc from) counts chains (λ j has. m.goes.others j (λ own. parts.apart j own has)) all.1 in
+      let m : Moved p r n (channels_of c) b = carry_move images p r n c reached parts.first all.0 in
+      let rest : AllFit plans m.next.channels (suc from) counts chains = each_kept plans r.channels m.next.channels (suc from) counts chains (λ j has. m.goes.others j (λ own. parts.apart j own has)) all.1 in
       let further : AllMoved (suc from) m.next counts chains (all_carried chains b.agent) =
       subst (λ a. AllMoved (suc from) m.next counts chains (all_carried chains a)) m.agent (all_moved (suc from) counts chains m.next (reached_goes images r m.next (channels_of c) reached m.goes) parts.second rest) in
       record {
@@ -142,7 +142,7 @@ module _ (laws : Laws) (plans : List Plan) (images : List Image) (adds : List �
         agent = further.agent;
         channels_are = ap (λ ks. ks ++ all_channels (all_carried chains b.agent).chains) m.channels_are ∙ ap (λ ks. channels_of c ++ ks) further.channels_are;
         stands = (
-          fits_kept laws p m.next.channels further.next.channels n b.chain
+          fits_kept p m.next.channels further.next.channels n b.chain
               (λ j has. further.goes.others j (λ other. parts.apart j (subst (λ ks. Contains ks j) m.channels_are has) other)) m.fits,
           further.stands,
         );
@@ -177,7 +177,7 @@ module _ (laws : Laws) (plans : List Plan) (images : List Image) (adds : List �
       next = after_call call s.run
 
       chains : AllFit plans next.channels 0 adds w.chains
-      chains = each_kept laws plans s.run.channels next.channels 0 adds w.chains (λ j has. i.keeps j) s.chains
+      chains = each_kept plans s.run.channels next.channels 0 adds w.chains (λ j has. i.keeps j) s.chains
 
       numbered : AreNumbered w.next next.channels (all_channels w.chains)
       numbered = numbered_after w.next s.run.channels next.channels (all_channels w.chains) (all_channels w.chains) i.numbers refl s.numbered

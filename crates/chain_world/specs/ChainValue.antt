@@ -1,3 +1,4 @@
+-- A chain as contracts see it.
 use Rattle.std.specs.Prelude.{ℕ, List, Option, refl}
 use Rattle.std.specs.Coded.{Coded, code_by, coded×, coded_list, coded_option, coded_ℕ}
 use Rattle.chain_route.specs.RouteValue.{RouteValue}

@@ -4,7 +4,7 @@ use Rattle.std.specs.Prelude.{ℕ, ◌≡◌, suc, ◌<◌, ◌==◌, ◌⊎◌,
 use Rattle.std.specs.List.{AllByRecursion, Contains, flat_map, list_any}
 use Rattle.agent_node.specs.Runs.{Call as AgentCall, Past, after_all as agent_after, no_calls as agent_begun, run_of}
 use Rattle.chain_route.specs.Runs.{Call as WayCall, cuts, Past as WayPast, Talk, after_all as way_after, is_waiting, no_calls as way_begun}
-use Rattle.channel_core.specs.Arrivals.{IsFront, Marked, arrived, bytes_of}
+use Rattle.channel_core.specs.Arrivals.{Marked, arrived, bytes_of}
 use Rattle.channel_core.specs.Closing.{is_closed}
 use Rattle.channel_core.specs.Wire.{end_of_stream}
 use Rattle.channel_core.specs.declared.held.Outgoing.{Outgoing}
@@ -18,6 +18,7 @@ use Rattle.chain_world.specs.Chain.{channels_of}
 use Rattle.chain_world.specs.ChainValue.{ChainValue}
 use Rattle.chain_world.specs.World.{IsPlayable, new_world, run as played}
 use Rattle.chain_world.specs.WorldValue.{WorldValue}
+use Rattle.list_laws.specs.Fronts.{IsFront}
 
 -- ---- a channel of the agent, by its number
 

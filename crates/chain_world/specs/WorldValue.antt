@@ -1,3 +1,4 @@
+-- The world of all chains as contracts see it.
 use Rattle.std.specs.Prelude.{ℕ, Bool, List, Option, refl}
 use Rattle.std.specs.Coded.{Coded, code_by, coded×, coded_bool, coded_list, coded_option, coded_ℕ}
 use Rattle.agent_node.specs.AgentValue.{AgentValue}

@@ -7,7 +7,6 @@ use Rattle.stream_escape.specs.Fed.{fed}
 use Rattle.stream_escape.specs.declared.stream.Item.{Item}
 use Rattle.stream_escape.specs.declared.stream.Item.TheVariants.{Message, End}
 use Rattle.stream_escape.specs.declared.stream.StreamFault.{StreamFault}
-use Rattle.tcf_message.specs.Fault.{IsReadBack}
 use Rattle.tcf_message.specs.Message.{MessageValue, command, final, progress, not_known, event, flow, spelling}
 use Rattle.channel_core.specs.Arrivals.{Spoken, AreSpoken, enters, level_by, level_after, messages_in}
 use Rattle.channel_core.specs.EndValue.{EndValue}
@@ -15,6 +14,7 @@ use Rattle.channel_core.specs.Receiving.{came_by, counted, delivered, entered, h
 use Rattle.channel_core.specs.declared.held.Arrived.{Arrived}
 use Rattle.channel_core.specs.declared.held.Incoming.{Incoming}
 use Rattle.channel_core.specs.declared.states.Cause.TheVariants.{Eos, Stream}
+use Rattle.tcf_message.proofs.TheLaws.{read_back}
 use Rattle.channel_core.proofs.Faces.{Face, cause_of, face, face_level, face_released, over_is}
 use Rattle.channel_core.proofs.Feeding.{HaveMark, items_of}
 
@@ -62,12 +62,12 @@ face_heard raw mark (event service name body) e opened = face_entered raw mark e
 face_heard raw mark (flow level) e opened =
     face_released (record e { told = level }) opened ∙ ap (λ ms. record (face e) { waiting = ms; told = level }) (sym (append-nil (face e).waiting))
 
-face_said : {T : Type 0} → IsReadBack → (s : Spoken) (spoken : List Spoken) → AreSpoken (s ∷ spoken) → (mark : Option ℕ) → s.mark ≡ mark → (e : EndValue T) → cause_of e.state ≡ None
+face_said : {T : Type 0} → (s : Spoken) (spoken : List Spoken) → AreSpoken (s ∷ spoken) → (mark : Option ℕ) → s.mark ≡ mark → (e : EndValue T) → cause_of e.state ≡ None
     → face (item_came mark (Message (spelling s.message)) e) ≡ heard_face (entry (enters s.message) (record { raw = spelling s.message; mark = s.mark })) (level_by e.told s.message) (face e)
-face_said read s spoken all mark marks e opened =
+face_said s spoken all mark marks e opened =
     let raw = spelling s.message in
     let next = record e { came = counted e.came } in
-    ap (λ m. face (heard raw mark m next)) (read.1 s.message all.0)
+    ap (λ m. face (heard raw mark m next)) (read_back.1 s.message all.0)
     ∙ face_heard raw mark s.message next opened
     ∙ ap (λ n. heard_face (entry (enters s.message) (record { raw = raw; mark = n })) (level_by e.told s.message) (face e)) (sym marks)
 
@@ -80,13 +80,13 @@ open_over e opened none = over_is e ∙ ap (λ c. is_some c || is_some e.stop) o
 came_first : {T : Type 0} → (mark : Option ℕ) (item : Item) (list : List Item) (e : EndValue T) → is_over e ≡ false → came_by mark (item ∷ list) e ≡ came_by mark list (item_came mark item e)
 came_first mark item list e over = ap (λ b. came_by mark list (cond b e (item_came mark item e))) over
 
-pub came_whole : {T : Type 0} → IsReadBack → (mark : Option ℕ) (whole : List Spoken) (list : List Item) → AreSpoken whole → HaveMark mark whole → (e : EndValue T) → cause_of e.state ≡ None → e.stop ≡ None
+pub came_whole : {T : Type 0} → (mark : Option ℕ) (whole : List Spoken) (list : List Item) → AreSpoken whole → HaveMark mark whole → (e : EndValue T) → cause_of e.state ≡ None → e.stop ≡ None
     → (next : EndValue T) × (came_by mark (items_of whole ++ list) e ≡ came_by mark list next) × (face next ≡ heard_face (messages_in whole) (level_after e.told whole) (face e))
-came_whole read mark [] list all each e opened none = (e, refl, ap (λ ms. record (face e) { waiting = ms }) (sym (append-nil (face e).waiting)))
-came_whole read mark (s ∷ whole) list all each e opened none =
+came_whole mark [] list all each e opened none = (e, refl, ap (λ ms. record (face e) { waiting = ms }) (sym (append-nil (face e).waiting)))
+came_whole mark (s ∷ whole) list all each e opened none =
     let next = item_came mark (Message (spelling s.message)) e in
-    let first = face_said read s whole all mark each.0 e opened in
-    let rest = came_whole read mark whole list all.1 each.1 next (ap (λ (f : Face). f.closed) first ∙ opened) (ap (λ (f : Face). f.stop) first ∙ none) in
+    let first = face_said s whole all mark each.0 e opened in
+    let rest = came_whole mark whole list all.1 each.1 next (ap (λ (f : Face). f.closed) first ∙ opened) (ap (λ (f : Face). f.stop) first ∙ none) in
     let incoming = entry (enters s.message) (record { raw = spelling s.message; mark = s.mark }) in (
       rest.0,
       came_first mark (Message (spelling s.message)) (items_of whole ++ list) e (open_over e opened none) ∙ rest.1,
@@ -113,24 +113,24 @@ delivered_over piece mark e over =
     ap (λ x. face (stopped_by given.answer x)) (came_over mark given.items next over) ∙ ap face (stopped_over given.answer next over)
 
 -- the messages that end in it are heard
-pub delivered_whole : {T : Type 0} → IsReadBack → (piece : List ℕ) (mark : Option ℕ) (whole : List Spoken) → AreSpoken whole → HaveMark mark whole → (e : EndValue T) → cause_of e.state ≡ None → e.stop ≡ None
+pub delivered_whole : {T : Type 0} → (piece : List ℕ) (mark : Option ℕ) (whole : List Spoken) → AreSpoken whole → HaveMark mark whole → (e : EndValue T) → cause_of e.state ≡ None → e.stop ≡ None
     → (fed piece e.stream).items ≡ items_of whole → (fed piece e.stream).answer ≡ Ok tt
     → face (delivered piece mark e) ≡ record (heard_face (messages_in whole) (level_after e.told whole) (face e)) { stream = (fed piece e.stream).reader }
-delivered_whole read piece mark whole all each e opened none items answer =
+delivered_whole piece mark whole all each e opened none items answer =
     let given = fed piece e.stream in
     let next = record e { stream = given.reader } in
-    let came = came_whole read mark whole [] all each next opened none in
+    let came = came_whole mark whole [] all each next opened none in
     ap (λ a. face (stopped_by a (came_by mark given.items next))) answer
     ∙ ap (λ its. face (came_by mark its next)) (items ∙ sym (append-nil (items_of whole))) ∙ ap face came.1 ∙ came.2
 
 -- and the end of the stream is the last entry
-pub delivered_end : {T : Type 0} → IsReadBack → (piece : List ℕ) (mark : Option ℕ) (whole : List Spoken) → AreSpoken whole → HaveMark mark whole → (e : EndValue T) → cause_of e.state ≡ None → e.stop ≡ None
+pub delivered_end : {T : Type 0} → (piece : List ℕ) (mark : Option ℕ) (whole : List Spoken) → AreSpoken whole → HaveMark mark whole → (e : EndValue T) → cause_of e.state ≡ None → e.stop ≡ None
     → (fed piece e.stream).items ≡ items_of whole ++ End ∷ [] → (fed piece e.stream).answer ≡ Ok tt
     → face (delivered piece mark e) ≡ record (heard_face (messages_in whole) (level_after e.told whole) (face e)) { stream = (fed piece e.stream).reader; stop = Some Eos }
-delivered_end read piece mark whole all each e opened none items answer =
+delivered_end piece mark whole all each e opened none items answer =
     let given = fed piece e.stream in
     let next = record e { stream = given.reader } in
-    let came = came_whole read mark whole (End ∷ []) all each next opened none in
+    let came = came_whole mark whole (End ∷ []) all each next opened none in
     let over = open_over came.0 (ap (λ (f : Face). f.closed) came.2 ∙ opened) (ap (λ (f : Face). f.stop) came.2 ∙ none) in
     ap (λ a. face (stopped_by a (came_by mark given.items next))) answer
     ∙ ap (λ its. face (came_by mark its next)) items ∙ ap face came.1 ∙ ap face (came_first mark End [] came.0 over) ∙ ap (λ (f : Face). record f { stop = Some Eos }) came.2

@@ -14,9 +14,9 @@ use Rattle.channel_core.specs.Level.{leveled}
 use Rattle.channel_core.specs.QueueLaws.{ClosesOnlySo, TakesNothingClosed, may_close}
 use Rattle.channel_core.specs.Receiving.{came_by, counted, delivered, entered, heard, is_over, item_came, stopped_by, with_last}
 use Rattle.channel_core.specs.RunLaws.{AfterAllCalls}
-use Rattle.channel_core.specs.Runs.{Call, delivering, ending, taking, commanding, sending, putting_out, closing, draining, called, refusal_to, unless_refused, begun, after_calls}
+use Rattle.channel_core.specs.Runs.{Call, delivering, ending, taking, commanding, sending, putting_out, closing, draining, called, unless_refused, begun, after_calls}
 use Rattle.channel_core.specs.Beginning.{new_end}
-use Rattle.channel_core.specs.Sending.{commanded, made}
+use Rattle.channel_core.specs.Sending.{commanded, made, refusal_to}
 use Rattle.channel_core.specs.Taking.{answered, closes, finished, is_of, judged, next_taken, number_at, progressed, redirected, state_greeted, stop_taken, taken_as, taken_from}
 use Rattle.channel_core.specs.Wire.{said_in}
 use Rattle.channel_core.specs.declared.held.Arrived.{Arrived}

@@ -10,9 +10,9 @@ use Rattle.channel_core.specs.EndValue.{EndValue}
 use Rattle.channel_core.specs.Holding.{is_free, sent_out}
 use Rattle.channel_core.specs.Laws.{listed}
 use Rattle.channel_core.specs.Level.{is_due, leveled, level_of}
-use Rattle.channel_core.specs.Runs.{Unheld, an_answer, some_progress, an_unknown, an_event, message_of, Call, delivering, ending, taking, commanding, sending, putting_out, closing, draining, refusal_to, unless_refused, Issued, issued, Run, after_call}
+use Rattle.channel_core.specs.Runs.{Unheld, an_answer, some_progress, an_unknown, an_event, message_of, Call, delivering, ending, taking, commanding, sending, putting_out, closing, draining, unless_refused, Issued, issued, Run, after_call}
 use Rattle.channel_core.specs.RunLaws.{first_byte, is_command, sent_of, SendsInOrder}
-use Rattle.channel_core.specs.Sending.{accepted, commanded}
+use Rattle.channel_core.specs.Sending.{accepted, commanded, refusal_to}
 use Rattle.channel_core.specs.Taking.{redirected, state_greeted}
 use Rattle.channel_core.specs.Wire.{end_of_stream, said}
 use Rattle.channel_core.specs.declared.held.Held.{Held}

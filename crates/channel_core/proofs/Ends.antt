@@ -7,9 +7,9 @@ use Rattle.channel_core.specs.Closing.{farewell, is_closed}
 use Rattle.channel_core.specs.EndValue.{EndValue}
 use Rattle.channel_core.specs.Holding.{is_free, sent_out}
 use Rattle.channel_core.specs.Level.{is_due, leveled, level_of}
-use Rattle.channel_core.specs.Runs.{message_of, Call, delivering, ending, taking, commanding, sending, putting_out, closing, draining, called, refusal_to, unless_refused, Run, after_call}
+use Rattle.channel_core.specs.Runs.{message_of, Call, delivering, ending, taking, commanding, sending, putting_out, closing, draining, called, unless_refused, Run, after_call}
 use Rattle.channel_core.specs.RunLaws.{first_byte, is_end, EndsAs, EndsOnce, IsAsItWas, StaysClosed}
-use Rattle.channel_core.specs.Sending.{commanded, made, queued, sent_or_held}
+use Rattle.channel_core.specs.Sending.{commanded, made, queued, sent_or_held, refusal_to}
 use Rattle.channel_core.specs.Taking.{redirected, state_greeted}
 use Rattle.channel_core.specs.Wire.{said}
 use Rattle.channel_core.specs.declared.held.Held.{Held}

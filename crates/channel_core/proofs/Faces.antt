@@ -10,8 +10,8 @@ use Rattle.channel_core.specs.Laws.{listed}
 use Rattle.channel_core.specs.Level.{is_due, leveled, level_of}
 use Rattle.channel_core.specs.Receiving.{ended, is_over, with_last}
 use Rattle.channel_core.specs.ReceivingLaws.{incoming_of}
-use Rattle.channel_core.specs.Runs.{refusal_to, unless_refused}
-use Rattle.channel_core.specs.Sending.{commanded, made}
+use Rattle.channel_core.specs.Runs.{unless_refused}
+use Rattle.channel_core.specs.Sending.{commanded, made, refusal_to}
 use Rattle.channel_core.specs.Taking.{answered, finished, greeted, is_of, judged, next_taken, number_at, progressed, redirected, state_greeted, stop_taken, taken_as, taken_from}
 use Rattle.channel_core.specs.Wire.{said_in}
 use Rattle.channel_core.specs.declared.held.Arrived.{Arrived}

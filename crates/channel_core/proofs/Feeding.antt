@@ -3,27 +3,16 @@ use Rattle.std.proofs.Common.{◌≡◌, ◌≢◌, ℕ, ◌+◌, Bool, true, fa
 use Rattle.std.specs.List.{AllByRecursion}
 use Rattle.stream_escape.specs.Value.{UnescapeValue}
 use Rattle.stream_escape.specs.Fed.{Given, fed}
-use Rattle.stream_escape.specs.Laws.{ArePiecesOne, BeginsBetween, PartsBringNothing, LastPartsBringMessages, EscapesBringNothing, LastBytesBringTheEnd, HasRead, IsPartRead, and_fed}
+use Rattle.stream_escape.specs.Laws.{HasRead, IsPartRead, and_fed}
 use Rattle.stream_escape.specs.Stream.{escaped, framed}
 use Rattle.stream_escape.specs.declared.stream.Item.{Item}
 use Rattle.stream_escape.specs.declared.stream.Item.TheVariants.{Message, End}
-use Rattle.tcf_message.specs.Fault.{IsReadBack, IsDecimalToken}
 use Rattle.tcf_message.specs.Message.{spelling, IsWellFormed}
 use Rattle.channel_core.specs.Arrivals.{Marked, marked, bytes_of, Spoken, AreSpoken, queue_of}
 use Rattle.channel_core.specs.Wire.{said}
 use Rattle.channel_core.specs.declared.held.Outgoing.{Outgoing}
+use Rattle.stream_escape.proofs.TheLaws.{begins_between, escapes_bring_nothing, last_bytes_bring_the_end, last_parts_bring_messages, parts_bring_nothing, pieces_are_one}
 use Rattle.channel_core.proofs.Sizes.{spelled_size}
-
--- the laws of streams and of messages
-pub record Cited : Type 0 where
-  pub pieces : ArePiecesOne
-  pub between : BeginsBetween
-  pub part : PartsBringNothing
-  pub whole : LastPartsBringMessages
-  pub escape : EscapesBringNothing
-  pub end : LastBytesBringTheEnd
-  pub read : IsReadBack
-  pub token : IsDecimalToken
 
 -- ---- A piece against the bytes that are to come
 
@@ -110,41 +99,41 @@ fed_part : (spoken : List Spoken) (is_ended : Bool) (mark : Option ℕ) (more : 
 fed_part spoken is_ended mark more front piece given all part at =
     within [] spoken (front ++ piece) refl tt all tt part.items_are part.answer_is part.reader_at at (omega (arith, length-append front piece))
 
-pub fed_queue : Cited → (spoken : List Spoken) (is_ended : Bool) (mark : Option ℕ) (more : List Marked) (front piece : List ℕ) (reader : UnescapeValue) → AreSpoken spoken → HasRead front reader
+pub fed_queue : (spoken : List Spoken) (is_ended : Bool) (mark : Option ℕ) (more : List Marked) (front piece : List ℕ) (reader : UnescapeValue) → AreSpoken spoken → HasRead front reader
     → IsAt front (queue_of spoken is_ended) (marked piece mark ++ more) → FedTo spoken is_ended (length front + length piece) mark more (fed piece reader)
-fed_queue c [] false mark more front piece reader all read at =
+fed_queue [] false mark more front piece reader all read at =
     let none = none_marked piece mark more at.1 in
     let begins : framed [] ≡ front ++ piece ++ framed [] = ap (λ bytes. bytes ++ framed []) (sym (ap (λ bytes. front ++ bytes) none.0 ∙ append-nil front ∙ at.0)) in
-    fed_part [] false mark more front piece (fed piece reader) tt (c.part reader [] front piece (framed []) zero-le read begins (framed_some []))
+    fed_part [] false mark more front piece (fed piece reader) tt (parts_bring_nothing reader [] front piece (framed []) zero-le read begins (framed_some []))
     (ap (λ bytes. front ++ bytes) none.0 ∙ append-nil front ∙ at.0, none.1)
-fed_queue c [] true mark more front piece reader all read at = by_cut (cut at.0 None [] piece mark more (sym at.3))
+fed_queue [] true mark more front piece reader all read at = by_cut (cut at.0 None [] piece mark more (sym at.3))
   where
     by_cut : IsCut at.0 None [] piece mark more → FedTo [] true (length front + length piece) mark more (fed piece reader)
     by_cut (shorter rest is some more_is) =
         let parts : 3 ∷ 2 ∷ [] ≡ front ++ piece ++ rest = at.1 ∙ ap (λ bytes. front ++ bytes) is ∙ sym (append_assoc front piece rest) in
-        fed_part [] true mark more front piece (fed piece reader) tt (c.escape reader front piece rest read parts some)
+        fed_part [] true mark more front piece (fed piece reader) tt (escapes_bring_nothing reader front piece rest read parts some)
         (rest, parts, some, more_is)
     by_cut (longer rest is each behind) =
         let none = none_marked rest mark more (sym behind) in
         let whole : piece ≡ at.0 = is ∙ ap (λ bytes. at.0 ++ bytes) none.0 ∙ append-nil at.0 in
-        let r = c.end reader front piece read (at.1 ∙ ap (λ bytes. front ++ bytes) (sym whole)) in
+        let r = last_bytes_bring_the_end reader front piece read (at.1 ∙ ap (λ bytes. front ++ bytes) (sym whole)) in
         to_end refl tt r.items_are r.answer_is
-fed_queue c (s ∷ spoken) is_ended mark more front piece reader all read at =
-    by_cut (cut at.0 s.mark (bytes_of (queue_of spoken is_ended)) piece mark more (sym at.3)) (λ given_front rest later. fed_queue c spoken is_ended mark more given_front rest later all.1)
+fed_queue (s ∷ spoken) is_ended mark more front piece reader all read at =
+    by_cut (cut at.0 s.mark (bytes_of (queue_of spoken is_ended)) piece mark more (sym at.3)) (λ given_front rest later. fed_queue spoken is_ended mark more given_front rest later all.1)
   where
     by_cut : IsCut at.0 s.mark (bytes_of (queue_of spoken is_ended)) piece mark more
         → ((begun rest : List ℕ) (later : UnescapeValue) → HasRead begun later → IsAt begun (queue_of spoken is_ended) (marked rest mark ++ more) → FedTo spoken is_ended (length begun + length rest) mark more (fed rest later))
         → FedTo (s ∷ spoken) is_ended (length front + length piece) mark more (fed piece reader)
     by_cut (shorter rest is some more_is) next =
         let parts : framed (spelling s.message) ≡ front ++ piece ++ rest = at.1 ∙ ap (λ bytes. front ++ bytes) is ∙ sym (append_assoc front piece rest) in
-        fed_part (s ∷ spoken) is_ended mark more front piece (fed piece reader) all (c.part reader (spelling s.message) front piece rest (spelled_size c.token s.message all.0) read parts some)
+        fed_part (s ∷ spoken) is_ended mark more front piece (fed piece reader) all (parts_bring_nothing reader (spelling s.message) front piece rest (spelled_size s.message all.0) read parts some)
         (rest, parts, some, more_is)
     by_cut (longer rest is each behind) next =
-        let first = c.whole reader (spelling s.message) front at.0 (spelled_size c.token s.message all.0) read at.1 in
+        let first = last_parts_bring_messages reader (spelling s.message) front at.0 (spelled_size s.message all.0) read at.1 in
         let reader_next = (fed at.0 reader).reader in
         let begins : IsAt [] (queue_of spoken is_ended) (marked rest mark ++ more) = subst (IsAt [] (queue_of spoken is_ended)) behind (at_first spoken is_ended) in
-        let after = next [] rest reader_next ((c.between reader_next).0 first.reader_at) begins in
-        let both : fed piece reader ≡ and_fed rest (fed at.0 reader) = ap (λ bytes. fed bytes reader) is ∙ c.pieces reader at.0 rest in
+        let after = next [] rest reader_next ((begins_between reader_next).0 first.reader_at) begins in
+        let both : fed piece reader ≡ and_fed rest (fed at.0 reader) = ap (λ bytes. fed bytes reader) is ∙ pieces_are_one reader at.0 rest in
         let size : length piece ≡ length at.0 + length rest = ap length is ∙ length-append at.0 rest in
         let entry : length (framed (spelling s.message)) ≡ length front + length at.0 = ap length at.1 ∙ length-append front at.0 in
         fed_first s spoken is_ended (length rest) (length front + length piece) mark more (fed piece reader) (fed rest reader_next) all.0 (each at.2)

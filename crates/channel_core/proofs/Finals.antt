@@ -12,9 +12,9 @@ use Rattle.channel_core.specs.EndValue.{EndValue}
 use Rattle.channel_core.specs.Holding.{is_free, sent_out}
 use Rattle.channel_core.specs.Laws.{listed}
 use Rattle.channel_core.specs.Level.{is_due, leveled, level_of}
-use Rattle.channel_core.specs.Runs.{message_of, Call, delivering, ending, taking, commanding, sending, putting_out, closing, draining, called, refusal_to, unless_refused, Issued, issued, Run, after_call}
+use Rattle.channel_core.specs.Runs.{message_of, Call, delivering, ending, taking, commanding, sending, putting_out, closing, draining, called, unless_refused, Issued, issued, Run, after_call}
 use Rattle.channel_core.specs.RunLaws.{row_of, token_in, answered_in, is_answered, CountsAnswers}
-use Rattle.channel_core.specs.Sending.{accepted, commanded, last_token, most_pending, refusal_of, sent_or_held}
+use Rattle.channel_core.specs.Sending.{accepted, commanded, last_token, most_pending, refusal_of, sent_or_held, refusal_to}
 use Rattle.channel_core.specs.Taking.{answer_judged, finished, is_early, is_held, judged, judged_by, next_taken, number_at, place_of, progress_judged, progressed, redirected, sent_at, sent_place, state_greeted, stop_taken, taken_as, taken_from, unless_held}
 use Rattle.channel_core.specs.Wire.{Said, greets, tells, asks, goes_on, answers, said, said_in}
 use Rattle.channel_core.specs.declared.held.Arrived.{Arrived}

@@ -4,8 +4,8 @@ use Rattle.channel_core.specs.Closing.{is_closed}
 use Rattle.channel_core.specs.EndValue.{EndValue}
 use Rattle.channel_core.specs.Holding.{is_free, let_out, released, sent_out}
 use Rattle.channel_core.specs.Level.{is_due, leveled, level_of}
-use Rattle.channel_core.specs.Runs.{Call, delivering, ending, taking, commanding, sending, putting_out, closing, draining, called, refusal_to, unless_refused}
-use Rattle.channel_core.specs.Sending.{accepted, commanded, made}
+use Rattle.channel_core.specs.Runs.{Call, delivering, ending, taking, commanding, sending, putting_out, closing, draining, called, unless_refused}
+use Rattle.channel_core.specs.Sending.{accepted, commanded, made, refusal_to}
 use Rattle.channel_core.specs.Taking.{redirected, state_greeted}
 use Rattle.channel_core.specs.declared.held.Held.{Held}
 use Rattle.channel_core.specs.declared.sending.SendRefusal.{SendRefusal}

@@ -7,9 +7,9 @@ use Rattle.channel_core.specs.EndValue.{EndValue}
 use Rattle.channel_core.specs.Holding.{is_free, sent_out}
 use Rattle.channel_core.specs.Laws.{listed}
 use Rattle.channel_core.specs.Level.{is_due, leveled, level_of}
-use Rattle.channel_core.specs.Runs.{Call, delivering, ending, taking, commanding, sending, putting_out, closing, draining, message_of, called, refusal_to, unless_refused, Run, after_call}
+use Rattle.channel_core.specs.Runs.{Call, delivering, ending, taking, commanding, sending, putting_out, closing, draining, message_of, called, unless_refused, Run, after_call}
 use Rattle.channel_core.specs.RunLaws.{QueuesInOrder}
-use Rattle.channel_core.specs.Sending.{commanded, made, sent_or_held}
+use Rattle.channel_core.specs.Sending.{commanded, made, sent_or_held, refusal_to}
 use Rattle.channel_core.specs.Taking.{redirected, state_greeted}
 use Rattle.channel_core.specs.Wire.{said}
 use Rattle.channel_core.specs.declared.held.Held.{Held}

@@ -24,3 +24,4 @@ pub mod Received
 pub mod Sent
 pub mod ClosingSo
 pub mod Waiting
+pub mod TheLaws

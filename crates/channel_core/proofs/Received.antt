@@ -9,12 +9,12 @@ use Rattle.std.proofs.lemmas.List.{append_cancel_left, length-map}
 use Rattle.std.proofs.lemmas.List.Elements.{Contains-push_cases}
 use Rattle.stream_escape.specs.Fed.{fed}
 use Rattle.stream_escape.specs.Laws.{HasRead, fresh}
-use Rattle.channel_core.specs.Arrivals.{IsFront, Marked, marked, bytes_of, arrived_in, arrived, Spoken, AreSpoken, queue_of, whole_in, messages_in, level_after}
+use Rattle.channel_core.specs.Arrivals.{Marked, marked, bytes_of, arrived_in, arrived, Spoken, AreSpoken, queue_of, whole_in, messages_in, level_after}
 use Rattle.channel_core.specs.Beginning.{new_end}
 use Rattle.channel_core.specs.EndValue.{EndValue}
 use Rattle.channel_core.specs.Receiving.{delivered, is_over}
 use Rattle.channel_core.specs.ReceivingLaws.{incoming_of, WhereAQueueComes, ReceivesInOrder, IsFairCause, EndsFairly}
-use Rattle.channel_core.specs.Runs.{Call, delivering, ending, taking, commanding, sending, putting_out, closing, draining, refusal_to, Run, begun, after_call, after_calls}
+use Rattle.channel_core.specs.Runs.{Call, delivering, ending, taking, commanding, sending, putting_out, closing, draining, Run, begun, after_call, after_calls}
 use Rattle.channel_core.specs.Wire.{said}
 use Rattle.channel_core.specs.declared.held.Incoming.{Incoming}
 use Rattle.channel_core.specs.declared.states.Cause.{Cause}
@@ -23,11 +23,14 @@ use Rattle.channel_core.specs.declared.states.Reason.TheVariants.{Grammar, Early
 use Rattle.channel_core.specs.declared.taking.Taken.{Taken}
 use Rattle.channel_core.specs.declared.taking.Taken.TheVariants.{Closed}
 use Rattle.channel_core.specs.Closing.{is_closed}
+use Rattle.stream_escape.proofs.TheLaws.{begins_between}
 use Rattle.channel_core.proofs.Arriving.{delivered_end, delivered_over, delivered_whole, level_append, messages_append}
 use Rattle.channel_core.proofs.Faces.{Change, stays, ends, takes, closes, breaks, finishes, Face, IsOfItself, cause_of, closed_change, closed_face, ended_change, face, face_commanded, face_either, is_finished, over_is, taken_change}
-use Rattle.channel_core.proofs.Feeding.{Cited, FedTo, within, to_end, IsAt, at_first, fed_queue, total}
+use Rattle.channel_core.proofs.Feeding.{FedTo, within, to_end, IsAt, at_first, fed_queue, total}
 use Rattle.channel_core.proofs.Keeping.{IsTidy}
 use Rattle.channel_core.proofs.Tidy.{tidy_called, tidy_open}
+use Rattle.list_laws.specs.Fronts.{IsFront}
+use Rattle.channel_core.specs.Sending.{refusal_to}
 
 -- the messages that were taken, and those that wait
 abbrev pub got : {T : Type 0} → List (Taken T) → Face → List Incoming
@@ -217,11 +220,11 @@ got_more : {T : Type 0} (taken : List (Taken T)) (f : Face) (whole next : List S
 got_more taken f whole next is =
     sym (append_assoc (flat_map incoming_of taken) f.waiting (messages_in next)) ∙ ap (λ ms. ms ++ messages_in next) is ∙ sym (messages_append whole next)
 
-fed_keeps : {T : Type 0} (c : Cited) (spoken : List Spoken) (is_ended : Bool) (count : ℕ) (mark : Option ℕ) (piece : List ℕ) (more : List Marked) (taken : List (Taken T)) (e : EndValue T)
+fed_keeps : {T : Type 0} (spoken : List Spoken) (is_ended : Bool) (count : ℕ) (mark : Option ℕ) (piece : List ℕ) (more : List Marked) (taken : List (Taken T)) (e : EndValue T)
     → (g : IsGoing spoken is_ended count (marked piece mark ++ more) taken (face e)) → FedTo g.later is_ended (length g.front + length piece) mark more (fed piece e.stream)
     → Standing spoken is_ended (count + length piece) more taken (face (delivered piece mark e))
-fed_keeps {T = T} c spoken is_ended count mark piece more taken e g (within whole later front split formed formed_later each items answer read at size) =
-    let now = delivered_whole c.read piece mark whole formed each e g.opened g.none items answer in
+fed_keeps {T = T} spoken is_ended count mark piece more taken e g (within whole later front split formed formed_later each items answer read at size) =
+    let now = delivered_whole piece mark whole formed each e g.opened g.none items answer in
     let P : Face → Type 0 = λ x. Standing spoken is_ended (count + length piece) more taken x in
     let before = g.size in
     let sizes = total_append g.whole whole in
@@ -239,8 +242,8 @@ fed_keeps {T = T} c spoken is_ended count mark piece more taken e g (within whol
       none = g.none;
       opened = g.opened;
     }))
-fed_keeps {T = T} c spoken is_ended count mark piece more taken e g (to_end is each items answer) =
-    let now = delivered_end c.read piece mark g.later g.formed each e g.opened g.none items answer in
+fed_keeps {T = T} spoken is_ended count mark piece more taken e g (to_end is each items answer) =
+    let now = delivered_end piece mark g.later g.formed each e g.opened g.none items answer in
     let P : Face → Type 0 = λ x. Standing spoken is_ended (count + length piece) more taken x in
     let all : flat_map incoming_of taken ++ ((face e).waiting ++ messages_in g.later) ≡ messages_in spoken = got_more taken (face e) g.whole g.later g.messages ∙ ap messages_in (sym g.split) in
     subst P (sym now) (done (record {
@@ -250,25 +253,25 @@ fed_keeps {T = T} c spoken is_ended count mark piece more taken e g (to_end is e
       closed = λ cause is. let never = g.opened in absurd cc;
     }))
 
-piece_standing : {T : Type 0} (c : Cited) (spoken : List Spoken) (is_ended : Bool) (count : ℕ) (mark : Option ℕ) (piece : List ℕ) (more : List Marked) (taken : List (Taken T)) (e : EndValue T)
+piece_standing : {T : Type 0} (spoken : List Spoken) (is_ended : Bool) (count : ℕ) (mark : Option ℕ) (piece : List ℕ) (more : List Marked) (taken : List (Taken T)) (e : EndValue T)
     → Standing spoken is_ended count (marked piece mark ++ more) taken (face e) → Standing spoken is_ended (count + length piece) more taken (face (delivered piece mark e))
-piece_standing c spoken is_ended count mark piece more taken e (going g) =
-    fed_keeps c spoken is_ended count mark piece more taken e g (fed_queue c g.later is_ended mark more g.front piece e.stream g.formed g.read g.at)
-piece_standing {T = T} c spoken is_ended count mark piece more taken e (done d) =
+piece_standing spoken is_ended count mark piece more taken e (going g) =
+    fed_keeps spoken is_ended count mark piece more taken e g (fed_queue g.later is_ended mark more g.front piece e.stream g.formed g.read g.at)
+piece_standing {T = T} spoken is_ended count mark piece more taken e (done d) =
     let P : Face → Type 0 = λ x. Standing spoken is_ended (count + length piece) more taken x in
     subst P (sym (delivered_over piece mark e (over_is e ∙ d.finished))) (done (record { finished = d.finished; front = d.front; stop = d.stop; closed = d.closed }))
 
 -- a piece closes nothing
-piece_closed : {T : Type 0} (c : Cited) (spoken : List Spoken) (is_ended : Bool) (count : ℕ) (mark : Option ℕ) (piece : List ℕ) (more : List Marked) (taken : List (Taken T)) (e : EndValue T)
+piece_closed : {T : Type 0} (spoken : List Spoken) (is_ended : Bool) (count : ℕ) (mark : Option ℕ) (piece : List ℕ) (more : List Marked) (taken : List (Taken T)) (e : EndValue T)
     → Standing spoken is_ended count (marked piece mark ++ more) taken (face e) → (face (delivered piece mark e)).closed ≡ (face e).closed
-piece_closed c spoken is_ended count mark piece more taken e (going g) =
-    by_fed (fed_queue c g.later is_ended mark more g.front piece e.stream g.formed g.read g.at)
+piece_closed spoken is_ended count mark piece more taken e (going g) =
+    by_fed (fed_queue g.later is_ended mark more g.front piece e.stream g.formed g.read g.at)
   where
     by_fed : FedTo g.later is_ended (length g.front + length piece) mark more (fed piece e.stream) → (face (delivered piece mark e)).closed ≡ (face e).closed
     by_fed (within whole later front split formed formed_later each items answer read at size) =
-        ap (λ (f : Face). f.closed) (delivered_whole c.read piece mark whole formed each e g.opened g.none items answer)
-    by_fed (to_end is each items answer) = ap (λ (f : Face). f.closed) (delivered_end c.read piece mark g.later g.formed each e g.opened g.none items answer)
-piece_closed c spoken is_ended count mark piece more taken e (done d) = ap (λ (f : Face). f.closed) (delivered_over piece mark e (over_is e ∙ d.finished))
+        ap (λ (f : Face). f.closed) (delivered_whole piece mark whole formed each e g.opened g.none items answer)
+    by_fed (to_end is each items answer) = ap (λ (f : Face). f.closed) (delivered_end piece mark g.later g.formed each e g.opened g.none items answer)
+piece_closed spoken is_ended count mark piece more taken e (done d) = ap (λ (f : Face). f.closed) (delivered_over piece mark e (over_is e ∙ d.finished))
 
 -- ---- Every call
 
@@ -283,33 +286,33 @@ none_came {T = T} spoken is_ended count more r after change i =
     let same : count ≡ count + 0 = omega arith in
     subst P same (change_keeps spoken is_ended count more r.past.taken after.past.taken (face r.end) (face after.end) change i)
 
-receives_called : {T : Type 0} (c : Cited) (spoken : List Spoken) (is_ended : Bool) (call : Call T) (count : ℕ) (more : List Marked) (r : Run T) → IsTidy r.end
+receives_called : {T : Type 0} (spoken : List Spoken) (is_ended : Bool) (call : Call T) (count : ℕ) (more : List Marked) (r : Run T) → IsTidy r.end
     → ReceivesRun spoken is_ended count (arrived_in call ++ more) r → ReceivesRun spoken is_ended (count + length (arrived_in call)) more (after_call call r)
-receives_called {T = T} c spoken is_ended (delivering piece mark) count more r tidy i =
+receives_called {T = T} spoken is_ended (delivering piece mark) count more r tidy i =
     let P : ℕ → Type 0 = λ n. ReceivesRun spoken is_ended (count + n) more (after_call (delivering piece mark) r) in
     subst P (sym (length-map piece (λ byte. record { byte = byte; mark = mark }))) (record {
-      standing = piece_standing c spoken is_ended count mark piece more r.past.taken r.end i.standing;
-      taken_is = λ cause among. piece_closed c spoken is_ended count mark piece more r.past.taken r.end i.standing ∙ i.taken_is cause among;
+      standing = piece_standing spoken is_ended count mark piece more r.past.taken r.end i.standing;
+      taken_is = λ cause among. piece_closed spoken is_ended count mark piece more r.past.taken r.end i.standing ∙ i.taken_is cause among;
     })
-receives_called c spoken is_ended ending count more r tidy i = none_came spoken is_ended count more r (after_call ending r) (ended_change r.past.taken r.end) i
-receives_called c spoken is_ended taking count more r tidy i = none_came spoken is_ended count more r (after_call taking r) (taken_change r.past.taken r.end tidy) i
-receives_called c spoken is_ended (commanding service name body tag mark) count more r tidy i =
+receives_called spoken is_ended ending count more r tidy i = none_came spoken is_ended count more r (after_call ending r) (ended_change r.past.taken r.end) i
+receives_called spoken is_ended taking count more r tidy i = none_came spoken is_ended count more r (after_call taking r) (taken_change r.past.taken r.end tidy) i
+receives_called spoken is_ended (commanding service name body tag mark) count more r tidy i =
     none_came spoken is_ended count more r (after_call (commanding service name body tag mark) r) (stays refl (face_commanded (refusal_to service name body r.end) service name body tag mark r.end refl)) i
-receives_called c spoken is_ended (sending message mark) count more r tidy i =
+receives_called spoken is_ended (sending message mark) count more r tidy i =
     none_came spoken is_ended count more r (after_call (sending message mark) r) (stays refl (face_either (is_closed r.end.state) r.end _ (face r.end) refl refl)) i
-receives_called c spoken is_ended putting_out count more r tidy i = none_came spoken is_ended count more r (after_call putting_out r) (stays refl refl) i
-receives_called c spoken is_ended closing count more r tidy i = none_came spoken is_ended count more r (after_call closing r) (closed_change r.past.taken r.end) i
-receives_called c spoken is_ended draining count more r tidy i =
+receives_called spoken is_ended putting_out count more r tidy i = none_came spoken is_ended count more r (after_call putting_out r) (stays refl refl) i
+receives_called spoken is_ended closing count more r tidy i = none_came spoken is_ended count more r (after_call closing r) (closed_change r.past.taken r.end) i
+receives_called spoken is_ended draining count more r tidy i =
     none_came spoken is_ended count more r (after_call draining r) (stays refl (face_either (is_closed r.end.state) _ r.end (face r.end) refl refl)) i
 
-receives_calls : {T : Type 0} (c : Cited) (spoken : List Spoken) (is_ended : Bool) (calls : List (Call T)) (count : ℕ) (more : List Marked) (r : Run T) → IsTidy r.end
+receives_calls : {T : Type 0} (spoken : List Spoken) (is_ended : Bool) (calls : List (Call T)) (count : ℕ) (more : List Marked) (r : Run T) → IsTidy r.end
     → ReceivesRun spoken is_ended count (arrived calls ++ more) r → ReceivesRun spoken is_ended (count + length (arrived calls)) more (after_calls calls r)
-receives_calls {T = T} c spoken is_ended [] count more r tidy i =
+receives_calls {T = T} spoken is_ended [] count more r tidy i =
     let P : ℕ → Type 0 = λ n. ReceivesRun spoken is_ended n more r in let same : count ≡ count + 0 = omega arith in subst P same i
-receives_calls {T = T} c spoken is_ended (call ∷ calls) count more r tidy i =
+receives_calls {T = T} spoken is_ended (call ∷ calls) count more r tidy i =
     let Q : List Marked → Type 0 = λ bytes. ReceivesRun spoken is_ended count bytes r in
-    let first = receives_called c spoken is_ended call count (arrived calls ++ more) r tidy (subst Q (append_assoc (arrived_in call) (arrived calls) more) i) in
-    let rest = receives_calls c spoken is_ended calls (count + length (arrived_in call)) more (after_call call r) (tidy_called call r.end tidy) first in
+    let first = receives_called spoken is_ended call count (arrived calls ++ more) r tidy (subst Q (append_assoc (arrived_in call) (arrived calls) more) i) in
+    let rest = receives_calls spoken is_ended calls (count + length (arrived_in call)) more (after_call call r) (tidy_called call r.end tidy) first in
     let P : ℕ → Type 0 = λ n. ReceivesRun spoken is_ended n more (after_calls calls (after_call call r)) in
     let size : length (arrived_in call ++ arrived calls) ≡ length (arrived_in call) + length (arrived calls) = length-append (arrived_in call) (arrived calls) in
     let same : (count + length (arrived_in call)) + length (arrived calls) ≡ count + length (arrived_in call ++ arrived calls) = omega arith in
@@ -354,9 +357,9 @@ whole_is (s ∷ whole) later front is_ended more count at is =
 
 -- ---- The laws
 
-begins : {T : Type 0} (c : Cited) (spoken : List Spoken) (is_ended : Bool) (body : List ℕ) (mark : Option ℕ) → AreSpoken spoken
+begins : {T : Type 0} (spoken : List Spoken) (is_ended : Bool) (body : List ℕ) (mark : Option ℕ) → AreSpoken spoken
     → ReceivesRun {T = T} spoken is_ended 0 (bytes_of (queue_of spoken is_ended)) (begun (new_end body mark))
-begins c spoken is_ended body mark all = record {
+begins spoken is_ended body mark all = record {
   standing = going (record {
     whole = [];
     later = spoken;
@@ -364,7 +367,7 @@ begins c spoken is_ended body mark all = record {
     split = refl;
     formed = all;
     at = at_first spoken is_ended;
-    read = (c.between fresh).0 (record { ending = refl; fault = refl });
+    read = (begins_between fresh).0 (record { ending = refl; fault = refl });
     size = refl;
     messages = refl;
     level = refl;
@@ -374,14 +377,14 @@ begins c spoken is_ended body mark all = record {
   taken_is = λ cause among. let few = among.1 in absurd (omega arith);
 }
 
-receives : {T : Type 0} (c : Cited) (spoken : List Spoken) (is_ended : Bool) (body : List ℕ) (mark : Option ℕ) (calls : List (Call T)) (more : List Marked) → AreSpoken spoken
+receives : {T : Type 0} (spoken : List Spoken) (is_ended : Bool) (body : List ℕ) (mark : Option ℕ) (calls : List (Call T)) (more : List Marked) → AreSpoken spoken
     → bytes_of (queue_of spoken is_ended) ≡ arrived calls ++ more → ReceivesRun spoken is_ended (length (arrived calls)) more (after_calls calls (begun (new_end body mark)))
-receives {T = T} c spoken is_ended body mark calls more all is =
+receives {T = T} spoken is_ended body mark calls more all is =
     let e : EndValue T = new_end body mark in
     let Q : List Marked → Type 0 = λ bytes. ReceivesRun spoken is_ended 0 bytes (begun e) in
     let P : ℕ → Type 0 = λ n. ReceivesRun spoken is_ended n more (after_calls calls (begun e)) in
     let same : 0 + length (arrived calls) ≡ length (arrived calls) = omega arith in
-    subst P same (receives_calls c spoken is_ended calls 0 more (begun e) (tidy_open e refl) (subst Q is (begins c spoken is_ended body mark all)))
+    subst P same (receives_calls spoken is_ended calls 0 more (begun e) (tidy_open e refl) (subst Q is (begins spoken is_ended body mark all)))
 
 going_of : {T : Type 0} {spoken : List Spoken} {is_ended : Bool} {count : ℕ} {more : List Marked} (r : Run T) → Standing spoken is_ended count more r.past.taken (face r.end) → is_over r.end ≡ false
     → IsGoing spoken is_ended count more r.past.taken (face r.end)
@@ -425,10 +428,10 @@ fairly spoken is_ended bytes more r i cause ends_for = ⊎_elim
     (λ other. ⊎_elim (λ is. fair_closed i.standing cause (ap cause_of is)) (λ among. fair_closed i.standing cause (i.taken_is cause among)) other)
     ends_for
 
-pub all_in_order : {T : Type 0} → Cited → WhereAQueueComes {T = T} ReceivesInOrder
-all_in_order c body mark calls spoken is_ended all front =
-    in_order spoken is_ended (arrived calls) front.0 (after_calls calls (begun (new_end body mark))) front.1 (receives c spoken is_ended body mark calls front.0 all front.1)
+pub all_in_order : {T : Type 0} → WhereAQueueComes {T = T} ReceivesInOrder
+all_in_order body mark calls spoken is_ended all front =
+    in_order spoken is_ended (arrived calls) front.0 (after_calls calls (begun (new_end body mark))) front.1 (receives spoken is_ended body mark calls front.0 all front.1)
 
-pub all_fair : {T : Type 0} → Cited → WhereAQueueComes {T = T} EndsFairly
-all_fair c body mark calls spoken is_ended all front =
-    fairly spoken is_ended (arrived calls) front.0 (after_calls calls (begun (new_end body mark))) (receives c spoken is_ended body mark calls front.0 all front.1)
+pub all_fair : {T : Type 0} → WhereAQueueComes {T = T} EndsFairly
+all_fair body mark calls spoken is_ended all front =
+    fairly spoken is_ended (arrived calls) front.0 (after_calls calls (begun (new_end body mark))) (receives spoken is_ended body mark calls front.0 all front.1)

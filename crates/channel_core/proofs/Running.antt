@@ -1,6 +1,5 @@
 -- What holds after every list of calls: each call keeps it.
 use Rattle.std.proofs.Common.{ℕ, List, [], ◌∷◌, Option, refl, arith}
-use Rattle.tcf_message.specs.Fault.{IsDecimalToken}
 use Rattle.channel_core.specs.Beginning.{new_end}
 use Rattle.channel_core.specs.EndValue.{EndValue}
 use Rattle.channel_core.specs.Runs.{Call, Run, begun, after_call, after_calls}
@@ -101,9 +100,9 @@ all_loud_as_told hello mark calls = let s = always hello mark calls in is_loud_a
 
 -- ---- What is queued
 
-says : {T : Type 0} → IsDecimalToken → (calls : List (Call T)) (r : Run T) → SendsReadable calls → Stands r → IsSayingRun r → CanBeRead (after_calls calls r)
-says decimals [] r readable s i = can_be_read r s.order i
-says decimals (call ∷ calls) r readable s i = says decimals calls (after_call call r) readable.1 (stands_after call r s) (saying_called decimals call r readable.0 s.tidy s.counted.most i)
+says : {T : Type 0} → (calls : List (Call T)) (r : Run T) → SendsReadable calls → Stands r → IsSayingRun r → CanBeRead (after_calls calls r)
+says [] r readable s i = can_be_read r s.order i
+says (call ∷ calls) r readable s i = says calls (after_call call r) readable.1 (stands_after call r s) (saying_called call r readable.0 s.tidy s.counted.most i)
 
-pub all_can_be_read : {T : Type 0} → IsDecimalToken → QueuesReadable T
-all_can_be_read decimals body mark calls formed readable = says decimals calls (begun (new_end body mark)) readable (stands_at_first body mark) (saying_first body mark formed)
+pub all_can_be_read : {T : Type 0} → QueuesReadable T
+all_can_be_read body mark calls formed readable = says calls (begun (new_end body mark)) readable (stands_at_first body mark) (saying_first body mark formed)

@@ -5,12 +5,12 @@ use Rattle.std.specs.List.{AllByRecursion, list_any}
 use Rattle.std.proofs.lemmas.Bool.{eqb-true}
 use Rattle.std.proofs.lemmas.Int.{ints}
 use Rattle.stream_escape.specs.Stream.{framed}
-use Rattle.tcf_message.specs.Fault.{IsDecimalToken}
 use Rattle.tcf_message.specs.Message.{MessageValue, command, flow, spelling, HasNoZero, IsToken, IsLevel, IsWellFormed, is_zero, most_body, ◌•◌}
 use Rattle.channel_core.specs.Arrivals.{Spoken, AreSpoken}
 use Rattle.channel_core.specs.Level.{level_of}
 use Rattle.channel_core.specs.Wire.{said}
 use Rattle.channel_core.specs.declared.held.Outgoing.{Outgoing}
+use Rattle.tcf_message.proofs.TheLaws.{decimal_token}
 
 -- it says a message that can be read
 pub record IsSaid (o : Outgoing) : Type 0 where
@@ -110,10 +110,10 @@ by_service token service name body is size (parted front rest none parts) =
       is = ap (λ s. spelling (command token s name body)) parts ∙ ap (λ bytes. 67 ∷ 0 ∷ (token • bytes)) (parts_again front rest (name • body)) ∙ spelled.is;
     }
 
-pub command_said : IsDecimalToken → (token : ℕ) (service name body : List ℕ) (mark : Option ℕ) → token < 2 ^ 64 → length service + length name + length body ≤ most_body
+pub command_said : (token : ℕ) (service name body : List ℕ) (mark : Option ℕ) → token < 2 ^ 64 → length service + length name + length body ≤ most_body
     → IsSaid (said (command (decimal token) service name body) mark)
-command_said decimals token service name body mark within size =
-    let spelled = by_service (decimal token) service name body (decimals token within) size (parted_of service) in
+command_said token service name body mark within size =
+    let spelled = by_service (decimal token) service name body (decimal_token token within) size (parted_of service) in
     record {
       spoken = record { message = spelled.message; mark = mark };
       formed = spelled.formed;

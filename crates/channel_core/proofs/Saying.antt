@@ -2,7 +2,6 @@
 use Rattle.std.proofs.Common.{◌≡◌, ◌≢◌, ℕ, ◌+◌, ◌≤◌, ◌==◌, Bool, true, false, cond, nat_lt, nat_le, List, [], ◌∷◌, ◌++◌, length, map, Option, Some, None, refl, sym, ap, ◌∙◌, subst, arith, append_assoc, append-nil, ltb-false}
 use Rattle.std.specs.List.{AllByRecursion}
 use Rattle.std.proofs.lemmas.Bool.{eqb-false}
-use Rattle.tcf_message.specs.Fault.{IsDecimalToken}
 use Rattle.tcf_message.specs.Message.{event, flow, IsWellFormed, most_body}
 use Rattle.channel_core.specs.Arrivals.{Spoken}
 use Rattle.channel_core.specs.Beginning.{new_end}
@@ -12,8 +11,8 @@ use Rattle.channel_core.specs.Farewell.{leaving_behind}
 use Rattle.channel_core.specs.Holding.{is_free, sent_out}
 use Rattle.channel_core.specs.Level.{is_due, leveled, level_of}
 use Rattle.channel_core.specs.ReceivingLaws.{CanBeRead, SaysReadable}
-use Rattle.channel_core.specs.Runs.{message_of, Call, delivering, ending, taking, commanding, sending, putting_out, closing, draining, refusal_to, unless_refused, Run, after_call}
-use Rattle.channel_core.specs.Sending.{commanded, last_token, made, most_pending, refusal_of, sent_or_held}
+use Rattle.channel_core.specs.Runs.{message_of, Call, delivering, ending, taking, commanding, sending, putting_out, closing, draining, unless_refused, Run, after_call}
+use Rattle.channel_core.specs.Sending.{commanded, last_token, made, most_pending, refusal_of, sent_or_held, refusal_to}
 use Rattle.channel_core.specs.Taking.{redirected, state_greeted}
 use Rattle.channel_core.specs.Wire.{end_of_stream, hello, locator, said}
 use Rattle.channel_core.specs.declared.held.Held.{Held}
@@ -129,15 +128,15 @@ saying_by true given h e is opened i =
     (saying_more given (h.outgoing ∷ []) e _ opened opened (is, tt) refl i.held i)
 saying_by false given h e is opened i = saying_open given _ opened (i.none opened) (held_push e.held h is i.held)
 
-saying_commanded : {T : Type 0} → IsDecimalToken → (refusal : Option SendRefusal) (given : List Outgoing) (service name body : List ℕ) (tag : T) (mark : Option ℕ) (e : EndValue T) → refusal_to service name body e ≡ refusal
+saying_commanded : {T : Type 0} → (refusal : Option SendRefusal) (given : List Outgoing) (service name body : List ℕ) (tag : T) (mark : Option ℕ) (e : EndValue T) → refusal_to service name body e ≡ refusal
     → e.last ≤ last_token → IsSaying given e → IsSaying given (unless_refused refusal e (commanded service name body tag mark e))
-saying_commanded decimals (Some why) given service name body tag mark e is most i = i
-saying_commanded decimals None given service name body tag mark e is most i =
+saying_commanded (Some why) given service name body tag mark e is most i = i
+saying_commanded None given service name body tag mark e is most i =
     let size = length service + length name + length body in
     let h = made (e.last + 1) service name body mark in
     let fits : size ≤ most_body = ltb-false most_body size (fitting size e is) in
     let isnt : e.last ≢ last_token = eqb-false e.last last_token (unspent size e is) in
-    let said_is = command_said decimals (e.last + 1) service name body mark (omega arith) fits in
+    let said_is = command_said (e.last + 1) service name body mark (omega arith) fits in
     saying_same given (sent_or_held h e) _ refl refl refl (saying_by (is_free e) given h e said_is (accepted_open size e is) i)
 
 saying_sent : {T : Type 0} → (flag : Bool) (given more : List Outgoing) (e : EndValue T) → is_closed e.state ≡ flag → AreSaid more → IsSaying given e
@@ -148,21 +147,21 @@ saying_sent false given more e is each i = saying_more given more e _ is is each
 abbrev pub IsSayingRun : {T : Type 0} → Run T → Type 0
 IsSayingRun r = IsSaying r.past.given r.end
 
-pub saying_called : {T : Type 0} → IsDecimalToken → (call : Call T) (r : Run T) → SaysReadable call → IsTidy r.end → r.end.last ≤ last_token → IsSayingRun r → IsSayingRun (after_call call r)
-saying_called decimals (delivering piece mark) r readable tidy most i = delivered_keeps (saying_keeps r.past.given) piece mark r.end i
-saying_called decimals ending r readable tidy most i = ended_keeps (saying_keeps r.past.given) r.end i
-saying_called decimals taking r readable tidy most i = taken_keeps (saying_keeps r.past.given) (any_saying r.past.given) r.end tidy i
-saying_called decimals (commanding service name body tag mark) r readable tidy most i =
-    saying_commanded decimals (refusal_to service name body r.end) r.past.given service name body tag mark r.end refl most i
-saying_called decimals (sending message mark) r readable tidy most i =
+pub saying_called : {T : Type 0} → (call : Call T) (r : Run T) → SaysReadable call → IsTidy r.end → r.end.last ≤ last_token → IsSayingRun r → IsSayingRun (after_call call r)
+saying_called (delivering piece mark) r readable tidy most i = delivered_keeps (saying_keeps r.past.given) piece mark r.end i
+saying_called ending r readable tidy most i = ended_keeps (saying_keeps r.past.given) r.end i
+saying_called taking r readable tidy most i = taken_keeps (saying_keeps r.past.given) (any_saying r.past.given) r.end tidy i
+saying_called (commanding service name body tag mark) r readable tidy most i =
+    saying_commanded (refusal_to service name body r.end) r.past.given service name body tag mark r.end refl most i
+saying_called (sending message mark) r readable tidy most i =
     saying_sent (is_closed r.end.state) r.past.given (said (message_of message) mark ∷ []) r.end refl (said_so (message_of message) mark readable, tt) i
-saying_called decimals putting_out r readable tidy most i = record {
+saying_called putting_out r readable tidy most i = record {
   none = λ opened. subst AreSaid (sym (taken_out r.past.given r.end.queued)) (i.none opened);
   last = λ cause is. let l = i.last cause is in (l.0, taken_out r.past.given r.end.queued ∙ l.1, l.2);
   held = i.held;
 }
-saying_called decimals closing r readable tidy most i = closed_keeps (saying_keeps r.past.given) r.end i
-saying_called decimals draining r readable tidy most i =
+saying_called closing r readable tidy most i = closed_keeps (saying_keeps r.past.given) r.end i
+saying_called draining r readable tidy most i =
     let e = r.end in either_keeps (IsSaying r.past.given) (is_closed e.state) _ e (saying_same r.past.given e _ refl refl refl i) i
 
 pub saying_first : {T : Type 0} → (body : List ℕ) (mark : Option ℕ) → IsWellFormed (event locator hello body) → IsSaying {T = T} [] (new_end body mark)

@@ -10,9 +10,9 @@ use Rattle.channel_core.specs.EndValue.{EndValue}
 use Rattle.channel_core.specs.Holding.{is_free, sent_out}
 use Rattle.channel_core.specs.Level.{is_due, leveled, level_of}
 use Rattle.channel_core.specs.QueueLaws.{QueuesItsMessages, QueuesNoCommand, QueuesWhatIsSent, is_commanding, is_message, is_plain, sent_by, sent_in}
-use Rattle.channel_core.specs.Runs.{an_answer, some_progress, an_unknown, an_event, message_of, Unheld, Call, delivering, ending, taking, commanding, sending, putting_out, closing, draining, called, refusal_to, unless_refused, Run, after_call, after_calls, begun}
+use Rattle.channel_core.specs.Runs.{an_answer, some_progress, an_unknown, an_event, message_of, Unheld, Call, delivering, ending, taking, commanding, sending, putting_out, closing, draining, called, unless_refused, Run, after_call, after_calls, begun}
 use Rattle.channel_core.specs.RunLaws.{first_byte, is_command, is_end, is_flow}
-use Rattle.channel_core.specs.Sending.{commanded, made, sent_or_held}
+use Rattle.channel_core.specs.Sending.{commanded, made, sent_or_held, refusal_to}
 use Rattle.channel_core.specs.Taking.{redirected, state_greeted}
 use Rattle.channel_core.specs.Wire.{hello as hello_word, locator, said}
 use Rattle.channel_core.specs.declared.held.Held.{Held}

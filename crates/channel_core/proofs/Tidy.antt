@@ -4,8 +4,8 @@ use Rattle.channel_core.specs.Closing.{is_closed}
 use Rattle.channel_core.specs.EndValue.{EndValue}
 use Rattle.channel_core.specs.Holding.{is_free, sent_out}
 use Rattle.channel_core.specs.Level.{leveled}
-use Rattle.channel_core.specs.Runs.{Call, delivering, ending, taking, commanding, sending, putting_out, closing, draining, called, refusal_to, unless_refused}
-use Rattle.channel_core.specs.Sending.{commanded, made, refusal_of, sent_or_held}
+use Rattle.channel_core.specs.Runs.{Call, delivering, ending, taking, commanding, sending, putting_out, closing, draining, called, unless_refused}
+use Rattle.channel_core.specs.Sending.{commanded, made, refusal_of, sent_or_held, refusal_to}
 use Rattle.channel_core.specs.Taking.{redirected, state_greeted}
 use Rattle.channel_core.specs.declared.held.Held.{Held}
 use Rattle.channel_core.specs.declared.sending.SendRefusal.{SendRefusal}

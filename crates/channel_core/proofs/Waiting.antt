@@ -19,8 +19,8 @@ use Rattle.channel_core.specs.Laws.{listed}
 use Rattle.channel_core.specs.Level.{is_due, leveled, level_of}
 use Rattle.channel_core.specs.Receiving.{came_by, counted, delivered, ended, entered, heard, is_over, item_came, stopped_by, with_last}
 use Rattle.channel_core.specs.RunLaws.{AfterAllCalls, is_command}
-use Rattle.channel_core.specs.Runs.{Call, Run, after_call, after_calls, begun, closing, commanding, delivering, draining, ending, message_of, putting_out, refusal_to, sending, taking, unless_refused}
-use Rattle.channel_core.specs.Sending.{commanded, made, sent_or_held}
+use Rattle.channel_core.specs.Runs.{Call, Run, after_call, after_calls, begun, closing, commanding, delivering, draining, ending, message_of, putting_out, sending, taking, unless_refused}
+use Rattle.channel_core.specs.Sending.{commanded, made, sent_or_held, refusal_to}
 use Rattle.channel_core.specs.Taking.{is_early, judged_by, message_taken, next_taken, stop_taken, taken_as, taken_from}
 use Rattle.channel_core.specs.Wire.{Said, answers, asks, goes_on, greets, said, said_in, tells}
 use Rattle.channel_core.specs.declared.held.Arrived.{Arrived}

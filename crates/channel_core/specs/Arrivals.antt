@@ -1,16 +1,12 @@
 -- The bytes that come to an end, and the messages that a queue of the other side says with them.
 use Rattle.std.specs.Prelude.{ℕ, ◌≡◌, ◌-◌, ℤ, nat_le, Bool, true, false, if◌then◌else◌, List, [], ◌∷◌, ◌++◌, length, map, filter, Option}
 use Rattle.std.specs.List.{AllByRecursion, flat_map}
-use Rattle.tcf_message.specs.Message.{MessageValue, command, final, progress, not_known, event, flow, spelling, IsWellFormed}
+use Rattle.tcf_message.specs.Message.{MessageValue, flow, spelling, IsWellFormed}
 use Rattle.channel_core.specs.Farewell.{leaving_behind}
-use Rattle.channel_core.specs.Runs.{Call, delivering, ending, taking, commanding, sending, putting_out, closing, draining}
+use Rattle.channel_core.specs.Runs.{Call, delivering}
 use Rattle.channel_core.specs.Wire.{said}
 use Rattle.channel_core.specs.declared.held.Incoming.{Incoming}
 use Rattle.channel_core.specs.declared.held.Outgoing.{Outgoing}
-
--- the first list is a front of the second one
-abbrev pub IsFront : {A : Type 0} → List A → List A → Type 0
-IsFront {A} front all = (rest : List A) × (all ≡ front ++ rest)
 
 -- ---- bytes
 
@@ -29,13 +25,7 @@ bytes_of queue = flat_map (λ o. marked o.bytes o.mark) queue
 -- the bytes that come with a call
 abbrev pub arrived_in : {T : Type 0} → Call T → List Marked
 arrived_in (delivering piece mark) = marked piece mark
-arrived_in ending = []
-arrived_in taking = []
-arrived_in (commanding service name body tag mark) = []
-arrived_in (sending message mark) = []
-arrived_in putting_out = []
-arrived_in closing = []
-arrived_in draining = []
+arrived_in _ = []
 
 abbrev pub arrived : {T : Type 0} → List (Call T) → List Marked
 arrived calls = flat_map arrived_in calls
@@ -51,9 +41,19 @@ pub record Spoken : Type 0 where
 abbrev pub AreSpoken : List Spoken → Type 0
 AreSpoken spoken = AllByRecursion (λ s. IsWellFormed s.message) spoken
 
--- what is queued to say these messages, and behind them perhaps the end of the stream
+-- messages as they are queued, and behind them perhaps the end of the stream
+abbrev pub all_said : List Spoken → List Outgoing
+all_said spoken = map (λ s. said s.message s.mark) spoken
+
 abbrev pub queue_of : List Spoken → Bool → List Outgoing
-queue_of spoken is_ended = map (λ s. said s.message s.mark) spoken ++ leaving_behind is_ended
+queue_of spoken is_ended = all_said spoken ++ leaving_behind is_ended
+
+-- and as they come
+abbrev pub comes_as : Spoken → Incoming
+comes_as s = record { raw = spelling s.message; mark = s.mark }
+
+abbrev pub all_heard : List Spoken → List Incoming
+all_heard spoken = map comes_as spoken
 
 -- the messages that have come wholly with the first so many bytes
 abbrev pub whole_in : ℕ → List Spoken → List Spoken
@@ -66,12 +66,8 @@ whole_in count (s ∷ spoken) =
 
 -- all but flow control enters the inbox
 abbrev pub enters : MessageValue → Bool
-enters (command token service name body) = true
-enters (final token body) = true
-enters (progress token body) = true
-enters (not_known token) = true
-enters (event service name body) = true
 enters (flow level) = false
+enters _ = true
 
 -- the messages that enter it, with their bytes and their marks
 abbrev pub messages_in : List Spoken → List Incoming
@@ -79,12 +75,8 @@ messages_in spoken = map (λ s. record { raw = spelling s.message; mark = s.mark
 
 -- the level that flow control tells, and the one before where the message is another
 abbrev pub level_by : ℤ → MessageValue → ℤ
-level_by level (command token service name body) = level
-level_by level (final token body) = level
-level_by level (progress token body) = level
-level_by level (not_known token) = level
-level_by level (event service name body) = level
 level_by level (flow next) = next
+level_by level _ = level
 
 -- the level that the last flow control among them tells, and the one before where there is none
 abbrev pub level_after : ℤ → List Spoken → ℤ

@@ -1,3 +1,4 @@
+-- An end of a channel as contracts see it.
 use Rattle.std.specs.Prelude.{ℕ, ℤ, Bool, if◌then◌else◌, List, Option}
 use Rattle.stream_escape.specs.Value.{UnescapeValue}
 use Rattle.channel_core.specs.declared.held.Arrived.{Arrived}

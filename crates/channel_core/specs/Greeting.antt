@@ -4,15 +4,11 @@ use Rattle.std.specs.List.{list_any}
 use Rattle.channel_core.specs.RunLaws.{is_command}
 use Rattle.channel_core.specs.Runs.{Run}
 use Rattle.channel_core.specs.declared.taking.Taken.{Taken}
-use Rattle.channel_core.specs.declared.taking.Taken.TheVariants.{Hello, Command, Event, Progress, Final, Closed}
+use Rattle.channel_core.specs.declared.taking.Taken.TheVariants.{Hello}
 
 abbrev pub is_greeting : {T : Type 0} → Taken T → Bool
 is_greeting (Hello incoming) = true
-is_greeting (Command incoming) = false
-is_greeting (Event incoming) = false
-is_greeting (Progress token incoming) = false
-is_greeting (Final tag incoming) = false
-is_greeting (Closed cause) = false
+is_greeting _ = false
 
 -- where no Hello was taken no command was queued
 abbrev pub WaitsForHello : {T : Type 0} → Run T → Type 0

@@ -15,14 +15,8 @@ use Rattle.channel_core.specs.declared.held.Outgoing.{Outgoing}
 
 -- what a call sends: a closed end sends nothing
 abbrev pub sent_by : {T : Type 0} → Call T → EndValue T → List Outgoing
-sent_by (delivering piece mark) e = []
-sent_by ending e = []
-sent_by taking e = []
-sent_by (commanding service name body tag mark) e = []
 sent_by (sending message mark) e = if is_closed e.state then [] else said (message_of message) mark ∷ []
-sent_by putting_out e = []
-sent_by closing e = []
-sent_by draining e = []
+sent_by _ e = []
 
 abbrev pub sent_in : {T : Type 0} → List (Call T) → EndValue T → List Outgoing
 sent_in [] e = []
@@ -46,14 +40,8 @@ QueuesWhatIsSent T = (hello : List ℕ) (mark : Option ℕ) (calls : List (Call 
     ≡ said (event locator hello_word hello) mark ∷ sent_in calls (new_end hello mark)
 
 abbrev pub is_commanding : {T : Type 0} → Call T → Bool
-is_commanding (delivering piece mark) = false
-is_commanding ending = false
-is_commanding taking = false
 is_commanding (commanding service name body tag mark) = true
-is_commanding (sending message mark) = false
-is_commanding putting_out = false
-is_commanding closing = false
-is_commanding draining = false
+is_commanding _ = false
 
 -- where no command is sent, none is queued
 abbrev pub QueuesNoCommand : Type 0 → Type 0

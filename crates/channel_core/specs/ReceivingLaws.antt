@@ -2,11 +2,11 @@
 use Rattle.std.specs.Prelude.{ℕ, ◌≡◌, pos, Bool, true, false, ◌⊎◌, List, [], ◌∷◌, ◌++◌, length, map, Contains, Option, Some}
 use Rattle.std.specs.List.{AllByRecursion, flat_map}
 use Rattle.tcf_message.specs.Message.{event, IsWellFormed}
-use Rattle.channel_core.specs.Arrivals.{IsFront, Marked, Spoken, AreSpoken, arrived, bytes_of, level_after, messages_in, queue_of, whole_in}
+use Rattle.channel_core.specs.Arrivals.{Marked, Spoken, AreSpoken, arrived, bytes_of, level_after, messages_in, queue_of, whole_in}
 use Rattle.channel_core.specs.Beginning.{new_end}
 use Rattle.channel_core.specs.Closing.{is_closed}
 use Rattle.channel_core.specs.Receiving.{is_over}
-use Rattle.channel_core.specs.Runs.{Call, delivering, ending, taking, commanding, sending, putting_out, closing, draining, message_of, Run, after_calls, begun}
+use Rattle.channel_core.specs.Runs.{Call, sending, message_of, Run, after_calls, begun}
 use Rattle.channel_core.specs.Wire.{hello, locator}
 use Rattle.channel_core.specs.declared.held.Incoming.{Incoming}
 use Rattle.channel_core.specs.declared.states.Cause.{Cause}
@@ -16,6 +16,7 @@ use Rattle.channel_core.specs.declared.states.Reason.{Reason}
 use Rattle.channel_core.specs.declared.states.Reason.TheVariants.{Grammar, Early, Token}
 use Rattle.channel_core.specs.declared.taking.Taken.{Taken}
 use Rattle.channel_core.specs.declared.taking.Taken.TheVariants.{Hello, Command, Event, Progress, Final, Closed}
+use Rattle.list_laws.specs.Fronts.{IsFront}
 
 -- ---- 1. what was received
 
@@ -77,14 +78,8 @@ EndsFairly spoken is_ended bytes r = (cause : Cause) → EndsFor r cause → IsF
 -- a message other than a command is one that can be read again. Of a command nothing is asked: one that isn't refused can
 -- be read, whatever bytes its service and its name have
 abbrev pub SaysReadable : {T : Type 0} → Call T → Type 0
-SaysReadable (delivering piece mark) = Unit {0}
-SaysReadable ending = Unit {0}
-SaysReadable taking = Unit {0}
-SaysReadable (commanding service name body tag mark) = Unit {0}
 SaysReadable (sending message mark) = IsWellFormed (message_of message)
-SaysReadable putting_out = Unit {0}
-SaysReadable closing = Unit {0}
-SaysReadable draining = Unit {0}
+SaysReadable _ = Unit {0}
 
 abbrev pub SendsReadable : {T : Type 0} → List (Call T) → Type 0
 SendsReadable calls = AllByRecursion SaysReadable calls

@@ -7,13 +7,13 @@ use Rattle.channel_core.specs.Closing.{farewell, is_closed}
 use Rattle.channel_core.specs.Holding.{is_free}
 use Rattle.channel_core.specs.Runs.{Call, Issued, Past, Run, after_calls, begun}
 use Rattle.channel_core.specs.Taking.{next_taken}
-use Rattle.channel_core.specs.Wire.{Said, greets, tells, asks, goes_on, answers, said, said_in}
+use Rattle.channel_core.specs.Wire.{Said, answers, said, said_in}
 use Rattle.channel_core.specs.declared.held.Incoming.{Incoming}
 use Rattle.channel_core.specs.declared.held.Outgoing.{Outgoing}
 use Rattle.channel_core.specs.declared.states.EndState.{EndState}
 use Rattle.channel_core.specs.declared.states.EndState.TheVariants.{Opening, Live, Reopening, Closed as IsClosed}
 use Rattle.channel_core.specs.declared.taking.Taken.{Taken}
-use Rattle.channel_core.specs.declared.taking.Taken.TheVariants.{Hello, Command, Event, Progress, Final, Closed}
+use Rattle.channel_core.specs.declared.taking.Taken.TheVariants.{Final}
 
 -- it holds after every list of calls of a new end
 abbrev pub AfterAllCalls : {T : Type 0} → (Run T → Type 0) → Type 0
@@ -64,19 +64,12 @@ row_of i = (i.command.token, i.tag)
 
 -- the token that a final answer has
 abbrev pub token_in : Said → List (List ℕ)
-token_in greets = []
-token_in tells = []
-token_in asks = []
-token_in (goes_on token) = []
 token_in (answers token done) = token ∷ []
+token_in _ = []
 
 abbrev pub answered_in : {T : Type 0} → Taken T → List (List ℕ)
-answered_in (Hello incoming) = []
-answered_in (Command incoming) = []
-answered_in (Event incoming) = []
-answered_in (Progress token incoming) = []
 answered_in (Final tag incoming) = token_in (said_in incoming.raw)
-answered_in (Closed cause) = []
+answered_in _ = []
 
 -- the entries have the final answer to the command with this token
 abbrev pub is_answered : {T : Type 0} → List (Taken T) → ℕ → Bool

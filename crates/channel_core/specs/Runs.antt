@@ -5,7 +5,7 @@ use Rattle.channel_core.specs.Closing.{after_drain, closed_own, drained}
 use Rattle.channel_core.specs.EndValue.{EndValue}
 use Rattle.channel_core.specs.Laws.{listed}
 use Rattle.channel_core.specs.Receiving.{delivered, ended}
-use Rattle.channel_core.specs.Sending.{commanded, made, queued, refusal_of}
+use Rattle.channel_core.specs.Sending.{commanded, made, queued, refusal_to}
 use Rattle.channel_core.specs.Taking.{next_taken}
 use Rattle.channel_core.specs.declared.held.Held.{Held}
 use Rattle.channel_core.specs.declared.held.Outgoing.{Outgoing}
@@ -41,10 +41,6 @@ pub data Call (T : Type 0) : Type 0 where
 abbrev pub unless_refused : {A : Type 0} → Option SendRefusal → A → A → A
 unless_refused None refused accepted = accepted
 unless_refused (Some why) refused accepted = refused
-
--- the first refusal of such a command
-abbrev pub refusal_to : {T : Type 0} → List ℕ → List ℕ → List ℕ → EndValue T → Option SendRefusal
-refusal_to service name body e = refusal_of (length service + length name + length body) e
 
 -- what a call makes of an end
 abbrev pub called : {T : Type 0} → Call T → EndValue T → EndValue T

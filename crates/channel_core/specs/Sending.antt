@@ -27,6 +27,10 @@ refusal_of size e =
     else if e.last == last_token then Some Spent
     else None
 
+-- and for these
+abbrev pub refusal_to : {T : Type 0} → List ℕ → List ℕ → List ℕ → EndValue T → Option SendRefusal
+refusal_to service name body e = refusal_of (length service + length name + length body) e
+
 -- the command under this token
 abbrev pub made : ℕ → List ℕ → List ℕ → List ℕ → Option ℕ → Held
 made token service name body mark = record {

@@ -5,9 +5,6 @@ ghost use Rattle.channel_core.specs.ReceivingLaws.{EndsFairly, QueuesReadable, R
 ghost use Rattle.channel_core.specs.QueueLaws.{ClosesOnlySo, QueuesItsMessages, QueuesNoCommand, QueuesWhatIsSent, TakesNothingClosed};
 ghost use Rattle.channel_core.specs.RunLaws.{AfterAllCalls, CountsAnswers, EndsOnce, HoldsNoneWhereFree, IsLoudAsTold, IsUnspent, QueuesInOrder, SendsInOrder, StaysClosed, TakesOwnAnswers};
 
-use stream_escape::{frames_are_read, pieces_are_one};
-use tcf_message::{decimal_token, read_back};
-
 /// The law that `drain` gives each pending tag of a closed end once, in order of issue.
 pub fn every_pending_tag_is_drained<T>()
     ensures { GivesEach T }
@@ -71,20 +68,13 @@ pub fn the_level_told_fits_the_inbox<T>()
 pub fn what_was_queued_is_received<T>()
     ensures order { WhereAQueueComes {T = T} ReceivesInOrder }
     ensures causes { WhereAQueueComes {T = T} EndsFairly }
-{
-    frames_are_read();
-    pieces_are_one();
-    read_back();
-    decimal_token();
-}
+{}
 
 /// The law that after every list of calls all that was queued is a queue that can be read, where the Hello and each
 /// message that was given to be sent can be; and that the end is closed where the queue has the end of the stream.
 pub fn what_is_queued_can_be_read<T>()
     ensures { QueuesReadable T }
-{
-    decimal_token();
-}
+{}
 
 /// The law that an end's Hello and then what its node sends are queued, in order, and that nothing else is: flow control,
 /// the end of the stream and commands aside. Where no command is sent, none is queued.

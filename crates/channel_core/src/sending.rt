@@ -3,7 +3,7 @@ ghost use Rattle.std.specs.Prelude.{◌≡◌, ◌≢◌, ◌+◌, ◌++◌, ◌
 ghost use Rattle.tcf_message.specs.Message.{HasNoZero, IsToken, IsWellFormed, event, final, most_body, not_known, progress, value_of};
 ghost use Rattle.channel_core.specs.Closing.{is_closed};
 ghost use Rattle.channel_core.specs.Holding.{is_free, is_live, sent_out};
-ghost use Rattle.channel_core.specs.Sending.{accepted, commanded, made, queued, refusal_of, sent_or_held};
+ghost use Rattle.channel_core.specs.Sending.{accepted, commanded, made, queued, refusal_to, sent_or_held};
 ghost use Rattle.channel_core.specs.Wire.{is_redirect, redirect_name, locator};
 
 use crate::end::{End, frame};
@@ -110,10 +110,11 @@ impl<T: Drop> End<T> {
         requires name { HasNoZero name.now }
         ensures sent { OnOk result (self.new ≡ commanded service.now name.now body.now tag mark self.old) }
         ensures token { IfOk result (λ token. token ≡ self.old.last + 1) }
-        ensures free { OnOk result (refusal_of (length service.now + length name.now + length body.now) self.old ≡ None) }
+        ensures free { OnOk result (refusal_to service.now name.now body.now self.old ≡ None) }
         ensures tag { IfErr result (λ refused. refused.tag ≡ tag) }
-        ensures refused { self.old.is_spent ≡ false → IfSome (refusal_of (length service.now + length name.now + length body.now) self.old) (λ why. IfErr result (λ refused. refused.why ≡ why)) }
-        ensures due { IfErr result (λ refused. refused.why ≢ SendRefusal.NoMemory → refusal_of (length service.now + length name.now + length body.now) self.old ≡ Some refused.why) }
+        ensures refused { self.old.is_spent ≡ false
+            → IfSome (refusal_to service.now name.now body.now self.old) (λ why. IfErr result (λ refused. refused.why ≡ why)) }
+        ensures due { IfErr result (λ refused. refused.why ≢ SendRefusal.NoMemory → refusal_to service.now name.now body.now self.old ≡ Some refused.why) }
         ensures kept { IfErr result (λ refused. refused.why ≢ SendRefusal.NoMemory → self.new ≡ self.old) }
         ensures usable { OnOk result (self.new.is_spent ≡ false) }
         ensures fresh { OnOk result (self.old.is_spent ≡ false) }
@@ -150,10 +151,10 @@ impl<T: Drop> End<T> {
         requires name { HasNoZero name.now }
         ensures sent { OnOk result (self.new ≡ commanded service.now name.now body.now tag mark self.old) }
         ensures token { IfOk result (λ token. token ≡ self.old.last + 1) }
-        ensures free { OnOk result (refusal_of (length service.now + length name.now + length body.now) self.old ≡ None) }
+        ensures free { OnOk result (refusal_to service.now name.now body.now self.old ≡ None) }
         ensures tag { IfErr result (λ refused. refused.tag ≡ tag) }
-        ensures refused { IfSome (refusal_of (length service.now + length name.now + length body.now) self.old) (λ why. IfErr result (λ refused. refused.why ≡ why)) }
-        ensures due { IfErr result (λ refused. refused.why ≢ SendRefusal.NoMemory → refusal_of (length service.now + length name.now + length body.now) self.old ≡ Some refused.why) }
+        ensures refused { IfSome (refusal_to service.now name.now body.now self.old) (λ why. IfErr result (λ refused. refused.why ≡ why)) }
+        ensures due { IfErr result (λ refused. refused.why ≢ SendRefusal.NoMemory → refusal_to service.now name.now body.now self.old ≡ Some refused.why) }
         ensures kept { IfErr result (λ refused. refused.why ≢ SendRefusal.NoMemory → self.new ≡ self.old) }
     {
         if let Some(why) = self.refusal(service, name, body) {
@@ -170,7 +171,7 @@ impl<T: Drop> End<T> {
 
     /// The first refusal that is due.
     fn refusal(&self, service: &[u8], name: &[u8], body: &[u8]) -> Option<SendRefusal>
-        ensures { result ≡ refusal_of (length service.now + length name.now + length body.now) self.now }
+        ensures { result ≡ refusal_to service.now name.now body.now self.now }
     {
         if self.state.is_closed() {
             Some(SendRefusal::NotOpen)

@@ -55,14 +55,8 @@ is_closing closing = true
 is_closing draining = false
 
 abbrev pub is_ending : {T : Type 0} → Call T → Bool
-is_ending (delivering piece mark) = false
 is_ending ending = true
-is_ending taking = false
-is_ending (commanding service name body tag mark) = false
-is_ending (sending message mark) = false
-is_ending putting_out = false
-is_ending closing = false
-is_ending draining = false
+is_ending _ = false
 
 -- by its own side, and since the bytes have ended, only where it was called so
 pub record IsCalledSo {T : Type 0} (calls : List (Call T)) (r : Run T) : Type 0 where

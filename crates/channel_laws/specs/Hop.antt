@@ -1,7 +1,7 @@
 -- The two ends of a live hop, at any moment.
 use Rattle.std.specs.Prelude.{ℕ, ◌≡◌, ◌⊎◌, pos, int_lt, Bool, true, false, List, [], ◌∷◌, ◌++◌, decimal, length, Contains}
 use Rattle.std.specs.List.{flat_map}
-use Rattle.channel_core.specs.Arrivals.{AreSpoken, IsFront, Marked, Spoken, arrived, bytes_of, level_after, messages_in, queue_of, whole_in}
+use Rattle.channel_core.specs.Arrivals.{AreSpoken, Marked, Spoken, arrived, bytes_of, level_after, messages_in, queue_of, whole_in, all_heard}
 use Rattle.channel_core.specs.Closing.{is_closed}
 use Rattle.channel_core.specs.Receiving.{is_over}
 use Rattle.channel_core.specs.ReceivingLaws.{incoming_of, received}
@@ -10,9 +10,10 @@ use Rattle.channel_core.specs.Runs.{Issued}
 use Rattle.channel_core.specs.Wire.{end_of_stream}
 use Rattle.channel_core.specs.declared.held.Outgoing.{Outgoing}
 use Rattle.channel_core.specs.declared.states.EndState.TheVariants.{Live, Opening, Reopening}
-use Rattle.channel_laws.specs.Meeting.{IsLasting, Side, all_heard, answers_among, as_comes, hello_behind, run_of}
+use Rattle.channel_laws.specs.Meeting.{IsLasting, Side, answers_among, as_comes, hello_behind, run_of}
 use Rattle.channel_laws.specs.Numbering.{tokens_among}
 use Rattle.channel_laws.specs.Rest.{lacks_answer, lacks_hello}
+use Rattle.list_laws.specs.Fronts.{IsFront}
 
 -- What one end gave, which is all that it queued, is in order what came to the other one, while that is open, and then what is in
 -- flight.

@@ -1,9 +1,9 @@
 -- The two ends of a hop at one moment at which nothing is under way between them.
 use Rattle.std.specs.Prelude.{ℕ, ◌≡◌, pos, int_lt, Bool, true, false, not, ◌&&◌, ◌||◌, if◌then◌else◌, List, [], ◌∷◌, map, filter, bytes_eq, Option, None, Result, Ok}
 use Rattle.std.specs.List.{AllByRecursion, flat_map, list_any}
-use Rattle.tcf_message.specs.Message.{MessageValue, command, event, reading, spelling, IsWellFormed}
+use Rattle.tcf_message.specs.Message.{MessageValue, command, event, reading, IsWellFormed}
 use Rattle.tcf_message.specs.declared.message.MessageFault.{MessageFault}
-use Rattle.channel_core.specs.Arrivals.{AreSpoken, IsFront, Spoken, arrived, bytes_of}
+use Rattle.channel_core.specs.Arrivals.{AreSpoken, Spoken, all_heard, all_said, arrived, bytes_of}
 use Rattle.channel_core.specs.Beginning.{new_end}
 use Rattle.channel_core.specs.Closing.{is_closed}
 use Rattle.channel_core.specs.Greeting.{is_greeting}
@@ -11,12 +11,13 @@ use Rattle.channel_core.specs.QueueLaws.{is_message}
 use Rattle.channel_core.specs.ReceivingLaws.{SendsReadable, incoming_of}
 use Rattle.channel_core.specs.RunLaws.{sent_of, token_in}
 use Rattle.channel_core.specs.Runs.{Call, Run, after_calls, begun}
-use Rattle.channel_core.specs.Wire.{Said, answers, asks, goes_on, greets, hello as hello_word, is_redirect, locator, said, said_by, tells}
+use Rattle.channel_core.specs.Wire.{Said, answers, hello as hello_word, is_redirect, locator, said_by}
 use Rattle.channel_core.specs.declared.held.Incoming.{Incoming}
 use Rattle.channel_core.specs.declared.held.Outgoing.{Outgoing}
 use Rattle.channel_core.specs.declared.states.EndState.TheVariants.{Live}
 use Rattle.channel_laws.specs.Faults.{is_ending}
 use Rattle.channel_laws.specs.Rest.{AreAnswered, is_hello, lacks_answer, lacks_hello}
+use Rattle.list_laws.specs.Fronts.{IsFront}
 
 -- an end, by its Hello and its calls
 pub record Side (T : Type 0) : Type 0 where
@@ -45,13 +46,6 @@ pub record HasAll {T U : Type 0} (is_marked : Bool) (s : Side T) (other : Side U
   pub came : is_closed (run_of s).end.state ≡ false → arrived s.calls ≡ bytes_of (as_comes is_marked (run_of other).past.given)
   pub inbox : (run_of s).end.inbox ≡ []
   pub stop : (run_of s).end.stop ≡ None
-
--- messages as they are queued, and as they are taken
-abbrev pub all_said : List Spoken → List Outgoing
-all_said spoken = map (λ s. said s.message s.mark) spoken
-
-abbrev pub all_heard : List Spoken → List Incoming
-all_heard spoken = map (λ s. record { raw = spelling s.message; mark = s.mark }) spoken
 
 -- An open end took the messages that the other one queued, in order, a Hello among them. It wasn't told a level above 0 last.
 -- It is Live where each redirect that it sent was answered, and a Hello was taken behind each of those answers without an
@@ -104,11 +98,8 @@ redirects_among messages = flat_map (λ m. redirect_in (reading m.raw)) messages
 
 -- an answer without an error under one of these tokens is among the messages, and no Hello behind it
 abbrev pub does_one : List (List ℕ) → Said → Bool
-does_one tokens greets = false
-does_one tokens tells = false
-does_one tokens asks = false
-does_one tokens (goes_on token) = false
 does_one tokens (answers token done) = done && list_any (λ text. bytes_eq token text) tokens
+does_one tokens _ = false
 
 abbrev pub lacks_hello_behind : List (List ℕ) → List Spoken → Bool
 lacks_hello_behind tokens [] = false

@@ -3,7 +3,7 @@ use Rattle.std.specs.Prelude.{ℕ, zero, suc, ◌≡◌, ◌≤◌, ◌+◌, Boo
 use Rattle.std.specs.List.{flat_map}
 use Rattle.tcf_message.specs.Message.{MessageValue, command, reading}
 use Rattle.tcf_message.specs.declared.message.MessageFault.{MessageFault}
-use Rattle.channel_core.specs.Arrivals.{IsFront, arrived, bytes_of}
+use Rattle.channel_core.specs.Arrivals.{arrived, bytes_of}
 use Rattle.channel_core.specs.ReceivingLaws.{SendsReadable, incoming_of}
 use Rattle.channel_core.specs.Runs.{Run}
 use Rattle.channel_core.specs.Sending.{last_token}
@@ -11,6 +11,7 @@ use Rattle.channel_core.specs.Wire.{hello as hello_word, locator}
 use Rattle.channel_core.specs.declared.held.Incoming.{Incoming}
 use Rattle.tcf_message.specs.Message.{IsWellFormed, event}
 use Rattle.channel_laws.specs.Meeting.{Side, as_comes, run_of}
+use Rattle.list_laws.specs.Fronts.{IsFront}
 
 abbrev pub token_asked : Result MessageValue MessageFault → List (List ℕ)
 token_asked (Ok (command token service name body)) = token ∷ []

@@ -61,19 +61,12 @@ MakesCommands r = AllByRecursion IsMade r.past.accepted
 
 -- a final answer under the token of a redirect among these commands, without an error
 abbrev pub is_done_for : {T : Type 0} → List (Issued T) → Said → Bool
-is_done_for commands greets = false
-is_done_for commands tells = false
-is_done_for commands asks = false
-is_done_for commands (goes_on token) = false
 is_done_for commands (answers token done) = done && list_any (λ i. i.command.is_redirect && bytes_eq token (decimal i.command.token)) commands
+is_done_for commands _ = false
 
 abbrev pub does_redirect : {T : Type 0} → List (Issued T) → Taken T → Bool
-does_redirect commands (Hello incoming) = false
-does_redirect commands (Command incoming) = false
-does_redirect commands (Event incoming) = false
-does_redirect commands (Progress token incoming) = false
 does_redirect commands (Final tag incoming) = is_done_for commands (said_in incoming.raw)
-does_redirect commands (Closed cause) = false
+does_redirect commands _ = false
 
 -- the entries have a redirect's final answer without an error, and no Hello behind it
 abbrev pub lacks_hello : {T : Type 0} → List (Issued T) → List (Taken T) → Bool
@@ -103,10 +96,7 @@ answered_among messages token = list_any (λ m. list_any (λ text. bytes_eq text
 
 abbrev pub is_hello : Said → Bool
 is_hello greets = true
-is_hello tells = false
-is_hello asks = false
-is_hello (goes_on token) = false
-is_hello (answers token done) = false
+is_hello _ = false
 
 abbrev pub hello_among : List Incoming → Bool
 hello_among messages = list_any (λ m. is_hello (said_in m.raw)) messages

@@ -9,17 +9,11 @@ ghost use Rattle.channel_laws.specs.Meeting.{WhereAllIsAnswered, WhereNothingIsU
 ghost use Rattle.channel_laws.specs.Numbering.{WhatComesIsNumbered};
 ghost use Rattle.channel_laws.specs.Rest.{HearsTheEnd, IsOverAtItsEnd, LetsCommandsOut, MakesCommands, PendsUnanswered, StandsAsTaken, StaysOver, TakesAsSaid, TellsAsMessages};
 
-use stream_escape::{frames_are_read, pieces_are_one};
-use tcf_message::{decimal_token, read_back};
-
 /// The law that, after every list of calls of a new end, a command goes out behind a redirect only where that has been
 /// answered, and where the answer has no error only behind a Hello that was taken since.
 pub fn a_redirect_holds_commands_back<T>()
     ensures { AfterAllCalls {T = T} HoldsBehindRedirects }
-{
-    channel_core::nothing_is_held_where_commands_go_out::<T>();
-    channel_core::a_closed_end_takes_nothing::<T>();
-}
+{}
 
 /// The law of an end that a fault of its other side closes, whatever is called of it, where the bytes of a queue come that can
 /// be read. The fault is that of the message behind those that were taken: it is the first and no Hello, or it is progress or
@@ -28,13 +22,7 @@ pub fn a_redirect_holds_commands_back<T>()
 pub fn an_end_closes_by_a_fault_only_so<T>()
     ensures faults { WhereAQueueComes {T = T} FaultsAreThere }
     ensures calls { EndsByItsCalls T }
-{
-    channel_core::what_was_queued_is_received::<T>();
-    channel_core::a_closed_end_stays_closed::<T>();
-    channel_core::a_closed_end_takes_nothing::<T>();
-    channel_core::each_answer_is_that_of_a_sent_command::<T>();
-    channel_core::commands_are_sent_in_order::<T>();
-}
+{}
 
 /// The law of an end that stands, after every list of calls of a new end. What was taken is what its message says, so answers
 /// and Hellos can be told of the messages alone. Each accepted command is made of its names and its data. Where the end is
@@ -48,20 +36,12 @@ pub fn an_end_stands_as_it_took<T>()
     ensures pending { AfterAllCalls {T = T} PendsUnanswered }
     ensures state { AfterAllCalls {T = T} StandsAsTaken }
     ensures level { AfterAllCalls {T = T} LetsCommandsOut }
-{
-    read_back();
-    decimal_token();
-}
+{}
 
 /// The law that an end to which all bytes of a queue with the end of the stream have come is closed, or has its last entry.
 pub fn the_end_of_a_queue_is_heard<T>()
     ensures { WhereAQueueComes {T = T} HearsTheEnd }
-{
-    pieces_are_one();
-    frames_are_read();
-    read_back();
-    decimal_token();
-}
+{}
 
 /// The law that an end that is closed, or has its last entry, stays so, and that one whose bytes have ended is so.
 pub fn an_end_that_is_over_stays_so<T>()
@@ -76,35 +56,20 @@ pub fn an_end_that_is_over_stays_so<T>()
 /// where what it sent was answered.
 pub fn two_ends_rest_together<T, U>()
     ensures { WhereNothingIsUnderWay T U }
-{
-    pieces_are_one();
-    frames_are_read();
-    read_back();
-    decimal_token();
-}
+{}
 
 /// The law that one of two such ends is free, where it is open and the node of the other end has answered all commands that it
 /// took, and has queued a Hello behind each answer without an error to a redirect: commands go out of it, none is held, and
 /// none is pending.
 pub fn an_answered_end_is_free<T, U>()
     ensures { WhereAllIsAnswered T U }
-{
-    pieces_are_one();
-    frames_are_read();
-    read_back();
-    decimal_token();
-}
+{}
 
 /// The law that the commands that an end takes have the tokens 1, 2, 3 and so on, where what came to it is a front of what
 /// another end gave, which sent only what can be read.
 pub fn what_comes_is_numbered<T, U>()
     ensures { WhatComesIsNumbered T U }
-{
-    pieces_are_one();
-    frames_are_read();
-    read_back();
-    decimal_token();
-}
+{}
 
 /// The law that an end whose node sends no command has none pending and holds none.
 pub fn who_asks_nothing_waits_for_nothing<T>()
@@ -119,9 +84,4 @@ pub fn who_asks_nothing_waits_for_nothing<T>()
 /// is Live, and wasn't told a level above 0 last, holds nothing.
 pub fn a_live_hop_stands<T, U>()
     ensures { LiveHopsStand T U }
-{
-    stream_escape::frames_are_read();
-    stream_escape::pieces_are_one();
-    tcf_message::read_back();
-    tcf_message::decimal_token();
-}
+{}

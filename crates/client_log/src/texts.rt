@@ -141,7 +141,8 @@ fn thread_text(alloc: Global, cache: &Knowledge, id: &[u8]) -> Result<Option<Oct
 
 /// What is known of a register, in decimal.
 fn register_text(alloc: Global, cache: &Knowledge, id: &[u8]) -> Result<Option<Octets>, AllocError>
-    ensures { IfOk result (λ text. text ≡ option_map decimal (option_and_then (λ r. (facts_of cache.now).registers r.process r.thread r.index) (register_of id.now))) }
+    ensures { IfOk result (λ text. text
+        ≡ option_map decimal (option_and_then (λ r. (facts_of cache.now).registers r.process r.thread r.index) (register_of id.now))) }
 {
     let Some(register) = register_id(id) else {
         return Ok(None);

@@ -4,7 +4,6 @@ use Rattle.std.specs.Prelude.{if◌then◌else◌, option_to_list, slice_get}
 use Rattle.std.specs.List.{AllByRecursion, flat_map}
 use Rattle.std.proofs.lemmas.List.{append-nil, append_assoc, map-append}
 use Rattle.std.proofs.lemmas.List.Concat.{flat_map-append}
-use Rattle.tcf_message.specs.Fault.{IsReadBack}
 use Rattle.tcf_message.specs.Message.{IsWellFormed, MessageValue, command, reading}
 use Rattle.tcf_message.specs.declared.message.MessageFault.{MessageFault}
 use Rattle.tcf_text.specs.Lines.{Accepted}
@@ -14,9 +13,8 @@ use Rattle.channel_core.specs.Beginning.{new_end}
 use Rattle.channel_core.specs.Closing.{closed_for as end_closed_for, closed_own, is_closed, without_first as without_first_row}
 use Rattle.channel_core.specs.EndValue.{EndValue}
 use Rattle.channel_core.specs.Laws.{listed}
-use Rattle.channel_core.specs.RunLaws.{AfterAllCalls, IsUnspent}
-use Rattle.channel_core.specs.Runs.{Call as EndCall, Run as EndRun, Unheld, after_call, after_calls, begun, closing, draining, issued, refusal_to, taking, unless_refused as unless_end_refuses}
-use Rattle.channel_core.specs.Sending.{commanded}
+use Rattle.channel_core.specs.Runs.{Call as EndCall, Run as EndRun, Unheld, after_call, after_calls, begun, closing, draining, issued, taking, unless_refused as unless_end_refuses}
+use Rattle.channel_core.specs.Sending.{commanded, refusal_to}
 use Rattle.channel_core.specs.Taking.{finished, judged, next_taken, number_at, progressed, stop_taken, taken_as, taken_from}
 use Rattle.channel_core.specs.Wire.{said_in}
 use Rattle.channel_core.specs.declared.held.Arrived.{Arrived}
@@ -35,6 +33,8 @@ use Rattle.client_node.specs.Ends.{CommandsNames, EndIsRunAfterAnyCalls, HasName
 use Rattle.client_node.specs.Lines.{event_line, final_line, hello_line, progress_line, why_of}
 use Rattle.client_node.specs.Runs.{Call, Past, asks, bytes_end, called, closes, comes, commands_in, gives, no_past, opens, past_of, remembered, run, sends, taken_by, turns, unless_refused}
 use Rattle.list_laws.proofs.AllLists.{all_append}
+use Rattle.channel_core.proofs.TheLaws.{spends_nothing}
+use Rattle.tcf_message.proofs.TheLaws.{read_back}
 use Rattle.client_node.proofs.Calls.{client}
 
 -- ---- what calls of an end add to its past
@@ -328,21 +328,21 @@ module _ (P : EndCall ℕ → Type 0) (Q : Call → Type 0) (by : (call : Call) 
 
 -- ---- what is sent can be written
 
-answering_fits : IsReadBack → (raw : List ℕ) (m : Result MessageValue MessageFault) → reading raw ≡ m → AllByRecursion SendsUnknown (answering m)
-answering_fits readable raw (Ok (command token service name body)) is =
-    let well : IsWellFormed (command token service name body) = ((readable.0 raw (command token service name body)).0 is).0 in
+answering_fits : (raw : List ℕ) (m : Result MessageValue MessageFault) → reading raw ≡ m → AllByRecursion SendsUnknown (answering m)
+answering_fits raw (Ok (command token service name body)) is =
+    let well : IsWellFormed (command token service name body) = ((read_back.0 raw (command token service name body)).0 is).0 in
     ((tt, refl, (well.0.0, omega arith)), tt)
-answering_fits readable raw m is = tt
+answering_fits raw m is = tt
 
-call_fits : IsReadBack → (call : Call) (e : EndValue ℕ) → Unit {0} → AllByRecursion SendsUnknown (calls_on call e)
-call_fits readable opens e any = tt
-call_fits readable (sends service name body) e any = (tt, tt)
-call_fits readable (comes piece mark) e any = (tt, tt)
-call_fits readable bytes_end e any = (tt, tt)
-call_fits readable turns e any = (tt, turning_are SendsUnknown (next_taken e).0 (next_taken e).1.pending tt (λ raw. answering_fits readable raw (reading raw) refl))
-call_fits readable closes e any = closing_are SendsUnknown (is_closed e.state) e.pending tt tt
-call_fits readable gives e any = (tt, tt)
-call_fits readable (asks what) e any = tt
+call_fits : (call : Call) (e : EndValue ℕ) → Unit {0} → AllByRecursion SendsUnknown (calls_on call e)
+call_fits opens e any = tt
+call_fits (sends service name body) e any = (tt, tt)
+call_fits (comes piece mark) e any = (tt, tt)
+call_fits bytes_end e any = (tt, tt)
+call_fits turns e any = (tt, turning_are SendsUnknown (next_taken e).0 (next_taken e).1.pending tt (λ raw. answering_fits raw (reading raw) refl))
+call_fits closes e any = closing_are SendsUnknown (is_closed e.state) e.pending tt tt
+call_fits gives e any = (tt, tt)
+call_fits (asks what) e any = tt
 
 any_calls : (calls : List Call) → AllByRecursion (λ call. Unit {0}) calls
 any_calls [] = tt
@@ -426,33 +426,32 @@ follow_one call p before given unspent old =
           ∙ sym (flat_map-append answers_to p.taken (taken_by call c.channel));
     }
 
-module _ (unspent : AfterAllCalls {T = ℕ} IsUnspent) where
-  follow : (calls : List Call) (p : Past) (before : List (EndCall ℕ)) (given : List Outgoing) → Follows p.client p before given
-      → Follows (run calls p.client) (past_of calls p) (before ++ end_calls calls p.client) (given ++ given_out calls p.client)
-  follow [] p before given old =
-      subst (λ (cs : List (EndCall ℕ)). Follows p.client p cs (given ++ [])) (sym (append-nil before))
-      (subst (λ (os : List Outgoing). Follows p.client p before os) (sym (append-nil given)) old)
-  follow (call ∷ calls) p before given old =
-      let c = p.client in
-      let by : List (EndCall ℕ) = end_calls_by call c in
-      let out : List Outgoing = given_by call c in
-      let later : List (EndCall ℕ) = end_calls calls (called call c) in
-      let later_out : List Outgoing = given_out calls (called call c) in
-      let last : Past = past_of calls (remembered call p) in
-      let rest : Follows (run calls (called call c)) last ((before ++ by) ++ later) ((given ++ out) ++ later_out) =
-      follow calls (remembered call p) (before ++ by) (given ++ out) (follow_one call p before given (unspent client_services None before) old) in
-      subst (λ (cs : List (EndCall ℕ)). Follows (run calls (called call c)) last cs (given ++ (out ++ later_out))) (append_assoc before by later)
-      (subst (λ (os : List Outgoing). Follows (run calls (called call c)) last ((before ++ by) ++ later) os) (append_assoc given out later_out) rest)
+follow : (calls : List Call) (p : Past) (before : List (EndCall ℕ)) (given : List Outgoing) → Follows p.client p before given
+    → Follows (run calls p.client) (past_of calls p) (before ++ end_calls calls p.client) (given ++ given_out calls p.client)
+follow [] p before given old =
+    subst (λ (cs : List (EndCall ℕ)). Follows p.client p cs (given ++ [])) (sym (append-nil before))
+    (subst (λ (os : List Outgoing). Follows p.client p before os) (sym (append-nil given)) old)
+follow (call ∷ calls) p before given old =
+    let c = p.client in
+    let by : List (EndCall ℕ) = end_calls_by call c in
+    let out : List Outgoing = given_by call c in
+    let later : List (EndCall ℕ) = end_calls calls (called call c) in
+    let later_out : List Outgoing = given_out calls (called call c) in
+    let last : Past = past_of calls (remembered call p) in
+    let rest : Follows (run calls (called call c)) last ((before ++ by) ++ later) ((given ++ out) ++ later_out) =
+    follow calls (remembered call p) (before ++ by) (given ++ out) (follow_one call p before given (spends_nothing client_services None before) old) in
+    subst (λ (cs : List (EndCall ℕ)). Follows (run calls (called call c)) last cs (given ++ (out ++ later_out))) (append_assoc before by later)
+    (subst (λ (os : List Outgoing). Follows (run calls (called call c)) last ((before ++ by) ++ later) os) (append_assoc given out later_out) rest)
 
-  pub end_is_run : IsReadBack → EndIsRunAfterAnyCalls
-  end_is_run readable calls =
-      let all = follow calls no_past [] [] (record { end = refl; taken_is = refl; commands_are = refl; given_is = refl; answers_are = refl }) in
-      record {
-        end = all.end;
-        taken = all.taken_is;
-        commands = all.commands_are;
-        given = all.given_is;
-        answers = all.answers_are;
-        sendings = all_are SendsUnknown (λ call. Unit {0}) (call_fits readable) calls new_client (any_calls calls);
-        names = all_are CommandsNames HasNames call_names calls new_client;
-      }
+pub end_is_run : EndIsRunAfterAnyCalls
+end_is_run calls =
+    let all = follow calls no_past [] [] (record { end = refl; taken_is = refl; commands_are = refl; given_is = refl; answers_are = refl }) in
+    record {
+      end = all.end;
+      taken = all.taken_is;
+      commands = all.commands_are;
+      given = all.given_is;
+      answers = all.answers_are;
+      sendings = all_are SendsUnknown (λ call. Unit {0}) call_fits calls new_client (any_calls calls);
+      names = all_are CommandsNames HasNames call_names calls new_client;
+    }

@@ -7,3 +7,4 @@ pub mod Calls
 pub mod Told
 pub mod Following
 pub mod Shown
+pub mod TheLaws

@@ -1,3 +1,4 @@
+-- The node of a client as contracts see it.
 use Rattle.std.specs.Prelude.{ℕ, Bool, List, Option}
 use Rattle.channel_core.specs.EndValue.{EndValue}
 use Rattle.tcf_text.specs.declared.log.LogLine.{LogLine}

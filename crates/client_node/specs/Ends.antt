@@ -33,12 +33,9 @@ draining_all pending = map (λ row. draining) pending
 
 -- behind what was taken, with these commands pending then
 abbrev pub after_taking : Taken ℕ → List (ℕ × ℕ) → List (EndCall ℕ)
-after_taking (taken.Hello incoming) pending = []
-after_taking (taken.Event incoming) pending = []
 after_taking (taken.Command incoming) pending = answering (reading incoming.raw)
-after_taking (taken.Progress number incoming) pending = []
-after_taking (taken.Final number incoming) pending = []
 after_taking (taken.Closed cause) pending = draining_all pending
+after_taking _ pending = []
 
 abbrev pub after_turn : Option (Taken ℕ) → List (ℕ × ℕ) → List (EndCall ℕ)
 after_turn None pending = []

@@ -2,9 +2,6 @@
 ghost use Rattle.client_node.specs.Ends.{EndIsRunAfterAnyCalls};
 ghost use Rattle.client_node.specs.Runs.{LogTellsPast, OnceAfterAnyCalls, ShownAfterAnyCalls};
 
-use channel_core::calls_with_memory_spend_nothing;
-use tcf_message::read_back;
-
 /// The law that each command that was accepted has at most one final answer, its own, and exactly one once the channel has
 /// ended.
 pub fn each_command_is_answered_once()
@@ -23,10 +20,7 @@ pub fn the_log_tells_what_was_taken()
 /// the other side, which can be written.
 pub fn a_clients_end_is_a_run()
     ensures { EndIsRunAfterAnyCalls }
-{
-    calls_with_memory_spend_nothing::<u64>();
-    read_back();
-}
+{}
 
 /// The law that each line of the log that asks the cache shows what is kept of the messages that the lines before it
 /// say, whatever the calls.

@@ -1,9 +1,9 @@
 -- The calls of a turn, and those of a whole run.
-use Rattle.std.proofs.Common.{◌≡◌, ℕ, ◌+◌, ◌<◌, ◌≤◌, List, [], ◌∷◌, ◌++◌, length, Option, Some, None, refl, sym, ap, ◌∙◌, subst, arith}
+use Rattle.std.proofs.Common.{◌≡◌, ℕ, ◌+◌, ◌<◌, ◌≤◌, List, [], ◌∷◌, ◌++◌, length, Some, None, refl, sym, ap, ◌∙◌, subst, arith}
 use Rattle.std.specs.Prelude.{Result, Ok, Err, IfErr, IsErrAnd}
 use Rattle.tcf_schedules.specs.declared.script.ScriptLine.{ScriptLine}
 use Rattle.tcf_wires.specs.Event.{faults_after}
-use Rattle.tcf_wires.specs.Told.{noted}
+use Rattle.tcf_wires.specs.Told.{WiresSeen, noted}
 use Rattle.tcf_wires.specs.declared.call.WireCall.{WireCall}
 use Rattle.tcf_wires.specs.declared.call.WireCall.TheVariants.{Connected, Gave}
 use Rattle.tcf_wires.specs.declared.event.WireEvent.{WireEvent}
@@ -37,40 +37,40 @@ by_refusal P Q (Err refusal) is then = then refusal is
 -- ---- a turn
 
 -- no event comes
-pub turn_without : (old : ServingValue) (refusal : WireRefusal) (told_before told_after : Option (List WireCall)) (before after : ℕ)
-    → told_after ≡ noted {A = WireEvent} (Err refusal) (Gave (Err refusal)) told_before → after ≡ faults_after {A = WireEvent} (Err refusal) before
-    → Makes (BreaksOff old refusal) told_before told_after before after
-turn_without old Failed told_before told_after before after told faults =
-    makes_one (BreaksOff old Failed) (Gave (Err Failed)) told_before told_after before after (failed refl refl) told faults
-turn_without old NoMemory told_before told_after before after told faults =
-    makes_nothing (BreaksOff old NoMemory) told_before told_after before after (no_event refl refl) told faults
+pub turn_without : (old : ServingValue) (refusal : WireRefusal) (seen_before seen_after : WiresSeen)
+    → seen_after.told ≡ noted {A = WireEvent} (Err refusal) (Gave (Err refusal)) seen_before.told → seen_after.faults ≡ faults_after {A = WireEvent} (Err refusal) seen_before.faults
+    → Makes (BreaksOff old refusal) seen_before seen_after
+turn_without old Failed seen_before seen_after told faults =
+    makes_one (BreaksOff old Failed) (Gave (Err Failed)) seen_before seen_after (failed refl refl) told faults
+turn_without old NoMemory seen_before seen_after told faults =
+    makes_nothing (BreaksOff old NoMemory) seen_before seen_after (no_event refl refl) told faults
 
 -- memory is wanting for what the client does with it
-pub turn_unheard : (old : ServingValue) (refusal : WireRefusal) (event : WireEvent) (told_before told_after : Option (List WireCall)) (before after : ℕ)
-    → refusal ≡ NoMemory → told_after ≡ with_calls (Gave (Ok event) ∷ []) told_before → after ≡ before
-    → Makes (BreaksOff old refusal) told_before told_after before after
-turn_unheard old refusal event told_before told_after before after is told faults =
-    makes_one (BreaksOff old refusal) (Gave (Ok event)) told_before told_after before after (given_up event [] is refl (before_put refl)) told faults
+pub turn_unheard : (old : ServingValue) (refusal : WireRefusal) (event : WireEvent) (seen_before seen_after : WiresSeen)
+    → refusal ≡ NoMemory → seen_after.told ≡ with_calls (Gave (Ok event) ∷ []) seen_before.told → seen_after.faults ≡ seen_before.faults
+    → Makes (BreaksOff old refusal) seen_before seen_after
+turn_unheard old refusal event seen_before seen_after is told faults =
+    makes_one (BreaksOff old refusal) (Gave (Ok event)) seen_before seen_after (given_up event [] is refl (before_put refl)) told faults
 
-one_event : (event : WireEvent) (told_before told_after : Option (List WireCall)) (before after : ℕ)
-    → told_after ≡ with_calls (Gave (Ok event) ∷ []) told_before → after ≡ before → Makes (λ calls. calls ≡ Gave (Ok event) ∷ []) told_before told_after before after
-one_event event told_before told_after before after told faults =
-    makes_one (λ calls. calls ≡ Gave (Ok event) ∷ []) (Gave (Ok event)) told_before told_after before after refl told faults
+one_event : (event : WireEvent) (seen_before seen_after : WiresSeen)
+    → seen_after.told ≡ with_calls (Gave (Ok event) ∷ []) seen_before.told → seen_after.faults ≡ seen_before.faults → Makes (λ calls. calls ≡ Gave (Ok event) ∷ []) seen_before seen_after
+one_event event seen_before seen_after told faults =
+    makes_one (λ calls. calls ≡ Gave (Ok event) ∷ []) (Gave (Ok event)) seen_before seen_after refl told faults
 
 -- for what is put, or behind that
-pub turn_unput : (old mid : ServingValue) (refusal : WireRefusal) (event : WireEvent) (told_before told_mid told_after : Option (List WireCall)) (before between after : ℕ)
-    → refusal ≡ NoMemory → told_mid ≡ with_calls (Gave (Ok event) ∷ []) told_before → between ≡ before → mid ≡ after_event event old
-    → Makes (IsGivenUp mid.outbox) told_mid told_after between after → Makes (BreaksOff old refusal) told_before told_after before after
-turn_unput old mid refusal event told_before told_mid told_after before between after is told faults heeded m =
-    makes_both (λ calls. calls ≡ Gave (Ok event) ∷ []) (IsGivenUp mid.outbox) (BreaksOff old refusal) told_before told_mid told_after before between after
+pub turn_unput : (old mid : ServingValue) (refusal : WireRefusal) (event : WireEvent) (seen_before seen_mid seen_after : WiresSeen)
+    → refusal ≡ NoMemory → seen_mid.told ≡ with_calls (Gave (Ok event) ∷ []) seen_before.told → seen_mid.faults ≡ seen_before.faults → mid ≡ after_event event old
+    → Makes (IsGivenUp mid.outbox) seen_mid seen_after → Makes (BreaksOff old refusal) seen_before seen_after
+turn_unput old mid refusal event seen_before seen_mid seen_after is told faults heeded m =
+    makes_both (λ calls. calls ≡ Gave (Ok event) ∷ []) (IsGivenUp mid.outbox) (BreaksOff old refusal) seen_before seen_mid seen_after
     (λ first rest one gives_up. given_up event rest is (ap (λ cs. cs ++ rest) one) (subst (λ (s : ServingValue). IsGivenUp s.outbox rest) heeded gives_up))
-    (one_event event told_before told_mid before between told faults) m
+    (one_event event seen_before seen_mid told faults) m
 
-pub turn_done : (old mid new : ServingValue) (event : WireEvent) (told_before told_mid told_after : Option (List WireCall)) (before between after : ℕ)
-    → told_mid ≡ with_calls (Gave (Ok event) ∷ []) told_before → between ≡ before → mid ≡ after_event event old → new ≡ record mid { outbox = new.outbox }
-    → Makes (Flushes mid.outbox new.outbox) told_mid told_after between after → Makes (IsTurn old new) told_before told_after before after
-turn_done old mid new event told_before told_mid told_after before between after told faults heeded same m =
-    makes_both (λ calls. calls ≡ Gave (Ok event) ∷ []) (Flushes mid.outbox new.outbox) (IsTurn old new) told_before told_mid told_after before between after
+pub turn_done : (old mid new : ServingValue) (event : WireEvent) (seen_before seen_mid seen_after : WiresSeen)
+    → seen_mid.told ≡ with_calls (Gave (Ok event) ∷ []) seen_before.told → seen_mid.faults ≡ seen_before.faults → mid ≡ after_event event old → new ≡ record mid { outbox = new.outbox }
+    → Makes (Flushes mid.outbox new.outbox) seen_mid seen_after → Makes (IsTurn old new) seen_before seen_after
+turn_done old mid new event seen_before seen_mid seen_after told faults heeded same m =
+    makes_both (λ calls. calls ≡ Gave (Ok event) ∷ []) (Flushes mid.outbox new.outbox) (IsTurn old new) seen_before seen_mid seen_after
     (λ first rest one flush. record {
       event = event;
       puts = rest;
@@ -78,58 +78,58 @@ turn_done old mid new event told_before told_mid told_after before between after
       put = subst (λ (s : ServingValue). Flushes s.outbox new.outbox rest) heeded flush;
       same = same ∙ ap (λ (s : ServingValue). record s { outbox = new.outbox }) heeded;
     })
-    (one_event event told_before told_mid before between told faults) m
+    (one_event event seen_before seen_mid told faults) m
 
 -- ---- a run: it connects
 
-pub run_unconnected : (script : List ScriptLine) (address : List ℕ) (turns : ℕ) (refusal : WireRefusal) (told_before told_after : Option (List WireCall)) (before after : ℕ)
-    → told_after ≡ noted {A = ℕ} (Err refusal) (Connected address (Err refusal)) told_before → after ≡ faults_after {A = ℕ} (Err refusal) before
-    → Makes (RunsClient script address turns (Err refusal)) told_before told_after before after
-run_unconnected script address turns Failed told_before told_after before after told faults =
-    makes_one (RunsClient script address turns (Err Failed)) (Connected address (Err Failed)) told_before told_after before after (not_connected refl refl) told faults
-run_unconnected script address turns NoMemory told_before told_after before after told faults =
-    makes_nothing (RunsClient script address turns (Err NoMemory)) told_before told_after before after (no_calls refl refl) told faults
+pub run_unconnected : (script : List ScriptLine) (address : List ℕ) (turns : ℕ) (refusal : WireRefusal) (seen_before seen_after : WiresSeen)
+    → seen_after.told ≡ noted {A = ℕ} (Err refusal) (Connected address (Err refusal)) seen_before.told → seen_after.faults ≡ faults_after {A = ℕ} (Err refusal) seen_before.faults
+    → Makes (RunsClient script address turns (Err refusal)) seen_before seen_after
+run_unconnected script address turns Failed seen_before seen_after told faults =
+    makes_one (RunsClient script address turns (Err Failed)) (Connected address (Err Failed)) seen_before seen_after (not_connected refl refl) told faults
+run_unconnected script address turns NoMemory seen_before seen_after told faults =
+    makes_nothing (RunsClient script address turns (Err NoMemory)) seen_before seen_after (no_calls refl refl) told faults
 
-one_connect : (channel : ℕ) (address : List ℕ) (told_before told_after : Option (List WireCall)) (before after : ℕ)
-    → told_after ≡ with_calls (connect channel address) told_before → after ≡ before → Makes (λ calls. calls ≡ connect channel address) told_before told_after before after
-one_connect channel address told_before told_after before after told faults =
-    makes_one (λ calls. calls ≡ connect channel address) (Connected address (Ok channel)) told_before told_after before after refl told faults
+one_connect : (channel : ℕ) (address : List ℕ) (seen_before seen_after : WiresSeen)
+    → seen_after.told ≡ with_calls (connect channel address) seen_before.told → seen_after.faults ≡ seen_before.faults → Makes (λ calls. calls ≡ connect channel address) seen_before seen_after
+one_connect channel address seen_before seen_after told faults =
+    makes_one (λ calls. calls ≡ connect channel address) (Connected address (Ok channel)) seen_before seen_after refl told faults
 
-pub run_unbegun : WireLaws → (channel : ℕ) (script : List ScriptLine) (address : List ℕ) (turns : ℕ) (refusal : WireRefusal) (told_before told_after : Option (List WireCall)) (before after : ℕ)
-    → refusal ≡ NoMemory → told_after ≡ with_calls (connect channel address) told_before → after ≡ before
-    → Makes (RunsClient script address turns (Err refusal)) told_before told_after before after
-run_unbegun laws channel script address turns refusal told_before told_after before after is told faults =
-    makes_so (λ calls. calls ≡ connect channel address) (RunsClient script address turns (Err refusal)) told_before told_after before after
-    (λ calls one. rw (is, one) (begins_not laws channel address script turns)) (one_connect channel address told_before told_after before after told faults)
+pub run_unbegun : WireLaws → (channel : ℕ) (script : List ScriptLine) (address : List ℕ) (turns : ℕ) (refusal : WireRefusal) (seen_before seen_after : WiresSeen)
+    → refusal ≡ NoMemory → seen_after.told ≡ with_calls (connect channel address) seen_before.told → seen_after.faults ≡ seen_before.faults
+    → Makes (RunsClient script address turns (Err refusal)) seen_before seen_after
+run_unbegun laws channel script address turns refusal seen_before seen_after is told faults =
+    makes_so (λ calls. calls ≡ connect channel address) (RunsClient script address turns (Err refusal)) seen_before seen_after
+    (λ calls one. rw (is, one) (begins_not laws channel address script turns)) (one_connect channel address seen_before seen_after told faults)
 
 -- the script ends the run
 
 pub run_unput : WireLaws → (channel : ℕ) (script : List ScriptLine) (address : List ℕ) (turns : ℕ) (refusal : WireRefusal) (last : ClientEnd) (s : ServingValue)
-    (told_before told_mid told_after : Option (List WireCall)) (before between after : ℕ)
-    → refusal ≡ NoMemory → told_mid ≡ with_calls (connect channel address) told_before → between ≡ before → s ≡ begun channel script → s.end ≡ Some last
-    → Makes (IsGivenUp s.outbox) told_mid told_after between after → Makes (RunsClient script address turns (Err refusal)) told_before told_after before after
-run_unput laws channel script address turns refusal last s told_before told_mid told_after before between after is told faults begins ended m =
-    makes_both (λ calls. calls ≡ connect channel address) (IsGivenUp s.outbox) (RunsClient script address turns (Err refusal)) told_before told_mid told_after before between after
+    (seen_before seen_mid seen_after : WiresSeen)
+    → refusal ≡ NoMemory → seen_mid.told ≡ with_calls (connect channel address) seen_before.told → seen_mid.faults ≡ seen_before.faults → s ≡ begun channel script → s.end ≡ Some last
+    → Makes (IsGivenUp s.outbox) seen_mid seen_after → Makes (RunsClient script address turns (Err refusal)) seen_before seen_after
+run_unput laws channel script address turns refusal last s seen_before seen_mid seen_after is told faults begins ended m =
+    makes_both (λ calls. calls ≡ connect channel address) (IsGivenUp s.outbox) (RunsClient script address turns (Err refusal)) seen_before seen_mid seen_after
     (λ first rest one gives_up.
     let given = subst (λ (t : ServingValue). IsGivenUp t.outbox rest) begins gives_up in
     let runs = begun_given_up laws channel address script turns last rest (sym (ap (λ (t : ServingValue). t.end) begins) ∙ ended) given in
     rw (is, one) runs)
-    (one_connect channel address told_before told_mid before between told faults) m
+    (one_connect channel address seen_before seen_mid told faults) m
 
 pub run_at_once : WireLaws → (channel : ℕ) (script : List ScriptLine) (address : List ℕ) (turns : ℕ) (run : ClientRun) (last : ClientEnd) (s new : ServingValue)
-    (told_before told_mid told_after : Option (List WireCall)) (before between after : ℕ)
-    → told_mid ≡ with_calls (connect channel address) told_before → between ≡ before → s ≡ begun channel script → s.end ≡ Some last → new ≡ record s { outbox = new.outbox }
+    (seen_before seen_mid seen_after : WiresSeen)
+    → seen_mid.told ≡ with_calls (connect channel address) seen_before.told → seen_mid.faults ≡ seen_before.faults → s ≡ begun channel script → s.end ≡ Some last → new ≡ record s { outbox = new.outbox }
     → run.end ≡ last → run.client ≡ new.client
-    → Makes (Flushes s.outbox new.outbox) told_mid told_after between after → Makes (RunsClient script address turns (Ok run)) told_before told_after before after
-run_at_once laws channel script address turns run last s new told_before told_mid told_after before between after told faults begins ended same ends client m =
-    makes_both (λ calls. calls ≡ connect channel address) (Flushes s.outbox new.outbox) (RunsClient script address turns (Ok run)) told_before told_mid told_after before between after
+    → Makes (Flushes s.outbox new.outbox) seen_mid seen_after → Makes (RunsClient script address turns (Ok run)) seen_before seen_after
+run_at_once laws channel script address turns run last s new seen_before seen_mid seen_after told faults begins ended same ends client m =
+    makes_both (λ calls. calls ≡ connect channel address) (Flushes s.outbox new.outbox) (RunsClient script address turns (Ok run)) seen_before seen_mid seen_after
     (λ first rest one flush.
     let put = begun_put laws channel address script last s new rest begins ended flush same in
     let over : new.end ≡ Some last = ap (λ (t : ServingValue). t.end) same ∙ ended in
     let none = begun_count laws channel address script s new rest begins flush in
     let runs = put_ends laws channel address script turns last run new (connect channel address ++ rest) put (omega (arith, none)) over ends client in
     rw one runs)
-    (one_connect channel address told_before told_mid before between told faults) m
+    (one_connect channel address seen_before seen_mid told faults) m
 
 -- ---- turns
 
@@ -145,50 +145,50 @@ pub record Turned (script : List ScriptLine) (address : List ℕ) (count : ℕ) 
   pub put : IsPut channel address script s calls
   pub counted : length (events_in calls) ≡ count
 
-pub run_begins : WireLaws → (channel : ℕ) (script : List ScriptLine) (address : List ℕ) (s : ServingValue) (told_before told_after : Option (List WireCall)) (before after : ℕ)
-    → told_after ≡ with_calls (connect channel address) told_before → after ≡ before → s ≡ begun channel script → s.end ≡ None
-    → Makes (Waits script address 0 s) told_before told_after before after
-run_begins laws channel script address s told_before told_after before after told faults begins none =
-    makes_so (λ calls. calls ≡ connect channel address) (Waits script address 0 s) told_before told_after before after
+pub run_begins : WireLaws → (channel : ℕ) (script : List ScriptLine) (address : List ℕ) (s : ServingValue) (seen_before seen_after : WiresSeen)
+    → seen_after.told ≡ with_calls (connect channel address) seen_before.told → seen_after.faults ≡ seen_before.faults → s ≡ begun channel script → s.end ≡ None
+    → Makes (Waits script address 0 s) seen_before seen_after
+run_begins laws channel script address s seen_before seen_after told faults begins none =
+    makes_so (λ calls. calls ≡ connect channel address) (Waits script address 0 s) seen_before seen_after
     (λ calls one.
     let ready = begun_ready laws channel address script (sym (ap (λ (t : ServingValue). t.end) begins) ∙ none) in
     rw (begins, one) (record { channel = channel; ready = ready; counted = refl }))
-    (one_connect channel address told_before told_after before after told faults)
+    (one_connect channel address seen_before seen_after told faults)
 
-pub turned : WireLaws → (script : List ScriptLine) (address : List ℕ) (count : ℕ) (s new : ServingValue) (told_before told_mid told_after : Option (List WireCall)) (before between after : ℕ)
-    → Makes (Waits script address count s) told_before told_mid before between → Makes (IsTurn s new) told_mid told_after between after
-    → Makes (Turned script address (count + 1) new) told_before told_after before after
-turned laws script address count s new told_before told_mid told_after before between after =
-    makes_both (Waits script address count s) (IsTurn s new) (Turned script address (count + 1) new) told_before told_mid told_after before between after
+pub turned : WireLaws → (script : List ScriptLine) (address : List ℕ) (count : ℕ) (s new : ServingValue) (seen_before seen_mid seen_after : WiresSeen)
+    → Makes (Waits script address count s) seen_before seen_mid → Makes (IsTurn s new) seen_mid seen_after
+    → Makes (Turned script address (count + 1) new) seen_before seen_after
+turned laws script address count s new seen_before seen_mid seen_after =
+    makes_both (Waits script address count s) (IsTurn s new) (Turned script address (count + 1) new) seen_before seen_mid seen_after
     (λ first rest waits turn. record {
       channel = waits.channel;
       put = turn_puts laws waits.channel address script s new first rest waits.ready turn;
       counted = turn_count laws waits.channel address script s new first rest waits.ready turn ∙ ap (λ n. n + 1) waits.counted;
     })
 
-pub goes_on : (script : List ScriptLine) (address : List ℕ) (count : ℕ) (s : ServingValue) (told_before told_after : Option (List WireCall)) (before after : ℕ)
-    → s.end ≡ None → Makes (Turned script address count s) told_before told_after before after → Makes (Waits script address count s) told_before told_after before after
-goes_on script address count s told_before told_after before after none =
-    makes_so (Turned script address count s) (Waits script address count s) told_before told_after before after
+pub goes_on : (script : List ScriptLine) (address : List ℕ) (count : ℕ) (s : ServingValue) (seen_before seen_after : WiresSeen)
+    → s.end ≡ None → Makes (Turned script address count s) seen_before seen_after → Makes (Waits script address count s) seen_before seen_after
+goes_on script address count s seen_before seen_after none =
+    makes_so (Turned script address count s) (Waits script address count s) seen_before seen_after
     (λ calls old. record { channel = old.channel; ready = put_ready old.channel address script s calls old.put none; counted = old.counted })
 
-pub run_ends : WireLaws → (script : List ScriptLine) (address : List ℕ) (turns count : ℕ) (run : ClientRun) (last : ClientEnd) (s : ServingValue) (told_before told_after : Option (List WireCall)) (before after : ℕ)
+pub run_ends : WireLaws → (script : List ScriptLine) (address : List ℕ) (turns count : ℕ) (run : ClientRun) (last : ClientEnd) (s : ServingValue) (seen_before seen_after : WiresSeen)
     → count ≤ turns → s.end ≡ Some last → run.end ≡ last → run.client ≡ s.client
-    → Makes (Turned script address count s) told_before told_after before after → Makes (RunsClient script address turns (Ok run)) told_before told_after before after
-run_ends laws script address turns count run last s told_before told_after before after within ended ends client =
-    makes_so (Turned script address count s) (RunsClient script address turns (Ok run)) told_before told_after before after
+    → Makes (Turned script address count s) seen_before seen_after → Makes (RunsClient script address turns (Ok run)) seen_before seen_after
+run_ends laws script address turns count run last s seen_before seen_after within ended ends client =
+    makes_so (Turned script address count s) (RunsClient script address turns (Ok run)) seen_before seen_after
     (λ calls old. put_ends laws old.channel address script turns last run s calls old.put (omega (arith, old.counted, within)) ended ends client)
 
-pub run_breaks : WireLaws → (script : List ScriptLine) (address : List ℕ) (turns count : ℕ) (refusal : WireRefusal) (s : ServingValue) (told_before told_mid told_after : Option (List WireCall)) (before between after : ℕ)
-    → count < turns → Makes (Waits script address count s) told_before told_mid before between → Makes (BreaksOff s refusal) told_mid told_after between after
-    → Makes (RunsClient script address turns (Err refusal)) told_before told_after before after
-run_breaks laws script address turns count refusal s told_before told_mid told_after before between after within =
-    makes_both (Waits script address count s) (BreaksOff s refusal) (RunsClient script address turns (Err refusal)) told_before told_mid told_after before between after
+pub run_breaks : WireLaws → (script : List ScriptLine) (address : List ℕ) (turns count : ℕ) (refusal : WireRefusal) (s : ServingValue) (seen_before seen_mid seen_after : WiresSeen)
+    → count < turns → Makes (Waits script address count s) seen_before seen_mid → Makes (BreaksOff s refusal) seen_mid seen_after
+    → Makes (RunsClient script address turns (Err refusal)) seen_before seen_after
+run_breaks laws script address turns count refusal s seen_before seen_mid seen_after within =
+    makes_both (Waits script address count s) (BreaksOff s refusal) (RunsClient script address turns (Err refusal)) seen_before seen_mid seen_after
     (λ first rest waits breaks. turn_breaks laws waits.channel address script turns count refusal s first rest waits.ready waits.counted within breaks)
 
-pub run_turns : WireLaws → (script : List ScriptLine) (address : List ℕ) (turns count : ℕ) (run : ClientRun) (s : ServingValue) (told_before told_after : Option (List WireCall)) (before after : ℕ)
+pub run_turns : WireLaws → (script : List ScriptLine) (address : List ℕ) (turns count : ℕ) (run : ClientRun) (s : ServingValue) (seen_before seen_after : WiresSeen)
     → count ≡ turns → run.end ≡ Turns → run.client ≡ s.client
-    → Makes (Waits script address count s) told_before told_after before after → Makes (RunsClient script address turns (Ok run)) told_before told_after before after
-run_turns laws script address turns count run s told_before told_after before after all ends client =
-    makes_so (Waits script address count s) (RunsClient script address turns (Ok run)) told_before told_after before after
+    → Makes (Waits script address count s) seen_before seen_after → Makes (RunsClient script address turns (Ok run)) seen_before seen_after
+run_turns laws script address turns count run s seen_before seen_after all ends client =
+    makes_so (Waits script address count s) (RunsClient script address turns (Ok run)) seen_before seen_after
     (λ calls old. turns_end laws old.channel address script turns run s calls old.ready (old.counted ∙ all) ends client)

@@ -12,3 +12,4 @@ mod Turning
 mod Finishing
 mod Calling
 mod Reporting
+pub mod TheLaws

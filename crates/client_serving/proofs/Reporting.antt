@@ -1,10 +1,10 @@
 -- What the calls of a run say of its result: a fault has raised the count, and the log answers each command once.
-use Rattle.std.proofs.Common.{◌≡◌, ℕ, false, List, Option, refl, sym, ap, ◌∙◌, subst, inl, arith}
+use Rattle.std.proofs.Common.{◌≡◌, ℕ, false, List, refl, sym, ap, ◌∙◌, subst, inl, arith}
 use Rattle.std.specs.Prelude.{Result, Ok, Err, IfOk, IsErrOf}
 use Rattle.tcf_outside.specs.Faults.{Rose}
+use Rattle.tcf_wires.specs.Told.{WiresSeen}
 use Rattle.tcf_text.specs.Once.{Once}
 use Rattle.tcf_schedules.specs.declared.script.ScriptLine.{ScriptLine}
-use Rattle.tcf_wires.specs.Event.{faults_after}
 use Rattle.tcf_wires.specs.declared.call.WireCall.{WireCall}
 use Rattle.tcf_wires.specs.declared.call.WireCall.TheVariants.{Gave}
 use Rattle.tcf_wires.specs.declared.event.WireRefusal.{WireRefusal}
@@ -26,12 +26,12 @@ failed_rises script address turns faults calls (connected channel later first al
     let broken : IsBroken channel script turns calls = served.ends in
     subst (Rose faults) (sym (ap (λ cs. faults_through cs faults) broken.split)) (last_rises faults broken.earlier (Gave (Err Failed)) (λ n. refl))
 
-pub fault_rises : (script : List ScriptLine) (address : List ℕ) (turns : ℕ) (result : Result ClientRun WireRefusal) (told_before told_after : Option (List WireCall)) (faults_before faults_after : ℕ)
-    → Makes (RunsClient script address turns result) told_before told_after faults_before faults_after → IsErrOf result Failed → Rose faults_before faults_after
-fault_rises script address turns (Ok run) told_before told_after faults_before faults_after m is = cc
-fault_rises script address turns (Err refusal) told_before told_after faults_before faults_after m is =
+pub fault_rises : (script : List ScriptLine) (address : List ℕ) (turns : ℕ) (result : Result ClientRun WireRefusal) (seen_before seen_after : WiresSeen)
+    → Makes (RunsClient script address turns result) seen_before seen_after → IsErrOf result Failed → Rose seen_before.faults seen_after.faults
+fault_rises script address turns (Ok run) seen_before seen_after m is = cc
+fault_rises script address turns (Err refusal) seen_before seen_after m is =
     let same : refusal ≡ Failed = cc in
-    subst (Rose faults_before) (sym m.faults) (failed_rises script address turns faults_before m.calls (subst (λ r. RunsClient script address turns (Err r) m.calls) same m.fits))
+    subst (Rose seen_before.faults) (sym m.faults) (failed_rises script address turns seen_before.faults m.calls (subst (λ r. RunsClient script address turns (Err r) m.calls) same m.fits))
 
 -- ---- a run and its log
 
@@ -43,7 +43,7 @@ run_once law script address turns run calls (connected channel later first alone
     let client = serves_a_client channel script (events_in calls) in
     subst (λ (c : ClientValue). Once false c.log) (sym (has.client ∙ client.client)) (law client.calls)
 
-pub log_once : OnceAfterAnyCalls → (script : List ScriptLine) (address : List ℕ) (turns : ℕ) (result : Result ClientRun WireRefusal) (told_before told_after : Option (List WireCall)) (faults_before faults_after : ℕ)
-    → Makes (RunsClient script address turns result) told_before told_after faults_before faults_after → IfOk result (λ run. Once false run.client.log)
-log_once law script address turns (Ok run) told_before told_after faults_before faults_after m = run_once law script address turns run m.calls m.fits
-log_once law script address turns (Err refusal) told_before told_after faults_before faults_after m = tt
+pub log_once : OnceAfterAnyCalls → (script : List ScriptLine) (address : List ℕ) (turns : ℕ) (result : Result ClientRun WireRefusal) (seen_before seen_after : WiresSeen)
+    → Makes (RunsClient script address turns result) seen_before seen_after → IfOk result (λ run. Once false run.client.log)
+log_once law script address turns (Ok run) seen_before seen_after m = run_once law script address turns run m.calls m.fits
+log_once law script address turns (Err refusal) seen_before seen_after m = tt

@@ -1,3 +1,4 @@
+-- A client that is served, with its wire, as contracts see it.
 use Rattle.std.specs.Prelude.{List, Option}
 use Rattle.client_node.specs.ClientValue.{ClientValue}
 use Rattle.serving_wires.specs.OutboxValue.{OutboxValue}

@@ -32,8 +32,9 @@ pub fn run_client<W: Wires>(
     turns: u32,
 ) -> Result<ClientRun, WireRefusal>
     requires { AllByRecursion IsFit script.now }
-    ensures runs { Makes (RunsClient script.now address.now turns result) (W.told wires.old) (W.told wires.new) (W.faults wires.old) (W.faults wires.new) }
-    ensures fault { IsErrOf result WireRefusal.Failed → Rose (W.faults wires.old) (W.faults wires.new) }
+    ensures runs { Makes (RunsClient script.now address.now turns result)
+        (W.seen wires.old) (W.seen wires.new) }
+    ensures fault { IsErrOf result WireRefusal.Failed → Rose (W.seen wires.old).faults (W.seen wires.new).faults }
     ensures once { IfOk result (λ run. Once false run.client.log) }
 {
     each_command_is_answered_once();
@@ -48,7 +49,7 @@ fn try_run<W: Wires>(
     turns: u32,
 ) -> Result<ClientRun, WireRefusal>
     requires { AllByRecursion IsFit script.now }
-    ensures { Makes (RunsClient script.now address.now turns result) (W.told wires.old) (W.told wires.new) (W.faults wires.old) (W.faults wires.new) }
+    ensures { Makes (RunsClient script.now address.now turns result) (W.seen wires.old) (W.seen wires.new) }
 {
     each_wire_is_carried();
     let channel = wires.connect(address)?;

@@ -189,8 +189,9 @@ impl<'a> Serving<'a> {
 
     /// A turn: an event comes, and what the client tells is put. `Failed` where the wires give nothing any more.
     pub fn turn<W: Wires>(&mut self, wires: &mut W) -> Result<(), WireRefusal>
-        ensures ok { OnOk result (Makes (IsTurn self.old self.new) (W.told wires.old) (W.told wires.new) (W.faults wires.old) (W.faults wires.new)) }
-        ensures err { IfErr result (λ refusal. Makes (BreaksOff self.old refusal) (W.told wires.old) (W.told wires.new) (W.faults wires.old) (W.faults wires.new)) }
+        ensures ok { OnOk result (Makes (IsTurn self.old self.new) (W.seen wires.old) (W.seen wires.new)) }
+        ensures err { IfErr result (λ refusal. Makes (BreaksOff self.old refusal)
+            (W.seen wires.old) (W.seen wires.new)) }
     {
         let event = wires.next()?;
         self.heed(event)?;
@@ -200,9 +201,10 @@ impl<'a> Serving<'a> {
 
     /// Puts what is queued, in one put, and shuts the wire once where nothing is left behind a closed channel.
     pub fn flush<W: Wires>(&mut self, wires: &mut W) -> Result<(), AllocError>
-        ensures ok { OnOk result (Makes (Flushes self.old.outbox self.new.outbox) (W.told wires.old) (W.told wires.new) (W.faults wires.old) (W.faults wires.new)) }
+        ensures ok { OnOk result (Makes (Flushes self.old.outbox self.new.outbox)
+            (W.seen wires.old) (W.seen wires.new)) }
         ensures same { OnOk result (self.new ≡ record self.old { outbox = self.new.outbox }) }
-        ensures err { OnErr result (Makes (IsGivenUp self.old.outbox) (W.told wires.old) (W.told wires.new) (W.faults wires.old) (W.faults wires.new)) }
+        ensures err { OnErr result (Makes (IsGivenUp self.old.outbox) (W.seen wires.old) (W.seen wires.new)) }
         ensures numbers { W.unused wires.new ≡ W.unused wires.old }
     {
         self.outbox.flush(wires)

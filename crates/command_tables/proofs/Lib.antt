@@ -6,3 +6,4 @@ pub mod ReadBack
 pub mod Within
 pub mod Decoded
 pub mod Readings
+pub mod TheLaws

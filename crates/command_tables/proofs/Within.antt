@@ -89,12 +89,9 @@ number_within s =
 
 mutual
   pub IsWithin : Data → Type 0
-  IsWithin null = Unit {0}
-  IsWithin (boolean b) = Unit {0}
   IsWithin (number n) = IsNumber n
-  IsWithin (string s) = Unit {0}
   IsWithin (array ds) = AreWithin ds
-  IsWithin (object ms) = Unit {0}
+  IsWithin _ = Unit {0}
 
   pub AreWithin : Items → Type 0
   AreWithin no_items = Unit {0}

@@ -3,7 +3,7 @@ use crate::bytes::{cut, number, push_line};
 use crate::trouble::Trouble;
 use std::alloc::Global;
 use std::mem;
-use tcf_outside::{MemoryFiles, Octets};
+use tcf_outside::{MemoryFiles, MemorySink, Octets};
 use tcf_wires::{WireEvent, WireScript};
 
 /// All bytes that a wire is to take.
@@ -13,36 +13,58 @@ pub struct Taken {
     pub bytes: Octets,
 }
 
-/// What a run is to give: its status, its text, what some wires take, and, if that is said, which are shut in order.
+/// What a run is to give: its status, its text, what some wires take, and, if that is said, which are shut and which
+/// files are read, in order, and how many calls of the wires there are.
 #[derive(Drop)]
 pub struct Wanted {
     pub status: u64,
     pub text: Octets,
     pub taken: Vec<Taken>,
     pub shut: Option<String>,
+    pub reads: Option<String>,
+    pub calls: Option<u64>,
+}
+
+/// Whether the system gives what the top call is made over.
+#[derive(Clone, Copy)]
+pub enum Start {
+    Whole,
+    NoWires,
+    NoMemory,
 }
 
 /// A run of the top call over objects in memory, and what is wanted of it.
 #[derive(Drop)]
 pub struct Case {
+    pub start: Start,
     pub words: Vec<String>,
     pub files: MemoryFiles,
+    pub out: MemorySink,
     pub wires: WireScript,
     pub wanted: Wanted,
+}
+
+/// The place, counted from 0, of a read, a put or a call that is counted from 1.
+fn place_of(text: &str) -> Result<u64, Trouble> {
+    number(text)?.checked_sub(1).ok_or(Trouble::Form)
 }
 
 impl Case {
     /// A run of no words, without files and with nothing on the wires, that is to end well and to print nothing.
     fn new(alloc: Global) -> Self {
         Case {
+            start: Start::Whole,
             words: Vec::new(alloc),
             files: MemoryFiles::new(alloc),
+            out: MemorySink::new(alloc),
             wires: WireScript::new(alloc),
             wanted: Wanted {
                 status: 0,
                 text: Octets::new(alloc),
                 taken: Vec::new(alloc),
                 shut: None,
+                reads: None,
+                calls: None,
             },
         }
     }
@@ -86,24 +108,48 @@ impl Case {
         Ok(self.wires.give(event)?)
     }
 
-    /// Adds what a part says: a line, and the bytes that the lines behind it give.
-    fn add(&mut self, line: &str, bytes: Octets) -> Result<(), Trouble> {
-        let (kind, rest) = cut(line);
+    /// Makes the read, the put or the call of this number fail.
+    fn add_fault(&mut self, rest: &str) -> Result<(), Trouble> {
+        let (kind, number) = cut(rest);
+        let place = place_of(number)?;
         match kind {
-            "" => {}
-            "run" => self.push_words(rest)?,
-            "file" => self.files.hold(rest, bytes.as_slice())?,
+            "read" => self.files.fail_at(place as usize)?,
+            "put" => self.out.fail_at(place as usize)?,
+            "call" => self.wires.fail_at(place as usize)?,
+            _ => return Err(Trouble::Form),
+        }
+        Ok(())
+    }
+
+    /// Adds what a part says that is wanted.
+    fn add_wanted(&mut self, kind: &str, rest: &str, bytes: Octets) -> Result<(), Trouble> {
+        let alloc = *self.words.allocator();
+        match kind {
             "status" => self.wanted.status = number(rest)?,
             "prints" => self.wanted.text = bytes,
             "taken" => {
                 let channel = number(rest)?;
                 self.wanted.taken.push(Taken { channel, bytes })?;
             }
-            "shut" => {
-                let alloc = *self.words.allocator();
-                self.wanted.shut = Some(String::from_str(alloc, rest)?);
-            }
+            "shut" => self.wanted.shut = Some(String::from_str(alloc, rest)?),
+            "reads" => self.wanted.reads = Some(String::from_str(alloc, rest)?),
+            "calls" => self.wanted.calls = Some(number(rest)?),
             kind => self.add_script(kind, rest, bytes)?,
+        }
+        Ok(())
+    }
+
+    /// Adds what a part says: a line, and the bytes that the lines behind it give.
+    fn add(&mut self, line: &str, bytes: Octets) -> Result<(), Trouble> {
+        match cut(line) {
+            ("", _) => {}
+            ("run", words) => self.push_words(words)?,
+            ("file", name) => self.files.hold(name, bytes.as_slice())?,
+            ("fails", what) => self.add_fault(what)?,
+            ("puts", most) => self.out.take_at_most(number(most)? as usize),
+            ("no", "wires") => self.start = Start::NoWires,
+            ("no", "memory") => self.start = Start::NoMemory,
+            (kind, rest) => self.add_wanted(kind, rest, bytes)?,
         }
         Ok(())
     }

@@ -1,5 +1,6 @@
-//! Tries the top call of `tcf` on cases whose outcomes were worked out apart from it: schedules, streams, scripts, and
-//! what comes over wires. It prints a line for each case that isn't as wanted, and one for each family of cases.
+//! Tries the top call of `tcf` on cases whose outcomes were worked out apart from it: schedules, streams, scripts,
+//! what comes over wires, and what fails. It prints a line for each case that isn't as wanted, and one for each family
+//! of cases.
 #![tactic(auto)]
 
 mod bytes;

@@ -13,7 +13,6 @@ use Rattle.tcf_values.specs.declared.command.Command.TheVariants.{MemGet, MemSet
 use Rattle.tcf_values.specs.declared.effect.Effect.{Effect}
 use Rattle.tcf_values.specs.declared.errors.ErrorReport.{ErrorReport}
 use Rattle.tcf_values.specs.declared.ids.RegisterId.{RegisterId}
-use Rattle.target_contexts.specs.Laws.{ChangesOne}
 use Rattle.target_contexts.specs.Live.{process_of}
 use Rattle.target_contexts.specs.TargetsValue.{TargetsValue}
 use Rattle.target_contexts.specs.declared.process.Process.{Process}
@@ -79,37 +78,37 @@ stays_by : (fault : Option Fault) (left targets : TargetsValue) (number : ℕ) �
 stays_by None left targets number same = same
 stays_by (Some fault) left targets number same = refl
 
-stays_but : ChangesOne → (change : Process → Process) (n number : ℕ) (targets : TargetsValue) → nat_eq n number ≡ false → Stays number targets (with_change change n targets)
-stays_but law change n number targets other =
-    changed_process law change n number targets
+stays_but : (change : Process → Process) (n number : ℕ) (targets : TargetsValue) → nat_eq n number ≡ false → Stays number targets (with_change change n targets)
+stays_but change n number targets other =
+    changed_process change n number targets
     ∙ ap (λ (b : Bool). cond b (option_map change (process_of number targets.processes)) (process_of number targets.processes)) other
 
-stays_named : ChangesOne → (change : Process → Process) (named : Option ℕ) (number : ℕ) (targets : TargetsValue) → is_number number named ≡ false → Stays number targets (with_change_of change named targets)
-stays_named law change None number targets other = refl
-stays_named law change (Some n) number targets other = stays_but law change n number targets other
+stays_named : (change : Process → Process) (named : Option ℕ) (number : ℕ) (targets : TargetsValue) → is_number number named ≡ false → Stays number targets (with_change_of change named targets)
+stays_named change None number targets other = refl
+stays_named change (Some n) number targets other = stays_but change n number targets other
 
-stays_register : ChangesOne → (register : Option RegisterId) (word number : ℕ) (targets : TargetsValue) → is_process number register ≡ false → Stays number targets (register_after register word targets)
-stays_register law None word number targets other = refl
-stays_register law (Some register) word number targets other = stays_but law (with_word register.index word) register.process number targets other
+stays_register : (register : Option RegisterId) (word number : ℕ) (targets : TargetsValue) → is_process number register ≡ false → Stays number targets (register_after register word targets)
+stays_register None word number targets other = refl
+stays_register (Some register) word number targets other = stays_but (with_word register.index word) register.process number targets other
 
-stays_parts : ChangesOne → (parts : List Part) (bytes : List ℕ) (number : ℕ) (targets : TargetsValue) → list_any (λ part. nat_eq part.register.process number) parts ≡ false → Stays number targets (with_parts parts bytes targets)
-stays_parts law [] bytes number targets other = refl
-stays_parts law (part ∷ parts) bytes number targets other =
+stays_parts : (parts : List Part) (bytes : List ℕ) (number : ℕ) (targets : TargetsValue) → list_any (λ part. nat_eq part.register.process number) parts ≡ false → Stays number targets (with_parts parts bytes targets)
+stays_parts [] bytes number targets other = refl
+stays_parts (part ∷ parts) bytes number targets other =
     let both = neither (nat_eq part.register.process number) (list_any (λ p. nat_eq p.register.process number) parts) other in
-    stays_parts law parts (drop part.size bytes) number (with_change (with_bytes part (take part.size bytes)) part.register.process targets) both.1
-    ∙ stays_but law (with_bytes part (take part.size bytes)) part.register.process number targets both.0
+    stays_parts parts (drop part.size bytes) number (with_change (with_bytes part (take part.size bytes)) part.register.process targets) both.1
+    ∙ stays_but (with_bytes part (take part.size bytes)) part.register.process number targets both.0
 
-pub others_stay : ChangesOne → OthersStay
-others_stay law (MemSet id addr word size mode bytes) targets number other =
-    stays_by (data_fault (MemSet id addr word size mode bytes) targets) (memory_after id addr bytes targets) targets number (stays_named law (with_memory (unsigned_abs addr) bytes) (number_named id) number targets other)
-others_stay law (RegSet id bytes) targets number other =
-    stays_by (data_fault (RegSet id bytes) targets) (register_after (register_of id) (word_of bytes) targets) targets number (stays_register law (register_of id) (word_of bytes) number targets other)
-others_stay law (RegSetm list bytes) targets number other =
-    stays_by (data_fault (RegSetm list bytes) targets) (with_parts (parts_named list) bytes targets) targets number (stays_parts law (parts_named list) bytes number targets other)
-others_stay law (MemGet id addr word size mode) targets number other = stays_by (data_fault (MemGet id addr word size mode) targets) targets targets number refl
-others_stay law (RegGet id) targets number other = stays_by (data_fault (RegGet id) targets) targets targets number refl
-others_stay law (RegGetm list) targets number other = stays_by (data_fault (RegGetm list) targets) targets targets number refl
-others_stay law _ targets number other = refl
+pub others_stay : OthersStay
+others_stay (MemSet id addr word size mode bytes) targets number other =
+    stays_by (data_fault (MemSet id addr word size mode bytes) targets) (memory_after id addr bytes targets) targets number (stays_named (with_memory (unsigned_abs addr) bytes) (number_named id) number targets other)
+others_stay (RegSet id bytes) targets number other =
+    stays_by (data_fault (RegSet id bytes) targets) (register_after (register_of id) (word_of bytes) targets) targets number (stays_register (register_of id) (word_of bytes) number targets other)
+others_stay (RegSetm list bytes) targets number other =
+    stays_by (data_fault (RegSetm list bytes) targets) (with_parts (parts_named list) bytes targets) targets number (stays_parts (parts_named list) bytes number targets other)
+others_stay (MemGet id addr word size mode) targets number other = stays_by (data_fault (MemGet id addr word size mode) targets) targets targets number refl
+others_stay (RegGet id) targets number other = stays_by (data_fault (RegGet id) targets) targets targets number refl
+others_stay (RegGetm list) targets number other = stays_by (data_fault (RegGetm list) targets) targets targets number refl
+others_stay _ targets number other = refl
 
 -- ---- memory
 
@@ -136,11 +135,11 @@ same_bytes first count bytes memory all within =
 abbrev in_rows : List (ℕ × Process) → Option ℕ → Option Process
 in_rows rows named = option_and_then (λ number. process_of number rows) named
 
-named_after : ChangesOne → (change : Process → Process) (named : Option ℕ) (targets : TargetsValue) (process : Process) →
+named_after : (change : Process → Process) (named : Option ℕ) (targets : TargetsValue) (process : Process) →
     in_rows targets.processes named ≡ Some process → in_rows (with_change_of change named targets).processes named ≡ Some (change process)
-named_after law change None targets process there = cc
-named_after law change (Some n) targets process there =
-    changed_process law change n n targets
+named_after change None targets process there = cc
+named_after change (Some n) targets process there =
+    changed_process change n n targets
     ∙ ap (λ (b : Bool). cond b (option_map change (process_of n targets.processes)) (process_of n targets.processes)) (eq-eqb n n refl)
     ∙ ap (option_map change) there
 
@@ -148,8 +147,8 @@ abbrev got : ℤ → ℤ → Option Process → Bool → Bool → Effect
 got addr size process no_size outside =
     effect_by (first_fault ((is_none process, BadContext) ∷ (no_size, BadSize) ∷ (outside, BadAddress) ∷ [])) (gives (Blob (memory_bytes addr size process)))
 
-pub memory_set_is_got : ChangesOne → MemorySetIsGot
-memory_set_is_got law id addr word size mode bytes targets process there whole answered =
+pub memory_set_is_got : MemorySetIsGot
+memory_set_is_got id addr word size mode bytes targets process there whole answered =
     let change : Process → Process = with_memory (unsigned_abs addr) bytes in
     let after : TargetsValue = with_change_of change (number_named id) targets in
     let fault : memory_set_fault id addr size bytes targets.processes ≡ None = no_fault _ _ answered in
@@ -158,7 +157,7 @@ memory_set_is_got law id addr word size mode bytes targets process there whole a
     let filled = passed (not (nat_eq (length bytes) (unsigned_abs size))) BadSize _ sized.1 in
     let placed = passed (is_outside addr size) BadAddress _ filled.1 in
     let left : data_after (MemSet id addr word size mode bytes) targets ≡ after = ap (λ (f : Option Fault). targets_by f after targets) fault in
-    let named : process_named id after.processes ≡ Some (change process) = named_after law change (number_named id) targets process there in
+    let named : process_named id after.processes ≡ Some (change process) = named_after change (number_named id) targets process there in
     let within : unsigned_abs addr ≤ length process.memory = omega (arith, inside addr size sized.0 placed.0, whole) in
     let count : length bytes ≡ unsigned_abs size = eqb-true (length bytes) (unsigned_abs size) (not_false _ filled.0) in
     ap (λ (t : TargetsValue). data_effect (MemGet id addr word size mode) t) left
@@ -187,10 +186,10 @@ bytes_back : (bytes : List ℕ) → length bytes ≡ 4 → ((i : ℕ) → get_or
 unfolding word_bytes word_of
 bytes_back bytes four small = le_bytes_4 bytes (from_le_bytes w32 bytes) four small refl
 
-thread_by : ChangesOne → (change : Process → Process) (n : ℕ) (targets : TargetsValue) (process : Process) (first : Bool) →
+thread_by : (change : Process → Process) (n : ℕ) (targets : TargetsValue) (process : Process) (first : Bool) →
     cond first (process_of n targets.processes) None ≡ Some process → cond first (process_of n (with_change change n targets).processes) None ≡ Some (change process)
-thread_by law change n targets process true there = named_after law change (Some n) targets process there
-thread_by law change n targets process false there = cc
+thread_by change n targets process true there = named_after change (Some n) targets process there
+thread_by change n targets process false there = cc
 
 abbrev read : Option RegisterId → Option Process → Effect
 read register process =
@@ -199,8 +198,8 @@ read register process =
 abbrev read_number : Bool → ℕ → Effect
 read_number running number = effect_by (first_fault ((false, BadContext) ∷ (running, IsRunning) ∷ [])) (gives (Blob (word_bytes number)))
 
-pub register_set_is_got : ChangesOne → RegisterSetIsGot
-register_set_is_got law id bytes targets register process named nonzero there has small answered =
+pub register_set_is_got : RegisterSetIsGot
+register_set_is_got id bytes targets register process named nonzero there has small answered =
     let number : ℕ = word_of bytes in
     let change : Process → Process = with_word register.index number in
     let after : TargetsValue = with_change change register.process targets in
@@ -214,7 +213,7 @@ register_set_is_got law id bytes targets register process named nonzero there ha
     let was : process_with targets.processes register ≡ Some process = sym (ap (λ (r : Option RegisterId). option_and_then (process_with targets.processes) r) named) ∙ there in
     let now : holder_of id after.processes ≡ Some (change process) =
     ap (λ (r : Option RegisterId). option_and_then (process_with after.processes) r) named
-    ∙ thread_by law change register.process targets process (nat_eq register.thread 1) was in
+    ∙ thread_by change register.process targets process (nat_eq register.thread 1) was in
     let stands : runs process.state ≡ false = sym (ap is_running there) ∙ still.0 in
     let four : length bytes ≡ 4 = eqb-true (length bytes) 4 (not_false _ filled.0) in
     ap (λ (t : TargetsValue). data_effect (RegGet id) t) left

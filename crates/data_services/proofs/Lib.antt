@@ -3,3 +3,4 @@ pub mod PartSteps
 pub mod Lawful
 pub mod Threads
 pub mod Short
+pub mod TheLaws

@@ -5,13 +5,13 @@ use Rattle.std.proofs.lemmas.List.Quantifiers.{position-Some}
 use Rattle.std.proofs.lemmas.List.Sums.{sum_by-cons}
 use Rattle.std.proofs.lemmas.Option.{get_or_from_slice_get}
 use Rattle.rv32i_core.specs.declared.registers.Cpu.{Cpu}
-use Rattle.target_contexts.specs.Laws.{ChangesOne}
 use Rattle.target_contexts.specs.Live.{IsLive, place_of, process_at, process_of, with_process}
 use Rattle.target_contexts.specs.TargetsValue.{TargetsValue}
 use Rattle.target_contexts.specs.declared.process.Process.{Process}
 use Rattle.target_contexts.specs.Changes.{with_change, with_change_at}
 use Rattle.data_services.specs.Parts.{bytes_in, bytes_of, cpu_after, is_off, names_off, sizes, with_bytes, with_parts, with_register_bytes}
 use Rattle.data_services.specs.declared.parts.Part.{Part}
+use Rattle.target_contexts.proofs.TheLaws.{changes_one}
 
 -- the parts that are left, after one more
 pub put_step : (parts : List Part) (i : ℕ) (part : Part) (rest first later : List ℕ) (old new all : TargetsValue) → drop i parts ≡ part ∷ drop (i + 1) parts → first ≡ take part.size rest → later ≡ drop part.size rest →
@@ -58,25 +58,25 @@ live_by number rows process (Some place) found there =
 pub live_found : (number : ℕ) (rows : List (ℕ × Process)) (process : Process) → process_of number rows ≡ Some process → IsLive number rows
 live_found number rows process there = live_by number rows process (place_of number rows) refl there
 
-pub changed_by : ChangesOne → (change : Process → Process) (n number : ℕ) (targets : TargetsValue) (found : Option Process) → process_of n targets.processes ≡ found → (same : Bool) → nat_eq n number ≡ same →
+pub changed_by : (change : Process → Process) (n number : ℕ) (targets : TargetsValue) (found : Option Process) → process_of n targets.processes ≡ found → (same : Bool) → nat_eq n number ≡ same →
     process_of number (with_change_at change n found targets).processes ≡ cond same (option_map change (process_of number targets.processes)) (process_of number targets.processes)
-changed_by law change n number targets None there true e =
+changed_by change n number targets None there true e =
     let missing : process_of number targets.processes ≡ None = ap (λ (m : ℕ). process_of m targets.processes) (sym (eqb-true n number e)) ∙ there in
     missing ∙ sym (ap (option_map change) missing)
-changed_by law change n number targets None there false e = refl
-changed_by law change n number targets (Some process) there true e =
+changed_by change n number targets None there false e = refl
+changed_by change n number targets (Some process) there true e =
     let same : n ≡ number = eqb-true n number e in
     let rows : List (ℕ × Process) = with_process n (change process) targets.processes in
     ap (λ (m : ℕ). process_of m rows) (sym same)
-    ∙ (law targets.processes n (change process) (live_found n targets.processes process there)).0
+    ∙ (changes_one targets.processes n (change process) (live_found n targets.processes process there)).0
     ∙ sym (ap (option_map change) (ap (λ (m : ℕ). process_of m targets.processes) (sym same) ∙ there))
-changed_by law change n number targets (Some process) there false e =
-    (law targets.processes n (change process) (live_found n targets.processes process there)).1 number (λ same. eqb-false n number e (sym same))
+changed_by change n number targets (Some process) there false e =
+    (changes_one targets.processes n (change process) (live_found n targets.processes process there)).1 number (λ same. eqb-false n number e (sym same))
 
 -- a change of one process changes that one
-pub changed_process : ChangesOne → (change : Process → Process) (n number : ℕ) (targets : TargetsValue) →
+pub changed_process : (change : Process → Process) (n number : ℕ) (targets : TargetsValue) →
     process_of number (with_change change n targets).processes ≡ cond (nat_eq n number) (option_map change (process_of number targets.processes)) (process_of number targets.processes)
-changed_process law change n number targets = changed_by law change n number targets (process_of n targets.processes) refl (nat_eq n number) refl
+changed_process change n number targets = changed_by change n number targets (process_of n targets.processes) refl (nat_eq n number) refl
 
 abbrev after : ℕ → List Part → List ℕ → Process → Process
 after number parts bytes process = record process { cpu = cpu_after number parts bytes process.cpu }
@@ -94,25 +94,25 @@ one_more number part parts bytes true e (Some process) = ap (λ (b : Bool). Some
 one_more number part parts bytes false e (Some process) = ap (λ (b : Bool). Some (record process { cpu = cpu_after number parts (drop part.size bytes) (cond b (with_register_bytes part (take part.size bytes) process.cpu) process.cpu) })) (sym e)
 
 -- what is left in one process is what its own parts leave there
-pub process_after : ChangesOne → (number : ℕ) (parts : List Part) (bytes : List ℕ) (targets : TargetsValue) →
+pub process_after : (number : ℕ) (parts : List Part) (bytes : List ℕ) (targets : TargetsValue) →
     process_of number (with_parts parts bytes targets).processes ≡ option_map (λ process. after number parts bytes process) (process_of number targets.processes)
-process_after law number [] bytes targets = unchanged number bytes (process_of number targets.processes)
-process_after law number (part ∷ parts) bytes targets =
+process_after number [] bytes targets = unchanged number bytes (process_of number targets.processes)
+process_after number (part ∷ parts) bytes targets =
     let change : Process → Process = with_bytes part (take part.size bytes) in
     let n : ℕ = part.register.process in
-    process_after law number parts (drop part.size bytes) (with_change change n targets)
-    ∙ ap (λ (found : Option Process). option_map (λ process. after number parts (drop part.size bytes) process) found) (changed_process law change n number targets)
+    process_after number parts (drop part.size bytes) (with_change change n targets)
+    ∙ ap (λ (found : Option Process). option_map (λ process. after number parts (drop part.size bytes) process) found) (changed_process change n number targets)
     ∙ one_more number part parts bytes (nat_eq n number) refl (process_of number targets.processes)
 
 -- whether a pc is off after the parts, where the process is there and where it isn't
-pub off_there : ChangesOne → (number : ℕ) (parts : List Part) (bytes : List ℕ) (targets : TargetsValue) (process : Process) (cpu : Cpu) → Some process ≡ process_of number targets.processes → cpu ≡ cpu_after number parts bytes process.cpu →
+pub off_there : (number : ℕ) (parts : List Part) (bytes : List ℕ) (targets : TargetsValue) (process : Process) (cpu : Cpu) → Some process ≡ process_of number targets.processes → cpu ≡ cpu_after number parts bytes process.cpu →
     not (nat_eq (cpu.pc % 4) 0) ≡ is_off (process_of number (with_parts parts bytes targets).processes)
-off_there law number parts bytes targets process cpu there same =
+off_there number parts bytes targets process cpu there same =
     ap (λ (c : Cpu). not (nat_eq (c.pc % 4) 0)) same
     ∙ ap (λ (found : Option Process). is_off (option_map (λ p. after number parts bytes p) found)) there
-    ∙ sym (ap is_off (process_after law number parts bytes targets))
+    ∙ sym (ap is_off (process_after number parts bytes targets))
 
-pub off_missing : ChangesOne → (number : ℕ) (parts : List Part) (bytes : List ℕ) (targets : TargetsValue) → None ≡ process_of number targets.processes → false ≡ is_off (process_of number (with_parts parts bytes targets).processes)
-off_missing law number parts bytes targets missing =
+pub off_missing : (number : ℕ) (parts : List Part) (bytes : List ℕ) (targets : TargetsValue) → None ≡ process_of number targets.processes → false ≡ is_off (process_of number (with_parts parts bytes targets).processes)
+off_missing number parts bytes targets missing =
     ap (λ (found : Option Process). is_off (option_map (λ p. after number parts bytes p) found)) missing
-    ∙ sym (ap is_off (process_after law number parts bytes targets))
+    ∙ sym (ap is_off (process_after number parts bytes targets))

@@ -7,7 +7,7 @@ use Rattle.tcf_values.specs.declared.faults.Fault.{Fault}
 use Rattle.tcf_values.specs.declared.ids.RegisterId.{RegisterId}
 use Rattle.target_contexts.specs.Changes.{targets_by, with_change, with_change_of}
 use Rattle.target_contexts.specs.Named.{number_named}
-use Rattle.target_contexts.specs.Short.{AllShort, ChangeStaysShort, IsShort}
+use Rattle.target_contexts.specs.Short.{AllShort, IsShort}
 use Rattle.target_contexts.specs.TargetsValue.{TargetsValue}
 use Rattle.target_contexts.specs.declared.process.Process.{Process}
 use Rattle.data_services.specs.Bytes.{word_of}
@@ -17,6 +17,7 @@ use Rattle.data_services.specs.Parts.{parts_named, with_bytes, with_parts}
 use Rattle.data_services.specs.RegisterRows.{register_after, with_word}
 use Rattle.data_services.specs.Short.{ShortStays}
 use Rattle.data_services.specs.declared.parts.Part.{Part}
+use Rattle.target_contexts.proofs.TheLaws.{change_stays_short}
 
 memory_short : (first : ℕ) (bytes : List ℕ) (process : Process) → IsShort process → IsShort (with_memory first bytes process)
 memory_short first bytes process is = record { name = is.name; state = is.state }
@@ -27,32 +28,32 @@ word_short index number process is = record { name = is.name; state = is.state }
 bytes_short : (part : Part) (bytes : List ℕ) (process : Process) → IsShort process → IsShort (with_bytes part bytes process)
 bytes_short part bytes process is = record { name = is.name; state = is.state }
 
-named_short : ChangeStaysShort → (change : Process → Process) (named : Option ℕ) (targets : TargetsValue) → ((process : Process) → IsShort process → IsShort (change process)) → AllShort targets.processes
+named_short : (change : Process → Process) (named : Option ℕ) (targets : TargetsValue) → ((process : Process) → IsShort process → IsShort (change process)) → AllShort targets.processes
     → AllShort (with_change_of change named targets).processes
-named_short law change None targets keeps all = all
-named_short law change (Some number) targets keeps all = law change number targets keeps all
+named_short change None targets keeps all = all
+named_short change (Some number) targets keeps all = change_stays_short change number targets keeps all
 
-register_short : ChangeStaysShort → (register : Option RegisterId) (word : ℕ) (targets : TargetsValue) → AllShort targets.processes → AllShort (register_after register word targets).processes
-register_short law None word targets all = all
-register_short law (Some register) word targets all = law (with_word register.index word) register.process targets (word_short register.index word) all
+register_short : (register : Option RegisterId) (word : ℕ) (targets : TargetsValue) → AllShort targets.processes → AllShort (register_after register word targets).processes
+register_short None word targets all = all
+register_short (Some register) word targets all = change_stays_short (with_word register.index word) register.process targets (word_short register.index word) all
 
-parts_short : ChangeStaysShort → (parts : List Part) (bytes : List ℕ) (targets : TargetsValue) → AllShort targets.processes → AllShort (with_parts parts bytes targets).processes
-parts_short law [] bytes targets all = all
-parts_short law (part ∷ parts) bytes targets all =
+parts_short : (parts : List Part) (bytes : List ℕ) (targets : TargetsValue) → AllShort targets.processes → AllShort (with_parts parts bytes targets).processes
+parts_short [] bytes targets all = all
+parts_short (part ∷ parts) bytes targets all =
     let change = with_bytes part (take part.size bytes) in
-    parts_short law parts (drop part.size bytes) (with_change change part.register.process targets)
-    (law change part.register.process targets (bytes_short part (take part.size bytes)) all)
+    parts_short parts (drop part.size bytes) (with_change change part.register.process targets)
+    (change_stays_short change part.register.process targets (bytes_short part (take part.size bytes)) all)
 
-left_short : ChangeStaysShort → (command : Command) (targets : TargetsValue) → AllShort targets.processes → AllShort (data_left command targets).processes
-left_short law (MemSet id addr word size mode bytes) targets all =
-    named_short law (with_memory (unsigned_abs addr) bytes) (number_named id) targets (memory_short (unsigned_abs addr) bytes) all
-left_short law (RegSet id bytes) targets all = register_short law (register_of id) (word_of bytes) targets all
-left_short law (RegSetm list bytes) targets all = parts_short law (parts_named list) bytes targets all
-left_short law _ targets all = all
+left_short : (command : Command) (targets : TargetsValue) → AllShort targets.processes → AllShort (data_left command targets).processes
+left_short (MemSet id addr word size mode bytes) targets all =
+    named_short (with_memory (unsigned_abs addr) bytes) (number_named id) targets (memory_short (unsigned_abs addr) bytes) all
+left_short (RegSet id bytes) targets all = register_short (register_of id) (word_of bytes) targets all
+left_short (RegSetm list bytes) targets all = parts_short (parts_named list) bytes targets all
+left_short _ targets all = all
 
 kept_by : (fault : Option Fault) (left targets : TargetsValue) → AllShort left.processes → AllShort targets.processes → AllShort (targets_by fault left targets).processes
 kept_by None left targets given all = given
 kept_by (Some fault) left targets given all = all
 
-pub short_stays : ChangeStaysShort → ShortStays
-short_stays law command targets all = kept_by (data_fault command targets) (data_left command targets) targets (left_short law command targets all) all
+pub short_stays : ShortStays
+short_stays command targets all = kept_by (data_fault command targets) (data_left command targets) targets (left_short command targets all) all

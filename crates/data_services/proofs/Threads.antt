@@ -5,7 +5,6 @@ use Rattle.tcf_values.specs.declared.command.Command.TheVariants.{MemGet, MemSet
 use Rattle.tcf_values.specs.declared.faults.Fault.{Fault}
 use Rattle.tcf_values.specs.declared.ids.RegisterId.{RegisterId}
 use Rattle.target_contexts.specs.Changes.{targets_by, with_change, with_change_at, with_change_of}
-use Rattle.target_contexts.specs.Laws.{ChangeStaysOrderly, ChangesOne}
 use Rattle.target_contexts.specs.Live.{IsOrderly, process_of}
 use Rattle.target_contexts.specs.Named.{number_named}
 use Rattle.target_contexts.specs.TargetsValue.{TargetsValue}
@@ -17,6 +16,7 @@ use Rattle.data_services.specs.MemoryRows.{memory_after, with_memory}
 use Rattle.data_services.specs.Parts.{parts_named, with_bytes, with_parts}
 use Rattle.data_services.specs.RegisterRows.{register_after, with_word}
 use Rattle.data_services.specs.declared.parts.Part.{Part}
+use Rattle.target_contexts.proofs.TheLaws.{change_stays_orderly}
 use Rattle.data_services.proofs.PartSteps.{changed_process}
 
 -- ---- threads
@@ -30,82 +30,82 @@ same_if change false found same = refl
 same_if change true None same = refl
 same_if change true (Some p) same = ap Some (same p)
 
-same_change : ChangesOne → (change : Process → Process) (n number : ℕ) (targets : TargetsValue) → ((p : Process) → thread_part (change p) ≡ thread_part p) → Same number targets (with_change change n targets)
-same_change law change n number targets same =
-    ap (option_map thread_part) (changed_process law change n number targets) ∙ same_if change (nat_eq n number) (process_of number targets.processes) same
+same_change : (change : Process → Process) (n number : ℕ) (targets : TargetsValue) → ((p : Process) → thread_part (change p) ≡ thread_part p) → Same number targets (with_change change n targets)
+same_change change n number targets same =
+    ap (option_map thread_part) (changed_process change n number targets) ∙ same_if change (nat_eq n number) (process_of number targets.processes) same
 
-same_named : ChangesOne → (change : Process → Process) (named : Option ℕ) (number : ℕ) (targets : TargetsValue) → ((p : Process) → thread_part (change p) ≡ thread_part p) → Same number targets (with_change_of change named targets)
-same_named law change None number targets same = refl
-same_named law change (Some n) number targets same = same_change law change n number targets same
+same_named : (change : Process → Process) (named : Option ℕ) (number : ℕ) (targets : TargetsValue) → ((p : Process) → thread_part (change p) ≡ thread_part p) → Same number targets (with_change_of change named targets)
+same_named change None number targets same = refl
+same_named change (Some n) number targets same = same_change change n number targets same
 
-same_register : ChangesOne → (register : Option RegisterId) (word number : ℕ) (targets : TargetsValue) → Same number targets (register_after register word targets)
-same_register law None word number targets = refl
-same_register law (Some register) word number targets = same_change law (with_word register.index word) register.process number targets (λ p. refl)
+same_register : (register : Option RegisterId) (word number : ℕ) (targets : TargetsValue) → Same number targets (register_after register word targets)
+same_register None word number targets = refl
+same_register (Some register) word number targets = same_change (with_word register.index word) register.process number targets (λ p. refl)
 
-same_parts : ChangesOne → (parts : List Part) (bytes : List ℕ) (number : ℕ) (targets : TargetsValue) → Same number targets (with_parts parts bytes targets)
-same_parts law [] bytes number targets = refl
-same_parts law (part ∷ parts) bytes number targets =
+same_parts : (parts : List Part) (bytes : List ℕ) (number : ℕ) (targets : TargetsValue) → Same number targets (with_parts parts bytes targets)
+same_parts [] bytes number targets = refl
+same_parts (part ∷ parts) bytes number targets =
     let change = with_bytes part (take part.size bytes) in
-    same_parts law parts (drop part.size bytes) number (with_change change part.register.process targets)
-    ∙ same_change law change part.register.process number targets (λ p. refl)
+    same_parts parts (drop part.size bytes) number (with_change change part.register.process targets)
+    ∙ same_change change part.register.process number targets (λ p. refl)
 
 same_by : (fault : Option Fault) (left targets : TargetsValue) (number : ℕ) → Same number targets left → Same number targets (targets_by fault left targets)
 same_by None left targets number same = same
 same_by (Some fault) left targets number same = refl
 
-pub threads_stay : ChangesOne → ThreadsStay
-threads_stay law (MemSet id addr word size mode bytes) targets number =
+pub threads_stay : ThreadsStay
+threads_stay (MemSet id addr word size mode bytes) targets number =
     same_by (data_fault (MemSet id addr word size mode bytes) targets) (memory_after id addr bytes targets) targets number
-    (same_named law (with_memory (unsigned_abs addr) bytes) (number_named id) number targets (λ p. refl))
-threads_stay law (RegSet id bytes) targets number =
-    same_by (data_fault (RegSet id bytes) targets) (register_after (register_of id) (word_of bytes) targets) targets number (same_register law (register_of id) (word_of bytes) number targets)
-threads_stay law (RegSetm list bytes) targets number =
-    same_by (data_fault (RegSetm list bytes) targets) (with_parts (parts_named list) bytes targets) targets number (same_parts law (parts_named list) bytes number targets)
-threads_stay law (MemGet id addr word size mode) targets number = same_by (data_fault (MemGet id addr word size mode) targets) targets targets number refl
-threads_stay law (RegGet id) targets number = same_by (data_fault (RegGet id) targets) targets targets number refl
-threads_stay law (RegGetm list) targets number = same_by (data_fault (RegGetm list) targets) targets targets number refl
-threads_stay law _ targets number = refl
+    (same_named (with_memory (unsigned_abs addr) bytes) (number_named id) number targets (λ p. refl))
+threads_stay (RegSet id bytes) targets number =
+    same_by (data_fault (RegSet id bytes) targets) (register_after (register_of id) (word_of bytes) targets) targets number (same_register (register_of id) (word_of bytes) number targets)
+threads_stay (RegSetm list bytes) targets number =
+    same_by (data_fault (RegSetm list bytes) targets) (with_parts (parts_named list) bytes targets) targets number (same_parts (parts_named list) bytes number targets)
+threads_stay (MemGet id addr word size mode) targets number = same_by (data_fault (MemGet id addr word size mode) targets) targets targets number refl
+threads_stay (RegGet id) targets number = same_by (data_fault (RegGet id) targets) targets targets number refl
+threads_stay (RegGetm list) targets number = same_by (data_fault (RegGetm list) targets) targets targets number refl
+threads_stay _ targets number = refl
 
 -- ---- processes
 
 abbrev AreOrderly : TargetsValue → Type 0
 AreOrderly targets = IsOrderly targets.processes targets.next
 
-order_at : ChangeStaysOrderly → (change : Process → Process) (n : ℕ) (found : Option Process) (targets : TargetsValue) → AreOrderly targets → AreOrderly (with_change_at change n found targets)
-order_at law change n None targets orderly = orderly
-order_at law change n (Some process) targets orderly = law targets.processes targets.next n (change process) orderly
+order_at : (change : Process → Process) (n : ℕ) (found : Option Process) (targets : TargetsValue) → AreOrderly targets → AreOrderly (with_change_at change n found targets)
+order_at change n None targets orderly = orderly
+order_at change n (Some process) targets orderly = change_stays_orderly targets.processes targets.next n (change process) orderly
 
-order_change : ChangeStaysOrderly → (change : Process → Process) (n : ℕ) (targets : TargetsValue) → AreOrderly targets → AreOrderly (with_change change n targets)
-order_change law change n targets orderly = order_at law change n (process_of n targets.processes) targets orderly
+order_change : (change : Process → Process) (n : ℕ) (targets : TargetsValue) → AreOrderly targets → AreOrderly (with_change change n targets)
+order_change change n targets orderly = order_at change n (process_of n targets.processes) targets orderly
 
-order_named : ChangeStaysOrderly → (change : Process → Process) (named : Option ℕ) (targets : TargetsValue) → AreOrderly targets → AreOrderly (with_change_of change named targets)
-order_named law change None targets orderly = orderly
-order_named law change (Some n) targets orderly = order_change law change n targets orderly
+order_named : (change : Process → Process) (named : Option ℕ) (targets : TargetsValue) → AreOrderly targets → AreOrderly (with_change_of change named targets)
+order_named change None targets orderly = orderly
+order_named change (Some n) targets orderly = order_change change n targets orderly
 
-order_register : ChangeStaysOrderly → (register : Option RegisterId) (word : ℕ) (targets : TargetsValue) → AreOrderly targets → AreOrderly (register_after register word targets)
-order_register law None word targets orderly = orderly
-order_register law (Some register) word targets orderly = order_change law (with_word register.index word) register.process targets orderly
+order_register : (register : Option RegisterId) (word : ℕ) (targets : TargetsValue) → AreOrderly targets → AreOrderly (register_after register word targets)
+order_register None word targets orderly = orderly
+order_register (Some register) word targets orderly = order_change (with_word register.index word) register.process targets orderly
 
-order_parts : ChangeStaysOrderly → (parts : List Part) (bytes : List ℕ) (targets : TargetsValue) → AreOrderly targets → AreOrderly (with_parts parts bytes targets)
-order_parts law [] bytes targets orderly = orderly
-order_parts law (part ∷ parts) bytes targets orderly =
+order_parts : (parts : List Part) (bytes : List ℕ) (targets : TargetsValue) → AreOrderly targets → AreOrderly (with_parts parts bytes targets)
+order_parts [] bytes targets orderly = orderly
+order_parts (part ∷ parts) bytes targets orderly =
     let change = with_bytes part (take part.size bytes) in
-    order_parts law parts (drop part.size bytes) (with_change change part.register.process targets) (order_change law change part.register.process targets orderly)
+    order_parts parts (drop part.size bytes) (with_change change part.register.process targets) (order_change change part.register.process targets orderly)
 
 order_by : (fault : Option Fault) (left targets : TargetsValue) → AreOrderly left → AreOrderly targets → AreOrderly (targets_by fault left targets)
 order_by None left targets orderly before = orderly
 order_by (Some fault) left targets orderly before = before
 
-pub order_stays : ChangeStaysOrderly → OrderStays
-order_stays law (MemSet id addr word size mode bytes) targets orderly =
+pub order_stays : OrderStays
+order_stays (MemSet id addr word size mode bytes) targets orderly =
     order_by (data_fault (MemSet id addr word size mode bytes) targets) (memory_after id addr bytes targets) targets
-    (order_named law (with_memory (unsigned_abs addr) bytes) (number_named id) targets orderly) orderly
-order_stays law (RegSet id bytes) targets orderly =
+    (order_named (with_memory (unsigned_abs addr) bytes) (number_named id) targets orderly) orderly
+order_stays (RegSet id bytes) targets orderly =
     order_by (data_fault (RegSet id bytes) targets) (register_after (register_of id) (word_of bytes) targets) targets
-    (order_register law (register_of id) (word_of bytes) targets orderly) orderly
-order_stays law (RegSetm list bytes) targets orderly =
-    order_by (data_fault (RegSetm list bytes) targets) (with_parts (parts_named list) bytes targets) targets (order_parts law (parts_named list) bytes targets orderly) orderly
-order_stays law (MemGet id addr word size mode) targets orderly = order_by (data_fault (MemGet id addr word size mode) targets) targets targets orderly orderly
-order_stays law (RegGet id) targets orderly = order_by (data_fault (RegGet id) targets) targets targets orderly orderly
-order_stays law (RegGetm list) targets orderly = order_by (data_fault (RegGetm list) targets) targets targets orderly orderly
-order_stays law _ targets orderly = orderly
+    (order_register (register_of id) (word_of bytes) targets orderly) orderly
+order_stays (RegSetm list bytes) targets orderly =
+    order_by (data_fault (RegSetm list bytes) targets) (with_parts (parts_named list) bytes targets) targets (order_parts (parts_named list) bytes targets orderly) orderly
+order_stays (MemGet id addr word size mode) targets orderly = order_by (data_fault (MemGet id addr word size mode) targets) targets targets orderly orderly
+order_stays (RegGet id) targets orderly = order_by (data_fault (RegGet id) targets) targets targets orderly orderly
+order_stays (RegGetm list) targets orderly = order_by (data_fault (RegGetm list) targets) targets targets orderly orderly
+order_stays _ targets orderly = orderly

@@ -18,11 +18,8 @@ json_of (b ∷ part) = if is_utf8 (b ∷ part) then read (b ∷ part) else None
 -- the text that a value stands for
 abbrev pub text_in : Data → Option (List ℕ)
 text_in null = Some []
-text_in (boolean _) = None
-text_in (number _) = None
 text_in (string text) = Some text
-text_in (array _) = None
-text_in (object _) = None
+text_in _ = None
 
 -- a number that fits a u64 or an i64
 abbrev pub IsWhole : ℤ → Type 0
@@ -31,20 +28,13 @@ IsWhole (negsuc n) = n < 2 ^ 63
 
 -- the whole number
 abbrev pub whole_in : Data → Option ℤ
-whole_in null = None
-whole_in (boolean _) = None
 whole_in (number n) = as_integer n
-whole_in (string _) = None
-whole_in (array _) = None
-whole_in (object _) = None
+whole_in _ = None
 
 abbrev pub flag_in : Data → Option Bool
 flag_in null = Some false
 flag_in (boolean b) = Some b
-flag_in (number _) = None
-flag_in (string _) = None
-flag_in (array _) = None
-flag_in (object _) = None
+flag_in _ = None
 
 -- the texts of an array's items, each of which is a string
 abbrev pub strings_in : Items → Option (List (List ℕ))
@@ -53,11 +43,8 @@ strings_in (item d items) = option_and_then (λ text. option_map (λ texts. text
 
 abbrev pub texts_in : Data → Option (List (List ℕ))
 texts_in null = Some []
-texts_in (boolean _) = None
-texts_in (number _) = None
-texts_in (string _) = None
 texts_in (array items) = strings_in items
-texts_in (object _) = None
+texts_in _ = None
 
 abbrev pub value_of : ℕ → Option (List ℕ) → Result Data ArgFault
 value_of index None = Err (Missing index)

@@ -14,8 +14,5 @@ items_in kind (item d ds) = option_and_then (λ x. option_map (λ xs. x ∷ xs) 
 -- the values of an array, each of which is of the kind; null is the empty array
 abbrev pub list_in : {A : Type 0} → (Data → Option A) → Data → Option (List A)
 list_in kind null = Some []
-list_in kind (boolean _) = None
-list_in kind (number _) = None
-list_in kind (string _) = None
 list_in kind (array ds) = items_in kind ds
-list_in kind (object _) = None
+list_in kind _ = None

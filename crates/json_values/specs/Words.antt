@@ -16,8 +16,5 @@ word_in d = option_and_then fitting (option_and_then as_u64 (as_number d))
 -- an object, or null in its place, which is the empty one
 abbrev pub is_object : Data → Bool
 is_object null = true
-is_object (boolean _) = false
-is_object (number _) = false
-is_object (string _) = false
-is_object (array _) = false
 is_object (object _) = true
+is_object _ = false

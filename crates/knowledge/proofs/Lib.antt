@@ -7,3 +7,4 @@ pub mod Replies
 pub mod Same
 pub mod SameReplies
 pub mod Steps
+pub mod TheLaws

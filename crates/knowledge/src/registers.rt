@@ -53,7 +53,8 @@ impl ThreadMap<Registers> {
         value: u32,
     ) -> Result<(), AllocError>
         requires { index ≤ 32 }
-        ensures { OnOk result ((p t i : ℕ) → register_in p t i self.new ≡ at_register process thread index (Some value) (λ q u j. register_in q u j self.old) p t i) }
+        ensures { OnOk result ((p t i : ℕ) → register_in p t i self.new
+            ≡ at_register process thread index (Some value) (λ q u j. register_in q u j self.old) p t i) }
     {
         let mut known = match self.take(process, thread) {
             Some(known) => known,

@@ -74,3 +74,15 @@ all_then P Q each (x ∷ xs) all = (each x all.0, all_then P Q each xs all.1)
 pub all_weaker : {A : Type 0} → (P Q : A → Type 0) (xs : List A) → ((x : A) → P x → Q x) → AllByRecursion P xs → AllByRecursion Q xs
 all_weaker P Q [] then all = tt
 all_weaker P Q (x ∷ xs) then all = (then x all.0, all_weaker P Q xs then all.1)
+
+pub all_map_then : {A B : Type 0} → (P : B → Type 0) (Q : A → Type 0) (f : A → B) (xs : List A) → ((x : A) → Q x → P (f x)) → AllByRecursion Q xs → AllByRecursion P (map f xs)
+all_map_then P Q f [] each all = tt
+all_map_then P Q f (x ∷ xs) each all = (each x all.0, all_map_then P Q f xs each all.1)
+
+pub all_each : {A : Type 0} → (P : A → Type 0) (xs : List A) → ((x : A) → P x) → AllByRecursion P xs
+all_each P [] each = tt
+all_each P (x ∷ xs) each = (each x, all_each P xs each)
+
+pub all_test : {A : Type 0} → (P : A → Type 0) (b : Bool) (xs ys : List A) → (b ≡ true → AllByRecursion P xs) → (b ≡ false → AllByRecursion P ys) → AllByRecursion P (cond b xs ys)
+all_test P true xs ys first second = first refl
+all_test P false xs ys first second = second refl

@@ -1,5 +1,5 @@
 -- What a list contains.
-use Rattle.std.proofs.Common.{List, [], arith, inl, inr, refl, suc, zero, ℕ, ⊎_elim, ◌++◌, ◌<◌, ◌∷◌, ◌≡◌, ◌⊎◌}
+use Rattle.std.proofs.Common.{sym, List, [], arith, inl, inr, refl, suc, zero, ℕ, ⊎_elim, ◌++◌, ◌<◌, ◌∷◌, ◌≡◌, ◌⊎◌}
 use Rattle.std.proofs.lemmas.List.Elements.{Contains-append_cases}
 use Rattle.std.specs.List.{Contains}
 use Rattle.std.specs.Prelude.{slice_index_or}
@@ -20,3 +20,7 @@ contains_first x xs = (0, omega arith, refl)
 
 pub none_in : {A : Type 0} → (y : A) → Contains [] y → ⊥
 none_in y (k, within, is) = omega arith
+
+pub in_one : {A : Type 0} → (x y : A) → Contains (x ∷ []) y → y ≡ x
+in_one x y (zero, within, is) = sym is
+in_one x y (suc k, within, is) = absurd (omega arith)

@@ -3,3 +3,5 @@ pub mod Numbers
 pub mod AllLists
 pub mod Contained
 pub mod Lists
+pub mod Fronts
+pub mod Splits

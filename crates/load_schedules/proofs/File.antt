@@ -6,11 +6,12 @@ use Rattle.std.proofs.lemmas.Bool.{cond-false, cond-true, ne_eqb}
 use Rattle.std.proofs.lemmas.List.Sums.{sum_by-append, sum_by-cons}
 use Rattle.tcf_schedules.specs.Line.{IsHead, IsLineStep, LineHead, LineStep, chain, chain_word, head_spelling, image, image_word, step_spelling}
 use Rattle.tcf_schedules.specs.Plan.{Plan, rounds, step_count, step_size}
-use Rattle.tcf_schedules.specs.Schedule.{Accepts, AreDistinct, ReadsWhatIsSaid, ReadsWithin, is_skipped, kept_lines, lines_of, plan_in}
+use Rattle.tcf_schedules.specs.Schedule.{Accepts, AreDistinct, is_skipped, kept_lines, lines_of, plan_in}
 use Rattle.tcf_schedules.specs.Words.{dash_word}
 use Rattle.line_words.specs.Words.{spaced}
 use Rattle.load_schedules.specs.Drawn.{after_step, chain_heads, drawn_step, drawn_steps}
 use Rattle.load_schedules.specs.Generated.{GeneratesWithin, GeneratesWhatIsSaid, generated, loop_image, openings, redirect, redirects, start, starting}
+use Rattle.tcf_schedules.proofs.TheLaws.{reads_what_is_said, reads_within}
 use Rattle.load_schedules.proofs.Said.{IsSaid, drawn_fits, opened_said, rounds_said, sent_said}
 use Rattle.load_schedules.proofs.Words.{IsInside, decimal_word, spaced_inside, word_inside}
 
@@ -191,10 +192,10 @@ file_of count number few =
       drawn_count count number,
     ))
 
-pub generates_what_is_said : ReadsWhatIsSaid → GeneratesWhatIsSaid
-generates_what_is_said law number =
+pub generates_what_is_said : GeneratesWhatIsSaid
+generates_what_is_said number =
     let file = file_of 20000 number (omega arith) in
-    (file.0, (law file.0 (generated number)).1 file.1)
+    (file.0, (reads_what_is_said file.0 (generated number)).1 file.1)
 
-pub generates_within : GeneratesWhatIsSaid → ReadsWithin → GeneratesWithin
-generates_within said within number = let file = said number in within file.0 (generated number) file.1
+pub generates_within : GeneratesWithin
+generates_within number = let file = generates_what_is_said number in reads_within file.0 (generated number) file.1

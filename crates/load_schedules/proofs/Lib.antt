@@ -3,3 +3,4 @@ pub mod Growth
 pub mod Said
 pub mod Steps
 pub mod Words
+pub mod TheLaws

@@ -1,3 +1,4 @@
 pub mod Adds
 pub mod Agents
 pub mod Clients
+pub mod TheLaws

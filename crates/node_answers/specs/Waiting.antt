@@ -1,13 +1,13 @@
 -- What a value-add hasn't answered yet of what it was asked from below.
 use Rattle.std.specs.Prelude.{ℕ, ◌≡◌, true, false, List, [], map, filter, Contains, Option, None, Some, IfSome}
 use Rattle.std.specs.List.{flat_map}
-use Rattle.channel_core.specs.Arrivals.{AreSpoken, Spoken}
+use Rattle.channel_core.specs.Arrivals.{AreSpoken, Spoken, all_said}
 use Rattle.channel_core.specs.Closing.{is_closed}
 use Rattle.channel_core.specs.QueueLaws.{is_message}
 use Rattle.channel_core.specs.ReceivingLaws.{incoming_of}
 use Rattle.channel_core.specs.Runs.{Run}
 use Rattle.channel_core.specs.declared.states.EndState.TheVariants.{Reopening}
-use Rattle.channel_laws.specs.Meeting.{all_said, answers_among, lacks_hello_behind, redirects_among}
+use Rattle.channel_laws.specs.Meeting.{answers_among, lacks_hello_behind, redirects_among}
 use Rattle.channel_laws.specs.Numbering.{TakesNumbered, tokens_among}
 use Rattle.value_node.specs.Passing.{Upper}
 use Rattle.value_node.specs.Runs.{ValueRun, below}

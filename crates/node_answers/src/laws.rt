@@ -12,50 +12,20 @@ ghost use Rattle.node_answers.specs.Waiting.{AnswersWhatItCan};
 pub fn a_value_add_answers_all()
     ensures unbound { AfterAllCalls AnswersUnbound }
     ensures bound { AfterAllCalls AnswersBound }
-{
-    tcf_message::read_back();
-    channel_core::what_is_queued_can_be_read::<()>();
-    service_names::names_are_exact();
-    command_tables::readings_are_legal();
-    reply_tables::what_is_small_fits();
-    knowledge::the_same_learn_the_same();
-    knowledge::blocks_are_learned();
-    knowledge::others_stay_unanswered();
-    value_node::a_value_add_relays();
-    value_node::a_value_add_answers_itself();
-}
+{}
 
 /// The law of what a value-add has not answered, where the tokens of the commands that it took from below count from 1 and its
 /// lower end is open: exactly the redirect that it does while it connects, and the commands that are pending above while it is
 /// bound. Where an answer without an error to a redirect has no Hello behind it below, it is bound and waits for that Hello above.
 pub fn what_a_value_add_has_not_answered()
     ensures { AfterAllCalls AnswersWhatItCan }
-{
-    tcf_message::read_back();
-    channel_core::what_is_queued_can_be_read::<()>();
-    service_names::names_are_exact();
-    command_tables::readings_are_legal();
-    reply_tables::what_is_small_fits();
-    knowledge::the_same_learn_the_same();
-    knowledge::blocks_are_learned();
-    knowledge::others_stay_unanswered();
-    value_node::a_value_add_relays();
-    value_node::a_value_add_answers_itself();
-}
+{}
 
 /// The law that on each channel an agent has answered each command that it took, where their tokens count from 1, and each
 /// redirect with an error; that it sends no command, and that all that it sends can be read.
 pub fn an_agent_answers_all()
     ensures { ServesAllAfterAnyCalls }
-{
-    tcf_message::read_back();
-    service_names::names_are_exact();
-    command_tables::readings_are_legal();
-    channel_laws::an_end_stands_as_it_took::<()>();
-    target_hub::what_is_told_can_be_sent();
-    target_hub::every_history_is_bounded();
-    agent_node::an_agent_tells_the_truth();
-}
+{}
 
 /// The law that each accepted command has its final answer in the log where none is pending, and that the log has its end exactly
 /// where the channel was closed.

@@ -6,3 +6,4 @@ pub mod Clean
 pub mod EventLaw
 pub mod AnswerLaw
 pub mod Sizes
+pub mod TheLaws

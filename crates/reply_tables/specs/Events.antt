@@ -86,20 +86,14 @@ event_data event = data_of (event_parts event)
 
 -- the events that are read: each value is within the limits of its kind
 abbrev pub IsEvent : EventData → Type 0
-IsEvent (EventData.Hello list) = Unit {0}
 IsEvent (EventData.CtxAdded list) = AllByRecursion IsContext list
 IsEvent (EventData.CtxChanged list) = AllByRecursion IsContext list
-IsEvent (EventData.CtxRemoved list) = Unit {0}
-IsEvent (EventData.Suspended id pc reason hits) = Unit {0}
-IsEvent (EventData.Resumed id) = Unit {0}
 IsEvent (EventData.BpStatusIs id status) = IsStatus status
 IsEvent (EventData.BpAdded list) = AllByRecursion (λ props. is_bp props ≡ true) list
 IsEvent (EventData.BpChanged list) = AllByRecursion (λ props. is_bp props ≡ true) list
-IsEvent (EventData.BpRemoved list) = Unit {0}
 IsEvent (EventData.MemChanged id list) = AllByRecursion IsRange list
-IsEvent (EventData.RegChanged id) = Unit {0}
-IsEvent EventData.RegsChanged = Unit {0}
 IsEvent (EventData.Exited id code) = IsWhole code
+IsEvent _ = Unit {0}
 
 -- what the types say of the numbers of an event: an address has 32 bits
 abbrev pub IsTypedEvent : EventData → Type 0

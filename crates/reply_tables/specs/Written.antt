@@ -41,20 +41,14 @@ failed_parts BlobErrorNull error = Some null ∷ Some error ∷ Some null ∷ []
 
 -- no error is the empty part
 abbrev pub bare_parts : Row → List (Option Data)
-bare_parts NoData = []
 bare_parts ErrorAlone = None ∷ []
 bare_parts ErrorNull = None ∷ Some null ∷ []
-bare_parts (ErrorThen kind) = []
-bare_parts ErrorState = []
-bare_parts BlobErrorNull = []
+bare_parts _ = []
 
 abbrev pub result_parts : Row → Data → List (Option Data)
-result_parts NoData result = []
-result_parts ErrorAlone result = []
-result_parts ErrorNull result = []
 result_parts (ErrorThen kind) result = None ∷ Some result ∷ []
-result_parts ErrorState result = []
 result_parts BlobErrorNull result = Some result ∷ None ∷ Some null ∷ []
+result_parts _ result = []
 
 -- the parts of an answer
 abbrev pub answer_parts : Row → Answer → List (Option Data)

@@ -42,7 +42,8 @@ pub fn write_refusal(
     requires code { IsRefusal code }
     ensures ok { IfSome (name_in service.now name.now) (λ command. OnOk result (out.new ≡ out.old ++ refusal_data (the_row_named command) code)) }
     ensures err { OnErr result (out.new ≡ out.old) }
-    ensures reads_back { IfSome (name_in service.now name.now) (λ command. OnOk result (answer_of (the_row_named command) (refusal_data (the_row_named command) code) ≡ Some (Answer.Failed (report_of code)))) }
+    ensures reads_back { IfSome (name_in service.now name.now)
+        (λ command. OnOk result (answer_of (the_row_named command) (refusal_data (the_row_named command) code) ≡ Some (Answer.Failed (report_of code)))) }
 {
     match command_named(service, name) {
         Some(command) => refuse(alloc, row_named(command), code, out),

@@ -5,10 +5,10 @@ use Rattle.std.proofs.lemmas.List.{length-map}
 use Rattle.std.proofs.lemmas.List.Quantifiers.{position-Some}
 use Rattle.std.proofs.lemmas.Option.{get_or_from_slice_get}
 use Rattle.target_contexts.specs.Changes.{with_change, with_change_at}
-use Rattle.target_contexts.specs.Laws.{ChangesOne}
 use Rattle.target_contexts.specs.Live.{IsLive, IsOrderly, Rise, numbers_of, place_of, process_at, process_of, with_process}
 use Rattle.target_contexts.specs.TargetsValue.{TargetsValue}
 use Rattle.target_contexts.specs.declared.process.Process.{Process}
+use Rattle.target_contexts.proofs.TheLaws.{changes_one}
 
 live_at : (number : ℕ) (rows : List (ℕ × Process)) (process : Process) (place : ℕ) → place_of number rows ≡ Some place → (row : Option (ℕ × Process)) → slice_get rows place ≡ row → option_map (λ (r : ℕ × Process). r.1) row ≡ Some process → IsLive number rows
 live_at number rows process place found None read there = cc
@@ -26,21 +26,21 @@ live_by number rows process (Some place) found there =
 pub live_found : (number : ℕ) (rows : List (ℕ × Process)) (process : Process) → process_of number rows ≡ Some process → IsLive number rows
 live_found number rows process there = live_by number rows process (place_of number rows) refl there
 
-changed_by : ChangesOne → (change : Process → Process) (n : ℕ) (targets : TargetsValue) (found : Option Process) → process_of n targets.processes ≡ found → process_of n (with_change_at change n found targets).processes ≡ option_map change found
-changed_by law change n targets None there = there
-changed_by law change n targets (Some process) there = (law targets.processes n (change process) (live_found n targets.processes process there)).0
+changed_by : (change : Process → Process) (n : ℕ) (targets : TargetsValue) (found : Option Process) → process_of n targets.processes ≡ found → process_of n (with_change_at change n found targets).processes ≡ option_map change found
+changed_by change n targets None there = there
+changed_by change n targets (Some process) there = (changes_one targets.processes n (change process) (live_found n targets.processes process there)).0
 
 -- a change changes that process
-pub changed_process : ChangesOne → (change : Process → Process) (n : ℕ) (targets : TargetsValue) → process_of n (with_change change n targets).processes ≡ option_map change (process_of n targets.processes)
-changed_process law change n targets = changed_by law change n targets (process_of n targets.processes) refl
+pub changed_process : (change : Process → Process) (n : ℕ) (targets : TargetsValue) → process_of n (with_change change n targets).processes ≡ option_map change (process_of n targets.processes)
+changed_process change n targets = changed_by change n targets (process_of n targets.processes) refl
 
-others_by : ChangesOne → (change : Process → Process) (n other : ℕ) (targets : TargetsValue) (found : Option Process) → process_of n targets.processes ≡ found → other ≢ n → process_of other (with_change_at change n found targets).processes ≡ process_of other targets.processes
-others_by law change n other targets None there differ = refl
-others_by law change n other targets (Some process) there differ = (law targets.processes n (change process) (live_found n targets.processes process there)).1 other differ
+others_by : (change : Process → Process) (n other : ℕ) (targets : TargetsValue) (found : Option Process) → process_of n targets.processes ≡ found → other ≢ n → process_of other (with_change_at change n found targets).processes ≡ process_of other targets.processes
+others_by change n other targets None there differ = refl
+others_by change n other targets (Some process) there differ = (changes_one targets.processes n (change process) (live_found n targets.processes process there)).1 other differ
 
 -- and no other
-pub others_stay : ChangesOne → (change : Process → Process) (n other : ℕ) (targets : TargetsValue) → other ≢ n → process_of other (with_change change n targets).processes ≡ process_of other targets.processes
-others_stay law change n other targets differ = others_by law change n other targets (process_of n targets.processes) refl differ
+pub others_stay : (change : Process → Process) (n other : ℕ) (targets : TargetsValue) → other ≢ n → process_of other (with_change change n targets).processes ≡ process_of other targets.processes
+others_stay change n other targets differ = others_by change n other targets (process_of n targets.processes) refl differ
 
 orderly_like : (old new : List (ℕ × Process)) (next : ℕ) → numbers_of new ≡ numbers_of old → IsOrderly old next → IsOrderly new next
 orderly_like old new next same orderly =
@@ -51,15 +51,15 @@ orderly_like old new next same orderly =
       bounded = orderly.bounded;
     }
 
-orderly_by : ChangesOne → (change : Process → Process) (n : ℕ) (targets : TargetsValue) (found : Option Process) → process_of n targets.processes ≡ found → IsOrderly targets.processes targets.next → IsOrderly (with_change_at change n found targets).processes (with_change_at change n found targets).next
-orderly_by law change n targets None there orderly = orderly
-orderly_by law change n targets (Some process) there orderly =
+orderly_by : (change : Process → Process) (n : ℕ) (targets : TargetsValue) (found : Option Process) → process_of n targets.processes ≡ found → IsOrderly targets.processes targets.next → IsOrderly (with_change_at change n found targets).processes (with_change_at change n found targets).next
+orderly_by change n targets None there orderly = orderly
+orderly_by change n targets (Some process) there orderly =
     orderly_like targets.processes (with_process n (change process) targets.processes) targets.next
-    (law targets.processes n (change process) (live_found n targets.processes process there)).2 orderly
+    (changes_one targets.processes n (change process) (live_found n targets.processes process there)).2 orderly
 
 -- the numbers stay in order
-pub orderly_change : ChangesOne → (change : Process → Process) (n : ℕ) (targets : TargetsValue) → IsOrderly targets.processes targets.next → IsOrderly (with_change change n targets).processes (with_change change n targets).next
-orderly_change law change n targets orderly = orderly_by law change n targets (process_of n targets.processes) refl orderly
+pub orderly_change : (change : Process → Process) (n : ℕ) (targets : TargetsValue) → IsOrderly targets.processes targets.next → IsOrderly (with_change change n targets).processes (with_change change n targets).next
+orderly_change change n targets orderly = orderly_by change n targets (process_of n targets.processes) refl orderly
 
 -- ---- one number or another
 

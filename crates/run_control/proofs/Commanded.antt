@@ -10,7 +10,6 @@ use Rattle.tcf_values.specs.declared.values.BpProps.{BpProps}
 use Rattle.rv32i_core.specs.Machine.{Step, goes_on, ends, excepts, machine}
 use Rattle.target_contexts.specs.Changes.{targets_by, with_change}
 use Rattle.target_contexts.specs.Images.{image_of}
-use Rattle.target_contexts.specs.Laws.{ChangesOne, EndsOne, StartsOne}
 use Rattle.target_contexts.specs.Live.{IsOrderly, process_of}
 use Rattle.target_contexts.specs.Named.{is_running, is_suspended, is_unattached, number_named, process_at_number, runs, thread_named}
 use Rattle.target_contexts.specs.Starting.{new_process, suspended_text, with_started}
@@ -27,6 +26,7 @@ use Rattle.run_control.specs.Laws.{AreSound, CommandsKeepSound, IsSound, needs_d
 use Rattle.run_control.specs.Naming.{is_empty, process_named}
 use Rattle.run_control.specs.Steering.{is_no_count, is_no_mode, left_by, most_steps, resume_after, resume_fault, suspend_after, suspend_fault, thread_there, with_state}
 use Rattle.run_control.specs.Tracing.{Trace, last_of, next_by, next_of, run_from, trace_after, trace_fate, trace_fault, trace_of, traced_at, up_to_hit}
+use Rattle.target_contexts.proofs.TheLaws.{starts_one}
 use Rattle.run_control.proofs.Changed.{changed_process, orderly_change, same_or_other}
 use Rattle.run_control.proofs.Soundness.{FateSound, fate_sound, sound_change, sound_end, sound_settled}
 use Rattle.list_laws.proofs.Flags.{not_false}
@@ -105,19 +105,19 @@ last_attached bps n (suc count) p = last_next bps n count p (next_of p) (next_at
 some_same : (p q : Process) (found : Option Process) → found ≡ Some p → Some q ≡ found → p ≡ q
 some_same p q found there is = cc
 
-trace_at : ChangesOne → EndsOne → (bps : List (ℕ × BpProps)) (n count : ℕ) (targets : TargetsValue) (found : Option Process) → process_of n targets.processes ≡ found → ((p : Process) → found ≡ Some p → p.attached ≡ true) → IsOrderly targets.processes targets.next → AreSound targets.processes → AreSound (traced_at bps n count found targets).processes
-trace_at changes ended bps n count targets None there checked orderly sound = sound
-trace_at changes ended bps n count targets (Some p) there checked orderly sound =
+trace_at : (bps : List (ℕ × BpProps)) (n count : ℕ) (targets : TargetsValue) (found : Option Process) → process_of n targets.processes ≡ found → ((p : Process) → found ≡ Some p → p.attached ≡ true) → IsOrderly targets.processes targets.next → AreSound targets.processes → AreSound (traced_at bps n count found targets).processes
+trace_at bps n count targets None there checked orderly sound = sound
+trace_at bps n count targets (Some p) there checked orderly sound =
     let trace : Trace = trace_of bps n count p in
     let change = λ (q : Process). trace.process in
     let after : TargetsValue = with_change change n targets in
     let mine : p.attached ≡ true = checked p refl in
     let last : trace.process.attached ≡ p.attached = last_attached bps n count p in
-    sound_settled changes ended n (trace_fate p trace) after (orderly_change changes change n targets orderly)
+    sound_settled n (trace_fate p trace) after (orderly_change change n targets orderly)
     (λ q found. subst (FateSound (trace_fate p trace))
-    (sym (ap (λ (r : Process). r.attached) (some_same q trace.process (process_of n after.processes) found (ap (option_map change) (sym there) ∙ sym (changed_process changes change n targets))) ∙ last))
+    (sym (ap (λ (r : Process). r.attached) (some_same q trace.process (process_of n after.processes) found (ap (option_map change) (sym there) ∙ sym (changed_process change n targets))) ∙ last))
     (fate_sound (Suspended step_text []) p.attached trace.stop (λ _. mine) (λ hits hit. mine)))
-    (sound_change changes change n targets (λ q found needs. last ∙ mine) sound)
+    (sound_change change n targets (λ q found needs. last ∙ mine) sound)
 
 -- ---- a start
 
@@ -125,12 +125,12 @@ new_sound : (attach : Bool) (image : Image) → IsSound (new_process attach imag
 new_sound true image needs = refl
 new_sound false image needs = absurd cc
 
-start_sound : StartsOne → (attach : Bool) (targets : TargetsValue) (image : Option Image) → IsOrderly targets.processes targets.next → AreSound targets.processes → AreSound (with_started attach targets image).processes
-start_sound starts attach targets None orderly sound = sound
-start_sound starts attach targets (Some image) orderly sound = λ other p there.
+start_sound : (attach : Bool) (targets : TargetsValue) (image : Option Image) → IsOrderly targets.processes targets.next → AreSound targets.processes → AreSound (with_started attach targets image).processes
+start_sound attach targets None orderly sound = sound
+start_sound attach targets (Some image) orderly sound = λ other p there.
     let new : Process = new_process attach image in
     let rows : List (ℕ × Process) = targets.processes ++ (targets.next, new) ∷ [] in
-    let law = starts targets.processes targets.next new orderly in
+    let law = starts_one targets.processes targets.next new orderly in
     elim (same_or_other other targets.next) [
       | inl same ↦ subst IsSound (sym (some_same p new (process_of targets.next rows) (ap (λ (m : ℕ). process_of m rows) (sym same) ∙ there) (sym law.0))) (new_sound attach image)
       | inr differ ↦ sound other p (sym (law.1 other differ) ∙ there)
@@ -138,39 +138,39 @@ start_sound starts attach targets (Some image) orderly sound = λ other p there.
 
 -- ---- each command
 
-pub commands_sound : ChangesOne → EndsOne → StartsOne → CommandsKeepSound
-commands_sound changes ended starts (Resume id mode count) bps targets orderly sound =
+pub commands_sound : CommandsKeepSound
+commands_sound (Resume id mode count) bps targets orderly sound =
     let rows = targets.processes in
     keeps (run_fault (Resume id mode count) targets) (run_left (Resume id mode count) bps targets) targets (λ free.
     left_sound (resume_after (left_by mode count)) (thread_named id) targets (λ n is.
-    sound_change changes (with_state (Running (left_by mode count))) n targets (λ p there needs.
+    sound_change (with_state (Running (left_by mode count))) n targets (λ p there needs.
     stands_attached rows (thread_named id) n p sound (resume_stands id mode count rows free) is there) sound) sound) sound
-commands_sound changes ended starts (Suspend id) bps targets orderly sound =
+commands_sound (Suspend id) bps targets orderly sound =
     let rows = targets.processes in
     keeps (run_fault (Suspend id) targets) (run_left (Suspend id) bps targets) targets (λ free.
     left_sound suspend_after (thread_named id) targets (λ n is.
-    sound_change changes (with_state (Suspended suspended_text [])) n targets (λ p there needs.
+    sound_change (with_state (Suspended suspended_text [])) n targets (λ p there needs.
     not_unattached rows (thread_named id) n p (suspend_attached id rows free) is there) sound) sound) sound
-commands_sound changes ended starts (Terminate id) bps targets orderly sound =
+commands_sound (Terminate id) bps targets orderly sound =
     keeps (run_fault (Terminate id) targets) (run_left (Terminate id) bps targets) targets (λ free.
-    left_sound end_after (number_named id) targets (λ n is. sound_end ended n targets orderly sound) sound) sound
-commands_sound changes ended starts (ProcStart directory file args environment attach) bps targets orderly sound =
+    left_sound end_after (number_named id) targets (λ n is. sound_end n targets orderly sound) sound) sound
+commands_sound (ProcStart directory file args environment attach) bps targets orderly sound =
     keeps (run_fault (ProcStart directory file args environment attach) targets) (run_left (ProcStart directory file args environment attach) bps targets) targets (λ free.
-    start_sound starts attach targets (image_of file targets.images) orderly sound) sound
-commands_sound changes ended starts (ProcAttach id) bps targets orderly sound =
+    start_sound attach targets (image_of file targets.images) orderly sound) sound
+commands_sound (ProcAttach id) bps targets orderly sound =
     keeps (run_fault (ProcAttach id) targets) (run_left (ProcAttach id) bps targets) targets (λ free.
-    left_sound attach_after (process_named id) targets (λ n is. sound_change changes attached n targets (λ p there needs. refl) sound) sound) sound
-commands_sound changes ended starts (ProcDetach id) bps targets orderly sound =
+    left_sound attach_after (process_named id) targets (λ n is. sound_change attached n targets (λ p there needs. refl) sound) sound) sound
+commands_sound (ProcDetach id) bps targets orderly sound =
     keeps (run_fault (ProcDetach id) targets) (run_left (ProcDetach id) bps targets) targets (λ free.
-    left_sound detach_after (process_named id) targets (λ n is. sound_change changes detached n targets (λ p there needs. absurd cc) sound) sound) sound
-commands_sound changes ended starts (ProcTerminate id) bps targets orderly sound =
+    left_sound detach_after (process_named id) targets (λ n is. sound_change detached n targets (λ p there needs. absurd cc) sound) sound) sound
+commands_sound (ProcTerminate id) bps targets orderly sound =
     keeps (run_fault (ProcTerminate id) targets) (run_left (ProcTerminate id) bps targets) targets (λ free.
-    left_sound end_after (process_named id) targets (λ n is. sound_end ended n targets orderly sound) sound) sound
-commands_sound changes ended starts (TraceRun id count) bps targets orderly sound =
+    left_sound end_after (process_named id) targets (λ n is. sound_end n targets orderly sound) sound) sound
+commands_sound (TraceRun id count) bps targets orderly sound =
     let rows = targets.processes in
     keeps (run_fault (TraceRun id count) targets) (run_left (TraceRun id count) bps targets) targets (λ free.
     left_sound (trace_after bps (unsigned_abs count)) (thread_named id) targets (λ n is.
-    trace_at changes ended bps n (unsigned_abs count) targets (process_of n rows) refl (λ p there.
+    trace_at bps n (unsigned_abs count) targets (process_of n rows) refl (λ p there.
     stands_attached rows (thread_named id) n p sound (trace_stands id count rows free) is there) orderly sound) sound) sound
-commands_sound changes ended starts command bps targets orderly sound =
+commands_sound command bps targets orderly sound =
     keeps (run_fault command targets) targets targets (λ free. sound) sound

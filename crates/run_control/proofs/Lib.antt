@@ -9,3 +9,4 @@ pub mod Soundness
 pub mod Commanded
 pub mod Touched
 pub mod Orderly
+pub mod TheLaws

@@ -10,7 +10,6 @@ use Rattle.tcf_values.specs.declared.ids.ContextId.{ContextId}
 use Rattle.tcf_values.specs.declared.values.BpProps.{BpProps}
 use Rattle.target_contexts.specs.Changes.{targets_by, with_change}
 use Rattle.target_contexts.specs.Images.{image_of}
-use Rattle.target_contexts.specs.Laws.{ChangesOne, EndStaysOrderly, StartStaysOrderly}
 use Rattle.target_contexts.specs.Live.{IsOrderly, process_of}
 use Rattle.target_contexts.specs.Named.{number_named, thread_named}
 use Rattle.target_contexts.specs.Starting.{new_process, refusal_for, suspended_text, with_started}
@@ -30,6 +29,7 @@ use Rattle.run_control.specs.Ticking.{running_number, tick_after, tick_fate, tic
 use Rattle.run_control.specs.Tracing.{Trace, trace_after, trace_fate, trace_of, traced_at}
 use Rattle.run_control.specs.declared.executing.Fate.{Fate}
 use Rattle.run_control.specs.declared.executing.Fate.TheVariants.{Ends, Lives}
+use Rattle.target_contexts.proofs.TheLaws.{end_stays_orderly, start_stays_orderly}
 use Rattle.run_control.proofs.Changed.{orderly_change}
 
 abbrev pub AreOrderly : TargetsValue → Type 0
@@ -37,24 +37,24 @@ AreOrderly targets = IsOrderly targets.processes targets.next
 
 -- ---- an end, and what becomes of a process
 
-end_orderly : EndStaysOrderly → (n : ℕ) (targets : TargetsValue) → AreOrderly targets → AreOrderly (end_after n targets)
-end_orderly ended n targets orderly = ended targets.processes targets.next n orderly
+end_orderly : (n : ℕ) (targets : TargetsValue) → AreOrderly targets → AreOrderly (end_after n targets)
+end_orderly n targets orderly = end_stays_orderly targets.processes targets.next n orderly
 
-settled_orderly : ChangesOne → EndStaysOrderly → (n : ℕ) (fate : Fate) (targets : TargetsValue) → AreOrderly targets → AreOrderly (settled n fate targets)
-settled_orderly changes ended n (Ends code) targets orderly = end_orderly ended n targets orderly
-settled_orderly changes ended n (Lives state) targets orderly = orderly_change changes (with_state state) n targets orderly
+settled_orderly : (n : ℕ) (fate : Fate) (targets : TargetsValue) → AreOrderly targets → AreOrderly (settled n fate targets)
+settled_orderly n (Ends code) targets orderly = end_orderly n targets orderly
+settled_orderly n (Lives state) targets orderly = orderly_change (with_state state) n targets orderly
 
-ticked_orderly : ChangesOne → EndStaysOrderly → (bps : List (ℕ × BpProps)) (n : ℕ) (found : Option Process) (targets : TargetsValue) → AreOrderly targets → AreOrderly (ticked_at bps n found targets)
-ticked_orderly changes ended bps n None targets orderly = orderly
-ticked_orderly changes ended bps n (Some process) targets orderly =
-    settled_orderly changes ended n (tick_fate bps n process) (with_change stepped n targets) (orderly_change changes stepped n targets orderly)
+ticked_orderly : (bps : List (ℕ × BpProps)) (n : ℕ) (found : Option Process) (targets : TargetsValue) → AreOrderly targets → AreOrderly (ticked_at bps n found targets)
+ticked_orderly bps n None targets orderly = orderly
+ticked_orderly bps n (Some process) targets orderly =
+    settled_orderly n (tick_fate bps n process) (with_change stepped n targets) (orderly_change stepped n targets orderly)
 
-trace_orderly : ChangesOne → EndStaysOrderly → (bps : List (ℕ × BpProps)) (n count : ℕ) (found : Option Process) (targets : TargetsValue) → AreOrderly targets → AreOrderly (traced_at bps n count found targets)
-trace_orderly changes ended bps n count None targets orderly = orderly
-trace_orderly changes ended bps n count (Some process) targets orderly =
+trace_orderly : (bps : List (ℕ × BpProps)) (n count : ℕ) (found : Option Process) (targets : TargetsValue) → AreOrderly targets → AreOrderly (traced_at bps n count found targets)
+trace_orderly bps n count None targets orderly = orderly
+trace_orderly bps n count (Some process) targets orderly =
     let trace : Trace = trace_of bps n count process in
     let change = λ (q : Process). trace.process in
-    settled_orderly changes ended n (trace_fate process trace) (with_change change n targets) (orderly_change changes change n targets orderly)
+    settled_orderly n (trace_fate process trace) (with_change change n targets) (orderly_change change n targets orderly)
 
 -- ---- a start that isn't refused
 
@@ -68,13 +68,13 @@ room_by false true used free = absurd cc
 room_by false false true free = absurd cc
 room_by false false false free = (refl, refl)
 
-start_orderly : StartStaysOrderly → (attach : Bool) (targets : TargetsValue) (image : Option Image) → refusal_for image (length targets.processes) targets.next ≡ None → AreOrderly targets → AreOrderly (with_started attach targets image)
-start_orderly starts attach targets None free orderly = orderly
-start_orderly starts attach targets (Some image) free orderly =
+start_orderly : (attach : Bool) (targets : TargetsValue) (image : Option Image) → refusal_for image (length targets.processes) targets.next ≡ None → AreOrderly targets → AreOrderly (with_started attach targets image)
+start_orderly attach targets None free orderly = orderly
+start_orderly attach targets (Some image) free orderly =
     let room = room_by (nat_le 64 (length targets.processes)) (nat_lt 65536 (length image.bytes)) (nat_lt 4294967295 targets.next) free in
     let few : length targets.processes < 64 = leb-false 64 (length targets.processes) room.0 in
     let small : targets.next < 2 ^ 32 = omega (arith, ltb-false 4294967295 targets.next room.1) in
-    starts targets.processes targets.next (new_process attach image) orderly few small
+    start_stays_orderly targets.processes targets.next (new_process attach image) orderly few small
 
 -- ---- each command, and each tick
 
@@ -86,32 +86,32 @@ left_orderly : (change : ℕ → TargetsValue → TargetsValue) (named : Option 
 left_orderly change None targets given orderly = orderly
 left_orderly change (Some n) targets given orderly = given n
 
-run_left_orderly : ChangesOne → StartStaysOrderly → EndStaysOrderly → (command : Command) (bps : List (ℕ × BpProps)) (targets : TargetsValue) → AreOrderly targets → run_fault command targets ≡ None → AreOrderly (run_left command bps targets)
-run_left_orderly changes starts ended (Resume id mode count) bps targets orderly free =
-    left_orderly (resume_after (left_by mode count)) (thread_named id) targets (λ n. orderly_change changes (with_state (Running (left_by mode count))) n targets orderly) orderly
-run_left_orderly changes starts ended (Suspend id) bps targets orderly free =
-    left_orderly suspend_after (thread_named id) targets (λ n. orderly_change changes (with_state (Suspended suspended_text [])) n targets orderly) orderly
-run_left_orderly changes starts ended (Terminate id) bps targets orderly free =
-    left_orderly end_after (number_named id) targets (λ n. end_orderly ended n targets orderly) orderly
-run_left_orderly changes starts ended (ProcStart directory file args environment attach) bps targets orderly free =
-    start_orderly starts attach targets (image_of file targets.images) (no_fault (refusal_for (image_of file targets.images) (length targets.processes) targets.next) free) orderly
-run_left_orderly changes starts ended (ProcAttach id) bps targets orderly free =
-    left_orderly attach_after (process_named id) targets (λ n. orderly_change changes attached n targets orderly) orderly
-run_left_orderly changes starts ended (ProcDetach id) bps targets orderly free =
-    left_orderly detach_after (process_named id) targets (λ n. orderly_change changes detached n targets orderly) orderly
-run_left_orderly changes starts ended (ProcTerminate id) bps targets orderly free =
-    left_orderly end_after (process_named id) targets (λ n. end_orderly ended n targets orderly) orderly
-run_left_orderly changes starts ended (TraceRun id count) bps targets orderly free =
-    left_orderly (trace_after bps (unsigned_abs count)) (thread_named id) targets (λ n. trace_orderly changes ended bps n (unsigned_abs count) (process_of n targets.processes) targets orderly) orderly
-run_left_orderly changes starts ended command bps targets orderly free = orderly
+run_left_orderly : (command : Command) (bps : List (ℕ × BpProps)) (targets : TargetsValue) → AreOrderly targets → run_fault command targets ≡ None → AreOrderly (run_left command bps targets)
+run_left_orderly (Resume id mode count) bps targets orderly free =
+    left_orderly (resume_after (left_by mode count)) (thread_named id) targets (λ n. orderly_change (with_state (Running (left_by mode count))) n targets orderly) orderly
+run_left_orderly (Suspend id) bps targets orderly free =
+    left_orderly suspend_after (thread_named id) targets (λ n. orderly_change (with_state (Suspended suspended_text [])) n targets orderly) orderly
+run_left_orderly (Terminate id) bps targets orderly free =
+    left_orderly end_after (number_named id) targets (λ n. end_orderly n targets orderly) orderly
+run_left_orderly (ProcStart directory file args environment attach) bps targets orderly free =
+    start_orderly attach targets (image_of file targets.images) (no_fault (refusal_for (image_of file targets.images) (length targets.processes) targets.next) free) orderly
+run_left_orderly (ProcAttach id) bps targets orderly free =
+    left_orderly attach_after (process_named id) targets (λ n. orderly_change attached n targets orderly) orderly
+run_left_orderly (ProcDetach id) bps targets orderly free =
+    left_orderly detach_after (process_named id) targets (λ n. orderly_change detached n targets orderly) orderly
+run_left_orderly (ProcTerminate id) bps targets orderly free =
+    left_orderly end_after (process_named id) targets (λ n. end_orderly n targets orderly) orderly
+run_left_orderly (TraceRun id count) bps targets orderly free =
+    left_orderly (trace_after bps (unsigned_abs count)) (thread_named id) targets (λ n. trace_orderly bps n (unsigned_abs count) (process_of n targets.processes) targets orderly) orderly
+run_left_orderly command bps targets orderly free = orderly
 
-pub run_orderly : ChangesOne → StartStaysOrderly → EndStaysOrderly → (command : Command) (bps : List (ℕ × BpProps)) (targets : TargetsValue) → AreOrderly targets → AreOrderly (run_after command bps targets)
-run_orderly changes starts ended command bps targets orderly =
-    kept_by (run_fault command targets) (run_left command bps targets) targets (run_left_orderly changes starts ended command bps targets orderly) orderly
+pub run_orderly : (command : Command) (bps : List (ℕ × BpProps)) (targets : TargetsValue) → AreOrderly targets → AreOrderly (run_after command bps targets)
+run_orderly command bps targets orderly =
+    kept_by (run_fault command targets) (run_left command bps targets) targets (run_left_orderly command bps targets orderly) orderly
 
-tick_named : ChangesOne → EndStaysOrderly → (bps : List (ℕ × BpProps)) (number : Option ℕ) (targets : TargetsValue) → AreOrderly targets → AreOrderly (option_map_or (λ n. ticked bps n targets) number targets)
-tick_named changes ended bps None targets orderly = orderly
-tick_named changes ended bps (Some number) targets orderly = ticked_orderly changes ended bps number (process_of number targets.processes) targets orderly
+tick_named : (bps : List (ℕ × BpProps)) (number : Option ℕ) (targets : TargetsValue) → AreOrderly targets → AreOrderly (option_map_or (λ n. ticked bps n targets) number targets)
+tick_named bps None targets orderly = orderly
+tick_named bps (Some number) targets orderly = ticked_orderly bps number (process_of number targets.processes) targets orderly
 
-pub tick_orderly : ChangesOne → EndStaysOrderly → (thread : ContextId) (bps : List (ℕ × BpProps)) (targets : TargetsValue) → AreOrderly targets → AreOrderly (tick_after bps thread targets)
-tick_orderly changes ended thread bps targets orderly = tick_named changes ended bps (running_number thread targets.processes) targets orderly
+pub tick_orderly : (thread : ContextId) (bps : List (ℕ × BpProps)) (targets : TargetsValue) → AreOrderly targets → AreOrderly (tick_after bps thread targets)
+tick_orderly thread bps targets orderly = tick_named bps (running_number thread targets.processes) targets orderly

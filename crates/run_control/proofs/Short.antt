@@ -13,7 +13,7 @@ use Rattle.breakpoints.specs.Status.{hits_of, is_hit}
 use Rattle.target_contexts.specs.Changes.{targets_by, with_change}
 use Rattle.target_contexts.specs.Live.{process_of}
 use Rattle.target_contexts.specs.Named.{number_named, thread_named}
-use Rattle.target_contexts.specs.Short.{AllShort, AreShort, ChangeStaysShort, EndStaysShort, FoundIsShort, IsShort, IsShortState, StartStaysShort}
+use Rattle.target_contexts.specs.Short.{AllShort, AreShort, IsShort, IsShortState}
 use Rattle.target_contexts.specs.Starting.{suspended_text}
 use Rattle.target_contexts.specs.TargetsValue.{TargetsValue}
 use Rattle.target_contexts.specs.declared.process.Process.{Process}
@@ -32,13 +32,7 @@ use Rattle.run_control.specs.declared.executing.Executed.{Executed}
 use Rattle.run_control.specs.declared.executing.Executed.TheVariants.{Plain, Hit, Exit, Exception}
 use Rattle.run_control.specs.declared.executing.Fate.{Fate}
 use Rattle.run_control.specs.declared.executing.Fate.TheVariants.{Ends, Lives}
-
--- the laws of the processes
-pub record Laws : Type 0 where
-  pub found : FoundIsShort
-  pub start : StartStaysShort
-  pub change : ChangeStaysShort
-  pub end : EndStaysShort
+use Rattle.target_contexts.proofs.TheLaws.{change_stays_short, end_stays_short, found_is_short, start_stays_short}
 
 -- ---- what a thread hits
 
@@ -116,9 +110,9 @@ fate_short plain attached Exception short end = exception_short attached _
 state_short : (state : ThreadState) (process : Process) → IsShortState state → IsShort process → IsShort (with_state state process)
 state_short state process short is = record { name = is.name; state = short }
 
-settled_short : Laws → (number : ℕ) (fate : Fate) (targets : TargetsValue) → IsShortFate fate → AllShort targets.processes → AllShort (settled number fate targets).processes
-settled_short laws number (Ends code) targets short all = laws.end targets.processes number all
-settled_short laws number (Lives state) targets short all = laws.change (with_state state) number targets (λ process is. state_short state process short is) all
+settled_short : (number : ℕ) (fate : Fate) (targets : TargetsValue) → IsShortFate fate → AllShort targets.processes → AllShort (settled number fate targets).processes
+settled_short number (Ends code) targets short all = end_stays_short targets.processes number all
+settled_short number (Lives state) targets short all = change_stays_short (with_state state) number targets (λ process is. state_short state process short is) all
 
 -- ---- a tick
 
@@ -148,24 +142,24 @@ stepped_short (goes_on cpu memory) process is = record { name = is.name; state =
 stepped_short (ends code) process is = is
 stepped_short excepts process is = is
 
-tick_at_short : Laws → (bps : List (ℕ × BpProps)) (number : ℕ) (found : Option Process) (targets : TargetsValue) → AreShort (ids_of bps) → ((process : Process) → found ≡ Some process → IsShort process)
+tick_at_short : (bps : List (ℕ × BpProps)) (number : ℕ) (found : Option Process) (targets : TargetsValue) → AreShort (ids_of bps) → ((process : Process) → found ≡ Some process → IsShort process)
     → AllShort targets.processes → AllShort (ticked_at bps number found targets).processes
-tick_at_short laws bps number None targets ids each all = all
-tick_at_short laws bps number (Some process) targets ids each all =
+tick_at_short bps number None targets ids each all = all
+tick_at_short bps number (Some process) targets ids each all =
     let step = machine process.cpu process.memory in
-    settled_short laws number (tick_fate bps number process) (with_change stepped number targets)
+    settled_short number (tick_fate bps number process) (with_change stepped number targets)
     (fate_short (counted process.state) process.attached (executed_by bps number process step) (counted_short process.state (each process refl).state)
     (executed_short bps number process step ids))
-    (laws.change stepped number targets (λ p is. stepped_short (machine p.cpu p.memory) p is) all)
+    (change_stays_short stepped number targets (λ p is. stepped_short (machine p.cpu p.memory) p is) all)
 
-tick_short : Laws → (bps : List (ℕ × BpProps)) (number : Option ℕ) (targets : TargetsValue) → AreShort (ids_of bps) → AllShort targets.processes
+tick_short : (bps : List (ℕ × BpProps)) (number : Option ℕ) (targets : TargetsValue) → AreShort (ids_of bps) → AllShort targets.processes
     → AllShort (option_map_or (λ n. ticked bps n targets) number targets).processes
-tick_short laws bps None targets ids all = all
-tick_short laws bps (Some number) targets ids all =
-    tick_at_short laws bps number (process_of number targets.processes) targets ids (λ process there. laws.found targets.processes number process all there) all
+tick_short bps None targets ids all = all
+tick_short bps (Some number) targets ids all =
+    tick_at_short bps number (process_of number targets.processes) targets ids (λ process there. found_is_short targets.processes number process all there) all
 
-pub ticks_short : Laws → TicksKeepShort
-ticks_short laws thread bps targets ids all = tick_short laws bps (running_number thread targets.processes) targets ids all
+pub ticks_short : TicksKeepShort
+ticks_short thread bps targets ids all = tick_short bps (running_number thread targets.processes) targets ids all
 
 -- ---- a trace
 
@@ -213,17 +207,17 @@ stop_short (hit ∷ hits) all last short = short
 stop_short [] true last short = tt
 stop_short [] false last short = halt_short (machine last.cpu last.memory)
 
-traced_short : Laws → (bps : List (ℕ × BpProps)) (number count : ℕ) (found : Option Process) (targets : TargetsValue) → AreShort (ids_of bps) → ((process : Process) → found ≡ Some process → IsShort process)
+traced_short : (bps : List (ℕ × BpProps)) (number count : ℕ) (found : Option Process) (targets : TargetsValue) → AreShort (ids_of bps) → ((process : Process) → found ≡ Some process → IsShort process)
     → AllShort targets.processes → AllShort (traced_at bps number count found targets).processes
-traced_short laws bps number count None targets ids each all = all
-traced_short laws bps number count (Some process) targets ids each all =
+traced_short bps number count None targets ids each all = all
+traced_short bps number count (Some process) targets ids each all =
     let is = each process refl in
     let states = states_of bps number count process in
     let trace : Trace = trace_of bps number count process in
     let last : IsShort trace.process = last_short process states is (up_to_short bps number (run_from count process) (run_short count process is)) in
-    settled_short laws number (trace_fate process trace) (with_change (λ _. trace.process) number targets)
+    settled_short number (trace_fate process trace) (with_change (λ _. trace.process) number targets)
     (fate_short (Suspended step_text []) process.attached trace.stop step_short (stop_short (last_hits bps number process states) (length states == count) (last_of process states) (last_hits_short bps number process states ids)))
-    (laws.change (λ _. trace.process) number targets (λ p short. last) all)
+    (change_stays_short (λ _. trace.process) number targets (λ p short. last) all)
 
 -- ---- each command
 
@@ -236,25 +230,25 @@ left_short : (change : ℕ → TargetsValue → TargetsValue) (named : Option �
 left_short change None targets given all = all
 left_short change (Some n) targets given all = given n
 
-state_left : Laws → (state : ThreadState) (n : ℕ) (targets : TargetsValue) → IsShortState state → AllShort targets.processes → AllShort (with_change (with_state state) n targets).processes
-state_left laws state n targets short all = laws.change (with_state state) n targets (λ process is. state_short state process short is) all
+state_left : (state : ThreadState) (n : ℕ) (targets : TargetsValue) → IsShortState state → AllShort targets.processes → AllShort (with_change (with_state state) n targets).processes
+state_left state n targets short all = change_stays_short (with_state state) n targets (λ process is. state_short state process short is) all
 
-run_left_short : Laws → (command : Command) (bps : List (ℕ × BpProps)) (targets : TargetsValue) → AreShort (ids_of bps) → AllShort targets.processes → AllShort (run_left command bps targets).processes
-run_left_short laws (Resume id mode count) bps targets ids all =
-    left_short (resume_after (left_by mode count)) (thread_named id) targets (λ n. state_left laws (Running (left_by mode count)) n targets tt all) all
-run_left_short laws (Suspend id) bps targets ids all =
-    left_short suspend_after (thread_named id) targets (λ n. state_left laws (Suspended suspended_text []) n targets suspended_short all) all
-run_left_short laws (Terminate id) bps targets ids all = left_short end_after (number_named id) targets (λ n. laws.end targets.processes n all) all
-run_left_short laws (ProcStart directory file args environment attach) bps targets ids all = laws.start file attach targets all
-run_left_short laws (ProcAttach id) bps targets ids all =
-    left_short attach_after (process_named id) targets (λ n. laws.change attached n targets (λ process is. record { name = is.name; state = suspended_short }) all) all
-run_left_short laws (ProcDetach id) bps targets ids all =
-    left_short detach_after (process_named id) targets (λ n. laws.change detached n targets (λ process is. record { name = is.name; state = tt }) all) all
-run_left_short laws (ProcTerminate id) bps targets ids all = left_short end_after (process_named id) targets (λ n. laws.end targets.processes n all) all
-run_left_short laws (TraceRun id count) bps targets ids all =
+run_left_short : (command : Command) (bps : List (ℕ × BpProps)) (targets : TargetsValue) → AreShort (ids_of bps) → AllShort targets.processes → AllShort (run_left command bps targets).processes
+run_left_short (Resume id mode count) bps targets ids all =
+    left_short (resume_after (left_by mode count)) (thread_named id) targets (λ n. state_left (Running (left_by mode count)) n targets tt all) all
+run_left_short (Suspend id) bps targets ids all =
+    left_short suspend_after (thread_named id) targets (λ n. state_left (Suspended suspended_text []) n targets suspended_short all) all
+run_left_short (Terminate id) bps targets ids all = left_short end_after (number_named id) targets (λ n. end_stays_short targets.processes n all) all
+run_left_short (ProcStart directory file args environment attach) bps targets ids all = start_stays_short file attach targets all
+run_left_short (ProcAttach id) bps targets ids all =
+    left_short attach_after (process_named id) targets (λ n. change_stays_short attached n targets (λ process is. record { name = is.name; state = suspended_short }) all) all
+run_left_short (ProcDetach id) bps targets ids all =
+    left_short detach_after (process_named id) targets (λ n. change_stays_short detached n targets (λ process is. record { name = is.name; state = tt }) all) all
+run_left_short (ProcTerminate id) bps targets ids all = left_short end_after (process_named id) targets (λ n. end_stays_short targets.processes n all) all
+run_left_short (TraceRun id count) bps targets ids all =
     left_short (trace_after bps (unsigned_abs count)) (thread_named id) targets
-    (λ n. traced_short laws bps n (unsigned_abs count) (process_of n targets.processes) targets ids (λ process there. laws.found targets.processes n process all there) all) all
-run_left_short laws command bps targets ids all = all
+    (λ n. traced_short bps n (unsigned_abs count) (process_of n targets.processes) targets ids (λ process there. found_is_short targets.processes n process all there) all) all
+run_left_short command bps targets ids all = all
 
-pub commands_short : Laws → CommandsKeepShort
-commands_short laws command bps targets ids all = kept_by (run_fault command targets) (run_left command bps targets) targets (run_left_short laws command bps targets ids all) all
+pub commands_short : CommandsKeepShort
+commands_short command bps targets ids all = kept_by (run_fault command targets) (run_left command bps targets) targets (run_left_short command bps targets ids all) all

@@ -4,7 +4,6 @@ use Rattle.tcf_values.specs.declared.values.BpProps.{BpProps}
 use Rattle.rv32i_core.specs.Machine.{Step, goes_on, ends, excepts, machine}
 use Rattle.breakpoints.specs.Status.{hits_of}
 use Rattle.target_contexts.specs.Changes.{with_change}
-use Rattle.target_contexts.specs.Laws.{ChangesOne, EndsOne}
 use Rattle.target_contexts.specs.Live.{IsOrderly, process_of, without}
 use Rattle.target_contexts.specs.TargetsValue.{TargetsValue}
 use Rattle.target_contexts.specs.declared.process.Process.{Process}
@@ -20,6 +19,7 @@ use Rattle.run_control.specs.declared.executing.Executed.{Executed}
 use Rattle.run_control.specs.declared.executing.Executed.TheVariants.{Plain, Hit, Exit, Exception}
 use Rattle.run_control.specs.declared.executing.Fate.{Fate}
 use Rattle.run_control.specs.declared.executing.Fate.TheVariants.{Ends, Lives}
+use Rattle.target_contexts.proofs.TheLaws.{ends_one}
 use Rattle.run_control.proofs.Changed.{changed_process, live_found, orderly_change, others_stay, same_or_other}
 use Rattle.run_control.proofs.Steps.{hit_hits, hit_some}
 
@@ -31,18 +31,18 @@ changed_sound change (Some p) process keeps there =
     let same : change p ≡ process = cc in subst IsSound same (keeps p refl)
 
 -- where the changed process is sound, all are
-pub sound_change : ChangesOne → (change : Process → Process) (n : ℕ) (targets : TargetsValue) → ((p : Process) → process_of n targets.processes ≡ Some p → IsSound (change p)) → AreSound targets.processes → AreSound (with_change change n targets).processes
-sound_change law change n targets keeps sound other process there =
+pub sound_change : (change : Process → Process) (n : ℕ) (targets : TargetsValue) → ((p : Process) → process_of n targets.processes ≡ Some p → IsSound (change p)) → AreSound targets.processes → AreSound (with_change change n targets).processes
+sound_change change n targets keeps sound other process there =
     elim (same_or_other other n) [
       | inl same ↦ changed_sound change (process_of n targets.processes) process keeps
-          (sym (changed_process law change n targets) ∙ ap (λ (m : ℕ). process_of m (with_change change n targets).processes) (sym same) ∙ there)
-      | inr differ ↦ sound other process (sym (others_stay law change n other targets differ) ∙ there)
+          (sym (changed_process change n targets) ∙ ap (λ (m : ℕ). process_of m (with_change change n targets).processes) (sym same) ∙ there)
+      | inr differ ↦ sound other process (sym (others_stay change n other targets differ) ∙ there)
     ]
 
 -- the others stay sound
-pub sound_end : EndsOne → (n : ℕ) (targets : TargetsValue) → IsOrderly targets.processes targets.next → AreSound targets.processes → AreSound (end_after n targets).processes
-sound_end law n targets orderly sound other process there =
-    let ended = law targets.processes targets.next n orderly in
+pub sound_end : (n : ℕ) (targets : TargetsValue) → IsOrderly targets.processes targets.next → AreSound targets.processes → AreSound (end_after n targets).processes
+sound_end n targets orderly sound other process there =
+    let ended = ends_one targets.processes targets.next n orderly in
     elim (same_or_other other n) [
       | inl same ↦ absurd (ended.0 (live_found n (without n targets.processes) process (ap (λ (m : ℕ). process_of m (without n targets.processes)) (sym same) ∙ there)))
       | inr differ ↦ sound other process (sym (ended.1 other differ) ∙ there)
@@ -93,9 +93,9 @@ step_sound process sound needs =
     stepped_attached step process ∙ sound (sym (ap needs_debugger (stepped_state step process)) ∙ needs)
 
 -- what becomes of a process leaves all sound
-pub sound_settled : ChangesOne → EndsOne → (number : ℕ) (fate : Fate) (targets : TargetsValue) → IsOrderly targets.processes targets.next → ((p : Process) → process_of number targets.processes ≡ Some p → FateSound fate p.attached) → AreSound targets.processes → AreSound (settled number fate targets).processes
-sound_settled changes ended number (Ends code) targets orderly fits sound = sound_end ended number targets orderly sound
-sound_settled changes ended number (Lives state) targets orderly fits sound = sound_change changes (with_state state) number targets fits sound
+pub sound_settled : (number : ℕ) (fate : Fate) (targets : TargetsValue) → IsOrderly targets.processes targets.next → ((p : Process) → process_of number targets.processes ≡ Some p → FateSound fate p.attached) → AreSound targets.processes → AreSound (settled number fate targets).processes
+sound_settled number (Ends code) targets orderly fits sound = sound_end number targets orderly sound
+sound_settled number (Lives state) targets orderly fits sound = sound_change (with_state state) number targets fits sound
 
 -- ---- a tick
 
@@ -114,17 +114,17 @@ tick_fate_sound bps number process sound =
 some_same : (p q : Process) (found : Option Process) → found ≡ Some p → option_map stepped (Some q) ≡ found → p ≡ stepped q
 some_same p q found there is = cc
 
-tick_at : ChangesOne → EndsOne → (bps : List (ℕ × BpProps)) (number : ℕ) (targets : TargetsValue) (found : Option Process) → process_of number targets.processes ≡ found → IsOrderly targets.processes targets.next → AreSound targets.processes → AreSound (ticked_at bps number found targets).processes
-tick_at changes ended bps number targets None there orderly sound = sound
-tick_at changes ended bps number targets (Some process) there orderly sound =
+tick_at : (bps : List (ℕ × BpProps)) (number : ℕ) (targets : TargetsValue) (found : Option Process) → process_of number targets.processes ≡ found → IsOrderly targets.processes targets.next → AreSound targets.processes → AreSound (ticked_at bps number found targets).processes
+tick_at bps number targets None there orderly sound = sound
+tick_at bps number targets (Some process) there orderly sound =
     let mine : IsSound process = sound number process there in
     let after : TargetsValue = with_change stepped number targets in
-    sound_settled changes ended number (tick_fate bps number process) after (orderly_change changes stepped number targets orderly)
+    sound_settled number (tick_fate bps number process) after (orderly_change stepped number targets orderly)
     (λ p found. subst (FateSound (tick_fate bps number process))
-    (sym (ap (λ (q : Process). q.attached) (some_same p process (process_of number after.processes) found (ap (option_map stepped) (sym there) ∙ sym (changed_process changes stepped number targets)))
+    (sym (ap (λ (q : Process). q.attached) (some_same p process (process_of number after.processes) found (ap (option_map stepped) (sym there) ∙ sym (changed_process stepped number targets)))
     ∙ stepped_attached (machine process.cpu process.memory) process))
     (tick_fate_sound bps number process mine))
-    (sound_change changes stepped number targets (λ p found. step_sound p (sound number p found)) sound)
+    (sound_change stepped number targets (λ p found. step_sound p (sound number p found)) sound)
 
-pub ticked_sound : ChangesOne → EndsOne → (bps : List (ℕ × BpProps)) (number : ℕ) (targets : TargetsValue) → IsOrderly targets.processes targets.next → AreSound targets.processes → AreSound (ticked bps number targets).processes
-ticked_sound changes ended bps number targets orderly sound = tick_at changes ended bps number targets (process_of number targets.processes) refl orderly sound
+pub ticked_sound : (bps : List (ℕ × BpProps)) (number : ℕ) (targets : TargetsValue) → IsOrderly targets.processes targets.next → AreSound targets.processes → AreSound (ticked bps number targets).processes
+ticked_sound bps number targets orderly sound = tick_at bps number targets (process_of number targets.processes) refl orderly sound

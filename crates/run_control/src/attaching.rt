@@ -28,7 +28,8 @@ pub(crate) fn start(
     file: &Text,
     attach: bool,
 ) -> Result<Effect, Refusal>
-    ensures effect { IfOk result (λ effect. effect ≡ tells (start_events bps.now targets.old.next targets.new) (process_answer (Some targets.old.next) targets.new.processes)) }
+    ensures effect { IfOk result (λ effect. effect
+        ≡ tells (start_events bps.now targets.old.next targets.new) (process_answer (Some targets.old.next) targets.new.processes)) }
     ensures free { OnOk result (start_fault file.now targets.old ≡ None) }
     ensures after { OnOk result (targets.new ≡ started file.now attach targets.old) }
     ensures refused { IfErr result (IsRefusalOf (start_fault file.now targets.old)) }
@@ -113,7 +114,8 @@ pub(crate) fn detach(
     bps: &Breakpoints,
     id: &Text,
 ) -> Result<Events, Refusal>
-    ensures events { IfOk result (λ events. events ≡ events_of (λ number. detach_events bps.now (is_suspended (process_there id.now targets.old.processes)) number targets.new) (process_named id.now)) }
+    ensures events { IfOk result (λ events. events
+        ≡ events_of (λ number. detach_events bps.now (is_suspended (process_there id.now targets.old.processes)) number targets.new) (process_named id.now)) }
     ensures free { OnOk result (detach_fault id.now targets.old.processes ≡ None) }
     ensures after { OnOk result (targets.new ≡ left_of detach_after (process_named id.now) targets.old) }
     ensures refused { IfErr result (IsRefusalOf (detach_fault id.now targets.old.processes)) }

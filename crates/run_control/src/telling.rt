@@ -134,7 +134,8 @@ pub(crate) fn tell_ended(
     events: &mut Events,
 ) -> Result<(), AllocError>
     requires { 0 < number }
-    ensures { OnOk result (events.new ≡ events.old ++ EventData.CtxRemoved (thread_id number ∷ process_id number ∷ []) ∷ EventData.Exited (process_id number) code ∷ []) }
+    ensures { OnOk result (events.new
+        ≡ events.old ++ EventData.CtxRemoved (thread_id number ∷ process_id number ∷ []) ∷ EventData.Exited (process_id number) code ∷ []) }
 {
     let mut list = Texts::new(alloc);
     list.push(thread_id(alloc, number)?)?;

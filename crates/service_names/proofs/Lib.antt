@@ -1,3 +1,4 @@
 pub mod EachCommand
 pub mod EachEvent
 pub mod Found
+pub mod TheLaws

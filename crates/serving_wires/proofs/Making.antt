@@ -1,5 +1,6 @@
 -- Calls that were made, one part behind the other.
 use Rattle.std.proofs.Common.{◌≡◌, ℕ, List, [], ◌∷◌, ◌++◌, Option, Some, None, refl, sym, ap, ◌∙◌, append-nil, append_assoc}
+use Rattle.tcf_wires.specs.Told.{WiresSeen}
 use Rattle.tcf_wires.specs.declared.call.WireCall.{WireCall}
 use Rattle.serving_wires.specs.Calls.{Makes, faults_by, faults_through, with_calls}
 
@@ -16,37 +17,43 @@ faults_both [] rest count = refl
 faults_both (call ∷ first) rest count = faults_both first rest (faults_by count call)
 
 -- nothing was called
-pub makes_none : (Fits : List WireCall → Type 0) (told : Option (List WireCall)) (faults : ℕ) → Fits [] → Makes Fits told told faults faults
-makes_none Fits told faults fits = record { calls = []; fits = fits; told = told_none told; faults = refl }
+pub makes_none : (Fits : List WireCall → Type 0) (seen : WiresSeen) → Fits [] → Makes Fits seen seen
+makes_none Fits seen fits = record { calls = []; fits = fits; told = told_none seen.told; faults = refl }
 
 -- nothing that is told was called, as where memory was wanting
-pub makes_nothing : (Fits : List WireCall → Type 0) (told_before told_after : Option (List WireCall)) (faults_before faults_after : ℕ)
-    → Fits [] → told_after ≡ told_before → faults_after ≡ faults_before → Makes Fits told_before told_after faults_before faults_after
-makes_nothing Fits told_before told_after faults_before faults_after fits told faults =
-    record { calls = []; fits = fits; told = told ∙ told_none told_before; faults = faults }
+pub makes_nothing : (Fits : List WireCall → Type 0) (seen_before seen_after : WiresSeen)
+    → Fits [] → seen_after.told ≡ seen_before.told → seen_after.faults ≡ seen_before.faults → Makes Fits seen_before seen_after
+makes_nothing Fits seen_before seen_after fits told faults =
+    record { calls = []; fits = fits; told = told ∙ told_none seen_before.told; faults = faults }
 
 -- one call
-pub makes_one : (Fits : List WireCall → Type 0) (call : WireCall) (told_before told_after : Option (List WireCall)) (faults_before faults_after : ℕ)
-    → Fits (call ∷ []) → told_after ≡ with_calls (call ∷ []) told_before → faults_after ≡ faults_by faults_before call
-    → Makes Fits told_before told_after faults_before faults_after
-makes_one Fits call told_before told_after faults_before faults_after fits told faults =
+pub makes_one : (Fits : List WireCall → Type 0) (call : WireCall) (seen_before seen_after : WiresSeen)
+    → Fits (call ∷ []) → seen_after.told ≡ with_calls (call ∷ []) seen_before.told → seen_after.faults ≡ faults_by seen_before.faults call
+    → Makes Fits seen_before seen_after
+makes_one Fits call seen_before seen_after fits told faults =
     record { calls = call ∷ []; fits = fits; told = told; faults = faults }
 
 -- calls, and others behind them
-pub makes_both : (First Rest Fits : List WireCall → Type 0) (told_before told_mid told_after : Option (List WireCall)) (faults_before faults_mid faults_after : ℕ)
+pub makes_both : (First Rest Fits : List WireCall → Type 0) (seen_before seen_mid seen_after : WiresSeen)
     → ((first rest : List WireCall) → First first → Rest rest → Fits (first ++ rest))
-    → Makes First told_before told_mid faults_before faults_mid → Makes Rest told_mid told_after faults_mid faults_after
-    → Makes Fits told_before told_after faults_before faults_after
-makes_both First Rest Fits told_before told_mid told_after faults_before faults_mid faults_after joined m n =
+    → Makes First seen_before seen_mid → Makes Rest seen_mid seen_after
+    → Makes Fits seen_before seen_after
+makes_both First Rest Fits seen_before seen_mid seen_after joined m n =
     record {
       calls = m.calls ++ n.calls;
       fits = joined m.calls n.calls m.fits n.fits;
-      told = n.told ∙ ap (λ (t : Option (List WireCall)). with_calls n.calls t) m.told ∙ told_both m.calls n.calls told_before;
-      faults = n.faults ∙ ap (λ (f : ℕ). faults_through n.calls f) m.faults ∙ faults_both m.calls n.calls faults_before;
+      told = n.told ∙ ap (λ (t : Option (List WireCall)). with_calls n.calls t) m.told ∙ told_both m.calls n.calls seen_before.told;
+      faults = n.faults ∙ ap (λ (f : ℕ). faults_through n.calls f) m.faults ∙ faults_both m.calls n.calls seen_before.faults;
     }
 
 -- the same calls, said otherwise
-pub makes_so : (First Fits : List WireCall → Type 0) (told_before told_after : Option (List WireCall)) (faults_before faults_after : ℕ)
-    → ((calls : List WireCall) → First calls → Fits calls) → Makes First told_before told_after faults_before faults_after → Makes Fits told_before told_after faults_before faults_after
-makes_so First Fits told_before told_after faults_before faults_after otherwise m =
+pub makes_so : (First Fits : List WireCall → Type 0) (seen_before seen_after : WiresSeen)
+    → ((calls : List WireCall) → First calls → Fits calls) → Makes First seen_before seen_after → Makes Fits seen_before seen_after
+makes_so First Fits seen_before seen_after otherwise m =
     record { calls = m.calls; fits = otherwise m.calls m.fits; told = m.told; faults = m.faults }
+
+-- what is seen is what is told and counted
+pub seen_same : (first other : WiresSeen) → first.told ≡ other.told → first.faults ≡ other.faults → first ≡ other
+seen_same first other told faults =
+    let one : Option (List WireCall) → ℕ → WiresSeen = λ t n. record { told = t; faults = n } in
+    ap (λ t. one t first.faults) told ∙ ap (λ n. one other.told n) faults

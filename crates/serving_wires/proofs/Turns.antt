@@ -1,11 +1,11 @@
 -- What is called in a turn, and what comes of a call that failed.
-use Rattle.std.proofs.Common.{◌≡◌, ℕ, ◌+◌, inl, Bool, true, List, [], ◌∷◌, ◌++◌, length, Option, refl, sym, ap, ◌∙◌, subst, arith, length-append}
+use Rattle.std.proofs.Common.{◌≡◌, ℕ, ◌+◌, inl, Bool, true, List, [], ◌∷◌, ◌++◌, length, refl, sym, ap, ◌∙◌, subst, arith, length-append}
 use Rattle.std.specs.Prelude.{Result, Ok, Err}
 use Rattle.std.proofs.lemmas.Bool.{false≢true}
 use Rattle.std.proofs.lemmas.Grind.{flat_map-append}
 use Rattle.tcf_outside.specs.Faults.{Rose}
 use Rattle.tcf_wires.specs.Event.{faults_after}
-use Rattle.tcf_wires.specs.Told.{noted}
+use Rattle.tcf_wires.specs.Told.{WiresSeen, noted}
 use Rattle.tcf_wires.specs.declared.call.WireCall.{WireCall}
 use Rattle.tcf_wires.specs.declared.call.WireCall.TheVariants.{Listened, Gave}
 use Rattle.tcf_wires.specs.declared.event.WireEvent.{WireEvent}
@@ -59,9 +59,9 @@ is_the_stop events.Stop is = refl
 abbrev pub IsGiven : WireEvent → List WireCall → Type 0
 IsGiven event calls = calls ≡ gave event ∷ []
 
-pub given_first : (event : WireEvent) (told told_mid : Option (List WireCall)) (faults faults_mid : ℕ) → told_mid ≡ noted (came_next event) (Gave (came_next event)) told
-    → faults_mid ≡ faults_after (came_next event) faults → Makes (IsGiven event) told told_mid faults faults_mid
-given_first event told told_mid faults faults_mid tells counts = makes_one (IsGiven event) (gave event) told told_mid faults faults_mid refl tells counts
+pub given_first : (event : WireEvent) (seen seen_mid : WiresSeen) → seen_mid.told ≡ noted (came_next event) (Gave (came_next event)) seen.told
+    → seen_mid.faults ≡ faults_after (came_next event) seen.faults → Makes (IsGiven event) seen seen_mid
+given_first event seen seen_mid tells counts = makes_one (IsGiven event) (gave event) seen seen_mid refl tells counts
 
 -- ---- no event
 
@@ -71,20 +71,20 @@ failed_next refusal = Err refusal
 abbrev pub failed : List WireCall
 failed = Gave (Err refusals.Failed) ∷ []
 
-pub not_given : (refusal : WireRefusal) (Turn : Result Bool WireRefusal → List WireCall → Type 0) (told told_then : Option (List WireCall)) (faults faults_then : ℕ)
-    → Turn (Err refusals.Failed) failed → Turn (Err refusals.NoMemory) [] → told_then ≡ noted (failed_next refusal) (Gave (failed_next refusal)) told
-    → faults_then ≡ faults_after (failed_next refusal) faults → Makes (Turn (Err refusal)) told told_then faults faults_then
-not_given refusals.Failed Turn told told_then faults faults_then fails wants tells counts =
-    makes_one (Turn (Err refusals.Failed)) (Gave (Err refusals.Failed)) told told_then faults faults_then fails tells counts
-not_given refusals.NoMemory Turn told told_then faults faults_then fails wants tells counts =
-    makes_nothing (Turn (Err refusals.NoMemory)) told told_then faults faults_then wants tells counts
+pub not_given : (refusal : WireRefusal) (Turn : Result Bool WireRefusal → List WireCall → Type 0) (seen seen_then : WiresSeen)
+    → Turn (Err refusals.Failed) failed → Turn (Err refusals.NoMemory) [] → seen_then.told ≡ noted (failed_next refusal) (Gave (failed_next refusal)) seen.told
+    → seen_then.faults ≡ faults_after (failed_next refusal) seen.faults → Makes (Turn (Err refusal)) seen seen_then
+not_given refusals.Failed Turn seen seen_then fails wants tells counts =
+    makes_one (Turn (Err refusals.Failed)) (Gave (Err refusals.Failed)) seen seen_then fails tells counts
+not_given refusals.NoMemory Turn seen seen_then fails wants tells counts =
+    makes_nothing (Turn (Err refusals.NoMemory)) seen seen_then wants tells counts
 
 pub turn_rose : (refusal : WireRefusal) (First : List WireCall → Type 0) (Turn : Result Bool WireRefusal → List WireCall → Type 0)
-    (told told_mid told_then : Option (List WireCall)) (faults faults_mid faults_then : ℕ) → ((calls : List WireCall) → Turn (Err refusals.Failed) calls → calls ≡ failed)
-    → Makes First told told_mid faults faults_mid → Makes (Turn (Err refusal)) told_mid told_then faults_mid faults_then → end_of (Err refusal) ≡ WireFault → Rose faults faults_then
-turn_rose refusals.Failed First Turn told told_mid told_then faults faults_mid faults_then fails first turn ends =
+    (seen seen_mid seen_then : WiresSeen) → ((calls : List WireCall) → Turn (Err refusals.Failed) calls → calls ≡ failed)
+    → Makes First seen seen_mid → Makes (Turn (Err refusal)) seen_mid seen_then → end_of (Err refusal) ≡ WireFault → Rose seen.faults seen_then.faults
+turn_rose refusals.Failed First Turn seen seen_mid seen_then fails first turn ends =
     let m = makes_both First (Turn (Err refusals.Failed)) (λ calls. (earlier : List WireCall) × (calls ≡ earlier ++ failed))
-    told told_mid told_then faults faults_mid faults_then (λ calls more r t. (calls, ap (λ (cs : List WireCall). calls ++ cs) (fails more t))) first turn in
-    subst (λ (n : ℕ). Rose faults n) (sym (m.faults ∙ ap (λ (cs : List WireCall). faults_through cs faults) m.fits.1))
-    (last_rises faults m.fits.0 (Gave (Err refusals.Failed)) (λ n. refl))
-turn_rose refusals.NoMemory First Turn told told_mid told_then faults faults_mid faults_then fails first turn ends = absurd cc
+    seen seen_mid seen_then (λ calls more r t. (calls, ap (λ (cs : List WireCall). calls ++ cs) (fails more t))) first turn in
+    subst (λ (n : ℕ). Rose seen.faults n) (sym (m.faults ∙ ap (λ (cs : List WireCall). faults_through cs seen.faults) m.fits.1))
+    (last_rises seen.faults m.fits.0 (Gave (Err refusals.Failed)) (λ n. refl))
+turn_rose refusals.NoMemory First Turn seen seen_mid seen_then fails first turn ends = absurd cc

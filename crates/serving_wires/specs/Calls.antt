@@ -2,6 +2,7 @@
 use Rattle.std.specs.Prelude.{ℕ, ◌≡◌, ◌==◌, Bool, false, List, [], ◌∷◌, ◌++◌, count_by, fold, length, nat_lt, Option, option_map, Ok, if◌then◌else◌}
 use Rattle.std.specs.List.{flat_map, list_any}
 use Rattle.tcf_wires.specs.Event.{faults_after, faults_after_put}
+use Rattle.tcf_wires.specs.Told.{WiresSeen}
 use Rattle.tcf_wires.specs.declared.call.WireCall.{WireCall}
 use Rattle.tcf_wires.specs.declared.call.WireCall.TheVariants.{Listened, Connected, Gave, Offered, Shut}
 use Rattle.tcf_wires.specs.declared.event.Put.TheVariants.{Took, Lost}
@@ -66,8 +67,8 @@ with_calls calls told = option_map (λ earlier. earlier ++ calls) told
 
 -- Calls were made that fit: they are what the wires tell more, where they tell their calls, and what made the count of
 -- faults rise.
-pub record Makes (Fits : List WireCall → Type 0) (told_before told_after : Option (List WireCall)) (faults_before faults_after : ℕ) : Type 0 where
+pub record Makes (Fits : List WireCall → Type 0) (before after : WiresSeen) : Type 0 where
   pub calls : List WireCall
   pub fits : Fits calls
-  pub told : told_after ≡ with_calls calls told_before
-  pub faults : faults_after ≡ faults_through calls faults_before
+  pub told : after.told ≡ with_calls calls before.told
+  pub faults : after.faults ≡ faults_through calls before.faults

@@ -1,3 +1,4 @@
+-- What a roster lends, and what it is after that.
 use Rattle.std.specs.Prelude.{ℕ, List, Option}
 use Rattle.std.specs.Borrow.{Fml, LendsIf, MutBor, RattleType}
 use Rattle.serving_wires.specs.Row.{Row}

@@ -1,3 +1,4 @@
+-- What waits to be put on a wire, as contracts see it.
 use Rattle.std.specs.Prelude.{ℕ, Bool, List}
 
 -- what is to be put on a wire

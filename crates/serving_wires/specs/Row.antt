@@ -1,3 +1,4 @@
+-- A row of a roster: what stands under the number of a channel.
 use Rattle.std.specs.Prelude.{ℕ}
 
 -- what is kept of a connection, under the number of its channel

@@ -18,8 +18,10 @@ pub trait OnWire: Drop {
     /// Puts what is queued, and shuts the wire where it is due.
     fn flush_wire<W: Wires>(&mut self, wires: &mut W) -> Result<(), AllocError>
         ensures kept { OnOk result (self.new ≡ has.with_outbox (has.outbox self.new) self.old) }
-        ensures ok { OnOk result (Makes (Flushes (has.outbox self.old) (has.outbox self.new)) (W.told wires.old) (W.told wires.new) (W.faults wires.old) (W.faults wires.new)) }
-        ensures err { OnErr result (Makes (IsGivenUp (has.outbox self.old)) (W.told wires.old) (W.told wires.new) (W.faults wires.old) (W.faults wires.new)) }
+        ensures ok { OnOk result (Makes (Flushes (has.outbox self.old) (has.outbox self.new))
+            (W.seen wires.old) (W.seen wires.new)) }
+        ensures err { OnErr result (Makes (IsGivenUp (has.outbox self.old))
+            (W.seen wires.old) (W.seen wires.new)) }
         ensures numbers { W.unused wires.new ≡ W.unused wires.old };
 
     /// Whether the wire was shut.
@@ -44,8 +46,9 @@ pub fn flush_rows<T: OnWire, W: Wires>(
     rows: &mut Roster<T>,
     wires: &mut W,
 ) -> Result<(), AllocError>
-    ensures ok { OnOk result (Makes (FlushesKept T.has rows.old rows.new) (W.told wires.old) (W.told wires.new) (W.faults wires.old) (W.faults wires.new)) }
-    ensures err { OnErr result (Makes (GivesUpAll T.has rows.old) (W.told wires.old) (W.told wires.new) (W.faults wires.old) (W.faults wires.new)) }
+    ensures ok { OnOk result (Makes (FlushesKept T.has rows.old rows.new)
+        (W.seen wires.old) (W.seen wires.new)) }
+    ensures err { OnErr result (Makes (GivesUpAll T.has rows.old) (W.seen wires.old) (W.seen wires.new)) }
     ensures numbers { W.unused wires.new ≡ W.unused wires.old }
 {
     flush_all(rows, wires)?;
@@ -55,8 +58,9 @@ pub fn flush_rows<T: OnWire, W: Wires>(
 
 /// Puts what is queued, and shuts where it is due.
 fn flush_all<T: OnWire, W: Wires>(rows: &mut Roster<T>, wires: &mut W) -> Result<(), AllocError>
-    ensures ok { OnOk result (Makes (FlushesAll T.has rows.old rows.new) (W.told wires.old) (W.told wires.new) (W.faults wires.old) (W.faults wires.new)) }
-    ensures err { OnErr result (Makes (GivesUpAll T.has rows.old) (W.told wires.old) (W.told wires.new) (W.faults wires.old) (W.faults wires.new)) }
+    ensures ok { OnOk result (Makes (FlushesAll T.has rows.old rows.new)
+        (W.seen wires.old) (W.seen wires.new)) }
+    ensures err { OnErr result (Makes (GivesUpAll T.has rows.old) (W.seen wires.old) (W.seen wires.new)) }
     ensures numbers { W.unused wires.new ≡ W.unused wires.old }
 {
     let count = rows.len();

@@ -104,8 +104,8 @@ impl Outbox {
     /// Puts all that is queued, if anything is, in one put; and shuts the wire once, where nothing more will be queued
     /// and nothing is left.
     pub fn flush<W: Wires>(&mut self, wires: &mut W) -> Result<(), AllocError>
-        ensures ok { OnOk result (Makes (Flushes self.old self.new) (W.told wires.old) (W.told wires.new) (W.faults wires.old) (W.faults wires.new)) }
-        ensures err { OnErr result (Makes (IsGivenUp self.old) (W.told wires.old) (W.told wires.new) (W.faults wires.old) (W.faults wires.new)) }
+        ensures ok { OnOk result (Makes (Flushes self.old self.new) (W.seen wires.old) (W.seen wires.new)) }
+        ensures err { OnErr result (Makes (IsGivenUp self.old) (W.seen wires.old) (W.seen wires.new)) }
         ensures numbers { W.unused wires.new ≡ W.unused wires.old }
     {
         self.put(wires)?;
@@ -114,9 +114,9 @@ impl Outbox {
 
     /// One put of all that is queued.
     fn put<W: Wires>(&mut self, wires: &mut W) -> Result<(), AllocError>
-        ensures ok { OnOk result (Makes (Puts self.old self.new) (W.told wires.old) (W.told wires.new) (W.faults wires.old) (W.faults wires.new)) }
-        ensures told { OnErr result (W.told wires.new ≡ W.told wires.old) }
-        ensures faults { OnErr result (W.faults wires.new ≡ W.faults wires.old) }
+        ensures ok { OnOk result (Makes (Puts self.old self.new) (W.seen wires.old) (W.seen wires.new)) }
+        ensures told { OnErr result ((W.seen wires.new).told ≡ (W.seen wires.old).told) }
+        ensures faults { OnErr result ((W.seen wires.new).faults ≡ (W.seen wires.old).faults) }
         ensures numbers { W.unused wires.new ≡ W.unused wires.old }
     {
         if self.left().is_empty() {
@@ -137,9 +137,9 @@ impl Outbox {
 
     /// Shuts the wire, if it is to be shut now.
     fn shut<W: Wires>(&mut self, wires: &mut W) -> Result<(), AllocError>
-        ensures ok { OnOk result (Makes (Shuts self.old self.new) (W.told wires.old) (W.told wires.new) (W.faults wires.old) (W.faults wires.new)) }
-        ensures told { OnErr result (W.told wires.new ≡ W.told wires.old) }
-        ensures faults { OnErr result (W.faults wires.new ≡ W.faults wires.old) }
+        ensures ok { OnOk result (Makes (Shuts self.old self.new) (W.seen wires.old) (W.seen wires.new)) }
+        ensures told { OnErr result ((W.seen wires.new).told ≡ (W.seen wires.old).told) }
+        ensures faults { OnErr result ((W.seen wires.new).faults ≡ (W.seen wires.old).faults) }
         ensures numbers { W.unused wires.new ≡ W.unused wires.old }
     {
         if self.is_due() {

@@ -11,3 +11,4 @@ pub mod Courses
 pub mod Onward
 pub mod Feds
 pub mod Parts
+pub mod TheLaws

@@ -3,3 +3,4 @@ pub mod Found
 pub mod Lookup
 pub mod Orderly
 pub mod Short
+pub mod TheLaws

@@ -1,3 +1,4 @@
+-- A process that is lent, and the targets after that.
 use Rattle.std.specs.Prelude.{ℕ, Option}
 use Rattle.std.specs.Borrow.{LendsIf, MutBor, Fml}
 use Rattle.target_contexts.specs.TargetsValue.{TargetsValue}

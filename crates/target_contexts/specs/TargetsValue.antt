@@ -1,3 +1,4 @@
+-- The processes of a target as contracts see them.
 use Rattle.std.specs.Prelude.{ℕ, List}
 use Rattle.target_contexts.specs.declared.process.Image.{Image}
 use Rattle.target_contexts.specs.declared.process.Process.{Process}

@@ -1,21 +1,17 @@
 -- What the target holds is bounded after every legal list of inputs.
-use Rattle.std.proofs.Common.{◌≡◌, List, [], ◌∷◌, ◌++◌, refl, sym, ◌∙◌, ap, subst, append_assoc}
+use Rattle.std.proofs.Common.{List, [], ◌∷◌, ◌++◌, sym, ◌∙◌, ap, subst, append_assoc}
 use Rattle.std.proofs.lemmas.List.{append-nil}
 use Rattle.target_contexts.specs.Short.{AllShort}
 use Rattle.target_contexts.specs.declared.process.Image.{Image}
 use Rattle.target_hub.specs.History.{IsLegal, input_after, inputs_after}
-use Rattle.target_hub.specs.HistoryLaws.{StaysBounded, StaysConsistent}
+use Rattle.target_hub.specs.HistoryLaws.{StaysBounded}
 use Rattle.target_hub.specs.HubValue.{new_target}
-use Rattle.target_hub.specs.Sendable.{CommandsKeepShort, IsBounded, TicksKeepShort}
+use Rattle.target_hub.specs.Sendable.{IsBounded}
 use Rattle.target_hub.specs.declared.input.Input.{Input}
 use Rattle.target_hub.specs.declared.input.Input.TheVariants.{Opened, Executed, Ticked, Closed}
 use Rattle.target_hub.specs.declared.target.Target.{Target}
-
--- what is needed of the laws
-pub record Laws : Type 0 where
-  pub consistent : StaysConsistent
-  pub commands : CommandsKeepShort
-  pub ticks : TicksKeepShort
+use Rattle.target_hub.proofs.Histories.{inputs_append, stays_consistent}
+use Rattle.target_hub.proofs.Sends.{commands_short, ticks_short}
 
 abbrev after : List Image → List Input → Target
 after images inputs = inputs_after inputs (new_target images)
@@ -25,30 +21,26 @@ pub front_legal : (images : List Image) (front rest : List Input) → IsLegal im
 front_legal images front rest legal before input more split =
     legal before input (more ++ rest) (ap (λ (inputs : List Input). inputs ++ rest) split ∙ append_assoc before (input ∷ more) rest)
 
-bounded_by : Laws → (images : List Image) (inputs : List Input) → IsLegal images inputs → AllShort (after images inputs).contexts.processes → IsBounded (after images inputs)
-bounded_by laws images inputs legal short =
-    let holds = laws.consistent images inputs legal in
+bounded_by : (images : List Image) (inputs : List Input) → IsLegal images inputs → AllShort (after images inputs).contexts.processes → IsBounded (after images inputs)
+bounded_by images inputs legal short =
+    let holds = stays_consistent images inputs legal in
     record { processes = short; orderly = holds.processes; listed = holds.breakpoints; properties = holds.properties }
 
-input_short : Laws → (input : Input) (target : Target) → IsBounded target → AllShort (input_after input target).contexts.processes
-input_short laws (Opened channel) target bounded = bounded.processes
-input_short laws (Executed channel reading service name) target bounded = laws.commands channel reading target bounded
-input_short laws (Ticked thread) target bounded = laws.ticks thread target bounded
-input_short laws (Closed channel) target bounded = bounded.processes
+input_short : (input : Input) (target : Target) → IsBounded target → AllShort (input_after input target).contexts.processes
+input_short (Opened channel) target bounded = bounded.processes
+input_short (Executed channel reading service name) target bounded = commands_short channel reading target bounded
+input_short (Ticked thread) target bounded = ticks_short thread target bounded
+input_short (Closed channel) target bounded = bounded.processes
 
-pub inputs_append : (xs ys : List Input) (target : Target) → inputs_after (xs ++ ys) target ≡ inputs_after ys (inputs_after xs target)
-inputs_append [] ys target = refl
-inputs_append (x ∷ xs) ys target = inputs_append xs ys (input_after x target)
-
-all_short : Laws → (images : List Image) (before rest : List Input) → IsLegal images (before ++ rest) → AllShort (after images before).contexts.processes → AllShort (after images (before ++ rest)).contexts.processes
-all_short laws images before [] legal short = subst (λ (inputs : List Input). AllShort (after images inputs).contexts.processes) (sym (append-nil before)) short
-all_short laws images before (input ∷ rest) legal short =
+all_short : (images : List Image) (before rest : List Input) → IsLegal images (before ++ rest) → AllShort (after images before).contexts.processes → AllShort (after images (before ++ rest)).contexts.processes
+all_short images before [] legal short = subst (λ (inputs : List Input). AllShort (after images inputs).contexts.processes) (sym (append-nil before)) short
+all_short images before (input ∷ rest) legal short =
     let together = append_assoc before (input ∷ []) rest in
-    let bounded = bounded_by laws images before (front_legal images before (input ∷ rest) legal) short in
+    let bounded = bounded_by images before (front_legal images before (input ∷ rest) legal) short in
     let next : AllShort (after images (before ++ input ∷ [])).contexts.processes =
-    subst (λ (target : Target). AllShort target.contexts.processes) (sym (inputs_append before (input ∷ []) (new_target images))) (input_short laws input (after images before) bounded) in
+    subst (λ (target : Target). AllShort target.contexts.processes) (sym (inputs_append before (input ∷ []) (new_target images))) (input_short input (after images before) bounded) in
     subst (λ (inputs : List Input). AllShort (after images inputs).contexts.processes) together
-    (all_short laws images (before ++ input ∷ []) rest (subst (IsLegal images) (sym together) legal) next)
+    (all_short images (before ++ input ∷ []) rest (subst (IsLegal images) (sym together) legal) next)
 
-pub stays_bounded : Laws → StaysBounded
-stays_bounded laws images inputs legal = bounded_by laws images inputs legal (all_short laws images [] inputs legal tt)
+pub stays_bounded : StaysBounded
+stays_bounded images inputs legal = bounded_by images inputs legal (all_short images [] inputs legal tt)

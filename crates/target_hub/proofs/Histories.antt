@@ -12,12 +12,12 @@ use Rattle.service_names.specs.declared.commands.CommandName.TheVariants as serv
 use Rattle.tcf_values.specs.declared.command.Command.{Command}
 use Rattle.tcf_values.specs.declared.values.BpProps.{BpProps}
 use Rattle.breakpoints.specs.Changes.{after}
-use Rattle.breakpoints.specs.Laws.{GoneOwnsNothing, StaysOrderly, Step, command, going, list_after_all}
+use Rattle.breakpoints.specs.Laws.{Step, command, going, list_after_all}
 use Rattle.breakpoints.specs.Rows.{IsOrderly as AreListed, others, owned_by}
 use Rattle.data_services.specs.Commands.{data_after}
-use Rattle.data_services.specs.Laws.{OrderStays, ThreadsStay, thread_part}
+use Rattle.data_services.specs.Laws.{thread_part}
 use Rattle.run_control.specs.Commands.{run_after}
-use Rattle.run_control.specs.Laws.{AreSound, CommandsKeepOrder, CommandsKeepSound, IsSound, TicksKeepOrder, TicksKeepSound, needs_debugger}
+use Rattle.run_control.specs.Laws.{AreSound, IsSound, needs_debugger}
 use Rattle.target_contexts.specs.Live.{IsOrderly, process_of}
 use Rattle.target_contexts.specs.TargetsValue.{TargetsValue}
 use Rattle.target_contexts.specs.declared.process.Image.{Image}
@@ -31,20 +31,15 @@ use Rattle.target_hub.specs.Limits.{AreReadable}
 use Rattle.target_hub.specs.declared.input.Input.{Input}
 use Rattle.target_hub.specs.declared.input.Input.TheVariants.{Opened, Executed, Ticked, Closed}
 use Rattle.target_hub.specs.declared.target.Target.{Target}
+use Rattle.breakpoints.proofs.TheLaws.{list_stays_orderly}
+use Rattle.data_services.proofs.TheLaws.{order_stays, threads_stay}
+use Rattle.run_control.proofs.TheLaws.{commands_keep_order, commands_keep_sound, ticks_keep_order, ticks_keep_sound}
 use Rattle.target_hub.proofs.Kept.{after_readable, others_readable}
 use Rattle.target_hub.proofs.Owned.{going_owns, gone_owns, list_append, silent_owns}
-use Rattle.target_hub.proofs.Bounded.{inputs_append}
 
--- the laws of the crates below
-pub record Laws : Type 0 where
-  pub listed : StaysOrderly
-  pub gone : GoneOwnsNothing
-  pub sound_commands : CommandsKeepSound
-  pub sound_ticks : TicksKeepSound
-  pub order_commands : CommandsKeepOrder
-  pub order_ticks : TicksKeepOrder
-  pub threads : ThreadsStay
-  pub order : OrderStays
+pub inputs_append : (xs ys : List Input) (target : Target) → inputs_after (xs ++ ys) target ≡ inputs_after ys (inputs_after xs target)
+inputs_append [] ys target = refl
+inputs_append (x ∷ xs) ys target = inputs_append xs ys (input_after x target)
 
 -- of the processes
 pub record AreFine (contexts : TargetsValue) : Type 0 where
@@ -68,48 +63,48 @@ sound_at (Some p) process same sound =
     let attached : process.attached ≡ p.attached = ap (λ (q : ThreadState × Bool). q.1) parts in
     λ needs. attached ∙ sound p refl (ap needs_debugger (sym state) ∙ needs)
 
-data_sound : ThreadsStay → (c : Command) (contexts : TargetsValue) → AreSound contexts.processes → AreSound (data_after c contexts).processes
-data_sound law c contexts sound number process there =
-    sound_at (process_of number contexts.processes) process (ap (option_map thread_part) (sym there) ∙ law c contexts number) (sound number)
+data_sound : (c : Command) (contexts : TargetsValue) → AreSound contexts.processes → AreSound (data_after c contexts).processes
+data_sound c contexts sound number process there =
+    sound_at (process_of number contexts.processes) process (ap (option_map thread_part) (sym there) ∙ threads_stay c contexts number) (sound number)
 
-run_fine : Laws → (c : Command) (bps : List (ℕ × BpProps)) (contexts : TargetsValue) → AreFine contexts → AreFine (run_after c bps contexts)
-run_fine laws c bps contexts fine = record {
-  processes = laws.order_commands c bps contexts fine.processes;
-  threads = laws.sound_commands c bps contexts fine.processes fine.threads;
+run_fine : (c : Command) (bps : List (ℕ × BpProps)) (contexts : TargetsValue) → AreFine contexts → AreFine (run_after c bps contexts)
+run_fine c bps contexts fine = record {
+  processes = commands_keep_order c bps contexts fine.processes;
+  threads = commands_keep_sound c bps contexts fine.processes fine.threads;
 }
 
-data_fine : Laws → (c : Command) (contexts : TargetsValue) → AreFine contexts → AreFine (data_after c contexts)
-data_fine laws c contexts fine = record {
-  processes = laws.order c contexts fine.processes;
-  threads = data_sound laws.threads c contexts fine.threads;
+data_fine : (c : Command) (contexts : TargetsValue) → AreFine contexts → AreFine (data_after c contexts)
+data_fine c contexts fine = record {
+  processes = order_stays c contexts fine.processes;
+  threads = data_sound c contexts fine.threads;
 }
 
-fine_in : Laws → (name : CommandName) (channel : ℕ) (c : Command) (target : Target) → AreFine target.contexts → AreFine (after_in name channel c target).contexts
-fine_in laws (service.Locator name) channel c target fine = fine
-fine_in laws (service.RunControl name) channel c target fine = run_fine laws c target.breakpoints target.contexts fine
-fine_in laws (service.Breakpoints name) channel c target fine = fine
-fine_in laws (service.Memory name) channel c target fine = data_fine laws c target.contexts fine
-fine_in laws (service.Registers name) channel c target fine = data_fine laws c target.contexts fine
-fine_in laws (service.Processes name) channel c target fine = run_fine laws c target.breakpoints target.contexts fine
-fine_in laws (service.Trace name) channel c target fine = run_fine laws c target.breakpoints target.contexts fine
+fine_in : (name : CommandName) (channel : ℕ) (c : Command) (target : Target) → AreFine target.contexts → AreFine (after_in name channel c target).contexts
+fine_in (service.Locator name) channel c target fine = fine
+fine_in (service.RunControl name) channel c target fine = run_fine c target.breakpoints target.contexts fine
+fine_in (service.Breakpoints name) channel c target fine = fine
+fine_in (service.Memory name) channel c target fine = data_fine c target.contexts fine
+fine_in (service.Registers name) channel c target fine = data_fine c target.contexts fine
+fine_in (service.Processes name) channel c target fine = run_fine c target.breakpoints target.contexts fine
+fine_in (service.Trace name) channel c target fine = run_fine c target.breakpoints target.contexts fine
 
-exec_fine : Laws → (channel : ℕ) (c : Command) (target : Target) → AreFine target.contexts → AreFine (exec_after channel c target).contexts
+exec_fine : (channel : ℕ) (c : Command) (target : Target) → AreFine target.contexts → AreFine (exec_after channel c target).contexts
 unfolding exec_after
-exec_fine laws channel c target fine = fine_in laws (named_as c) channel c target fine
+exec_fine channel c target fine = fine_in (named_as c) channel c target fine
 
-reading_fine : Laws → (channel : ℕ) (reading : Reading) (name service : List ℕ) (target : Target) → AreFine target.contexts → AreFine (input_after (Executed channel reading service name) target).contexts
-reading_fine laws channel (Known c) name service target fine = exec_fine laws channel c target fine
-reading_fine laws channel Unknown name service target fine = fine
-reading_fine laws channel (Bad index code) name service target fine = fine
+reading_fine : (channel : ℕ) (reading : Reading) (name service : List ℕ) (target : Target) → AreFine target.contexts → AreFine (input_after (Executed channel reading service name) target).contexts
+reading_fine channel (Known c) name service target fine = exec_fine channel c target fine
+reading_fine channel Unknown name service target fine = fine
+reading_fine channel (Bad index code) name service target fine = fine
 
-fine_after : Laws → (input : Input) (target : Target) → AreFine target.contexts → AreFine (input_after input target).contexts
-fine_after laws (Opened channel) target fine = fine
-fine_after laws (Executed channel reading service name) target fine = reading_fine laws channel reading name service target fine
-fine_after laws (Ticked thread) target fine = record {
-  processes = laws.order_ticks thread target.breakpoints target.contexts fine.processes;
-  threads = laws.sound_ticks thread target.breakpoints target.contexts fine.processes fine.threads;
+fine_after : (input : Input) (target : Target) → AreFine target.contexts → AreFine (input_after input target).contexts
+fine_after (Opened channel) target fine = fine
+fine_after (Executed channel reading service name) target fine = reading_fine channel reading name service target fine
+fine_after (Ticked thread) target fine = record {
+  processes = ticks_keep_order thread target.breakpoints target.contexts fine.processes;
+  threads = ticks_keep_sound thread target.breakpoints target.contexts fine.processes fine.threads;
 }
-fine_after laws (Closed channel) target fine = fine
+fine_after (Closed channel) target fine = fine
 
 -- ---- which channels were closed
 
@@ -148,55 +143,55 @@ same_kept before input rows shut_none kept = record {
 true_is_false : true ≡ false → ⊥
 true_is_false is = cc
 
-change_kept : Laws → (before : List Input) (input : Input) (channel : ℕ) (c : Command) (rows : List (ℕ × BpProps)) → ((other : ℕ) → closes other input ≡ false) → was_closed channel before ≡ false → IsReadable c
+change_kept : (before : List Input) (input : Input) (channel : ℕ) (c : Command) (rows : List (ℕ × BpProps)) → ((other : ℕ) → closes other input ≡ false) → was_closed channel before ≡ false → IsReadable c
     → AreKept before rows → AreKept (before ++ input ∷ []) (after channel c rows)
-change_kept laws before input channel c rows shut_none live readable kept = record {
+change_kept before input channel c rows shut_none live readable kept = record {
   steps = kept.steps ++ command channel c ∷ [];
   made = ap (after channel c) kept.made ∙ sym (list_append kept.steps (command channel c ∷ []) []);
   properties = after_readable channel c rows readable kept.properties;
   closed = λ other is.
       let was = only_before other before input (shut_none other) is in
       let differ : channel ≢ other = λ same. absurd (true_is_false (sym was ∙ subst (λ (n : ℕ). was_closed n before ≡ false) same live)) in
-      silent_owns laws.gone other channel c rows differ (kept.closed other was);
+      silent_owns other channel c rows differ (kept.closed other was);
 }
 
-going_kept : Laws → (before : List Input) (channel : ℕ) (rows : List (ℕ × BpProps)) → AreKept before rows → AreKept (before ++ Closed channel ∷ []) (others channel rows)
-going_kept laws before channel rows kept = record {
+going_kept : (before : List Input) (channel : ℕ) (rows : List (ℕ × BpProps)) → AreKept before rows → AreKept (before ++ Closed channel ∷ []) (others channel rows)
+going_kept before channel rows kept = record {
   steps = kept.steps ++ going channel ∷ [];
   made = ap (others channel) kept.made ∙ sym (list_append kept.steps (going channel ∷ []) []);
   properties = others_readable channel rows kept.properties;
   closed = λ other is.
       elim (closed_before other before (Closed channel) is) [
-        | inl was ↦ going_owns laws.gone other channel rows (kept.closed other was)
-        | inr now ↦ gone_owns laws.gone other channel rows now
+        | inl was ↦ going_owns other channel rows (kept.closed other was)
+        | inr now ↦ gone_owns other channel rows now
       ];
 }
 
-kept_in : Laws → (name : CommandName) (before : List Input) (input : Input) (channel : ℕ) (c : Command) (target : Target) → ((other : ℕ) → closes other input ≡ false) → was_closed channel before ≡ false → IsReadable c
+kept_in : (name : CommandName) (before : List Input) (input : Input) (channel : ℕ) (c : Command) (target : Target) → ((other : ℕ) → closes other input ≡ false) → was_closed channel before ≡ false → IsReadable c
     → AreKept before target.breakpoints → AreKept (before ++ input ∷ []) (after_in name channel c target).breakpoints
-kept_in laws (service.Locator name) before input channel c target shut_none live readable kept = same_kept before input target.breakpoints shut_none kept
-kept_in laws (service.RunControl name) before input channel c target shut_none live readable kept = same_kept before input target.breakpoints shut_none kept
-kept_in laws (service.Breakpoints name) before input channel c target shut_none live readable kept = change_kept laws before input channel c target.breakpoints shut_none live readable kept
-kept_in laws (service.Memory name) before input channel c target shut_none live readable kept = same_kept before input target.breakpoints shut_none kept
-kept_in laws (service.Registers name) before input channel c target shut_none live readable kept = same_kept before input target.breakpoints shut_none kept
-kept_in laws (service.Processes name) before input channel c target shut_none live readable kept = same_kept before input target.breakpoints shut_none kept
-kept_in laws (service.Trace name) before input channel c target shut_none live readable kept = same_kept before input target.breakpoints shut_none kept
+kept_in (service.Locator name) before input channel c target shut_none live readable kept = same_kept before input target.breakpoints shut_none kept
+kept_in (service.RunControl name) before input channel c target shut_none live readable kept = same_kept before input target.breakpoints shut_none kept
+kept_in (service.Breakpoints name) before input channel c target shut_none live readable kept = change_kept before input channel c target.breakpoints shut_none live readable kept
+kept_in (service.Memory name) before input channel c target shut_none live readable kept = same_kept before input target.breakpoints shut_none kept
+kept_in (service.Registers name) before input channel c target shut_none live readable kept = same_kept before input target.breakpoints shut_none kept
+kept_in (service.Processes name) before input channel c target shut_none live readable kept = same_kept before input target.breakpoints shut_none kept
+kept_in (service.Trace name) before input channel c target shut_none live readable kept = same_kept before input target.breakpoints shut_none kept
 
-exec_kept : Laws → (before : List Input) (input : Input) (channel : ℕ) (c : Command) (target : Target) → ((other : ℕ) → closes other input ≡ false) → was_closed channel before ≡ false → IsReadable c
+exec_kept : (before : List Input) (input : Input) (channel : ℕ) (c : Command) (target : Target) → ((other : ℕ) → closes other input ≡ false) → was_closed channel before ≡ false → IsReadable c
     → AreKept before target.breakpoints → AreKept (before ++ input ∷ []) (exec_after channel c target).breakpoints
 unfolding exec_after
-exec_kept laws before input channel c target shut_none live readable kept = kept_in laws (named_as c) before input channel c target shut_none live readable kept
+exec_kept before input channel c target shut_none live readable kept = kept_in (named_as c) before input channel c target shut_none live readable kept
 
-kept_after : Laws → (before : List Input) (input : Input) (target : Target) → IsAllowed before target input → AreKept before target.breakpoints → AreKept (before ++ input ∷ []) (input_after input target).breakpoints
-kept_after laws before (Opened channel) target allowed kept = same_kept before (Opened channel) target.breakpoints (λ _. refl) kept
-kept_after laws before (Executed channel (Known c) service name) target allowed kept =
-    exec_kept laws before (Executed channel (Known c) service name) channel c target (λ _. refl)
+kept_after : (before : List Input) (input : Input) (target : Target) → IsAllowed before target input → AreKept before target.breakpoints → AreKept (before ++ input ∷ []) (input_after input target).breakpoints
+kept_after before (Opened channel) target allowed kept = same_kept before (Opened channel) target.breakpoints (λ _. refl) kept
+kept_after before (Executed channel (Known c) service name) target allowed kept =
+    exec_kept before (Executed channel (Known c) service name) channel c target (λ _. refl)
     (not_closed (was_opened channel before) (was_closed channel before) allowed.0) allowed.1.1 kept
-kept_after laws before (Executed channel Unknown service name) target allowed kept = same_kept before (Executed channel Unknown service name) target.breakpoints (λ _. refl) kept
-kept_after laws before (Executed channel (Bad index code) service name) target allowed kept =
+kept_after before (Executed channel Unknown service name) target allowed kept = same_kept before (Executed channel Unknown service name) target.breakpoints (λ _. refl) kept
+kept_after before (Executed channel (Bad index code) service name) target allowed kept =
     same_kept before (Executed channel (Bad index code) service name) target.breakpoints (λ _. refl) kept
-kept_after laws before (Ticked thread) target allowed kept = same_kept before (Ticked thread) target.breakpoints (λ _. refl) kept
-kept_after laws before (Closed channel) target allowed kept = going_kept laws before channel target.breakpoints kept
+kept_after before (Ticked thread) target allowed kept = same_kept before (Ticked thread) target.breakpoints (λ _. refl) kept
+kept_after before (Closed channel) target allowed kept = going_kept before channel target.breakpoints kept
 
 -- ---- whole lists of inputs
 
@@ -204,17 +199,17 @@ pub record Stands (before : List Input) (target : Target) : Type 0 where
   pub fine : AreFine target.contexts
   pub kept : AreKept before target.breakpoints
 
-stands_all : Laws → (images : List Image) (before rest : List Input) (target : Target) → target ≡ inputs_after before (new_target images) → IsLegal images (before ++ rest) → Stands before target
+stands_all : (images : List Image) (before rest : List Input) (target : Target) → target ≡ inputs_after before (new_target images) → IsLegal images (before ++ rest) → Stands before target
     → Stands (before ++ rest) (inputs_after rest target)
-stands_all laws images before [] target made legal stands = subst (λ bs. Stands bs target) (sym (append-nil before)) stands
-stands_all laws images before (input ∷ rest) target made legal stands =
+stands_all images before [] target made legal stands = subst (λ bs. Stands bs target) (sym (append-nil before)) stands
+stands_all images before (input ∷ rest) target made legal stands =
     let allowed : IsAllowed before target input = subst (λ t. IsAllowed before t input) (sym made) (legal before input rest refl) in
     let together = append_assoc before (input ∷ []) rest in
     subst (λ bs. Stands bs (inputs_after rest (input_after input target))) together
-    (stands_all laws images (before ++ input ∷ []) rest (input_after input target)
+    (stands_all images (before ++ input ∷ []) rest (input_after input target)
     (ap (input_after input) made ∙ sym (inputs_append before (input ∷ []) (new_target images)))
     (subst (IsLegal images) (sym together) legal)
-    (record { fine = fine_after laws input target stands.fine; kept = kept_after laws before input target allowed stands.kept }))
+    (record { fine = fine_after input target stands.fine; kept = kept_after before input target allowed stands.kept }))
 
 new_sound : AreSound []
 new_sound number process there = absurd cc
@@ -228,18 +223,18 @@ new_stands images = record {
   kept = record { steps = []; made = refl; properties = tt; closed = new_closed };
 }
 
-legal_stands : Laws → (images : List Image) (inputs : List Input) → IsLegal images inputs → Stands inputs (inputs_after inputs (new_target images))
-legal_stands laws images inputs legal = stands_all laws images [] inputs (new_target images) refl legal (new_stands images)
+legal_stands : (images : List Image) (inputs : List Input) → IsLegal images inputs → Stands inputs (inputs_after inputs (new_target images))
+legal_stands images inputs legal = stands_all images [] inputs (new_target images) refl legal (new_stands images)
 
-pub stays_consistent : Laws → StaysConsistent
-stays_consistent laws images inputs legal =
-    let stands = legal_stands laws images inputs legal in
+pub stays_consistent : StaysConsistent
+stays_consistent images inputs legal =
+    let stands = legal_stands images inputs legal in
     record {
       processes = stands.fine.processes;
       threads = stands.fine.threads;
-      breakpoints = subst AreListed (sym stands.kept.made) (laws.listed stands.kept.steps);
+      breakpoints = subst AreListed (sym stands.kept.made) (list_stays_orderly stands.kept.steps);
       properties = stands.kept.properties;
     }
 
-pub closed_owns_nothing : Laws → ClosedOwnsNothing
-closed_owns_nothing laws images inputs channel legal was = (legal_stands laws images inputs legal).kept.closed channel was
+pub closed_owns_nothing : ClosedOwnsNothing
+closed_owns_nothing images inputs channel legal was = (legal_stands images inputs legal).kept.closed channel was

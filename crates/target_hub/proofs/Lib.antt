@@ -12,3 +12,4 @@ pub mod SmallAnswers
 pub mod Sends
 pub mod Histories
 pub mod Bounded
+pub mod TheLaws

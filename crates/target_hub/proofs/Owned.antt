@@ -3,8 +3,9 @@ use Rattle.std.proofs.Common.{◌≡◌, ◌≢◌, ℕ, ◌==◌, Bool, true, f
 use Rattle.tcf_values.specs.declared.command.Command.{Command}
 use Rattle.tcf_values.specs.declared.values.BpProps.{BpProps}
 use Rattle.breakpoints.specs.Changes.{after}
-use Rattle.breakpoints.specs.Laws.{GoneOwnsNothing, Step, command, going, list_after_all}
+use Rattle.breakpoints.specs.Laws.{Step, command, going, list_after_all}
 use Rattle.breakpoints.specs.Rows.{others, owned_by}
+use Rattle.breakpoints.proofs.TheLaws.{gone_owns_nothing}
 
 none_by : {A : Type 0} → (b : Bool) (x : A) (xs fs gs : List A) → cond b (x ∷ fs) fs ≡ [] → (fs ≡ [] → gs ≡ xs) → cond (not b) (x ∷ gs) gs ≡ x ∷ xs
 none_by true x xs fs gs none given = absurd cc
@@ -34,19 +35,19 @@ part_none p q (x ∷ xs) none =
     part_by p (q x) x (filter q xs) (first_fails (p x) x (filter p xs) none) (part_none p q xs (rest_none (p x) x (filter p xs) none))
 
 -- a command of another channel gives it nothing
-pub silent_owns : GoneOwnsNothing → (channel other : ℕ) (c : Command) (rows : List (ℕ × BpProps)) → other ≢ channel → owned_by channel rows ≡ [] → owned_by channel (after other c rows) ≡ []
-silent_owns law channel other c rows differ none =
+pub silent_owns : (channel other : ℕ) (c : Command) (rows : List (ℕ × BpProps)) → other ≢ channel → owned_by channel rows ≡ [] → owned_by channel (after other c rows) ≡ []
+silent_owns channel other c rows differ none =
     let same : others channel rows ≡ rows = none_pass (λ row. row.0 == channel) rows none in
-    subst (λ rs. owned_by channel (after other c rs) ≡ []) same (law channel rows (command other c ∷ []) (differ, tt))
+    subst (λ rs. owned_by channel (after other c rs) ≡ []) same (gone_owns_nothing channel rows (command other c ∷ []) (differ, tt))
 
 -- nor does the going of one
-pub going_owns : GoneOwnsNothing → (channel other : ℕ) (rows : List (ℕ × BpProps)) → owned_by channel rows ≡ [] → owned_by channel (others other rows) ≡ []
-going_owns law channel other rows none = part_none (λ row. row.0 == channel) (λ row. not (row.0 == other)) rows none
+pub going_owns : (channel other : ℕ) (rows : List (ℕ × BpProps)) → owned_by channel rows ≡ [] → owned_by channel (others other rows) ≡ []
+going_owns channel other rows none = part_none (λ row. row.0 == channel) (λ row. not (row.0 == other)) rows none
 
 -- its own going takes all
-pub gone_owns : GoneOwnsNothing → (channel other : ℕ) (rows : List (ℕ × BpProps)) → (other == channel) ≡ true → owned_by channel (others other rows) ≡ []
-gone_owns law channel other rows is =
-    subst (λ (n : ℕ). owned_by channel (others n rows) ≡ []) (sym (eqb-true other channel is)) (law channel rows [] tt)
+pub gone_owns : (channel other : ℕ) (rows : List (ℕ × BpProps)) → (other == channel) ≡ true → owned_by channel (others other rows) ≡ []
+gone_owns channel other rows is =
+    subst (λ (n : ℕ). owned_by channel (others n rows) ≡ []) (sym (eqb-true other channel is)) (gone_owns_nothing channel rows [] tt)
 
 pub list_append : (steps more : List Step) (rows : List (ℕ × BpProps)) → list_after_all (steps ++ more) rows ≡ list_after_all more (list_after_all steps rows)
 list_append [] more rows = refl

@@ -26,7 +26,6 @@ use Rattle.breakpoints.specs.declared.breakpoints.BpDone.TheVariants.{Failed, Ch
 use Rattle.data_services.specs.Commands.{data_fault}
 use Rattle.target_contexts.specs.Contexts.{context_of as data_of, process_data, thread_data}
 use Rattle.target_contexts.specs.Images.{image_of}
-use Rattle.target_contexts.specs.Laws.{StartsOne}
 use Rattle.target_contexts.specs.Live.{IsOrderly, process_of}
 use Rattle.target_contexts.specs.Named.{attached_in, process_at_number, thread_named}
 use Rattle.target_contexts.specs.Starting.{new_process, refusal_for, started, with_started}
@@ -42,6 +41,7 @@ use Rattle.target_hub.specs.BreakpointsRows.{ask_fault, effect_of, props_answer,
 use Rattle.target_hub.specs.Execution.{exec_effect}
 use Rattle.target_hub.specs.Limits.{AreReadable}
 use Rattle.target_hub.specs.declared.target.Target.{Target}
+use Rattle.target_contexts.proofs.TheLaws.{starts_one}
 use Rattle.target_hub.proofs.Told.{instances_fit, process_within, thread_within}
 
 -- ---- a command that fails is answered by a report
@@ -116,16 +116,16 @@ there_row : (number : ℕ) (found : Option Process) (process : Process) → foun
 there_row number None process there = absurd cc
 there_row number (Some other) process there = refl
 
-start_row_of : StartsOne → (attach : Bool) (targets : TargetsValue) (image : Option Image) → IsOrderly targets.processes targets.next
+start_row_of : (attach : Bool) (targets : TargetsValue) (image : Option Image) → IsOrderly targets.processes targets.next
     → option_map start_fault_for (refusal_for image (length targets.processes) targets.next) ≡ None
     → IsOfRow (ErrorThen Kind.Process) (process_answer (Some targets.next) (with_started attach targets image).processes)
-start_row_of law attach targets None orderly none = absurd cc
-start_row_of law attach targets (Some image) orderly none =
-    there_row targets.next _ (new_process attach image) (law targets.processes targets.next (new_process attach image) orderly).0
+start_row_of attach targets None orderly none = absurd cc
+start_row_of attach targets (Some image) orderly none =
+    there_row targets.next _ (new_process attach image) (starts_one targets.processes targets.next (new_process attach image) orderly).0
 
-start_row : StartsOne → (file : List ℕ) (attach : Bool) (targets : TargetsValue) → IsOrderly targets.processes targets.next → start_fault file targets ≡ None
+start_row : (file : List ℕ) (attach : Bool) (targets : TargetsValue) → IsOrderly targets.processes targets.next → start_fault file targets ≡ None
     → IsOfRow (ErrorThen Kind.Process) (process_answer (Some targets.next) (started file attach targets).processes)
-start_row law file attach targets orderly none = start_row_of law attach targets (image_of file targets.images) orderly none
+start_row file attach targets orderly none = start_row_of attach targets (image_of file targets.images) orderly none
 
 trace_row : (bps : List (ℕ × BpProps)) (count : ℕ) (named : Option ℕ) (targets after : TargetsValue) → IsOfRow (ErrorThen Kind.Count) (trace_given bps count named targets after).answer
 trace_row bps count None targets after = refl
@@ -165,47 +165,47 @@ status_row attached (Some props) none = (refl, instances_fit props attached)
 
 -- ---- every command
 
-pub exec_answers : StartsOne → (channel : ℕ) (command : Command) (target : Target) → IsOrderly target.contexts.processes target.contexts.next → AreReadable target.breakpoints
+pub exec_answers : (channel : ℕ) (command : Command) (target : Target) → IsOrderly target.contexts.processes target.contexts.next → AreReadable target.breakpoints
     → IsAnswerTo command (exec_effect channel command target).answer
 unfolding exec_effect
-exec_answers law channel Sync target orderly all = tt
-exec_answers law channel GetPeers target orderly all = refl
-exec_answers law channel (Redirect peer) target orderly all = lit< tt
-exec_answers law channel (GetContext id) target orderly all =
+exec_answers channel Sync target orderly all = tt
+exec_answers channel GetPeers target orderly all = refl
+exec_answers channel (Redirect peer) target orderly all = lit< tt
+exec_answers channel (GetContext id) target orderly all =
     by_fault (ErrorThen Kind.Context) (run_fault (GetContext id) target.contexts) _ (context_row (data_named id target.contexts.processes) (named_within target.contexts.processes (context_of id)))
-exec_answers law channel (GetChildren id) target orderly all = by_fault (ErrorThen Kind.Ids) (run_fault (GetChildren id) target.contexts) _ (λ _. refl)
-exec_answers law channel (GetState id) target orderly all =
+exec_answers channel (GetChildren id) target orderly all = by_fault (ErrorThen Kind.Ids) (run_fault (GetChildren id) target.contexts) _ (λ _. refl)
+exec_answers channel (GetState id) target orderly all =
     by_fault ErrorState (run_fault (GetState id) target.contexts) _ (state_row (thread_there id target.contexts.processes))
-exec_answers law channel (Resume id mode count) target orderly all = by_fault ErrorAlone (run_fault (Resume id mode count) target.contexts) _ (λ _. tt)
-exec_answers law channel (Suspend id) target orderly all = by_fault ErrorAlone (run_fault (Suspend id) target.contexts) _ (λ _. tt)
-exec_answers law channel (Terminate id) target orderly all = by_fault ErrorAlone (run_fault (Terminate id) target.contexts) _ (λ _. tt)
-exec_answers law channel (BpSet list) target orderly all = done_row channel (BpSet list) target
-exec_answers law channel (BpAdd props) target orderly all = done_row channel (BpAdd props) target
-exec_answers law channel (BpChange props) target orderly all = done_row channel (BpChange props) target
-exec_answers law channel (BpEnable ids) target orderly all = done_row channel (BpEnable ids) target
-exec_answers law channel (BpDisable ids) target orderly all = done_row channel (BpDisable ids) target
-exec_answers law channel (BpRemove ids) target orderly all = done_row channel (BpRemove ids) target
-exec_answers law channel BpIds target orderly all = refl
-exec_answers law channel (BpProperties id) target orderly all =
+exec_answers channel (Resume id mode count) target orderly all = by_fault ErrorAlone (run_fault (Resume id mode count) target.contexts) _ (λ _. tt)
+exec_answers channel (Suspend id) target orderly all = by_fault ErrorAlone (run_fault (Suspend id) target.contexts) _ (λ _. tt)
+exec_answers channel (Terminate id) target orderly all = by_fault ErrorAlone (run_fault (Terminate id) target.contexts) _ (λ _. tt)
+exec_answers channel (BpSet list) target orderly all = done_row channel (BpSet list) target
+exec_answers channel (BpAdd props) target orderly all = done_row channel (BpAdd props) target
+exec_answers channel (BpChange props) target orderly all = done_row channel (BpChange props) target
+exec_answers channel (BpEnable ids) target orderly all = done_row channel (BpEnable ids) target
+exec_answers channel (BpDisable ids) target orderly all = done_row channel (BpDisable ids) target
+exec_answers channel (BpRemove ids) target orderly all = done_row channel (BpRemove ids) target
+exec_answers channel BpIds target orderly all = refl
+exec_answers channel (BpProperties id) target orderly all =
     by_fault (ErrorThen Kind.Bp) (ask_fault (BpProperties id) target) _ (props_row (props_of id target.breakpoints) (found_readable id target.breakpoints all))
-exec_answers law channel (BpGetStatus id) target orderly all =
+exec_answers channel (BpGetStatus id) target orderly all =
     by_fault (ErrorThen Kind.Status) (ask_fault (BpGetStatus id) target) _ (status_row (attached_in target.contexts.processes) (props_of id target.breakpoints))
-exec_answers law channel (BpCapabilities id) target orderly all = by_fault (ErrorThen Kind.Capabilities) (ask_fault (BpCapabilities id) target) _ (λ _. refl)
-exec_answers law channel (MemGet id addr word size mode) target orderly all =
+exec_answers channel (BpCapabilities id) target orderly all = by_fault (ErrorThen Kind.Capabilities) (ask_fault (BpCapabilities id) target) _ (λ _. refl)
+exec_answers channel (MemGet id addr word size mode) target orderly all =
     by_fault BlobErrorNull (data_fault (MemGet id addr word size mode) target.contexts) _ (λ _. refl)
-exec_answers law channel (MemSet id addr word size mode bytes) target orderly all =
+exec_answers channel (MemSet id addr word size mode bytes) target orderly all =
     by_fault ErrorNull (data_fault (MemSet id addr word size mode bytes) target.contexts) _ (λ _. tt)
-exec_answers law channel (RegGet id) target orderly all = by_fault (ErrorThen Kind.Blob) (data_fault (RegGet id) target.contexts) _ (λ _. refl)
-exec_answers law channel (RegSet id bytes) target orderly all = by_fault ErrorAlone (data_fault (RegSet id bytes) target.contexts) _ (λ _. tt)
-exec_answers law channel (RegGetm list) target orderly all = by_fault (ErrorThen Kind.Blob) (data_fault (RegGetm list) target.contexts) _ (λ _. refl)
-exec_answers law channel (RegSetm list bytes) target orderly all = by_fault ErrorAlone (data_fault (RegSetm list bytes) target.contexts) _ (λ _. tt)
-exec_answers law channel (ProcContext id) target orderly all =
+exec_answers channel (RegGet id) target orderly all = by_fault (ErrorThen Kind.Blob) (data_fault (RegGet id) target.contexts) _ (λ _. refl)
+exec_answers channel (RegSet id bytes) target orderly all = by_fault ErrorAlone (data_fault (RegSet id bytes) target.contexts) _ (λ _. tt)
+exec_answers channel (RegGetm list) target orderly all = by_fault (ErrorThen Kind.Blob) (data_fault (RegGetm list) target.contexts) _ (λ _. refl)
+exec_answers channel (RegSetm list bytes) target orderly all = by_fault ErrorAlone (data_fault (RegSetm list bytes) target.contexts) _ (λ _. tt)
+exec_answers channel (ProcContext id) target orderly all =
     by_fault (ErrorThen Kind.Process) (run_fault (ProcContext id) target.contexts) _ (process_row (process_named id) target.contexts.processes)
-exec_answers law channel (ProcChildren id attached) target orderly all = by_fault (ErrorThen Kind.Ids) (run_fault (ProcChildren id attached) target.contexts) _ (λ _. refl)
-exec_answers law channel (ProcStart directory file args environment attach) target orderly all =
-    by_fault (ErrorThen Kind.Process) (run_fault (ProcStart directory file args environment attach) target.contexts) _ (start_row law file attach target.contexts orderly)
-exec_answers law channel (ProcAttach id) target orderly all = by_fault ErrorAlone (run_fault (ProcAttach id) target.contexts) _ (λ _. tt)
-exec_answers law channel (ProcDetach id) target orderly all = by_fault ErrorAlone (run_fault (ProcDetach id) target.contexts) _ (λ _. tt)
-exec_answers law channel (ProcTerminate id) target orderly all = by_fault ErrorAlone (run_fault (ProcTerminate id) target.contexts) _ (λ _. tt)
-exec_answers law channel (TraceRun id count) target orderly all = by_fault (ErrorThen Kind.Count) (run_fault (TraceRun id count) target.contexts) _
+exec_answers channel (ProcChildren id attached) target orderly all = by_fault (ErrorThen Kind.Ids) (run_fault (ProcChildren id attached) target.contexts) _ (λ _. refl)
+exec_answers channel (ProcStart directory file args environment attach) target orderly all =
+    by_fault (ErrorThen Kind.Process) (run_fault (ProcStart directory file args environment attach) target.contexts) _ (start_row file attach target.contexts orderly)
+exec_answers channel (ProcAttach id) target orderly all = by_fault ErrorAlone (run_fault (ProcAttach id) target.contexts) _ (λ _. tt)
+exec_answers channel (ProcDetach id) target orderly all = by_fault ErrorAlone (run_fault (ProcDetach id) target.contexts) _ (λ _. tt)
+exec_answers channel (ProcTerminate id) target orderly all = by_fault ErrorAlone (run_fault (ProcTerminate id) target.contexts) _ (λ _. tt)
+exec_answers channel (TraceRun id count) target orderly all = by_fault (ErrorThen Kind.Count) (run_fault (TraceRun id count) target.contexts) _
     (λ _. trace_row target.breakpoints (unsigned_abs count) (thread_named id) target.contexts (run_left (TraceRun id count) target.breakpoints target.contexts))

@@ -3,7 +3,6 @@ use Rattle.std.proofs.Common.{◌≡◌, ◌≤◌, ℕ, List, [], ◌∷◌, le
 use Rattle.command_tables.specs.Canonical.{IsReadable}
 use Rattle.command_tables.specs.declared.reading.Reading.TheVariants.{Known, Unknown, Bad}
 use Rattle.reply_tables.specs.Rows.{row_named}
-use Rattle.reply_tables.specs.Sizes as sizes
 use Rattle.reply_tables.specs.Written.{answer_data}
 use Rattle.service_names.specs.Commands.{name_in, named_as}
 use Rattle.service_names.specs.Events.{name_of, service_of, told_as}
@@ -11,41 +10,26 @@ use Rattle.service_names.specs.declared.commands.CommandName.{CommandName}
 use Rattle.service_names.specs.declared.commands.CommandName.TheVariants as service
 use Rattle.service_names.specs.declared.events.EventName.{EventName}
 use Rattle.service_names.specs.declared.events.EventName.TheVariants.{Hello, CtxAdded, CtxChanged, CtxRemoved, Suspended, Resumed, BpStatusIs, BpAdded, BpChanged, BpRemoved, MemChanged, RegChanged, RegsChanged, Exited}
-use Rattle.tcf_values.specs.Ids.{RegisterRoundTrip}
 use Rattle.tcf_values.specs.declared.command.Command.{Command}
 use Rattle.tcf_values.specs.declared.event.EventData.{EventData}
 use Rattle.tcf_values.specs.declared.faults.Fault.{Fault}
 use Rattle.breakpoints.specs.Rows.{ids_of}
-use Rattle.data_services.specs.Short.{ShortStays}
 use Rattle.run_control.specs.Commands.{run_fault, run_left}
-use Rattle.run_control.specs.Laws.{CommandsKeepOrder, TicksKeepOrder}
-use Rattle.run_control.specs.Short as running
 use Rattle.run_control.specs.Ticking.{running_number}
 use Rattle.target_contexts.specs.Changes.{targets_by}
 use Rattle.target_contexts.specs.Live.{IsOrderly}
-use Rattle.target_contexts.specs.Short.{AllShort, AreShort, FoundIsShort}
+use Rattle.target_contexts.specs.Short.{AllShort, AreShort}
 use Rattle.target_contexts.specs.TargetsValue.{TargetsValue}
 use Rattle.target_hub.specs.Answering.{refusal}
 use Rattle.target_hub.specs.Execution.{after_in, effect_in, exec_after, exec_effect}
 use Rattle.target_hub.specs.Sendable.{AnswersAreSendable, AreSendable, ClosingsTellSendable, CommandsKeepShort, CommandsTellSendable, HasNoZero, IsBounded, IsSendable, IsSendableEvent, TicksKeepShort, TicksTellSendable}
 use Rattle.target_hub.specs.declared.target.Target.{Target}
+use Rattle.data_services.proofs.TheLaws.{short_stays}
+use Rattle.reply_tables.proofs.TheLaws.{answers_fit, events_fit, refusals_fit}
+use Rattle.run_control.proofs.TheLaws.{commands_keep_order, commands_keep_short, ticks_keep_order, ticks_keep_short}
 use Rattle.target_hub.proofs.Small.{AreBounded, AreSmall, ids_words}
 use Rattle.target_hub.proofs.SmallAnswers.{exec_answer_small}
 use Rattle.target_hub.proofs.SmallGiven.{breakpoints_told, data_told, removed_small, run_told, tick_told_small}
-
--- the laws of the crates below
-pub record Laws : Type 0 where
-  pub events : sizes.EventsFit
-  pub answers : sizes.AnswersFit
-  pub refusals : sizes.RefusalsFit
-  pub reports : sizes.ReportsAreSmall
-  pub found : FoundIsShort
-  pub commands : running.CommandsKeepShort
-  pub ticks : running.TicksKeepShort
-  pub registers : ShortStays
-  pub order_commands : CommandsKeepOrder
-  pub order_ticks : TicksKeepOrder
-  pub spelled : RegisterRoundTrip
 
 -- ---- what is small can be sent
 
@@ -81,15 +65,15 @@ name_plain RegChanged = refl
 name_plain RegsChanged = refl
 name_plain Exited = refl
 
-sendable : sizes.EventsFit → (told : List EventData) → AreSmall told → AreSendable told
-sendable law [] small = tt
-sendable law (event ∷ told) small =
-    let first : IsSendableEvent event = record { size = law event small.0; service = service_plain (told_as event); name = name_plain (told_as event) } in
-    (first, sendable law told small.1)
+sendable : (told : List EventData) → AreSmall told → AreSendable told
+sendable [] small = tt
+sendable (event ∷ told) small =
+    let first : IsSendableEvent event = record { size = events_fit event small.0; service = service_plain (told_as event); name = name_plain (told_as event) } in
+    (first, sendable told small.1)
 
-if_sendable : sizes.EventsFit → (told : Option (List EventData)) → IfSome told AreSmall → IfSome told AreSendable
-if_sendable law None small = tt
-if_sendable law (Some told) small = sendable law told small
+if_sendable : (told : Option (List EventData)) → IfSome told AreSmall → IfSome told AreSendable
+if_sendable None small = tt
+if_sendable (Some told) small = sendable told small
 
 -- ---- what is bounded stays so
 
@@ -109,90 +93,90 @@ unless_fault P None left targets holds none = holds
 unless_fault P (Some fault) left targets holds none = absurd cc
 
 -- the target after a command of run control that isn't refused
-left_bounded : Laws → (command : Command) (target : Target) → IsBounded target → run_fault command target.contexts ≡ None
+left_bounded : (command : Command) (target : Target) → IsBounded target → run_fault command target.contexts ≡ None
     → AreBounded target.breakpoints (run_left command target.breakpoints target.contexts)
-left_bounded laws command target bounded none =
+left_bounded command target bounded none =
     let bps = target.breakpoints in
     let left = run_left command bps target.contexts in
     record {
       short = unless_fault (λ (t : TargetsValue). AllShort t.processes) (run_fault command target.contexts) left target.contexts
-          (laws.commands command bps target.contexts (ids_short target bounded) bounded.processes) none;
+          (commands_keep_short command bps target.contexts (ids_short target bounded) bounded.processes) none;
       few = (unless_fault (λ (t : TargetsValue). IsOrderly t.processes t.next) (run_fault command target.contexts) left target.contexts
-          (laws.order_commands command bps target.contexts bounded.orderly) none).few;
+          (commands_keep_order command bps target.contexts bounded.orderly) none).few;
       properties = bounded.properties;
       listed = bounded.listed.few;
     }
 
 -- ---- commands
 
-told_in : Laws → (name : CommandName) (channel : ℕ) (command : Command) (target : Target) → IsReadable command → IsBounded target → AreSmall (effect_in name channel command target).events
-told_in laws (service.Locator name) channel command target readable bounded = tt
-told_in laws (service.RunControl name) channel command target readable bounded =
-    run_told laws.found command target.breakpoints target.contexts (left_bounded laws command target bounded)
-told_in laws (service.Breakpoints name) channel command target readable bounded = breakpoints_told channel command target readable (now_bounded target bounded)
-told_in laws (service.Memory name) channel command target readable bounded = data_told laws.spelled command target.contexts
-told_in laws (service.Registers name) channel command target readable bounded = data_told laws.spelled command target.contexts
-told_in laws (service.Processes name) channel command target readable bounded =
-    run_told laws.found command target.breakpoints target.contexts (left_bounded laws command target bounded)
-told_in laws (service.Trace name) channel command target readable bounded =
-    run_told laws.found command target.breakpoints target.contexts (left_bounded laws command target bounded)
+told_in : (name : CommandName) (channel : ℕ) (command : Command) (target : Target) → IsReadable command → IsBounded target → AreSmall (effect_in name channel command target).events
+told_in (service.Locator name) channel command target readable bounded = tt
+told_in (service.RunControl name) channel command target readable bounded =
+    run_told command target.breakpoints target.contexts (left_bounded command target bounded)
+told_in (service.Breakpoints name) channel command target readable bounded = breakpoints_told channel command target readable (now_bounded target bounded)
+told_in (service.Memory name) channel command target readable bounded = data_told command target.contexts
+told_in (service.Registers name) channel command target readable bounded = data_told command target.contexts
+told_in (service.Processes name) channel command target readable bounded =
+    run_told command target.breakpoints target.contexts (left_bounded command target bounded)
+told_in (service.Trace name) channel command target readable bounded =
+    run_told command target.breakpoints target.contexts (left_bounded command target bounded)
 
-exec_sendable : Laws → (channel : ℕ) (command : Command) (target : Target) → IsReadable command → IsBounded target → AreSendable (exec_effect channel command target).events
+exec_sendable : (channel : ℕ) (command : Command) (target : Target) → IsReadable command → IsBounded target → AreSendable (exec_effect channel command target).events
 unfolding exec_effect
-exec_sendable laws channel command target readable bounded =
-    sendable laws.events (exec_effect channel command target).events (told_in laws (named_as command) channel command target readable bounded)
+exec_sendable channel command target readable bounded =
+    sendable (exec_effect channel command target).events (told_in (named_as command) channel command target readable bounded)
 
-pub commands_sendable : Laws → CommandsTellSendable
-commands_sendable laws channel service name (Known command) target is bounded = exec_sendable laws channel command target is.1 bounded
-commands_sendable laws channel service name Unknown target is bounded = tt
-commands_sendable laws channel service name (Bad index code) target is bounded = tt
+pub commands_sendable : CommandsTellSendable
+commands_sendable channel service name (Known command) target is bounded = exec_sendable channel command target is.1 bounded
+commands_sendable channel service name Unknown target is bounded = tt
+commands_sendable channel service name (Bad index code) target is bounded = tt
 
-refusal_fits : Laws → (command : Option CommandName) (code : ℕ) → IsSendable (refusal command code)
-refusal_fits laws None code = tt
-refusal_fits laws (Some command) code = laws.refusals (row_named command) code
+refusal_fits : (command : Option CommandName) (code : ℕ) → IsSendable (refusal command code)
+refusal_fits None code = tt
+refusal_fits (Some command) code = refusals_fit (row_named command) code
 
-exec_fits : Laws → (channel : ℕ) (command : Command) (target : Target) → IsBounded target → length (answer_data command (exec_effect channel command target).answer) ≤ 1048576
-exec_fits laws channel command target bounded =
-    laws.answers command (exec_effect channel command target).answer
-    (exec_answer_small laws.reports laws.found channel command target (now_bounded target bounded) (λ none. (left_bounded laws command target bounded none).short))
+exec_fits : (channel : ℕ) (command : Command) (target : Target) → IsBounded target → length (answer_data command (exec_effect channel command target).answer) ≤ 1048576
+exec_fits channel command target bounded =
+    answers_fit command (exec_effect channel command target).answer
+    (exec_answer_small channel command target (now_bounded target bounded) (λ none. (left_bounded command target bounded none).short))
 
-pub answers_sendable : Laws → AnswersAreSendable
-answers_sendable laws channel service name (Known command) target bounded = exec_fits laws channel command target bounded
-answers_sendable laws channel service name Unknown target bounded = tt
-answers_sendable laws channel service name (Bad index code) target bounded = refusal_fits laws (name_in service name) code
+pub answers_sendable : AnswersAreSendable
+answers_sendable channel service name (Known command) target bounded = exec_fits channel command target bounded
+answers_sendable channel service name Unknown target bounded = tt
+answers_sendable channel service name (Bad index code) target bounded = refusal_fits (name_in service name) code
 
-short_in : Laws → (name : CommandName) (channel : ℕ) (command : Command) (target : Target) → IsBounded target → AllShort (after_in name channel command target).contexts.processes
-short_in laws (service.Locator name) channel command target bounded = bounded.processes
-short_in laws (service.RunControl name) channel command target bounded = laws.commands command target.breakpoints target.contexts (ids_short target bounded) bounded.processes
-short_in laws (service.Breakpoints name) channel command target bounded = bounded.processes
-short_in laws (service.Memory name) channel command target bounded = laws.registers command target.contexts bounded.processes
-short_in laws (service.Registers name) channel command target bounded = laws.registers command target.contexts bounded.processes
-short_in laws (service.Processes name) channel command target bounded = laws.commands command target.breakpoints target.contexts (ids_short target bounded) bounded.processes
-short_in laws (service.Trace name) channel command target bounded = laws.commands command target.breakpoints target.contexts (ids_short target bounded) bounded.processes
+short_in : (name : CommandName) (channel : ℕ) (command : Command) (target : Target) → IsBounded target → AllShort (after_in name channel command target).contexts.processes
+short_in (service.Locator name) channel command target bounded = bounded.processes
+short_in (service.RunControl name) channel command target bounded = commands_keep_short command target.breakpoints target.contexts (ids_short target bounded) bounded.processes
+short_in (service.Breakpoints name) channel command target bounded = bounded.processes
+short_in (service.Memory name) channel command target bounded = short_stays command target.contexts bounded.processes
+short_in (service.Registers name) channel command target bounded = short_stays command target.contexts bounded.processes
+short_in (service.Processes name) channel command target bounded = commands_keep_short command target.breakpoints target.contexts (ids_short target bounded) bounded.processes
+short_in (service.Trace name) channel command target bounded = commands_keep_short command target.breakpoints target.contexts (ids_short target bounded) bounded.processes
 
-exec_short : Laws → (channel : ℕ) (command : Command) (target : Target) → IsBounded target → AllShort (exec_after channel command target).contexts.processes
+exec_short : (channel : ℕ) (command : Command) (target : Target) → IsBounded target → AllShort (exec_after channel command target).contexts.processes
 unfolding exec_after
-exec_short laws channel command target bounded = short_in laws (named_as command) channel command target bounded
+exec_short channel command target bounded = short_in (named_as command) channel command target bounded
 
-pub commands_short : Laws → CommandsKeepShort
-commands_short laws channel (Known command) target bounded = exec_short laws channel command target bounded
-commands_short laws channel Unknown target bounded = bounded.processes
-commands_short laws channel (Bad index code) target bounded = bounded.processes
+pub commands_short : CommandsKeepShort
+commands_short channel (Known command) target bounded = exec_short channel command target bounded
+commands_short channel Unknown target bounded = bounded.processes
+commands_short channel (Bad index code) target bounded = bounded.processes
 
 -- ---- ticks and closings
 
-pub ticks_short : Laws → TicksKeepShort
-ticks_short laws thread target bounded = laws.ticks thread target.breakpoints target.contexts (ids_short target bounded) bounded.processes
+pub ticks_short : TicksKeepShort
+ticks_short thread target bounded = ticks_keep_short thread target.breakpoints target.contexts (ids_short target bounded) bounded.processes
 
-pub ticks_sendable : Laws → TicksTellSendable
-ticks_sendable laws thread target bounded =
+pub ticks_sendable : TicksTellSendable
+ticks_sendable thread target bounded =
     let after : AreBounded target.breakpoints _ = record {
-      short = ticks_short laws thread target bounded;
-      few = (laws.order_ticks thread target.breakpoints target.contexts bounded.orderly).few;
+      short = ticks_short thread target bounded;
+      few = (ticks_keep_order thread target.breakpoints target.contexts bounded.orderly).few;
       properties = bounded.properties;
       listed = bounded.listed.few;
     } in
-    if_sendable laws.events _ (tick_told_small laws.found target.breakpoints target.contexts (running_number thread target.contexts.processes) after)
+    if_sendable _ (tick_told_small target.breakpoints target.contexts (running_number thread target.contexts.processes) after)
 
-pub closings_sendable : Laws → ClosingsTellSendable
-closings_sendable laws channel target bounded = sendable laws.events _ (removed_small channel target.breakpoints bounded.listed.few bounded.properties)
+pub closings_sendable : ClosingsTellSendable
+closings_sendable channel target bounded = sendable _ (removed_small channel target.breakpoints bounded.listed.few bounded.properties)

@@ -22,12 +22,13 @@ use Rattle.rv32i_core.specs.Machine.{Step, goes_on, ends, excepts, machine}
 use Rattle.target_contexts.specs.Contexts.{process_data, thread_data}
 use Rattle.target_contexts.specs.Live.{numbers_of, process_of}
 use Rattle.target_contexts.specs.Named.{attached_in, is_attached}
-use Rattle.target_contexts.specs.Short.{AllShort, FoundIsShort, IsShort, IsShortState}
+use Rattle.target_contexts.specs.Short.{AllShort, IsShort, IsShortState}
 use Rattle.target_contexts.specs.TargetsValue.{TargetsValue}
 use Rattle.target_contexts.specs.declared.process.Process.{Process}
 use Rattle.target_contexts.specs.declared.process.ThreadState.{ThreadState}
 use Rattle.target_contexts.specs.declared.process.ThreadState.TheVariants.{Running, Suspended}
 use Rattle.target_hub.specs.Limits.{AreReadable}
+use Rattle.target_contexts.proofs.TheLaws.{found_is_short}
 use Rattle.target_hub.proofs.Lists.{all_mapped}
 use Rattle.run_control.proofs.Short.{filter_fewer}
 use Rattle.list_laws.proofs.AllLists.{all_append, all_map}
@@ -116,12 +117,12 @@ process_small number process is = record { id = process_word number; parent = tt
 pub thread_small : (number : ℕ) (process : Process) → IsSmallContext (thread_data number process)
 thread_small number process = record { id = thread_word number; parent = process_word number; process = process_word number; name = tt }
 
-found_by : FoundIsShort → (rows : List (ℕ × Process)) (number : ℕ) (found : Option Process) → process_of number rows ≡ found → AllShort rows → IfSome found IsShort
-found_by law rows number None there all = tt
-found_by law rows number (Some process) there all = law rows number process all there
+found_by : (rows : List (ℕ × Process)) (number : ℕ) (found : Option Process) → process_of number rows ≡ found → AllShort rows → IfSome found IsShort
+found_by rows number None there all = tt
+found_by rows number (Some process) there all = found_is_short rows number process all there
 
-pub found_short : FoundIsShort → (rows : List (ℕ × Process)) (number : ℕ) → AllShort rows → IfSome (process_of number rows) IsShort
-found_short law rows number all = found_by law rows number (process_of number rows) refl all
+pub found_short : (rows : List (ℕ × Process)) (number : ℕ) → AllShort rows → IfSome (process_of number rows) IsShort
+found_short rows number all = found_by rows number (process_of number rows) refl all
 
 pub added_small : (number : ℕ) (process : Option Process) → IfSome process IsShort → AreSmall (added_events number process)
 added_small number None is = tt
@@ -148,30 +149,30 @@ pub end_small : (bps : List (ℕ × BpProps)) (number : ℕ) (code : ℤ) (targe
 end_small bps number code targets bounded =
     ((lit≤ tt, (thread_word number, (process_word number, tt))), (process_word number, statuses_small bps targets bounded))
 
-hit_small : FoundIsShort → (bps : List (ℕ × BpProps)) (number : ℕ) (plain : ThreadState) (attached : Bool) (after : TargetsValue) (hits : List (List ℕ)) → AreBounded bps after
+hit_small : (bps : List (ℕ × BpProps)) (number : ℕ) (plain : ThreadState) (attached : Bool) (after : TargetsValue) (hits : List (List ℕ)) → AreBounded bps after
     → AreSmall (settled_events bps number (fate_by plain attached (executed_with hits)) after)
-hit_small law bps number plain attached after [] bounded = suspended_small number (process_of number after.processes) (found_short law after.processes number bounded.short)
-hit_small law bps number plain attached after (hit ∷ hits) bounded = suspended_small number (process_of number after.processes) (found_short law after.processes number bounded.short)
+hit_small bps number plain attached after [] bounded = suspended_small number (process_of number after.processes) (found_short after.processes number bounded.short)
+hit_small bps number plain attached after (hit ∷ hits) bounded = suspended_small number (process_of number after.processes) (found_short after.processes number bounded.short)
 
-exception_small : FoundIsShort → (bps : List (ℕ × BpProps)) (number : ℕ) (plain : ThreadState) (attached : Bool) (after : TargetsValue) → AreBounded bps after
+exception_small : (bps : List (ℕ × BpProps)) (number : ℕ) (plain : ThreadState) (attached : Bool) (after : TargetsValue) → AreBounded bps after
     → AreSmall (settled_events bps number (fate_by plain attached (halt_by excepts)) after)
-exception_small law bps number plain true after bounded = suspended_small number (process_of number after.processes) (found_short law after.processes number bounded.short)
-exception_small law bps number plain false after bounded = end_small bps number exception_code after bounded
+exception_small bps number plain true after bounded = suspended_small number (process_of number after.processes) (found_short after.processes number bounded.short)
+exception_small bps number plain false after bounded = end_small bps number exception_code after bounded
 
-pub executed_small : FoundIsShort → (bps : List (ℕ × BpProps)) (number : ℕ) (plain : ThreadState) (attached : Bool) (after : TargetsValue) (process : Process) (step : Step) → AreBounded bps after
+pub executed_small : (bps : List (ℕ × BpProps)) (number : ℕ) (plain : ThreadState) (attached : Bool) (after : TargetsValue) (process : Process) (step : Step) → AreBounded bps after
     → AreSmall (settled_events bps number (fate_by plain attached (executed_by bps number process step)) after)
-executed_small law bps number plain attached after process (goes_on cpu memory) bounded = hit_small law bps number plain attached after _ bounded
-executed_small law bps number plain attached after process (ends code) bounded = end_small bps number code after bounded
-executed_small law bps number plain attached after process excepts bounded = exception_small law bps number plain attached after bounded
+executed_small bps number plain attached after process (goes_on cpu memory) bounded = hit_small bps number plain attached after _ bounded
+executed_small bps number plain attached after process (ends code) bounded = end_small bps number code after bounded
+executed_small bps number plain attached after process excepts bounded = exception_small bps number plain attached after bounded
 
-halt_small : FoundIsShort → (bps : List (ℕ × BpProps)) (number : ℕ) (plain : ThreadState) (attached : Bool) (after : TargetsValue) (step : Step) → AreBounded bps after
+halt_small : (bps : List (ℕ × BpProps)) (number : ℕ) (plain : ThreadState) (attached : Bool) (after : TargetsValue) (step : Step) → AreBounded bps after
     → AreSmall (settled_events bps number (fate_by plain attached (halt_by step)) after)
-halt_small law bps number plain attached after (goes_on cpu memory) bounded = suspended_small number (process_of number after.processes) (found_short law after.processes number bounded.short)
-halt_small law bps number plain attached after (ends code) bounded = end_small bps number code after bounded
-halt_small law bps number plain attached after excepts bounded = exception_small law bps number plain attached after bounded
+halt_small bps number plain attached after (goes_on cpu memory) bounded = suspended_small number (process_of number after.processes) (found_short after.processes number bounded.short)
+halt_small bps number plain attached after (ends code) bounded = end_small bps number code after bounded
+halt_small bps number plain attached after excepts bounded = exception_small bps number plain attached after bounded
 
-pub stop_all_small : FoundIsShort → (bps : List (ℕ × BpProps)) (number : ℕ) (plain : ThreadState) (attached : Bool) (after : TargetsValue) (hits : List (List ℕ)) (all : Bool) (last : Process) → AreBounded bps after
+pub stop_all_small : (bps : List (ℕ × BpProps)) (number : ℕ) (plain : ThreadState) (attached : Bool) (after : TargetsValue) (hits : List (List ℕ)) (all : Bool) (last : Process) → AreBounded bps after
     → AreSmall (settled_events bps number (fate_by plain attached (stop_by hits all last)) after)
-stop_all_small law bps number plain attached after (hit ∷ hits) all last bounded = suspended_small number (process_of number after.processes) (found_short law after.processes number bounded.short)
-stop_all_small law bps number plain attached after [] true last bounded = suspended_small number (process_of number after.processes) (found_short law after.processes number bounded.short)
-stop_all_small law bps number plain attached after [] false last bounded = halt_small law bps number plain attached after (machine last.cpu last.memory) bounded
+stop_all_small bps number plain attached after (hit ∷ hits) all last bounded = suspended_small number (process_of number after.processes) (found_short after.processes number bounded.short)
+stop_all_small bps number plain attached after [] true last bounded = suspended_small number (process_of number after.processes) (found_short after.processes number bounded.short)
+stop_all_small bps number plain attached after [] false last bounded = halt_small bps number plain attached after (machine last.cpu last.memory) bounded

@@ -5,7 +5,7 @@ use Rattle.std.specs.Prelude.{int_lt, unsigned_abs}
 use Rattle.std.proofs.lemmas.Bool.{ltb-false, or_parts}
 use Rattle.std.proofs.lemmas.List.{length-map}
 use Rattle.json_values.specs.Sizes.{AreWords, IsSmallContext, IsWord}
-use Rattle.reply_tables.specs.Sizes.{IsSmallAnswer, ReportsAreSmall}
+use Rattle.reply_tables.specs.Sizes.{IsSmallAnswer}
 use Rattle.service_names.specs.Commands.{named_as}
 use Rattle.service_names.specs.declared.commands.CommandName.{CommandName}
 use Rattle.service_names.specs.declared.commands.CommandName.TheVariants as service
@@ -40,7 +40,7 @@ use Rattle.run_control.specs.Steering.{thread_there}
 use Rattle.target_contexts.specs.Contexts.{context_of as data_of, process_data, thread_data}
 use Rattle.target_contexts.specs.Live.{numbers_of, process_of}
 use Rattle.target_contexts.specs.Named.{attached_in, process_at_number, thread_named}
-use Rattle.target_contexts.specs.Short.{AllShort, FoundIsShort, IsShort, IsShortState}
+use Rattle.target_contexts.specs.Short.{AllShort, IsShort, IsShortState}
 use Rattle.target_contexts.specs.TargetsValue.{TargetsValue}
 use Rattle.target_contexts.specs.declared.process.Process.{Process}
 use Rattle.target_contexts.specs.declared.process.ThreadState.{ThreadState}
@@ -49,19 +49,20 @@ use Rattle.target_hub.specs.BreakpointsRows.{ask_answer, ask_fault, breakpoints_
 use Rattle.target_hub.specs.Execution.{effect_in, exec_effect}
 use Rattle.target_hub.specs.LocatorRows.{locator_answer}
 use Rattle.target_hub.specs.declared.target.Target.{Target}
+use Rattle.reply_tables.proofs.TheLaws.{reports_are_small}
 use Rattle.target_hub.proofs.Rows.{IfReadable, found_readable}
 use Rattle.target_hub.proofs.Small.{AreBounded, attached_few, found_short, ids_words, instances_small, process_small, process_word, thread_small, thread_word}
 use Rattle.list_laws.proofs.AllLists.{all_map}
 
 -- ---- a command that fails is answered by a report
 
-failed_small : ReportsAreSmall → (fault : Fault) → IsSmallAnswer (failed fault).answer
+failed_small : (fault : Fault) → IsSmallAnswer (failed fault).answer
 unfolding failed
-failed_small law fault = law (code_of fault)
+failed_small fault = reports_are_small (code_of fault)
 
-pub answer_by : ReportsAreSmall → (fault : Option Fault) (given : Effect) → (fault ≡ None → IsSmallAnswer given.answer) → IsSmallAnswer (effect_by fault given).answer
-answer_by law None given small = small refl
-answer_by law (Some fault) given small = failed_small law fault
+pub answer_by : (fault : Option Fault) (given : Effect) → (fault ≡ None → IsSmallAnswer given.answer) → IsSmallAnswer (effect_by fault given).answer
+answer_by None given small = small refl
+answer_by (Some fault) given small = failed_small fault
 
 -- ---- contexts and states
 
@@ -77,13 +78,13 @@ if_first : (test : Bool) (found : Option ContextData) → IfSome found IsSmallCo
 if_first true found small = small
 if_first false found small = tt
 
-of_context : FoundIsShort → (context : ContextId) (rows : List (ℕ × Process)) → AllShort rows → IfSome (data_of context rows) IsSmallContext
-of_context law (ids.Process number) rows all = process_context number (process_of number rows) (found_short law rows number all)
-of_context law (ids.Thread number thread) rows all = if_first (thread == 1) _ (thread_context number (process_of number rows))
+of_context : (context : ContextId) (rows : List (ℕ × Process)) → AllShort rows → IfSome (data_of context rows) IsSmallContext
+of_context (ids.Process number) rows all = process_context number (process_of number rows) (found_short rows number all)
+of_context (ids.Thread number thread) rows all = if_first (thread == 1) _ (thread_context number (process_of number rows))
 
-named_small : FoundIsShort → (context : Option ContextId) (rows : List (ℕ × Process)) → AllShort rows → IfSome (option_and_then (λ c. data_of c rows) context) IsSmallContext
-named_small law None rows all = tt
-named_small law (Some context) rows all = of_context law context rows all
+named_small : (context : Option ContextId) (rows : List (ℕ × Process)) → AllShort rows → IfSome (option_and_then (λ c. data_of c rows) context) IsSmallContext
+named_small None rows all = tt
+named_small (Some context) rows all = of_context context rows all
 
 context_small : (found : Option ContextData) → IfSome found IsSmallContext → IsSmallAnswer (context_answer found)
 context_small None small = tt
@@ -97,17 +98,17 @@ state_of_small : (found : Option Process) → IfSome found IsShort → IsSmallAn
 state_of_small None is = tt
 state_of_small (Some process) is = state_small process.cpu.pc process.state is.state
 
-at_number : FoundIsShort → (rows : List (ℕ × Process)) (number : Option ℕ) → AllShort rows → IfSome (process_at_number number rows) IsShort
-at_number law rows None all = tt
-at_number law rows (Some number) all = found_short law rows number all
+at_number : (rows : List (ℕ × Process)) (number : Option ℕ) → AllShort rows → IfSome (process_at_number number rows) IsShort
+at_number rows None all = tt
+at_number rows (Some number) all = found_short rows number all
 
 process_of_small : (number : ℕ) (found : Option Process) → IfSome found IsShort → IsSmallAnswer (process_answer_of number found)
 process_of_small number None is = tt
 process_of_small number (Some process) is = record { id = process_word number; name = is.name }
 
-process_answer_small : FoundIsShort → (rows : List (ℕ × Process)) (number : Option ℕ) → AllShort rows → IsSmallAnswer (process_answer number rows)
-process_answer_small law rows None all = tt
-process_answer_small law rows (Some number) all = process_of_small number (process_of number rows) (found_short law rows number all)
+process_answer_small : (rows : List (ℕ × Process)) (number : Option ℕ) → AllShort rows → IsSmallAnswer (process_answer number rows)
+process_answer_small rows None all = tt
+process_answer_small rows (Some number) all = process_of_small number (process_of number rows) (found_short rows number all)
 
 -- ---- lists of IDs
 
@@ -145,15 +146,15 @@ trace_answer : (bps : List (ℕ × BpProps)) (count : ℕ) (number : Option ℕ)
 trace_answer bps count None targets after = tt
 trace_answer bps count (Some number) targets after = tt
 
-run_answer : FoundIsShort → (command : Command) (bps : List (ℕ × BpProps)) (targets after : TargetsValue) → AreBounded bps targets → AllShort after.processes → IsSmallAnswer (run_given command bps targets after).answer
-run_answer law (GetContext id) bps targets after bounded short = context_small (data_named id targets.processes) (named_small law (context_of id) targets.processes bounded.short)
-run_answer law (GetChildren id) bps targets after bounded short = named_words id targets.processes bounded.few
-run_answer law (GetState id) bps targets after bounded short = state_of_small (thread_there id targets.processes) (at_number law targets.processes (thread_named id) bounded.short)
-run_answer law (ProcContext id) bps targets after bounded short = process_answer_small law targets.processes (process_named id) bounded.short
-run_answer law (ProcChildren id attached) bps targets after bounded short = processes_words id attached targets.processes bounded.few
-run_answer law (ProcStart directory file args environment attach) bps targets after bounded short = process_answer_small law after.processes (Some targets.next) short
-run_answer law (TraceRun id count) bps targets after bounded short = trace_answer bps (unsigned_abs count) (thread_named id) targets after
-run_answer law _ bps targets after bounded short = tt
+run_answer : (command : Command) (bps : List (ℕ × BpProps)) (targets after : TargetsValue) → AreBounded bps targets → AllShort after.processes → IsSmallAnswer (run_given command bps targets after).answer
+run_answer (GetContext id) bps targets after bounded short = context_small (data_named id targets.processes) (named_small (context_of id) targets.processes bounded.short)
+run_answer (GetChildren id) bps targets after bounded short = named_words id targets.processes bounded.few
+run_answer (GetState id) bps targets after bounded short = state_of_small (thread_there id targets.processes) (at_number targets.processes (thread_named id) bounded.short)
+run_answer (ProcContext id) bps targets after bounded short = process_answer_small targets.processes (process_named id) bounded.short
+run_answer (ProcChildren id attached) bps targets after bounded short = processes_words id attached targets.processes bounded.few
+run_answer (ProcStart directory file args environment attach) bps targets after bounded short = process_answer_small after.processes (Some targets.next) short
+run_answer (TraceRun id count) bps targets after bounded short = trace_answer bps (unsigned_abs count) (thread_named id) targets after
+run_answer _ bps targets after bounded short = tt
 
 -- ---- Memory and Registers
 
@@ -221,14 +222,14 @@ data_answer _ targets none = tt
 
 -- ---- Breakpoints
 
-changed_answer : ReportsAreSmall → (attached : List ℕ) (refused : Bool) (removed : List (List ℕ)) (added changed : List BpProps) → IsSmallAnswer (effect_of attached (cond refused (Failed 1) (Changed removed added changed))).answer
-changed_answer law attached true removed added changed = law 1
-changed_answer law attached false removed added changed = tt
+changed_answer : (attached : List ℕ) (refused : Bool) (removed : List (List ℕ)) (added changed : List BpProps) → IsSmallAnswer (effect_of attached (cond refused (Failed 1) (Changed removed added changed))).answer
+changed_answer attached true removed added changed = reports_are_small 1
+changed_answer attached false removed added changed = tt
 
-change_answer : ReportsAreSmall → (channel : ℕ) (command : Command) (target : Target) → IsSmallAnswer (effect_of (attached_in target.contexts.processes) (done channel command target.breakpoints)).answer
-change_answer law channel command target =
+change_answer : (channel : ℕ) (command : Command) (target : Target) → IsSmallAnswer (effect_of (attached_in target.contexts.processes) (done channel command target.breakpoints)).answer
+change_answer channel command target =
     let rows = target.breakpoints in
-    changed_answer law (attached_in target.contexts.processes) (is_refused channel command rows) (removed_by channel command rows) (added_by command) (changed_by command rows)
+    changed_answer (attached_in target.contexts.processes) (is_refused channel command rows) (removed_by channel command rows) (added_by command) (changed_by command rows)
 
 props_small : (found : Option BpProps) → IfReadable found → IsSmallAnswer (props_answer found)
 props_small None readable = tt
@@ -250,40 +251,40 @@ either_answer : (test : Bool) (one other : Effect) → IsSmallAnswer one.answer 
 either_answer true one other small also = small
 either_answer false one other small also = also
 
-breakpoints_answer : ReportsAreSmall → (channel : ℕ) (command : Command) (target : Target) → AreBounded target.breakpoints target.contexts → IsSmallAnswer (breakpoints_effect channel command target).answer
-breakpoints_answer law channel command target bounded =
+breakpoints_answer : (channel : ℕ) (command : Command) (target : Target) → AreBounded target.breakpoints target.contexts → IsSmallAnswer (breakpoints_effect channel command target).answer
+breakpoints_answer channel command target bounded =
     let attached = attached_in target.contexts.processes in
     let answer = gives (ask_answer command attached target.breakpoints) in
     either_answer (changes_list command) (effect_of attached (done channel command target.breakpoints)) (effect_by (ask_fault command target) answer)
-    (change_answer law channel command target) (answer_by law (ask_fault command target) answer (λ _. ask_small command target bounded))
+    (change_answer channel command target) (answer_by (ask_fault command target) answer (λ _. ask_small command target bounded))
 
 -- ---- every service
 
-locator_small : ReportsAreSmall → (command : Command) → IsSmallAnswer (locator_answer command)
-locator_small law GetPeers = (lit≤ tt, tt)
-locator_small law (Redirect peer) = law 7
-locator_small law _ = tt
+locator_small : (command : Command) → IsSmallAnswer (locator_answer command)
+locator_small GetPeers = (lit≤ tt, tt)
+locator_small (Redirect peer) = reports_are_small 7
+locator_small _ = tt
 
-run_small : ReportsAreSmall → FoundIsShort → (command : Command) (bps : List (ℕ × BpProps)) (targets : TargetsValue) → AreBounded bps targets → (run_fault command targets ≡ None → AllShort (run_left command bps targets).processes)
+run_small : (command : Command) (bps : List (ℕ × BpProps)) (targets : TargetsValue) → AreBounded bps targets → (run_fault command targets ≡ None → AllShort (run_left command bps targets).processes)
     → IsSmallAnswer (run_effect command bps targets).answer
-run_small reports law command bps targets bounded after =
+run_small command bps targets bounded after =
     let left = run_left command bps targets in
-    answer_by reports (run_fault command targets) (run_given command bps targets left) (λ none. run_answer law command bps targets left bounded (after none))
+    answer_by (run_fault command targets) (run_given command bps targets left) (λ none. run_answer command bps targets left bounded (after none))
 
-data_small : ReportsAreSmall → (command : Command) (targets : TargetsValue) → IsSmallAnswer (data_effect command targets).answer
-data_small reports command targets = answer_by reports (data_fault command targets) (data_given command targets) (data_answer command targets)
+data_small : (command : Command) (targets : TargetsValue) → IsSmallAnswer (data_effect command targets).answer
+data_small command targets = answer_by (data_fault command targets) (data_given command targets) (data_answer command targets)
 
-answer_in : ReportsAreSmall → FoundIsShort → (name : CommandName) (channel : ℕ) (command : Command) (target : Target) → AreBounded target.breakpoints target.contexts
+answer_in : (name : CommandName) (channel : ℕ) (command : Command) (target : Target) → AreBounded target.breakpoints target.contexts
     → (run_fault command target.contexts ≡ None → AllShort (run_left command target.breakpoints target.contexts).processes) → IsSmallAnswer (effect_in name channel command target).answer
-answer_in reports law (service.Locator name) channel command target bounded after = locator_small reports command
-answer_in reports law (service.RunControl name) channel command target bounded after = run_small reports law command target.breakpoints target.contexts bounded after
-answer_in reports law (service.Breakpoints name) channel command target bounded after = breakpoints_answer reports channel command target bounded
-answer_in reports law (service.Memory name) channel command target bounded after = data_small reports command target.contexts
-answer_in reports law (service.Registers name) channel command target bounded after = data_small reports command target.contexts
-answer_in reports law (service.Processes name) channel command target bounded after = run_small reports law command target.breakpoints target.contexts bounded after
-answer_in reports law (service.Trace name) channel command target bounded after = run_small reports law command target.breakpoints target.contexts bounded after
+answer_in (service.Locator name) channel command target bounded after = locator_small command
+answer_in (service.RunControl name) channel command target bounded after = run_small command target.breakpoints target.contexts bounded after
+answer_in (service.Breakpoints name) channel command target bounded after = breakpoints_answer channel command target bounded
+answer_in (service.Memory name) channel command target bounded after = data_small command target.contexts
+answer_in (service.Registers name) channel command target bounded after = data_small command target.contexts
+answer_in (service.Processes name) channel command target bounded after = run_small command target.breakpoints target.contexts bounded after
+answer_in (service.Trace name) channel command target bounded after = run_small command target.breakpoints target.contexts bounded after
 
-pub exec_answer_small : ReportsAreSmall → FoundIsShort → (channel : ℕ) (command : Command) (target : Target) → AreBounded target.breakpoints target.contexts
+pub exec_answer_small : (channel : ℕ) (command : Command) (target : Target) → AreBounded target.breakpoints target.contexts
     → (run_fault command target.contexts ≡ None → AllShort (run_left command target.breakpoints target.contexts).processes) → IsSmallAnswer (exec_effect channel command target).answer
 unfolding exec_effect
-exec_answer_small reports law channel command target bounded after = answer_in reports law (named_as command) channel command target bounded after
+exec_answer_small channel command target bounded after = answer_in (named_as command) channel command target bounded after

@@ -10,7 +10,7 @@ use Rattle.json_values.specs.SizeLaws.{decimal_size}
 use Rattle.command_tables.specs.Canonical.{IsReadable}
 use Rattle.reply_tables.specs.Sizes.{IsSmallEvent}
 use Rattle.tcf_values.specs.Effects.{effect_by, failed, gives}
-use Rattle.tcf_values.specs.Ids.{RegisterRoundTrip, register_of}
+use Rattle.tcf_values.specs.Ids.{register_of}
 use Rattle.tcf_values.specs.Spelling.{register_name, register_spelling}
 use Rattle.tcf_values.specs.declared.command.Command.{Command}
 use Rattle.tcf_values.specs.declared.command.Command.TheVariants.{GetContext, GetChildren, GetState, Resume, Suspend, Terminate, BpSet, BpAdd, BpChange, BpEnable, BpDisable, BpRemove, MemGet, MemSet, RegGet, RegSet, RegGetm, RegSetm, ProcContext, ProcChildren, ProcStart, ProcAttach, ProcDetach, ProcTerminate, TraceRun}
@@ -43,7 +43,6 @@ use Rattle.run_control.specs.Tracing.{last_hits, last_of, states_of, traced_even
 use Rattle.rv32i_core.specs.Machine.{machine}
 use Rattle.target_contexts.specs.Live.{process_of}
 use Rattle.target_contexts.specs.Named.{attached_in, is_suspended, number_named, thread_named}
-use Rattle.target_contexts.specs.Short.{FoundIsShort}
 use Rattle.target_contexts.specs.TargetsValue.{TargetsValue}
 use Rattle.target_contexts.specs.declared.process.Process.{Process}
 use Rattle.target_contexts.specs.declared.process.ThreadState.TheVariants.{Suspended}
@@ -51,6 +50,7 @@ use Rattle.target_hub.specs.BreakpointsRows.{ask_answer, ask_fault, breakpoints_
 use Rattle.target_hub.specs.BreakpointsRows as bp_rows
 use Rattle.target_hub.specs.Limits.{AreReadable}
 use Rattle.target_hub.specs.declared.target.Target.{Target}
+use Rattle.tcf_values.proofs.TheLaws.{register_round_trip}
 use Rattle.target_hub.proofs.Given.{AreProps, added_readable, changed_readable}
 use Rattle.target_hub.proofs.Lists.{all_mapped}
 use Rattle.target_hub.proofs.Small.{AreBounded, AreSmall, added_small, attached_few, changed_small, end_small, found_short, ids_words, process_word, executed_small, resumed_small, status_small, statuses_small, stop_all_small, suspended_small, test_small, three_small}
@@ -73,28 +73,28 @@ of_small : (events : ℕ → List EventData) (number : Option ℕ) → ((n : ℕ
 of_small events None each = tt
 of_small events (Some n) each = each n
 
-traced_small : FoundIsShort → (bps : List (ℕ × BpProps)) (number count : ℕ) (process : Option Process) (after : TargetsValue) → AreBounded bps after → AreSmall (traced_events_at bps number count process after)
-traced_small law bps number count None after bounded = tt
-traced_small law bps number count (Some process) after bounded =
+traced_small : (bps : List (ℕ × BpProps)) (number count : ℕ) (process : Option Process) (after : TargetsValue) → AreBounded bps after → AreSmall (traced_events_at bps number count process after)
+traced_small bps number count None after bounded = tt
+traced_small bps number count (Some process) after bounded =
     let states = states_of bps number count process in
-    stop_all_small law bps number (Suspended step_text []) process.attached after (last_hits bps number process states) (length states == count) (last_of process states) bounded
+    stop_all_small bps number (Suspended step_text []) process.attached after (last_hits bps number process states) (length states == count) (last_of process states) bounded
 
-trace_small : FoundIsShort → (bps : List (ℕ × BpProps)) (count : ℕ) (number : Option ℕ) (targets after : TargetsValue) → AreBounded bps after → AreSmall (trace_given bps count number targets after).events
-trace_small law bps count None targets after bounded = tt
-trace_small law bps count (Some number) targets after bounded = traced_small law bps number count (process_of number targets.processes) after bounded
+trace_small : (bps : List (ℕ × BpProps)) (count : ℕ) (number : Option ℕ) (targets after : TargetsValue) → AreBounded bps after → AreSmall (trace_given bps count number targets after).events
+trace_small bps count None targets after bounded = tt
+trace_small bps count (Some number) targets after bounded = traced_small bps number count (process_of number targets.processes) after bounded
 
-started_small : FoundIsShort → (bps : List (ℕ × BpProps)) (number : ℕ) (after : TargetsValue) → AreBounded bps after → AreSmall (start_events bps number after)
-started_small law bps number after bounded =
+started_small : (bps : List (ℕ × BpProps)) (number : ℕ) (after : TargetsValue) → AreBounded bps after → AreSmall (start_events bps number after)
+started_small bps number after bounded =
     let process = process_of number after.processes in
-    let is = found_short law after.processes number bounded.short in
+    let is = found_short after.processes number bounded.short in
     three_small (added_events number process) (suspended_events number process) (statuses_in bps after)
     (added_small number process is) (suspended_small number process is) (statuses_small bps after bounded)
 
-attached_small : FoundIsShort → (bps : List (ℕ × BpProps)) (number : ℕ) (after : TargetsValue) → AreBounded bps after → AreSmall (attach_events bps number after)
-attached_small law bps number after bounded =
+attached_small : (bps : List (ℕ × BpProps)) (number : ℕ) (after : TargetsValue) → AreBounded bps after → AreSmall (attach_events bps number after)
+attached_small bps number after bounded =
     let process = process_of number after.processes in
     three_small (changed_events number process) (suspended_events number process) (statuses_in bps after)
-    (changed_small number process) (suspended_small number process (found_short law after.processes number bounded.short)) (statuses_small bps after bounded)
+    (changed_small number process) (suspended_small number process (found_short after.processes number bounded.short)) (statuses_small bps after bounded)
 
 detached_small : (bps : List (ℕ × BpProps)) (was_suspended : Bool) (number : ℕ) (after : TargetsValue) → AreBounded bps after → AreSmall (detach_events bps was_suspended number after)
 detached_small bps was_suspended number after bounded =
@@ -102,30 +102,30 @@ detached_small bps was_suspended number after bounded =
     three_small (changed_events number process) (cond was_suspended (resumed_events number) []) (statuses_in bps after)
     (changed_small number process) (test_small was_suspended (resumed_events number) [] (resumed_small number) tt) (statuses_small bps after bounded)
 
-run_small : FoundIsShort → (command : Command) (bps : List (ℕ × BpProps)) (targets after : TargetsValue) → AreBounded bps after → AreSmall (run_given command bps targets after).events
-run_small law (GetContext id) bps targets after bounded = tt
-run_small law (GetChildren id) bps targets after bounded = tt
-run_small law (GetState id) bps targets after bounded = tt
-run_small law (Resume id mode count) bps targets after bounded = of_small resumed_events (thread_named id) resumed_small
-run_small law (Suspend id) bps targets after bounded =
-    of_small (λ n. suspend_events n after) (thread_named id) (λ n. suspended_small n (process_of n after.processes) (found_short law after.processes n bounded.short))
-run_small law (Terminate id) bps targets after bounded =
+run_small : (command : Command) (bps : List (ℕ × BpProps)) (targets after : TargetsValue) → AreBounded bps after → AreSmall (run_given command bps targets after).events
+run_small (GetContext id) bps targets after bounded = tt
+run_small (GetChildren id) bps targets after bounded = tt
+run_small (GetState id) bps targets after bounded = tt
+run_small (Resume id mode count) bps targets after bounded = of_small resumed_events (thread_named id) resumed_small
+run_small (Suspend id) bps targets after bounded =
+    of_small (λ n. suspend_events n after) (thread_named id) (λ n. suspended_small n (process_of n after.processes) (found_short after.processes n bounded.short))
+run_small (Terminate id) bps targets after bounded =
     of_small (λ n. end_events bps n terminate_code after) (number_named id) (λ n. end_small bps n terminate_code after bounded)
-run_small law (ProcContext id) bps targets after bounded = tt
-run_small law (ProcChildren id attached) bps targets after bounded = tt
-run_small law (ProcStart directory file args environment attach) bps targets after bounded = started_small law bps targets.next after bounded
-run_small law (ProcAttach id) bps targets after bounded = of_small (λ n. attach_events bps n after) (process_named id) (λ n. attached_small law bps n after bounded)
-run_small law (ProcDetach id) bps targets after bounded =
+run_small (ProcContext id) bps targets after bounded = tt
+run_small (ProcChildren id attached) bps targets after bounded = tt
+run_small (ProcStart directory file args environment attach) bps targets after bounded = started_small bps targets.next after bounded
+run_small (ProcAttach id) bps targets after bounded = of_small (λ n. attach_events bps n after) (process_named id) (λ n. attached_small bps n after bounded)
+run_small (ProcDetach id) bps targets after bounded =
     let was_suspended = is_suspended (process_there id targets.processes) in
     of_small (λ n. detach_events bps was_suspended n after) (process_named id) (λ n. detached_small bps was_suspended n after bounded)
-run_small law (ProcTerminate id) bps targets after bounded =
+run_small (ProcTerminate id) bps targets after bounded =
     of_small (λ n. end_events bps n terminate_code after) (process_named id) (λ n. end_small bps n terminate_code after bounded)
-run_small law (TraceRun id count) bps targets after bounded = trace_small law bps (unsigned_abs count) (thread_named id) targets after bounded
-run_small law _ bps targets after bounded = tt
+run_small (TraceRun id count) bps targets after bounded = trace_small bps (unsigned_abs count) (thread_named id) targets after bounded
+run_small _ bps targets after bounded = tt
 
-pub run_told : FoundIsShort → (command : Command) (bps : List (ℕ × BpProps)) (targets : TargetsValue) → (run_fault command targets ≡ None → AreBounded bps (run_left command bps targets))
+pub run_told : (command : Command) (bps : List (ℕ × BpProps)) (targets : TargetsValue) → (run_fault command targets ≡ None → AreBounded bps (run_left command bps targets))
     → AreSmall (run_effect command bps targets).events
-run_told law command bps targets after = by_fault (run_fault command targets) _ (λ none. run_small law command bps targets (run_left command bps targets) (after none))
+run_told command bps targets after = by_fault (run_fault command targets) _ (λ none. run_small command bps targets (run_left command bps targets) (after none))
 
 -- ---- Memory and Registers: a register that is there has a short ID
 
@@ -150,15 +150,15 @@ spelling_size id =
       name_size (id.index == 32) id.index,
     )
 
-held_word : RegisterRoundTrip → (text : List ℕ) (register : Option RegisterId) (rows : List (ℕ × Process)) → register_of text ≡ register → is_none (option_and_then (process_with rows) register) ≡ false → IsWord text
-held_word law text None rows there held = absurd cc
-held_word law text (Some register) rows there held =
-    let spelled : text ≡ register_spelling register = ((law text register).0 there).1 in
+held_word : (text : List ℕ) (register : Option RegisterId) (rows : List (ℕ × Process)) → register_of text ≡ register → is_none (option_and_then (process_with rows) register) ≡ false → IsWord text
+held_word text None rows there held = absurd cc
+held_word text (Some register) rows there held =
+    let spelled : text ≡ register_spelling register = ((register_round_trip text register).0 there).1 in
     let few = spelling_size register in
     rw spelled few
 
-pub register_word : RegisterRoundTrip → (text : List ℕ) (rows : List (ℕ × Process)) → is_none (holder_of text rows) ≡ false → IsWord text
-register_word law text rows held = held_word law text (register_of text) rows refl held
+pub register_word : (text : List ℕ) (rows : List (ℕ × Process)) → is_none (holder_of text rows) ≡ false → IsWord text
+register_word text rows held = held_word text (register_of text) rows refl held
 
 or_none : (one other : Option Fault) → option_or one other ≡ None → one ≡ None
 or_none None other none = refl
@@ -176,25 +176,25 @@ memory_small : (number : Option ℕ) (addr size : ℤ) → AreSmall (memory_even
 memory_small None addr size = tt
 memory_small (Some number) addr size = if_small _ (MemChanged _ _) (process_word number, lit≤ tt)
 
-several_small : RegisterRoundTrip → (list : List Location) (rows : List (ℕ × Process)) → locations_fault rows list ≡ None → AreSmall (events_from (slice_get list 0) list)
-several_small law [] rows none = tt
-several_small law (first ∷ list) rows none =
+several_small : (list : List Location) (rows : List (ℕ × Process)) → locations_fault rows list ≡ None → AreSmall (events_from (slice_get list 0) list)
+several_small [] rows none = tt
+several_small (first ∷ list) rows none =
     let held = passes (is_none (holder_of first.register rows)) BadContext _ (or_none (location_fault rows first) (locations_fault rows list) none) in
-    test_small (name_one first.register (first ∷ list)) (RegChanged first.register ∷ []) (RegsChanged ∷ []) (register_word law first.register rows held, tt) (tt, tt)
+    test_small (name_one first.register (first ∷ list)) (RegChanged first.register ∷ []) (RegsChanged ∷ []) (register_word first.register rows held, tt) (tt, tt)
 
-data_small : RegisterRoundTrip → (command : Command) (targets : TargetsValue) → data_fault command targets ≡ None → AreSmall (data_given command targets).events
-data_small law (MemGet id addr word size mode) targets none = tt
-data_small law (MemSet id addr word size mode bytes) targets none = memory_small (number_named id) addr size
-data_small law (RegGet id) targets none = tt
-data_small law (RegSet id bytes) targets none = (register_word law id targets.processes (passes (is_none (holder_of id targets.processes)) BadContext _ none), tt)
-data_small law (RegGetm list) targets none = tt
-data_small law (RegSetm list bytes) targets none =
+data_small : (command : Command) (targets : TargetsValue) → data_fault command targets ≡ None → AreSmall (data_given command targets).events
+data_small (MemGet id addr word size mode) targets none = tt
+data_small (MemSet id addr word size mode bytes) targets none = memory_small (number_named id) addr size
+data_small (RegGet id) targets none = tt
+data_small (RegSet id bytes) targets none = (register_word id targets.processes (passes (is_none (holder_of id targets.processes)) BadContext _ none), tt)
+data_small (RegGetm list) targets none = tt
+data_small (RegSetm list bytes) targets none =
     let get_none = or_none (registers_get_fault list targets.processes) _ none in
-    several_small law list targets.processes (unless_many (nat_lt 256 (length list)) (locations_fault targets.processes list) get_none).1
-data_small law _ targets none = tt
+    several_small list targets.processes (unless_many (nat_lt 256 (length list)) (locations_fault targets.processes list) get_none).1
+data_small _ targets none = tt
 
-pub data_told : RegisterRoundTrip → (command : Command) (targets : TargetsValue) → AreSmall (data_effect command targets).events
-data_told law command targets = by_fault (data_fault command targets) _ (data_small law command targets)
+pub data_told : (command : Command) (targets : TargetsValue) → AreSmall (data_effect command targets).events
+data_told command targets = by_fault (data_fault command targets) _ (data_small command targets)
 
 -- ---- Breakpoints
 
@@ -277,12 +277,12 @@ breakpoints_told channel command target readable bounded =
 
 -- ---- a tick
 
-ticked_small : FoundIsShort → (bps : List (ℕ × BpProps)) (number : ℕ) (process : Option Process) (after : TargetsValue) → AreBounded bps after → AreSmall (ticked_events_at bps number process after)
-ticked_small law bps number None after bounded = tt
-ticked_small law bps number (Some process) after bounded =
-    executed_small law bps number (counted process.state) process.attached after process (machine process.cpu process.memory) bounded
+ticked_small : (bps : List (ℕ × BpProps)) (number : ℕ) (process : Option Process) (after : TargetsValue) → AreBounded bps after → AreSmall (ticked_events_at bps number process after)
+ticked_small bps number None after bounded = tt
+ticked_small bps number (Some process) after bounded =
+    executed_small bps number (counted process.state) process.attached after process (machine process.cpu process.memory) bounded
 
-pub tick_told_small : FoundIsShort → (bps : List (ℕ × BpProps)) (targets : TargetsValue) (number : Option ℕ) → AreBounded bps (option_map_or (λ n. ticked bps n targets) number targets)
+pub tick_told_small : (bps : List (ℕ × BpProps)) (targets : TargetsValue) (number : Option ℕ) → AreBounded bps (option_map_or (λ n. ticked bps n targets) number targets)
     → IfSome (option_map (λ n. ticked_events bps n targets) number) AreSmall
-tick_told_small law bps targets None bounded = tt
-tick_told_small law bps targets (Some number) bounded = ticked_small law bps number (process_of number targets.processes) (ticked bps number targets) bounded
+tick_told_small bps targets None bounded = tt
+tick_told_small bps targets (Some number) bounded = ticked_small bps number (process_of number targets.processes) (ticked bps number targets) bounded

@@ -14,7 +14,6 @@ use Rattle.tcf_values.specs.declared.values.ContextData.{ContextData}
 use Rattle.breakpoints.specs.Changes.{added_by, changed_by, done, is_refused, removed_by, rows_after}
 use Rattle.breakpoints.specs.declared.breakpoints.BpDone.TheVariants.{Failed, Changed}
 use Rattle.data_services.specs.Commands.{data_after, data_effect}
-use Rattle.data_services.specs.Laws.{FailureChangesNothing as DataFailure}
 use Rattle.target_contexts.specs.Changes.{targets_by}
 use Rattle.target_contexts.specs.Live.{process_of}
 use Rattle.target_contexts.specs.Named.{attached_in, thread_named}
@@ -28,6 +27,7 @@ use Rattle.target_hub.specs.BreakpointsRows.{ask_fault, breakpoints_after, effec
 use Rattle.target_hub.specs.Execution.{exec_after, exec_effect}
 use Rattle.target_hub.specs.Laws.{AskingChangesNothing, AskingIsTheSame, FailureChangesNothing}
 use Rattle.target_hub.specs.declared.target.Target.{Target}
+use Rattle.data_services.proofs.TheLaws.{failure_changes_nothing}
 
 -- ---- a command that only asks
 
@@ -141,10 +141,10 @@ run_nothing command target report same =
     by_fault target (run_fault command target.contexts) left (run_given command target.breakpoints target.contexts left) report
     (run_none command target.breakpoints target.contexts left) same
 
-data_nothing : DataFailure → (command : Command) (target : Target) (report : ErrorReport) → (data_effect command target.contexts).answer ≡ answers.Failed report →
+data_nothing : (command : Command) (target : Target) (report : ErrorReport) → (data_effect command target.contexts).answer ≡ answers.Failed report →
     (record target { contexts = data_after command target.contexts } ≡ target) × ((data_effect command target.contexts).events ≡ [])
-data_nothing law command target report same =
-    let kept = law command target.contexts report same in (with_same target (data_after command target.contexts) kept.0, kept.1)
+data_nothing command target report same =
+    let kept = failure_changes_nothing command target.contexts report same in (with_same target (data_after command target.contexts) kept.0, kept.1)
 
 change_nothing : (target : Target) (attached : List ℕ) (refused : Bool) (new : List (ℕ × BpProps)) (removed : List (List ℕ)) (added changed : List BpProps) (report : ErrorReport) →
     (effect_of attached (cond refused (Failed 1) (Changed removed added changed))).answer ≡ answers.Failed report →
@@ -160,38 +160,38 @@ changed_nothing channel command target report same =
     change_nothing target (attached_in target.contexts.processes) (is_refused channel command rows) (rows_after channel command rows)
     (removed_by channel command rows) (added_by command) (changed_by command rows) report same
 
-pub failure_nothing : DataFailure → FailureChangesNothing
+pub failure_nothing : FailureChangesNothing
 unfolding exec_effect exec_after
-failure_nothing law channel Sync target report same = (refl, refl)
-failure_nothing law channel GetPeers target report same = (refl, refl)
-failure_nothing law channel (Redirect peer) target report same = (refl, refl)
-failure_nothing law channel (GetContext id) target report same = run_nothing (GetContext id) target report same
-failure_nothing law channel (GetChildren id) target report same = run_nothing (GetChildren id) target report same
-failure_nothing law channel (GetState id) target report same = run_nothing (GetState id) target report same
-failure_nothing law channel (Resume id mode count) target report same = run_nothing (Resume id mode count) target report same
-failure_nothing law channel (Suspend id) target report same = run_nothing (Suspend id) target report same
-failure_nothing law channel (Terminate id) target report same = run_nothing (Terminate id) target report same
-failure_nothing law channel (BpSet list) target report same = changed_nothing channel (BpSet list) target report same
-failure_nothing law channel (BpAdd props) target report same = changed_nothing channel (BpAdd props) target report same
-failure_nothing law channel (BpChange props) target report same = changed_nothing channel (BpChange props) target report same
-failure_nothing law channel (BpEnable ids) target report same = changed_nothing channel (BpEnable ids) target report same
-failure_nothing law channel (BpDisable ids) target report same = changed_nothing channel (BpDisable ids) target report same
-failure_nothing law channel (BpRemove ids) target report same = changed_nothing channel (BpRemove ids) target report same
-failure_nothing law channel BpIds target report same = (refl, refl)
-failure_nothing law channel (BpProperties id) target report same = (refl, given_alone (ask_fault (BpProperties id) target) _)
-failure_nothing law channel (BpGetStatus id) target report same = (refl, given_alone (ask_fault (BpGetStatus id) target) _)
-failure_nothing law channel (BpCapabilities id) target report same = (refl, given_alone (ask_fault (BpCapabilities id) target) _)
-failure_nothing law channel (MemGet id addr word size mode) target report same = data_nothing law (MemGet id addr word size mode) target report same
-failure_nothing law channel (MemSet id addr word size mode bytes) target report same = data_nothing law (MemSet id addr word size mode bytes) target report same
-failure_nothing law channel (RegGet id) target report same = data_nothing law (RegGet id) target report same
-failure_nothing law channel (RegSet id bytes) target report same = data_nothing law (RegSet id bytes) target report same
-failure_nothing law channel (RegGetm list) target report same = data_nothing law (RegGetm list) target report same
-failure_nothing law channel (RegSetm list bytes) target report same = data_nothing law (RegSetm list bytes) target report same
-failure_nothing law channel (ProcContext id) target report same = run_nothing (ProcContext id) target report same
-failure_nothing law channel (ProcChildren id attached) target report same = run_nothing (ProcChildren id attached) target report same
-failure_nothing law channel (ProcStart directory file args environment attach) target report same =
+failure_nothing channel Sync target report same = (refl, refl)
+failure_nothing channel GetPeers target report same = (refl, refl)
+failure_nothing channel (Redirect peer) target report same = (refl, refl)
+failure_nothing channel (GetContext id) target report same = run_nothing (GetContext id) target report same
+failure_nothing channel (GetChildren id) target report same = run_nothing (GetChildren id) target report same
+failure_nothing channel (GetState id) target report same = run_nothing (GetState id) target report same
+failure_nothing channel (Resume id mode count) target report same = run_nothing (Resume id mode count) target report same
+failure_nothing channel (Suspend id) target report same = run_nothing (Suspend id) target report same
+failure_nothing channel (Terminate id) target report same = run_nothing (Terminate id) target report same
+failure_nothing channel (BpSet list) target report same = changed_nothing channel (BpSet list) target report same
+failure_nothing channel (BpAdd props) target report same = changed_nothing channel (BpAdd props) target report same
+failure_nothing channel (BpChange props) target report same = changed_nothing channel (BpChange props) target report same
+failure_nothing channel (BpEnable ids) target report same = changed_nothing channel (BpEnable ids) target report same
+failure_nothing channel (BpDisable ids) target report same = changed_nothing channel (BpDisable ids) target report same
+failure_nothing channel (BpRemove ids) target report same = changed_nothing channel (BpRemove ids) target report same
+failure_nothing channel BpIds target report same = (refl, refl)
+failure_nothing channel (BpProperties id) target report same = (refl, given_alone (ask_fault (BpProperties id) target) _)
+failure_nothing channel (BpGetStatus id) target report same = (refl, given_alone (ask_fault (BpGetStatus id) target) _)
+failure_nothing channel (BpCapabilities id) target report same = (refl, given_alone (ask_fault (BpCapabilities id) target) _)
+failure_nothing channel (MemGet id addr word size mode) target report same = data_nothing (MemGet id addr word size mode) target report same
+failure_nothing channel (MemSet id addr word size mode bytes) target report same = data_nothing (MemSet id addr word size mode bytes) target report same
+failure_nothing channel (RegGet id) target report same = data_nothing (RegGet id) target report same
+failure_nothing channel (RegSet id bytes) target report same = data_nothing (RegSet id bytes) target report same
+failure_nothing channel (RegGetm list) target report same = data_nothing (RegGetm list) target report same
+failure_nothing channel (RegSetm list bytes) target report same = data_nothing (RegSetm list bytes) target report same
+failure_nothing channel (ProcContext id) target report same = run_nothing (ProcContext id) target report same
+failure_nothing channel (ProcChildren id attached) target report same = run_nothing (ProcChildren id attached) target report same
+failure_nothing channel (ProcStart directory file args environment attach) target report same =
     run_nothing (ProcStart directory file args environment attach) target report same
-failure_nothing law channel (ProcAttach id) target report same = run_nothing (ProcAttach id) target report same
-failure_nothing law channel (ProcDetach id) target report same = run_nothing (ProcDetach id) target report same
-failure_nothing law channel (ProcTerminate id) target report same = run_nothing (ProcTerminate id) target report same
-failure_nothing law channel (TraceRun id count) target report same = run_nothing (TraceRun id count) target report same
+failure_nothing channel (ProcAttach id) target report same = run_nothing (ProcAttach id) target report same
+failure_nothing channel (ProcDetach id) target report same = run_nothing (ProcDetach id) target report same
+failure_nothing channel (ProcTerminate id) target report same = run_nothing (ProcTerminate id) target report same
+failure_nothing channel (TraceRun id count) target report same = run_nothing (TraceRun id count) target report same

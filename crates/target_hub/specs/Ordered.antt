@@ -12,15 +12,7 @@ use Rattle.tcf_text.specs.Each.{Each}
 use Rattle.tcf_text.specs.Lines.{Accepted, accepted, last_mark, is_placed_hello, from_hello, bare_answer_of}
 use Rattle.target_hub.specs.Received.{answer_of, goes_through, is_owed, read, received}
 use Rattle.tcf_text.specs.Once.{is_end, numbers}
-
-abbrev pub IsPrefixOf : {A : Type 0} → List A → List A → Type 0
-IsPrefixOf {A} xs ys = (rest : List A) × (xs ++ rest ≡ ys)
-
--- xs is what is left of ys where some of its elements are taken out
-abbrev pub IsSubsequenceOf : {A : Type 0} → List A → List A → Type 0
-IsSubsequenceOf [] ys = Unit {0}
-IsSubsequenceOf (x ∷ xs) [] = ⊥
-IsSubsequenceOf (x ∷ xs) (y ∷ ys) = ((x ≡ y) × IsSubsequenceOf xs ys) ⊎ IsSubsequenceOf (x ∷ xs) ys
+use Rattle.list_laws.specs.Fronts.{IsFront, IsSubsequenceOf}
 
 -- the history opens the channel k at this position
 pub record OpensAt (history : List Input) (position k : ℕ) : Type 0 where
@@ -70,10 +62,10 @@ through log = filter (λ c. goes_through c && not (list_any (λ number. number =
 pub record FollowsTarget (log : List LogLine) (images : List Image) (history : List Input) (k : ℕ) : Type 0 where
   -- what was received, but for answers to storable commands, is the front of what the target told, in order, with
   -- positions and data
-  pub told : IsPrefixOf (filter is_owed (received log)) (filter is_owed (sent images k history))
+  pub told : IsFront (filter is_owed (received log)) (filter is_owed (sent images k history))
   -- the through commands that were executed are the front of those that went through, and the answers are theirs, in order
-  pub executed : IsPrefixOf (filter (λ c. is_through c.reading) (executed_on k history)) (map read (through log))
-  pub answers : IsPrefixOf (flat_map (answer_of (accepted log)) (from_hello log)) (numbers (through log))
+  pub executed : IsFront (filter (λ c. is_through c.reading) (executed_on k history)) (map read (through log))
+  pub answers : IsFront (flat_map (answer_of (accepted log)) (from_hello log)) (numbers (through log))
   -- nothing else was executed
   pub accepted : IsSubsequenceOf (executed_on k history) (map read (accepted log))
 

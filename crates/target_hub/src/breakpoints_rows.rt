@@ -147,7 +147,8 @@ fn properties(target: &Target, id: &Text) -> Result<Answer, Refusal>
 
 /// Breakpoints.getStatus.
 fn status(target: &Target, id: &Text) -> Result<Answer, Refusal>
-    ensures answer { IfOk result (λ answer. answer ≡ ask_answer (Command.BpGetStatus id.now) (attached_in target.now.contexts.processes) target.now.breakpoints) }
+    ensures answer { IfOk result (λ answer. answer
+        ≡ ask_answer (Command.BpGetStatus id.now) (attached_in target.now.contexts.processes) target.now.breakpoints) }
     ensures free { OnOk result (ask_fault (Command.BpGetStatus id.now) target.now ≡ None) }
     ensures refused { IfErr result (IsRefusalOf (ask_fault (Command.BpGetStatus id.now) target.now)) }
 {

@@ -1,6 +1,11 @@
-//! Tests that show of the crates of the target what no clause says. Most cases are rows of the program `service_rows`.
+//! Tests that show of values and tables, of the target and of what a peer keeps what no clause says. Most cases are rows
+//! of the program `service_rows`.
 #![tactic(auto)]
 
+#[cfg(test)]
+mod blocks;
+#[cfg(test)]
+mod commands;
 #[cfg(test)]
 mod data;
 #[cfg(test)]
@@ -11,3 +16,5 @@ mod points;
 mod processes;
 #[cfg(test)]
 mod processor;
+#[cfg(test)]
+mod values;

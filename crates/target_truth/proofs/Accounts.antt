@@ -17,9 +17,10 @@ use Rattle.target_contexts.specs.declared.process.Process.{Process}
 use Rattle.target_contexts.specs.declared.process.ThreadState.{ThreadState}
 use Rattle.target_contexts.specs.declared.process.ThreadState.TheVariants.{Running, Suspended}
 use Rattle.target_truth.specs.Holds.{state_fact}
+use Rattle.tcf_values.proofs.TheLaws.{context_round_trip}
 use Rattle.target_truth.proofs.Agree.{Accounts, IsTouched}
 use Rattle.target_truth.proofs.KeptBytes.{kept_outside}
-use Rattle.tcf_values.specs.Ids.{ContextRoundTrip, context_of}
+use Rattle.tcf_values.specs.Ids.{context_of}
 use Rattle.tcf_values.specs.declared.ids.ContextId.{ContextId}
 use Rattle.tcf_values.specs.declared.ids.ContextId.TheVariants as contexts
 use Rattle.tcf_values.specs.declared.values.ContextData.{ContextData}
@@ -31,8 +32,8 @@ its_thread : (number : ℕ) → ((number == number) && true) ≡ true
 its_thread number = and_from (number == number) true (number_itself number) refl
 
 -- two texts that are read as one ID are one
-pub same_text : ContextRoundTrip → (a b : List ℕ) (id : ContextId) → context_of a ≡ Some id → context_of b ≡ Some id → bytes_eq a b ≡ true
-same_text ids a b id one two = (bytes_eq-Decides a b).1 (((ids a id).0 one).1 ∙ sym ((ids b id).0 two).1)
+pub same_text : (a b : List ℕ) (id : ContextId) → context_of a ≡ Some id → context_of b ≡ Some id → bytes_eq a b ≡ true
+same_text a b id one two = (bytes_eq-Decides a b).1 (((context_round_trip a id).0 one).1 ∙ sym ((context_round_trip b id).0 two).1)
 
 -- ---- processes that come and go
 
@@ -49,11 +50,11 @@ abbrev pub changes_gone : ℕ → List ℕ → List ℕ → List Change
 changes_gone number tid pid =
     context_gone tid ∷ state_gone number 1 ∷ thread_registers_gone number 1 ∷ bytes_gone number ∷ context_gone pid ∷ bytes_gone number ∷ statuses_gone ∷ []
 
-pub gone_accounts : ContextRoundTrip → (number : ℕ) (was is : Option Process) (tid pid : List ℕ) → context_of tid ≡ Some (contexts.Thread number 1)
+pub gone_accounts : (number : ℕ) (was is : Option Process) (tid pid : List ℕ) → context_of tid ≡ Some (contexts.Thread number 1)
     → context_of pid ≡ Some (contexts.Process number) → Accounts number was is (changes_gone number tid pid)
-gone_accounts ids number was is tid pid thread process = record {
-  process = λ id x named knows. inr (or_right (bytes_eq tid id) _ (or_left (bytes_eq pid id) _ (same_text ids pid id (contexts.Process number) process named)));
-  thread = λ id x named knows. inr (or_left (bytes_eq tid id) _ (same_text ids tid id (contexts.Thread number 1) thread named));
+gone_accounts number was is tid pid thread process = record {
+  process = λ id x named knows. inr (or_right (bytes_eq tid id) _ (or_left (bytes_eq pid id) _ (same_text pid id (contexts.Process number) process named)));
+  thread = λ id x named knows. inr (or_left (bytes_eq tid id) _ (same_text tid id (contexts.Thread number 1) thread named));
   state = λ x knows. inr (or_left ((number == number) && true) _ (its_thread number));
   register = λ index x few knows. inr (or_left ((number == number) && true) _ (its_thread number));
   byte = λ addr x knows. inr (or_left (number == number) _ (number_itself number));
@@ -74,11 +75,11 @@ abbrev pub changes_switched : ℕ → ContextData → List Change
 changes_switched number context =
     context_told context.id context ∷ state_gone number 1 ∷ thread_registers_gone number 1 ∷ bytes_gone number ∷ statuses_gone ∷ []
 
-pub switched_accounts : ContextRoundTrip → (number : ℕ) (old new : Process) (given : ContextData) → context_of given.id ≡ Some (contexts.Thread number 1)
+pub switched_accounts : (number : ℕ) (old new : Process) (given : ContextData) → context_of given.id ≡ Some (contexts.Thread number 1)
     → new.name ≡ old.name → Accounts number (Some old) (Some new) (changes_switched number given)
-switched_accounts ids number old new given thread name = record {
+switched_accounts number old new given thread name = record {
   process = λ id x named knows. inl (kept_process number old new x name knows);
-  thread = λ id x named knows. inr (or_left (bytes_eq given.id id) _ (same_text ids given.id id (contexts.Thread number 1) thread named));
+  thread = λ id x named knows. inr (or_left (bytes_eq given.id id) _ (same_text given.id id (contexts.Thread number 1) thread named));
   state = λ x knows. inr (or_left ((number == number) && true) _ (its_thread number));
   register = λ index x few knows. inr (or_left ((number == number) && true) _ (its_thread number));
   byte = λ addr x knows. inr (or_left (number == number) _ (number_itself number));

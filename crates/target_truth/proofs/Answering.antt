@@ -9,7 +9,6 @@ use Rattle.target_hub.specs.declared.target.Target.{Target}
 use Rattle.target_truth.specs.Taught.{answer_by, answer_message}
 use Rattle.target_truth.proofs.Changes.{IsSo, Moves, answer_moves, other_moves}
 use Rattle.target_truth.proofs.Decoding.{answer_back}
-use Rattle.target_truth.proofs.Whole.{Laws}
 use Rattle.tcf_values.specs.Effects.{effect_by, failed}
 use Rattle.tcf_values.specs.Errors.{report_of}
 use Rattle.tcf_values.specs.Faults.{code_of}
@@ -28,9 +27,9 @@ pub record IsTrueAnswer (target : Target) (command : Command) (answer : Answer) 
   pub typed : IsTyped answer
   pub so : AllByRecursion (IsSo target) (answer_changes command answer)
 
-pub answered : Laws → (target : Target) (command : Command) (answer : Answer) → IsTrueAnswer target command answer → Moves target target (answer_message command (answer_data command answer))
-answered laws target command answer is =
-    elim (answer_back laws command answer is.limits is.typed) [
+pub answered : (target : Target) (command : Command) (answer : Answer) → IsTrueAnswer target command answer → Moves target target (answer_message command (answer_data command answer))
+answered target command answer is =
+    elim (answer_back command answer is.limits is.typed) [
       | inl e ↦ subst (λ (read : Option Answer). Moves target target (answer_by command read)) (sym e) (answer_moves target command answer is.so)
       | inr e ↦ subst (λ (read : Option Answer). Moves target target (answer_by command read)) (sym e) (other_moves target)
     ]

@@ -3,13 +3,14 @@ use Rattle.std.proofs.Common.{◌≡◌, ℕ, ◌≤◌, nat_eq, length, Option,
 use Rattle.std.proofs.lemmas.Bool.{cases_Bool, eqb-false, eqb-true}
 use Rattle.std.proofs.lemmas.List.{length-map}
 use Rattle.target_contexts.specs.Changes.{with_change, with_change_at}
-use Rattle.target_contexts.specs.Laws.{AgreeBut, ChangesOne}
+use Rattle.target_contexts.specs.Laws.{AgreeBut}
 use Rattle.target_contexts.specs.Live.{IsOrderly, Rise, numbers_of, process_of}
 use Rattle.target_contexts.specs.Named.{is_attached}
 use Rattle.target_contexts.specs.TargetsValue.{TargetsValue}
 use Rattle.target_contexts.specs.declared.process.Process.{Process}
 use Rattle.target_hub.specs.declared.target.Target.{Target}
 use Rattle.target_truth.specs.Holds.{process_in}
+use Rattle.target_contexts.proofs.TheLaws.{changes_one}
 use Rattle.target_truth.proofs.First.{Stays, StaysAttached}
 use Rattle.target_truth.proofs.Silent.{attached_same}
 use Rattle.data_services.proofs.PartSteps.{live_found}
@@ -22,10 +23,10 @@ pub record Becomes (number : ℕ) (old new : TargetsValue) (process : Process) :
   pub numbers : numbers_of new.processes ≡ numbers_of old.processes
   pub next : new.next ≡ old.next
 
-pub changed : ChangesOne → (change : Process → Process) (number : ℕ) (targets : TargetsValue) (process : Process) → process_of number targets.processes ≡ Some process
+pub changed : (change : Process → Process) (number : ℕ) (targets : TargetsValue) (process : Process) → process_of number targets.processes ≡ Some process
     → Becomes number targets (with_change change number targets) (change process)
-changed law change number targets process found =
-    let is = law targets.processes number (change process) (live_found number targets.processes process found) in
+changed change number targets process found =
+    let is = changes_one targets.processes number (change process) (live_found number targets.processes process found) in
     subst (λ (o : Option Process). Becomes number targets (with_change_at change number o targets) (change process)) (sym found)
     (record { found = is.0; others = is.1; numbers = is.2; next = refl })
 
@@ -84,10 +85,10 @@ stays_attached number target contexts old new was becomes name attached = record
 }
 
 -- the live process of a number is changed
-pub change_stays : ChangesOne → (change : Process → Process) (number : ℕ) (target : Target) (old : Process) → process_in number target ≡ Some old → (change old).name ≡ old.name → (change old).attached ≡ old.attached
+pub change_stays : (change : Process → Process) (number : ℕ) (target : Target) (old : Process) → process_in number target ≡ Some old → (change old).name ≡ old.name → (change old).attached ≡ old.attached
     → StaysAttached number target (with_contexts (with_change change number target.contexts) target) old (change old)
-change_stays law change number target old was name attached =
-    stays_attached number target (with_change change number target.contexts) old (change old) was (changed law change number target.contexts old was) name attached
+change_stays change number target old was name attached =
+    stays_attached number target (with_change change number target.contexts) old (change old) was (changed change number target.contexts old was) name attached
 
 -- what stays as it is
 pub rests : (number : ℕ) (target : Target) (process : Process) → process_in number target ≡ Some process → StaysAttached number target target process process

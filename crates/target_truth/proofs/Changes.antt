@@ -4,11 +4,11 @@ use Rattle.std.specs.List.{AllByRecursion, list_any}
 use Rattle.std.proofs.lemmas.Option.{none-some}
 use Rattle.knowledge.specs.Changes.{Change, after, after_all, all_gone, state_told, state_gone}
 use Rattle.knowledge.specs.Facts.{Fact, Facts, IsPart, Knows, context_is, state_is, register_is, byte_is, properties_are, status_is, is_suspended}
-use Rattle.knowledge.specs.Laws.{IsMonotone}
 use Rattle.knowledge.specs.Learning.{Message, bad_event_taken, event_taken, answer_taken, other_taken, changes_of, learn}
 use Rattle.knowledge.specs.Rows.{answer_changes}
 use Rattle.target_hub.specs.declared.target.Target.{Target}
 use Rattle.target_truth.specs.Holds.{Holds}
+use Rattle.knowledge.proofs.TheLaws.{learning_is_monotone}
 use Rattle.target_truth.proofs.Based.{IsCalm, change_based, event_keeps, still_in}
 use Rattle.target_truth.proofs.Origins.{IsAmong, after_part, all_part}
 use Rattle.target_truth.proofs.Seen.{IsBased, holds_seen, seen, seen_based, seen_holds}
@@ -45,10 +45,10 @@ pub record Moves (before now : Target) (message : Message) : Type 0 where
   pub part : IsPart (learn message (seen before)) (seen now)
   pub based : (known : Facts) → IsPart known (seen before) → IsBased known → IsBased (learn message known)
 
-pub moved : IsMonotone → (before now : Target) (message : Message) (known : Facts) → Moves before now message → Holds known before → Holds (learn message known) now
-moved monotone before now message known moves holds =
+pub moved : (before now : Target) (message : Message) (known : Facts) → Moves before now message → Holds known before → Holds (learn message known) now
+moved before now message known moves holds =
     let part : IsPart known (seen before) = holds_seen known before holds in
-    let learned : IsPart (learn message known) (learn message (seen before)) = monotone message known (seen before) holds.grounded part in
+    let learned : IsPart (learn message known) (learn message (seen before)) = learning_is_monotone message known (seen before) holds.grounded part in
     seen_holds (learn message known) now (λ fact knows. moves.part fact (learned fact knows))
     (moves.based known part (record { grounded = holds.grounded; still = holds.still }))
 
@@ -58,9 +58,9 @@ rested before now known part holds =
     seen_holds known now (λ fact knows. part fact (holds_seen known before holds fact knows)) (record { grounded = holds.grounded; still = holds.still })
 
 -- a message that is so of the target as it is now, where what could be known of it before is still so
-pub moves_after : IsMonotone → (before now : Target) (message : Message) → IsPart (seen before) (seen now) → Moves now now message → Moves before now message
-moves_after monotone before now message part moves = record {
-  part = λ fact knows. moves.part fact (monotone message (seen before) (seen now) (seen_based before).grounded part fact knows);
+pub moves_after : (before now : Target) (message : Message) → IsPart (seen before) (seen now) → Moves now now message → Moves before now message
+moves_after before now message part moves = record {
+  part = λ fact knows. moves.part fact (learning_is_monotone message (seen before) (seen now) (seen_based before).grounded part fact knows);
   based = λ known some based. moves.based known (λ fact knows. part fact (some fact knows)) based;
 }
 

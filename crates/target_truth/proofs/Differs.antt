@@ -13,9 +13,10 @@ use Rattle.target_contexts.specs.Named.{attached_in}
 use Rattle.target_contexts.specs.declared.process.Process.{Process}
 use Rattle.target_hub.specs.declared.target.Target.{Target}
 use Rattle.target_truth.specs.Holds.{process_in}
+use Rattle.tcf_values.proofs.TheLaws.{context_round_trip}
 use Rattle.target_truth.proofs.Agree.{IsTouched}
 use Rattle.target_truth.proofs.Seen.{seen}
-use Rattle.tcf_values.specs.Ids.{ContextRoundTrip, context_of}
+use Rattle.tcf_values.specs.Ids.{context_of}
 use Rattle.tcf_values.specs.Spelling.{IsNumber}
 use Rattle.tcf_values.specs.declared.event.EventData.{EventData}
 use Rattle.tcf_values.specs.declared.ids.ContextId.TheVariants as contexts
@@ -47,11 +48,11 @@ pub record StaysAttached (number : ℕ) (before now : Target) (old new : Process
 -- ---- IDs, and what stays
 
 -- the IDs of a process and of its thread are read as theirs
-pub process_named : ContextRoundTrip → (number : ℕ) → IsNumber number → context_of (process_id number) ≡ Some (contexts.Process number)
-process_named ids number is = (ids (process_id number) (contexts.Process number)).1 (is, refl)
+pub process_named : (number : ℕ) → IsNumber number → context_of (process_id number) ≡ Some (contexts.Process number)
+process_named number is = (context_round_trip (process_id number) (contexts.Process number)).1 (is, refl)
 
-pub thread_named : ContextRoundTrip → (number : ℕ) → IsNumber number → context_of (thread_id number) ≡ Some (contexts.Thread number 1)
-thread_named ids number is = (ids (thread_id number) (contexts.Thread number 1)).1 ((is, (omega arith, omega arith)), refl)
+pub thread_named : (number : ℕ) → IsNumber number → context_of (thread_id number) ≡ Some (contexts.Thread number 1)
+thread_named number is = (context_round_trip (thread_id number) (contexts.Thread number 1)).1 ((is, (omega arith, omega arith)), refl)
 
 -- an event that makes these changes leads on where they do
 pub by_changes : (before now : Target) (event : EventData) (changes : List Change) → event_changes event ≡ changes

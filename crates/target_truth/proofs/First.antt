@@ -16,7 +16,7 @@ use Rattle.target_truth.proofs.Accounts.{changes_gone, changes_moved, changes_sw
 use Rattle.target_truth.proofs.Agree.{data_named, led_at}
 use Rattle.target_truth.proofs.Differs.{by_changes, process_named, thread_named, status_same}
 use Rattle.target_truth.proofs.Seen.{number_seen, seen, state_seen}
-use Rattle.tcf_values.specs.Ids.{ContextRoundTrip, context_of}
+use Rattle.tcf_values.specs.Ids.{context_of}
 use Rattle.tcf_values.specs.Spelling.{IsNumber}
 use Rattle.tcf_values.specs.declared.event.EventData.TheVariants as events
 use Rattle.tcf_values.specs.declared.ids.ContextId.TheVariants as contexts
@@ -41,40 +41,40 @@ came_by number before now process of_process of_thread one two named_one named_t
     )
     refl differs.others differs.breakpoints none some (none_accounts number (Some process) _) (λ id x knows. inr refl)
 
-pub came : ContextRoundTrip → (number : ℕ) (before now : Target) (process : Process) → IsNumber number → DiffersAt number before now
+pub came : (number : ℕ) (before now : Target) (process : Process) → IsNumber number → DiffersAt number before now
     → process_in number before ≡ None → process_in number now ≡ Some process
     → Leads before now (events.CtxAdded (process_data number process ∷ thread_data number process ∷ []))
-came ids number before now process is differs none some =
-    came_by number before now process (process_data number process) (thread_data number process) refl refl (process_named ids number is) (thread_named ids number is) differs none some
+came number before now process is differs none some =
+    came_by number before now process (process_data number process) (thread_data number process) refl refl (process_named number is) (thread_named number is) differs none some
 
-switched_by : ContextRoundTrip → (number : ℕ) (before now : Target) (old new : Process) (given : ContextData) → given ≡ thread_data number new
+switched_by : (number : ℕ) (before now : Target) (old new : Process) (given : ContextData) → given ≡ thread_data number new
     → context_of given.id ≡ Some (contexts.Thread number 1) → Stays number before now old new → Leads before now (events.CtxChanged (given ∷ []))
-switched_by ids number before now old new given one named stays =
+switched_by number before now old new given one named stays =
     by_changes before now (events.CtxChanged (given ∷ [])) (changes_switched number given)
     (ap (λ context. ((context_told given.id given ∷ stale_for context) ++ []) ++ statuses_gone ∷ []) named)
     (led_at number before now (Some old) (Some new) (changes_switched number given)
     (data_named given.id (contexts.Thread number 1) now named ∙ (ap (option_map (thread_data number)) stays.is ∙ ap (λ x. Some x) (sym one)), (tt, (tt, (tt, (tt, tt)))))
-    refl stays.differs.others stays.differs.breakpoints stays.was stays.is (switched_accounts ids number old new given named stays.name) (λ id x knows. inr refl))
+    refl stays.differs.others stays.differs.breakpoints stays.was stays.is (switched_accounts number old new given named stays.name) (λ id x knows. inr refl))
 
-pub switched : ContextRoundTrip → (number : ℕ) (before now : Target) (old new : Process) → IsNumber number → Stays number before now old new
+pub switched : (number : ℕ) (before now : Target) (old new : Process) → IsNumber number → Stays number before now old new
     → Leads before now (events.CtxChanged (thread_data number new ∷ []))
-switched ids number before now old new is stays =
-    switched_by ids number before now old new (thread_data number new) refl (thread_named ids number is) stays
+switched number before now old new is stays =
+    switched_by number before now old new (thread_data number new) refl (thread_named number is) stays
 
-went_by : ContextRoundTrip → (number : ℕ) (before now : Target) (tid pid : List ℕ) → context_of tid ≡ Some (contexts.Thread number 1)
+went_by : (number : ℕ) (before now : Target) (tid pid : List ℕ) → context_of tid ≡ Some (contexts.Thread number 1)
     → context_of pid ≡ Some (contexts.Process number) → DiffersAt number before now → process_in number now ≡ None
     → Leads before now (events.CtxRemoved (tid ∷ pid ∷ []))
-went_by ids number before now tid pid thread process differs none =
+went_by number before now tid pid thread process differs none =
     by_changes before now (events.CtxRemoved (tid ∷ pid ∷ [])) (changes_gone number tid pid)
     (ap (λ context. ((context_gone tid ∷ stale_for context) ++ ((context_gone pid ∷ stale_for (context_of pid)) ++ [])) ++ statuses_gone ∷ []) thread
     ∙ ap (λ context. ((context_gone tid ∷ stale_for (Some (contexts.Thread number 1))) ++ ((context_gone pid ∷ stale_for context) ++ [])) ++ statuses_gone ∷ []) process)
     (led_at number before now (process_in number before) None (changes_gone number tid pid) (tt, (tt, (tt, (tt, (tt, (tt, (tt, tt)))))))
-    refl differs.others differs.breakpoints refl none (gone_accounts ids number (process_in number before) None tid pid thread process) (λ id x knows. inr refl))
+    refl differs.others differs.breakpoints refl none (gone_accounts number (process_in number before) None tid pid thread process) (λ id x knows. inr refl))
 
-pub went : ContextRoundTrip → (number : ℕ) (before now : Target) → IsNumber number → DiffersAt number before now → process_in number now ≡ None
+pub went : (number : ℕ) (before now : Target) → IsNumber number → DiffersAt number before now → process_in number now ≡ None
     → Leads before now (events.CtxRemoved (thread_id number ∷ process_id number ∷ []))
-went ids number before now is differs none =
-    went_by ids number before now (thread_id number) (process_id number) (thread_named ids number is) (process_named ids number is) differs none
+went number before now is differs none =
+    went_by number before now (thread_id number) (process_id number) (thread_named number is) (process_named number is) differs none
 
 pub exited : (target : Target) (id : List ℕ) (code : ℤ) → Leads target target (events.Exited id code)
 exited target id code = λ fact knows. knows
@@ -102,11 +102,11 @@ stopped_by number before now old new reason hits tid thread is suspended =
     (moved_accounts number old new (told.Suspended reason hits) (register_read number 1 32 new.cpu.pc ∷ []) is.stays.name is.attached)
     (status_same before now changes is.all is.stays.differs.breakpoints))
 
-pub stopped : ContextRoundTrip → (number : ℕ) (before now : Target) (old new : Process) (reason : List ℕ) (hits : List (List ℕ)) → IsNumber number
+pub stopped : (number : ℕ) (before now : Target) (old new : Process) (reason : List ℕ) (hits : List (List ℕ)) → IsNumber number
     → StaysAttached number before now old new → new.state ≡ Suspended reason hits
     → Leads before now (events.Suspended (thread_id number) new.cpu.pc reason hits)
-stopped ids number before now old new reason hits is stays suspended =
-    stopped_by number before now old new reason hits (thread_id number) (thread_named ids number is) stays suspended
+stopped number before now old new reason hits is stays suspended =
+    stopped_by number before now old new reason hits (thread_id number) (thread_named number is) stays suspended
 
 went_on_by : (number : ℕ) (before now : Target) (old new : Process) (left : Option ℕ) (tid : List ℕ) → context_of tid ≡ Some (contexts.Thread number 1)
     → StaysAttached number before now old new → new.state ≡ Running left → Leads before now (events.Resumed tid)
@@ -117,8 +117,8 @@ went_on_by number before now old new left tid thread is running =
     refl is.stays.differs.others is.stays.differs.breakpoints is.stays.was is.stays.is (moved_accounts number old new told.Running [] is.stays.name is.attached)
     (status_same before now changes is.all is.stays.differs.breakpoints))
 
-pub went_on : ContextRoundTrip → (number : ℕ) (before now : Target) (old new : Process) (left : Option ℕ) → IsNumber number
+pub went_on : (number : ℕ) (before now : Target) (old new : Process) (left : Option ℕ) → IsNumber number
     → StaysAttached number before now old new → new.state ≡ Running left
     → Leads before now (events.Resumed (thread_id number))
-went_on ids number before now old new left is stays running =
-    went_on_by number before now old new left (thread_id number) (thread_named ids number is) stays running
+went_on number before now old new left is stays running =
+    went_on_by number before now old new left (thread_id number) (thread_named number is) stays running

@@ -20,7 +20,7 @@ use Rattle.target_truth.proofs.Agree.{IsTouched, led, led_at}
 use Rattle.target_truth.proofs.Changes.{IsSo, is_bytes}
 use Rattle.target_truth.proofs.Differs.{Leads, StaysAttached, by_changes, process_named, status_same}
 use Rattle.target_truth.proofs.KeptBytes.{inside}
-use Rattle.tcf_values.specs.Ids.{ContextRoundTrip, context_of, register_of}
+use Rattle.tcf_values.specs.Ids.{context_of, register_of}
 use Rattle.tcf_values.specs.Spelling.{IsNumber}
 use Rattle.tcf_values.specs.declared.event.EventData.TheVariants as events
 use Rattle.tcf_values.specs.declared.ids.ContextId.TheVariants as contexts
@@ -77,12 +77,12 @@ memory_by number before now old addr size bytes pid process is full in_memory si
     (memory_accounts number old (unsigned_abs addr) bytes changes fits (λ place x within. range_touched number addr size (length bytes) place x none refl sized within))
     (status_same before now changes is.all is.stays.differs.breakpoints))
 
-pub memory_set : ContextRoundTrip → (number : ℕ) (before now : Target) (old new : Process) (addr size : ℤ) (bytes : List ℕ) → IsNumber number
+pub memory_set : (number : ℕ) (before now : Target) (old new : Process) (addr size : ℤ) (bytes : List ℕ) → IsNumber number
     → StaysAttached number before now old new → length old.memory ≡ 65536 → is_outside addr size ≡ false → unsigned_abs size ≡ length bytes
     → new ≡ record old { memory = with_part (unsigned_abs addr) bytes old.memory }
     → Leads before now (events.MemChanged (process_id number) (record { addr = addr; size = size } ∷ []))
-memory_set ids number before now old new addr size bytes is stays full inside sized new_is =
-    memory_by number before now old addr size bytes (process_id number) (process_named ids number is)
+memory_set number before now old new addr size bytes is stays full inside sized new_is =
+    memory_by number before now old addr size bytes (process_id number) (process_named number is)
     (subst (λ process. StaysAttached number before now old process) new_is stays) full inside sized
 
 register_by : (before now : Target) (old : Process) (id : List ℕ) (register : RegisterId) (cpu : Cpu) → register_of id ≡ Some register → register.thread ≡ 1

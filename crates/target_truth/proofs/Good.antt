@@ -17,11 +17,12 @@ use Rattle.target_hub.specs.declared.input.Input.TheVariants.{Opened, Executed, 
 use Rattle.target_hub.specs.declared.target.Target.{Target}
 use Rattle.target_truth.specs.Holds.{process_in}
 use Rattle.target_truth.specs.Typed.{AreTyped}
+use Rattle.target_hub.proofs.TheLaws.{stays_consistent}
 use Rattle.target_truth.proofs.Fronts.{IsReadInput, inputs_read}
 use Rattle.target_truth.proofs.Fit.{IsFit, found_whole, orderly_whole}
 use Rattle.target_truth.proofs.FitData.{data_fit}
 use Rattle.target_truth.proofs.FitRun.{run_fit, tick_fit}
-use Rattle.target_truth.proofs.Whole.{IsGood, IsWhole, Laws}
+use Rattle.target_truth.proofs.Whole.{IsGood, IsWhole}
 use Rattle.tcf_values.specs.declared.command.Command.{Command}
 use Rattle.tcf_values.specs.declared.ids.ContextId.{ContextId}
 
@@ -44,14 +45,14 @@ unfolding exec_after
 exec_fit channel command target fit readable = fit_in (named_as command) channel command target fit readable
 
 -- a start, a command of Memory or Registers, and a trace
-pub command_whole : Laws → (channel : ℕ) (command : Command) (target : Target) → IsGood target → IsReadable command
+pub command_whole : (channel : ℕ) (command : Command) (target : Target) → IsGood target → IsReadable command
     → (number : ℕ) (process : Process) → process_in number (exec_after channel command target) ≡ Some process → IsWhole process
-command_whole laws channel command target good readable number process is =
+command_whole channel command target good readable number process is =
     found_whole number (exec_after channel command target).contexts.processes process (exec_fit channel command target (good_fit target good) readable).processes is
 
-pub tick_whole : Laws → (thread : ContextId) (target : Target) → IsGood target
+pub tick_whole : (thread : ContextId) (target : Target) → IsGood target
     → (number : ℕ) (process : Process) → process_in number (ticked thread target) ≡ Some process → IsWhole process
-tick_whole laws thread target good number process is =
+tick_whole thread target good number process is =
     found_whole number (ticked thread target).contexts.processes process (tick_fit target.breakpoints thread target.contexts (good_fit target good)).processes is
 
 input_fit : (input : Input) (target : Target) → IsFit target.contexts → IsReadInput input → IsFit (input_after input target).contexts
@@ -68,13 +69,13 @@ inputs_fit : (inputs : List Input) (target : Target) → IsFit target.contexts �
 inputs_fit [] target fit read = fit
 inputs_fit (input ∷ inputs) target fit read = inputs_fit inputs (input_after input target) (input_fit input target fit read.0) read.1
 
-pub history_good : Laws → (images : List Image) (history : List Input) → IsLegal images history → AreTyped images
+pub history_good : (images : List Image) (history : List Input) → IsLegal images history → AreTyped images
     → IsGood (inputs_after history (new_target images))
-history_good laws images history legal typed =
+history_good images history legal typed =
     let target = inputs_after history (new_target images) in
     let fit : IsFit target.contexts = inputs_fit history (new_target images) (record { images = typed; processes = tt }) (inputs_read images history legal) in
     record {
-      consistent = laws.consistent images history legal;
+      consistent = stays_consistent images history legal;
       images = fit.images;
       whole = λ number process is. found_whole number target.contexts.processes process fit.processes is;
     }

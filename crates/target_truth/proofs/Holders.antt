@@ -6,7 +6,8 @@ use Rattle.target_contexts.specs.Named.{is_running, runs}
 use Rattle.target_contexts.specs.declared.process.Process.{Process}
 use Rattle.target_hub.specs.declared.target.Target.{Target}
 use Rattle.target_truth.specs.Holds.{process_in}
-use Rattle.target_truth.proofs.Whole.{IsCpu, IsGood, Laws}
+use Rattle.tcf_values.proofs.TheLaws.{register_round_trip}
+use Rattle.target_truth.proofs.Whole.{IsCpu, IsGood}
 use Rattle.tcf_values.specs.Ids.{register_of}
 use Rattle.tcf_values.specs.declared.ids.RegisterId.{RegisterId}
 
@@ -41,8 +42,8 @@ pub holder_found : (target : Target) (id : List ℕ) → is_none (holder_of id t
 holder_found target id some = named_by target id (register_of id) refl some
 
 -- the index of a register that is read is at most 32
-pub index_small : Laws → (id : List ℕ) (register : RegisterId) → register_of id ≡ Some register → register.index ≤ 32
-index_small laws id register read = ((laws.registers id register).0 read).0.2
+pub index_small : (id : List ℕ) (register : RegisterId) → register_of id ≡ Some register → register.index ≤ 32
+index_small id register read = ((register_round_trip id register).0 read).0.2
 
 -- ---- where its thread is suspended
 
@@ -52,9 +53,9 @@ pub record IsHeld (target : Target) (id : List ℕ) (register : RegisterId) (pro
   pub index : register.index ≤ 32
   pub cpu : IsCpu process.cpu
 
-pub held_found : Laws → (target : Target) (id : List ℕ) → IsGood target → is_none (holder_of id target.contexts.processes) ≡ false → is_running (holder_of id target.contexts.processes) ≡ false
+pub held_found : (target : Target) (id : List ℕ) → IsGood target → is_none (holder_of id target.contexts.processes) ≡ false → is_running (holder_of id target.contexts.processes) ≡ false
     → (register : RegisterId) × (process : Process) × IsHeld target id register process
-held_found laws target id good some stopped =
+held_found target id good some stopped =
     let found = holder_found target id some in
     let register = found.0 in
     let process = found.1 in (
@@ -63,7 +64,7 @@ held_found laws target id good some stopped =
       record {
         holder = found.2;
         stopped = sym (ap is_running found.2.holder) ∙ stopped;
-        index = index_small laws id register found.2.read;
+        index = index_small id register found.2.read;
         cpu = (good.whole register.process process found.2.there).cpu;
       },
     )

@@ -55,3 +55,4 @@ pub mod Positions
 pub mod Lives
 pub mod Truth
 pub mod Stored
+pub mod TheLaws

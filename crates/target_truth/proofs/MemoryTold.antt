@@ -19,7 +19,7 @@ use Rattle.target_truth.proofs.Live.{number_found}
 use Rattle.target_truth.proofs.Seen.{seen}
 use Rattle.target_truth.proofs.Silent.{same_seen}
 use Rattle.target_truth.proofs.Tells.{Tell}
-use Rattle.target_truth.proofs.Whole.{IsGood, Laws}
+use Rattle.target_truth.proofs.Whole.{IsGood}
 use Rattle.tcf_values.specs.Spelling.{context_spelling}
 use Rattle.tcf_values.specs.declared.event.EventData.TheVariants as events
 use Rattle.tcf_values.specs.declared.ids.ContextId.TheVariants as contexts
@@ -52,14 +52,14 @@ pub record Fits (addr size : ℤ) (bytes : List ℕ) : Type 0 where
   pub whole_addr : IsWhole addr
   pub whole_size : IsWhole size
 
-memory_told : Laws → (number : ℕ) (addr size : ℤ) (bytes : List ℕ) (target : Target) (old : Process) → IsGood target → Fits addr size bytes → process_in number target ≡ Some old
+memory_told : (number : ℕ) (addr size : ℤ) (bytes : List ℕ) (target : Target) (old : Process) → IsGood target → Fits addr size bytes → process_in number target ≡ Some old
     → (some : Bool) → int_lt (pos 0) size ≡ some
     → Tell target (with_contexts (with_change (with_memory (unsigned_abs addr) bytes) number target.contexts) target)
     (cond some (events.MemChanged (context_spelling (contexts.Process number)) (record { addr = addr; size = size } ∷ []) ∷ []) [])
-memory_told laws number addr size bytes target old good fits there true e =
+memory_told number addr size bytes target old good fits there true e =
     let change = with_memory (unsigned_abs addr) bytes in
     let now = with_contexts (with_change change number target.contexts) target in
-    let stays = change_stays laws.changes change number target old there refl refl in
+    let stays = change_stays change number target old there refl refl in
     let low : int_lt addr (pos 0) ≡ false = (or_parts (int_lt addr (pos 0)) (int_lt (pos 65536) (addr +ℤ size)) fits.placed).0 in
     let high : int_lt (pos 65536) (addr +ℤ size) ≡ false = (or_parts (int_lt addr (pos 0)) (int_lt (pos 65536) (addr +ℤ size)) fits.placed).1 in
     let positive : int_lt size (pos 0) ≡ false = (or_parts (int_lt size (pos 0)) (int_lt (pos 65536) size) fits.sized).0 in
@@ -68,25 +68,25 @@ memory_told laws number addr size bytes target old good fits there true e =
       record {
         limits = ((fits.whole_addr, fits.whole_size), tt);
         typed = tt;
-        leads = memory_set laws.contexts number target now old (change old) addr size bytes (number_found target number old good there) stays (good.whole number old there).memory.size inside (sym fits.filled) refl;
+        leads = memory_set number target now old (change old) addr size bytes (number_found target number old good there) stays (good.whole number old there).memory.size inside (sym fits.filled) refl;
       },
       tt,
     )
-memory_told laws number addr size bytes target old good fits there false e =
+memory_told number addr size bytes target old good fits there false e =
     let change = with_memory (unsigned_abs addr) bytes in
     let now = with_contexts (with_change change number target.contexts) target in
-    let stays = change_stays laws.changes change number target old there refl refl in
+    let stays = change_stays change number target old there refl refl in
     let none : bytes ≡ [] = empty_list bytes (fits.filled ∙ no_bytes size (or_parts _ _ fits.sized).0 e) in
     let same : with_part (unsigned_abs addr) bytes old.memory ≡ old.memory = ap (λ (xs : List ℕ). with_part (unsigned_abs addr) xs old.memory) none ∙ nothing_put (unsigned_abs addr) old.memory in
     still_seen number target now old (change old) stays (ap (λ (xs : List ℕ). record old { memory = xs }) same) refl
 
-memory_at : Laws → (number : ℕ) (addr size : ℤ) (bytes : List ℕ) (target : Target) (found : Option Process) → IsGood target → Fits addr size bytes → process_in number target ≡ found
+memory_at : (number : ℕ) (addr size : ℤ) (bytes : List ℕ) (target : Target) (found : Option Process) → IsGood target → Fits addr size bytes → process_in number target ≡ found
     → is_none found ≡ false → Tell target (with_contexts (with_change (with_memory (unsigned_abs addr) bytes) number target.contexts) target) (memory_events (Some number) addr size)
-memory_at laws number addr size bytes target None good fits there some = cc
-memory_at laws number addr size bytes target (Some old) good fits there some = memory_told laws number addr size bytes target old good fits there (int_lt (pos 0) size) refl
+memory_at number addr size bytes target None good fits there some = cc
+memory_at number addr size bytes target (Some old) good fits there some = memory_told number addr size bytes target old good fits there (int_lt (pos 0) size) refl
 
-pub memory_of : Laws → (addr size : ℤ) (bytes : List ℕ) (target : Target) (named : Option ℕ) → IsGood target → Fits addr size bytes
+pub memory_of : (addr size : ℤ) (bytes : List ℕ) (target : Target) (named : Option ℕ) → IsGood target → Fits addr size bytes
     → is_none (process_at_number named target.contexts.processes) ≡ false
     → Tell target (with_contexts (with_change_of (with_memory (unsigned_abs addr) bytes) named target.contexts) target) (memory_events named addr size)
-memory_of laws addr size bytes target None good fits some = cc
-memory_of laws addr size bytes target (Some number) good fits some = memory_at laws number addr size bytes target (process_in number target) good fits refl some
+memory_of addr size bytes target None good fits some = cc
+memory_of addr size bytes target (Some number) good fits some = memory_at number addr size bytes target (process_in number target) good fits refl some

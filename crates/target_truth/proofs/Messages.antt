@@ -5,7 +5,6 @@ use Rattle.std.specs.List.{AllByRecursion}
 use Rattle.command_tables.specs.declared.reading.Reading.{Reading}
 use Rattle.command_tables.specs.declared.reading.Reading.TheVariants as readings
 use Rattle.knowledge.specs.Facts.{Facts, IsPart}
-use Rattle.knowledge.specs.Laws.{IsMonotone}
 use Rattle.knowledge.specs.Learning.{Message, learn, learn_all}
 use Rattle.reply_tables.specs.Events.{event_data}
 use Rattle.service_names.specs.Events.{name_of, service_of, told_as}
@@ -30,7 +29,7 @@ use Rattle.target_truth.proofs.RowsBreakpoints.{close}
 use Rattle.target_truth.proofs.RowsTrace.{tick}
 use Rattle.target_truth.proofs.Seen.{seen}
 use Rattle.target_truth.proofs.Tells.{IsTold, Tell}
-use Rattle.target_truth.proofs.Whole.{IsGood, Laws}
+use Rattle.target_truth.proofs.Whole.{IsGood}
 use Rattle.tcf_values.specs.declared.event.EventData.{EventData}
 
 -- the messages of an input: the first tells what has changed, and the others what is so
@@ -45,17 +44,17 @@ stays target [] all = λ fact knows. knows
 stays target (message ∷ messages) all = all
 
 -- then after each of them, and where there is none, what is known holds of the target as it is now
-pub lead_kept : IsMonotone → (before now : Target) (front rest : List Message) (last : Message) (known : Facts) → Lead before now (front ++ last ∷ rest)
+pub lead_kept : (before now : Target) (front rest : List Message) (last : Message) (known : Facts) → Lead before now (front ++ last ∷ rest)
     → Holds known before → Holds (learn_all (front ++ last ∷ []) known) now
-lead_kept monotone before now [] rest last known lead holds = moved monotone before now last known lead.0 holds
-lead_kept monotone before now (message ∷ front) rest last known lead holds =
-    lead_kept monotone now now front rest last (learn message known) (stays now (front ++ last ∷ rest) lead.1) (moved monotone before now message known lead.0 holds)
+lead_kept before now [] rest last known lead holds = moved before now last known lead.0 holds
+lead_kept before now (message ∷ front) rest last known lead holds =
+    lead_kept now now front rest last (learn message known) (stays now (front ++ last ∷ rest) lead.1) (moved before now message known lead.0 holds)
 
-pub all_kept : IsMonotone → (before now : Target) (messages : List Message) (known : Facts) → Lead before now messages → Holds known before
+pub all_kept : (before now : Target) (messages : List Message) (known : Facts) → Lead before now messages → Holds known before
     → Holds (learn_all messages known) now
-all_kept monotone before now [] known lead holds = rested before now known lead holds
-all_kept monotone before now (message ∷ messages) known lead holds =
-    all_kept monotone now now messages (learn message known) (stays now messages lead.1) (moved monotone before now message known lead.0 holds)
+all_kept before now [] known lead holds = rested before now known lead holds
+all_kept before now (message ∷ messages) known lead holds =
+    all_kept now now messages (learn message known) (stays now messages lead.1) (moved before now message known lead.0 holds)
 
 -- ---- the messages of what is told in two parts
 
@@ -86,23 +85,23 @@ events_left position (event ∷ events) commands more = events_left position eve
 
 -- ---- events
 
-event_leads : Laws → (before now : Target) (event : EventData) → IsTold before now event
+event_leads : (before now : Target) (event : EventData) → IsTold before now event
     → Moves before now (event_message (service_of (told_as event)) (name_of (told_as event)) (event_data event))
-event_leads laws before now event told =
-    elim (event_back laws event told.limits told.typed) [
+event_leads before now event told =
+    elim (event_back event told.limits told.typed) [
       | inl is ↦ subst (Moves before now) (sym is) (event_moves before now event told.leads)
       | inr is ↦ subst (Moves before now) (sym is) (bad_moves before now)
     ]
 
-events_so : Laws → (target : Target) (events : List EventData) (position : ℕ) (commands : List ReadCommand) → AllByRecursion (IsTold target target) events
+events_so : (target : Target) (events : List EventData) (position : ℕ) (commands : List ReadCommand) → AllByRecursion (IsTold target target) events
     → AllByRecursion (Moves target target) (taught commands (events_told position events))
-events_so laws target [] position commands all = tt
-events_so laws target (event ∷ events) position commands all = (event_leads laws target target event all.0, events_so laws target events position commands all.1)
+events_so target [] position commands all = tt
+events_so target (event ∷ events) position commands all = (event_leads target target event all.0, events_so target events position commands all.1)
 
-pub events_lead : Laws → (before now : Target) (events : List EventData) (position : ℕ) (commands : List ReadCommand) → Tell before now events
+pub events_lead : (before now : Target) (events : List EventData) (position : ℕ) (commands : List ReadCommand) → Tell before now events
     → Lead before now (taught commands (events_told position events))
-events_lead laws before now [] position commands tell = tell
-events_lead laws before now (event ∷ events) position commands tell = (event_leads laws before now event tell.0, events_so laws now events position commands tell.1)
+events_lead before now [] position commands tell = tell
+events_lead before now (event ∷ events) position commands tell = (event_leads before now event tell.0, events_so now events position commands tell.1)
 
 -- ---- progress and an answer
 
@@ -111,11 +110,11 @@ all_append : (target : Target) (some more : List Message) → AllByRecursion (Mo
 all_append target [] more all also = also
 all_append target (message ∷ some) more all also = (all.0, all_append target some more all.1 also)
 
-lead_append : IsMonotone → (before now : Target) (some more : List Message) → Lead before now some → AllByRecursion (Moves now now) more
+lead_append : (before now : Target) (some more : List Message) → Lead before now some → AllByRecursion (Moves now now) more
     → Lead before now (some ++ more)
-lead_append monotone before now [] [] lead all = lead
-lead_append monotone before now [] (message ∷ more) lead all = (moves_after monotone before now message lead all.0, all.1)
-lead_append monotone before now (message ∷ some) more lead all = (lead.0, all_append now some more lead.1 all)
+lead_append before now [] [] lead all = lead
+lead_append before now [] (message ∷ more) lead all = (moves_after before now message lead all.0, all.1)
+lead_append before now (message ∷ some) more lead all = (lead.0, all_append now some more lead.1 all)
 
 abbrev pub as_read : Reading → List ℕ → List ℕ → ReadCommand
 as_read reading service name = record { reading = reading; service = service; name = name }
@@ -134,13 +133,13 @@ caller_so true target position reading service name done commands so =
     progress_so target position done.progress (as_read reading service name ∷ commands) (answer_told position (is_through reading) done.answer ∷ []) (so, tt)
 caller_so false target position reading service name done commands so = tt
 
-executed_leads : Laws → (k position channel : ℕ) (reading : Reading) (service name : List ℕ) (done : Done) (before now : Target) (commands : List ReadCommand) → Tell before now done.events
+executed_leads : (k position channel : ℕ) (reading : Reading) (service name : List ℕ) (done : Done) (before now : Target) (commands : List ReadCommand) → Tell before now done.events
     → Moves now now (message_of (as_read reading service name ∷ commands) (answer_told position (is_through reading) done.answer))
     → Lead before now (taught (executed_by k (Executed channel reading service name) ++ commands) (executed_told k position channel reading done))
-executed_leads laws k position channel reading service name done before now commands tell so =
+executed_leads k position channel reading service name done before now commands tell so =
     let asked = executed_by k (Executed channel reading service name) ++ commands in
     subst (Lead before now) (sym (events_apart position done.events asked (cond (channel == k) (caller_told position reading done) [])))
-    (lead_append laws.monotone before now _ _ (events_lead laws before now done.events position asked tell)
+    (lead_append before now _ _ (events_lead before now done.events position asked tell)
     (caller_so (channel == k) now position reading service name done commands so))
 
 same : (target : Target) → Tell target target []
@@ -202,25 +201,25 @@ opened_leads : (is_own : Bool) (target : Target) (position : ℕ) (commands : Li
 opened_leads true target position commands other = absurd (true≢false other)
 opened_leads false target position commands other = same target
 
-tick_leads : Laws → (before now : Target) (position : ℕ) (found : Option (List EventData)) (commands : List ReadCommand) → IsSome found
+tick_leads : (before now : Target) (position : ℕ) (found : Option (List EventData)) (commands : List ReadCommand) → IsSome found
     → ((events : List EventData) → found ≡ Some events → Tell before now events) → Lead before now (taught commands (tick_events_told position found))
-tick_leads laws before now position None commands some tell = absurd cc
-tick_leads laws before now position (Some events) commands some tell = events_lead laws before now events position commands (tell events refl)
+tick_leads before now position None commands some tell = absurd cc
+tick_leads before now position (Some events) commands some tell = events_lead before now events position commands (tell events refl)
 
-pub input_leads : Laws → (k : ℕ) (before : List Input) (target : Target) (input : Input) (commands : List ReadCommand) → IsGood target
+pub input_leads : (k : ℕ) (before : List Input) (target : Target) (input : Input) (commands : List ReadCommand) → IsGood target
     → IsAllowed before target input → opens k input ≡ false
     → Lead target (input_after input target) (taught (executed_by k input ++ commands) (told_by k (length before + 1) target input))
-input_leads laws k before target (Opened channel) commands good allowed other = opened_leads (channel == k) target (length before + 1) commands other
-input_leads laws k before target (Executed channel (readings.Known command) service name) commands good allowed other =
-    executed_leads laws k (length before + 1) channel (readings.Known command) service name (written command (exec_effect channel command target)) target (exec_after channel command target) commands
-    (events_tell laws channel command target good allowed.1.1)
-    (answers_so laws channel command target good allowed.1.1)
-input_leads laws k before target (Executed channel readings.Unknown service name) commands good allowed other =
-    executed_leads laws k (length before + 1) channel readings.Unknown service name (only answered.Unknown) target target commands (same target) (other_moves target)
-input_leads laws k before target (Executed channel (readings.Bad index code) service name) commands good allowed other =
-    executed_leads laws k (length before + 1) channel (readings.Bad index code) service name (only (refusal _ code)) target target commands (same target)
+input_leads k before target (Opened channel) commands good allowed other = opened_leads (channel == k) target (length before + 1) commands other
+input_leads k before target (Executed channel (readings.Known command) service name) commands good allowed other =
+    executed_leads k (length before + 1) channel (readings.Known command) service name (written command (exec_effect channel command target)) target (exec_after channel command target) commands
+    (events_tell channel command target good allowed.1.1)
+    (answers_so channel command target good allowed.1.1)
+input_leads k before target (Executed channel readings.Unknown service name) commands good allowed other =
+    executed_leads k (length before + 1) channel readings.Unknown service name (only answered.Unknown) target target commands (same target) (other_moves target)
+input_leads k before target (Executed channel (readings.Bad index code) service name) commands good allowed other =
+    executed_leads k (length before + 1) channel (readings.Bad index code) service name (only (refusal _ code)) target target commands (same target)
     (refusal_so target _ (length before + 1) index code service name commands)
-input_leads laws k before target (Ticked thread) commands good allowed other =
-    tick_leads laws target (ticked thread target) (length before + 1) (tick_told thread target) commands allowed (λ events is. tick laws thread target events good is)
-input_leads laws k before target (Closed channel) commands good allowed other =
-    events_lead laws target (closed channel target) (closed_told channel target) (length before + 1) commands (close channel target good)
+input_leads k before target (Ticked thread) commands good allowed other =
+    tick_leads target (ticked thread target) (length before + 1) (tick_told thread target) commands allowed (λ events is. tick thread target events good is)
+input_leads k before target (Closed channel) commands good allowed other =
+    events_lead target (closed channel target) (closed_told channel target) (length before + 1) commands (close channel target good)

@@ -2,22 +2,23 @@
 use Rattle.std.proofs.Common.{◌≡◌, ℕ, nat_eq, Bool, true, false, cond, List, [], ◌∷◌, take, drop, Option, Some, None, option_map, refl, sym, ◌∙◌, ap}
 use Rattle.data_services.specs.Parts.{cpu_after, parts_named, with_bytes, with_parts, with_register_bytes}
 use Rattle.target_contexts.specs.Changes.{with_change, with_change_at}
-use Rattle.target_contexts.specs.Laws.{AgreeBut, ChangesOne}
+use Rattle.target_contexts.specs.Laws.{AgreeBut}
 use Rattle.target_contexts.specs.Live.{numbers_of, process_of}
 use Rattle.target_contexts.specs.TargetsValue.{TargetsValue}
 use Rattle.target_contexts.specs.declared.process.Process.{Process}
+use Rattle.target_contexts.proofs.TheLaws.{changes_one}
 use Rattle.target_truth.proofs.Becoming.{Becomes}
 use Rattle.data_services.proofs.PartSteps.{changed_process, live_found}
 
 -- ---- a change of one process
 
-numbers_by : ChangesOne → (change : Process → Process) (n : ℕ) (targets : TargetsValue) (found : Option Process) → process_of n targets.processes ≡ found
+numbers_by : (change : Process → Process) (n : ℕ) (targets : TargetsValue) (found : Option Process) → process_of n targets.processes ≡ found
     → numbers_of (with_change_at change n found targets).processes ≡ numbers_of targets.processes
-numbers_by law change n targets None there = refl
-numbers_by law change n targets (Some process) there = (law targets.processes n (change process) (live_found n targets.processes process there)).2
+numbers_by change n targets None there = refl
+numbers_by change n targets (Some process) there = (changes_one targets.processes n (change process) (live_found n targets.processes process there)).2
 
-same_numbers : ChangesOne → (change : Process → Process) (n : ℕ) (targets : TargetsValue) → numbers_of (with_change change n targets).processes ≡ numbers_of targets.processes
-same_numbers law change n targets = numbers_by law change n targets (process_of n targets.processes) refl
+same_numbers : (change : Process → Process) (n : ℕ) (targets : TargetsValue) → numbers_of (with_change change n targets).processes ≡ numbers_of targets.processes
+same_numbers change n targets = numbers_by change n targets (process_of n targets.processes) refl
 
 -- ---- bytes put over parts of registers
 
@@ -45,14 +46,14 @@ one_more number part parts bytes true e (Some process) = ap (λ (b : Bool). Some
 one_more number part parts bytes false e (Some process) = ap (λ (b : Bool). Some (record process { cpu = cpu_after number parts (drop part.size bytes) (cond b (with_register_bytes part (take part.size bytes) process.cpu) process.cpu) })) (sym e)
 
 -- what is left in one process is what its own parts leave there
-pub process_after : ChangesOne → (number : ℕ) (parts : List Part) (bytes : List ℕ) (targets : TargetsValue) →
+pub process_after : (number : ℕ) (parts : List Part) (bytes : List ℕ) (targets : TargetsValue) →
     process_of number (with_parts parts bytes targets).processes ≡ option_map (λ process. with_cpu_after number parts bytes process) (process_of number targets.processes)
-process_after law number [] bytes targets = unchanged number bytes (process_of number targets.processes)
-process_after law number (part ∷ parts) bytes targets =
+process_after number [] bytes targets = unchanged number bytes (process_of number targets.processes)
+process_after number (part ∷ parts) bytes targets =
     let change : Process → Process = with_bytes part (take part.size bytes) in
     let n : ℕ = part.register.process in
-    process_after law number parts (drop part.size bytes) (with_change change n targets)
-    ∙ ap (λ (found : Option Process). option_map (λ process. with_cpu_after number parts (drop part.size bytes) process) found) (changed_process law change n number targets)
+    process_after number parts (drop part.size bytes) (with_change change n targets)
+    ∙ ap (λ (found : Option Process). option_map (λ process. with_cpu_after number parts (drop part.size bytes) process) found) (changed_process change n number targets)
     ∙ one_more number part parts bytes (nat_eq n number) refl (process_of number targets.processes)
 
 next_by : (change : Process → Process) (n : ℕ) (targets : TargetsValue) (found : Option Process) → (with_change_at change n found targets).next ≡ targets.next
@@ -66,18 +67,18 @@ next_after (part ∷ parts) bytes targets =
     let n : ℕ = part.register.process in
     next_after parts (drop part.size bytes) (with_change change n targets) ∙ next_by change n targets (process_of n targets.processes)
 
-pub numbers_after : ChangesOne → (parts : List Part) (bytes : List ℕ) (targets : TargetsValue) → numbers_of (with_parts parts bytes targets).processes ≡ numbers_of targets.processes
-numbers_after law [] bytes targets = refl
-numbers_after law (part ∷ parts) bytes targets =
+pub numbers_after : (parts : List Part) (bytes : List ℕ) (targets : TargetsValue) → numbers_of (with_parts parts bytes targets).processes ≡ numbers_of targets.processes
+numbers_after [] bytes targets = refl
+numbers_after (part ∷ parts) bytes targets =
     let change : Process → Process = with_bytes part (take part.size bytes) in
-    numbers_after law parts (drop part.size bytes) (with_change change part.register.process targets) ∙ same_numbers law change part.register.process targets
+    numbers_after parts (drop part.size bytes) (with_change change part.register.process targets) ∙ same_numbers change part.register.process targets
 
 -- where they leave the other processes as they are
-pub parts_become : ChangesOne → (number : ℕ) (parts : List Part) (bytes : List ℕ) (targets : TargetsValue) (process : Process) → process_of number targets.processes ≡ Some process
+pub parts_become : (number : ℕ) (parts : List Part) (bytes : List ℕ) (targets : TargetsValue) (process : Process) → process_of number targets.processes ≡ Some process
     → AgreeBut number targets.processes (with_parts parts bytes targets).processes → Becomes number targets (with_parts parts bytes targets) (with_cpu_after number parts bytes process)
-parts_become law number parts bytes targets process found others = record {
-  found = process_after law number parts bytes targets ∙ ap (option_map (λ p. with_cpu_after number parts bytes p)) found;
+parts_become number parts bytes targets process found others = record {
+  found = process_after number parts bytes targets ∙ ap (option_map (λ p. with_cpu_after number parts bytes p)) found;
   others = others;
-  numbers = numbers_after law parts bytes targets;
+  numbers = numbers_after parts bytes targets;
   next = next_after parts bytes targets;
 }

@@ -14,7 +14,7 @@ use Rattle.target_truth.proofs.Changes.{IsSo}
 use Rattle.target_truth.proofs.Faults.{both_passed, check_passed}
 use Rattle.target_truth.proofs.Holders.{IsHeld, held_found}
 use Rattle.target_truth.proofs.RegistersRead.{whole_so, word_four}
-use Rattle.target_truth.proofs.Whole.{IsGood, Laws}
+use Rattle.target_truth.proofs.Whole.{IsGood}
 use Rattle.tcf_values.specs.declared.ids.RegisterId.{RegisterId}
 use Rattle.tcf_values.specs.declared.values.Location.{Location}
 use Rattle.list_laws.proofs.AllLists.{all_append, all_if}
@@ -54,13 +54,13 @@ one_so target location list register process bytes rest is split others =
     (whole_so target location.register register process offset size is))
     (subst (λ (xs : List ℕ). AllByRecursion (IsSo target) (parts_read list xs)) (sym (ap (drop size) split ∙ drop_at piece rest size sized)) others))
 
-pub parts_so : Laws → (target : Target) (list : List Location) → IsGood target → locations_fault target.contexts.processes list ≡ None
+pub parts_so : (target : Target) (list : List Location) → IsGood target → locations_fault target.contexts.processes list ≡ None
     → AllByRecursion (IsSo target) (parts_read list (bytes_of target.contexts.processes (parts_named list)))
-parts_so laws target [] good none = tt
-parts_so laws target (location ∷ list) good none =
+parts_so target [] good none = tt
+parts_so target (location ∷ list) good none =
     let both = both_passed (location_fault target.contexts.processes location) (locations_fault target.contexts.processes list) none in
     let some = check_passed _ _ _ both.0 in
     let stopped = check_passed _ _ _ some.1 in
-    let holder = held_found laws target location.register good some.0 stopped.0 in
+    let holder = held_found target location.register good some.0 stopped.0 in
     one_so target location list holder.0 holder.1 _ (bytes_of target.contexts.processes (parts_named list)) holder.2 (one_split target location list holder.0 holder.1 holder.2)
-    (parts_so laws target list good both.1)
+    (parts_so target list good both.1)

@@ -10,7 +10,6 @@ use Rattle.data_services.specs.Parts.{cpu_after, number_in, parts_named, with_nu
 use Rattle.data_services.specs.RegisterRows.{name_one, register_after, with_word}
 use Rattle.rv32i_core.specs.declared.registers.Cpu.{Cpu}
 use Rattle.target_contexts.specs.Changes.{with_change}
-use Rattle.target_contexts.specs.Laws.{ChangesOne}
 use Rattle.target_contexts.specs.Live.{process_of}
 use Rattle.target_contexts.specs.Named.{is_attached}
 use Rattle.target_contexts.specs.declared.process.Process.{Process}
@@ -21,7 +20,6 @@ use Rattle.target_truth.proofs.Holders.{IsHolder, holder_found, index_small}
 use Rattle.target_truth.proofs.RegisterParts.{Part, numbers_after, parts_become, process_after, with_cpu_after}
 use Rattle.target_truth.proofs.Silent.{attached_same}
 use Rattle.target_truth.proofs.Tells.{Tell}
-use Rattle.target_truth.proofs.Whole.{Laws}
 use Rattle.tcf_values.specs.Ids.{register_of}
 use Rattle.tcf_values.specs.declared.event.EventData.TheVariants.{RegChanged, RegsChanged}
 use Rattle.tcf_values.specs.declared.ids.RegisterId.{RegisterId}
@@ -45,20 +43,20 @@ other_number : (put index number : ℕ) (cpu : Cpu) → put ≤ 32 → index ≤
 other_number put index number cpu most few differ =
     other_by put index number cpu most few differ (nat_lt put 32) (nat_eq put 0) (nat_lt index 32) (nat_eq index 0) refl refl
 
-register_told : Laws → (id : List ℕ) (number : ℕ) (target : Target) (register : RegisterId) (old : Process) → IsHolder target id register old
+register_told : (id : List ℕ) (number : ℕ) (target : Target) (register : RegisterId) (old : Process) → IsHolder target id register old
     → Leads target (with_contexts (register_after (Some register) number target.contexts) target) (RegChanged id)
-register_told laws id number target register old held =
+register_told id number target register old held =
     let change = with_word register.index number in
     register_set target (with_contexts (with_change change register.process target.contexts) target) old (change old) id register (with_number register.index number old.cpu) held.read held.first
-    (change_stays laws.changes change register.process target old held.there refl refl) refl
-    (λ index few differ. other_number register.index index number old.cpu (index_small laws id register held.read) few differ)
+    (change_stays change register.process target old held.there refl refl) refl
+    (λ index few differ. other_number register.index index number old.cpu (index_small id register held.read) few differ)
 
-pub register_of_named : Laws → (id : List ℕ) (number : ℕ) (target : Target) → is_none (holder_of id target.contexts.processes) ≡ false
+pub register_of_named : (id : List ℕ) (number : ℕ) (target : Target) → is_none (holder_of id target.contexts.processes) ≡ false
     → Leads target (with_contexts (register_after (register_of id) number target.contexts) target) (RegChanged id)
-register_of_named laws id number target some =
+register_of_named id number target some =
     let found = holder_found target id some in
     subst (λ named. Leads target (with_contexts (register_after named number target.contexts) target) (RegChanged id)) (sym found.2.read)
-    (register_told laws id number target found.0 found.1 found.2)
+    (register_told id number target found.0 found.1 found.2)
 
 -- ---- parts of registers
 
@@ -71,15 +69,15 @@ attached_stays : (number : ℕ) (parts : List Part) (bytes : List ℕ) (found : 
 attached_stays number parts bytes None = refl
 attached_stays number parts bytes (Some process) = refl
 
-but_cpus : ChangesOne → (parts : List Part) (bytes : List ℕ) (target : Target) → ButCpus target (with_contexts (with_parts parts bytes target.contexts) target)
-but_cpus law parts bytes target =
+but_cpus : (parts : List Part) (bytes : List ℕ) (target : Target) → ButCpus target (with_contexts (with_parts parts bytes target.contexts) target)
+but_cpus parts bytes target =
     let rows = target.contexts.processes in
     let left = with_parts parts bytes target.contexts in
     record {
-      processes = λ number. ap (option_map without_cpu) (process_after law number parts bytes target.contexts) ∙ view_stays without_cpu (λ process. with_cpu_after number parts bytes process) (process_of number rows) (λ process. refl);
-      attached = λ number. ap (option_map (λ (p : Process). p.attached)) (process_after law number parts bytes target.contexts) ∙ view_stays (λ (p : Process). p.attached) (λ process. with_cpu_after number parts bytes process) (process_of number rows) (λ process. refl);
-      all = attached_same rows left.processes (numbers_after law parts bytes target.contexts)
-          (λ number. ap is_attached (process_after law number parts bytes target.contexts) ∙ attached_stays number parts bytes (process_of number rows));
+      processes = λ number. ap (option_map without_cpu) (process_after number parts bytes target.contexts) ∙ view_stays without_cpu (λ process. with_cpu_after number parts bytes process) (process_of number rows) (λ process. refl);
+      attached = λ number. ap (option_map (λ (p : Process). p.attached)) (process_after number parts bytes target.contexts) ∙ view_stays (λ (p : Process). p.attached) (λ process. with_cpu_after number parts bytes process) (process_of number rows) (λ process. refl);
+      all = attached_same rows left.processes (numbers_after parts bytes target.contexts)
+          (λ number. ap is_attached (process_after number parts bytes target.contexts) ∙ attached_stays number parts bytes (process_of number rows));
       breakpoints = refl;
     }
 
@@ -126,9 +124,9 @@ beside index process register (part ∷ parts) bytes cpu all most few differ =
     (cond (nat_eq part.register.process process) (with_register_bytes part (take part.size bytes) cpu) cpu) all.1 most few differ
     ∙ beside_by register.index index part.register.index _ cpu (nat_eq part.register.process process) (ap (λ (r : RegisterId). r.index) all.0) most few differ
 
-one_told : Laws → (id : List ℕ) (parts : List Part) (bytes : List ℕ) (target : Target) (register : RegisterId) (old : Process) → ((r : RegisterId) → register_of id ≡ Some r → AreOf r parts) → IsHolder target id register old
+one_told : (id : List ℕ) (parts : List Part) (bytes : List ℕ) (target : Target) (register : RegisterId) (old : Process) → ((r : RegisterId) → register_of id ≡ Some r → AreOf r parts) → IsHolder target id register old
     → Leads target (with_contexts (with_parts parts bytes target.contexts) target) (RegChanged id)
-one_told laws id parts bytes target register old all held =
+one_told id parts bytes target register old all held =
     let rows = target.contexts.processes in
     let left = with_parts parts bytes target.contexts in
     let number = register.process in
@@ -136,22 +134,22 @@ one_told laws id parts bytes target register old all held =
     let of = all register held.read in
     register_set target (with_contexts left target) old new id register (cpu_after number parts bytes old.cpu) held.read held.first
     (stays_attached number target left old new held.there
-    (parts_become laws.changes number parts bytes target.contexts old held.there
-    (λ other differ. process_after laws.changes other parts bytes target.contexts ∙ nothing_over other register parts bytes (process_of other rows) of differ))
+    (parts_become number parts bytes target.contexts old held.there
+    (λ other differ. process_after other parts bytes target.contexts ∙ nothing_over other register parts bytes (process_of other rows) of differ))
     refl refl)
     refl
-    (λ index few differ. beside index number register parts bytes old.cpu of (index_small laws id register held.read) few differ)
+    (λ index few differ. beside index number register parts bytes old.cpu of (index_small id register held.read) few differ)
 
-pub registers_told : Laws → (first : Location) (list : List Location) (bytes : List ℕ) (target : Target) → is_none (holder_of first.register target.contexts.processes) ≡ false
+pub registers_told : (first : Location) (list : List Location) (bytes : List ℕ) (target : Target) → is_none (holder_of first.register target.contexts.processes) ≡ false
     → (one : Bool) → name_one first.register (first ∷ list) ≡ one
     → Tell target (with_contexts (with_parts (parts_named (first ∷ list)) bytes target.contexts) target) (cond one (RegChanged first.register ∷ []) (RegsChanged ∷ []))
-registers_told laws first list bytes target some true one =
+registers_told first list bytes target some true one =
     let parts = parts_named (first ∷ list) in
     let now = with_contexts (with_parts parts bytes target.contexts) target in
     let found = holder_found target first.register some in
     let told : Leads target now (RegChanged first.register) =
-    one_told laws first.register parts bytes target found.0 found.1 (λ r read. all_of first.register r (first ∷ list) read one) found.2 in
+    one_told first.register parts bytes target found.0 found.1 (λ r read. all_of first.register r (first ∷ list) read one) found.2 in
     (record { limits = tt; typed = tt; leads = told }, tt)
-registers_told laws first list bytes target some false one =
+registers_told first list bytes target some false one =
     let parts = parts_named (first ∷ list) in
-    (record { limits = tt; typed = tt; leads = registers_set target (with_contexts (with_parts parts bytes target.contexts) target) (but_cpus laws.changes parts bytes target) }, tt)
+    (record { limits = tt; typed = tt; leads = registers_set target (with_contexts (with_parts parts bytes target.contexts) target) (but_cpus parts bytes target) }, tt)

@@ -20,7 +20,7 @@ use Rattle.target_truth.proofs.RowsRun.{Tells, attach, detach, resume, start, su
 use Rattle.target_truth.proofs.RowsTrace.{trace}
 use Rattle.target_truth.proofs.Faults.{by_fault}
 use Rattle.target_truth.proofs.Tells.{Tell}
-use Rattle.target_truth.proofs.Whole.{IsGood, Laws}
+use Rattle.target_truth.proofs.Whole.{IsGood}
 use Rattle.tcf_values.specs.Effects.{effect_by, failed, gives}
 use Rattle.tcf_values.specs.declared.answer.Answer.{Answer}
 use Rattle.tcf_values.specs.declared.command.Command.{Command}
@@ -39,40 +39,40 @@ unfolding failed
 quiet None target answer = λ fact knows. knows
 quiet (Some fault) target answer = λ fact knows. knows
 
-pub events_tell : Laws → (channel : ℕ) (command : Command) (target : Target) → IsGood target → IsReadable command → Tells channel command target
+pub events_tell : (channel : ℕ) (command : Command) (target : Target) → IsGood target → IsReadable command → Tells channel command target
 unfolding exec_after exec_effect
-events_tell laws channel Sync target good readable = λ fact knows. knows
-events_tell laws channel GetPeers target good readable = λ fact knows. knows
-events_tell laws channel (Redirect peer) target good readable = λ fact knows. knows
-events_tell laws channel (GetContext id) target good readable = asks (run_fault (GetContext id) target.contexts) target _
-events_tell laws channel (GetChildren id) target good readable = asks (run_fault (GetChildren id) target.contexts) target _
-events_tell laws channel (GetState id) target good readable = asks (run_fault (GetState id) target.contexts) target _
-events_tell laws channel (Resume id mode count) target good readable = resume laws channel id mode count target good
-events_tell laws channel (Suspend id) target good readable = suspend laws channel id target good
-events_tell laws channel (Terminate id) target good readable = terminate laws channel id target good
-events_tell laws channel (BpSet list) target good readable = set channel list target good readable
-events_tell laws channel (BpAdd props) target good readable = add channel props target good readable
-events_tell laws channel (BpChange props) target good readable = change channel props target good readable
-events_tell laws channel (BpEnable ids) target good readable = enable channel ids target good
-events_tell laws channel (BpDisable ids) target good readable = disable channel ids target good
-events_tell laws channel (BpRemove ids) target good readable = remove channel ids target good
-events_tell laws channel BpIds target good readable = λ fact knows. knows
-events_tell laws channel (BpProperties id) target good readable = quiet (ask_fault (BpProperties id) target) target _
-events_tell laws channel (BpGetStatus id) target good readable = quiet (ask_fault (BpGetStatus id) target) target _
-events_tell laws channel (BpCapabilities id) target good readable = quiet (ask_fault (BpCapabilities id) target) target _
-events_tell laws channel (MemGet id addr word size mode) target good readable = asks (data_fault (MemGet id addr word size mode) target.contexts) target _
-events_tell laws channel (MemSet id addr word size mode bytes) target good readable = set_memory laws channel id addr word size mode bytes target good readable
-events_tell laws channel (RegGet id) target good readable = asks (data_fault (RegGet id) target.contexts) target _
-events_tell laws channel (RegSet id bytes) target good readable = set_register laws channel id bytes target good
-events_tell laws channel (RegGetm list) target good readable = asks (data_fault (RegGetm list) target.contexts) target _
-events_tell laws channel (RegSetm list bytes) target good readable = set_registers laws channel list bytes target good
-events_tell laws channel (ProcContext id) target good readable = asks (run_fault (ProcContext id) target.contexts) target _
-events_tell laws channel (ProcChildren id attached) target good readable = asks (run_fault (ProcChildren id attached) target.contexts) target _
-events_tell laws channel (ProcStart directory file args environment attach) target good readable = start laws channel directory file args environment attach target good
-events_tell laws channel (ProcAttach id) target good readable = attach laws channel id target good
-events_tell laws channel (ProcDetach id) target good readable = detach laws channel id target good
-events_tell laws channel (ProcTerminate id) target good readable = terminate_process laws channel id target good
-events_tell laws channel (TraceRun id count) target good readable = trace laws channel id count target good
+events_tell channel Sync target good readable = λ fact knows. knows
+events_tell channel GetPeers target good readable = λ fact knows. knows
+events_tell channel (Redirect peer) target good readable = λ fact knows. knows
+events_tell channel (GetContext id) target good readable = asks (run_fault (GetContext id) target.contexts) target _
+events_tell channel (GetChildren id) target good readable = asks (run_fault (GetChildren id) target.contexts) target _
+events_tell channel (GetState id) target good readable = asks (run_fault (GetState id) target.contexts) target _
+events_tell channel (Resume id mode count) target good readable = resume channel id mode count target good
+events_tell channel (Suspend id) target good readable = suspend channel id target good
+events_tell channel (Terminate id) target good readable = terminate channel id target good
+events_tell channel (BpSet list) target good readable = set channel list target good readable
+events_tell channel (BpAdd props) target good readable = add channel props target good readable
+events_tell channel (BpChange props) target good readable = change channel props target good readable
+events_tell channel (BpEnable ids) target good readable = enable channel ids target good
+events_tell channel (BpDisable ids) target good readable = disable channel ids target good
+events_tell channel (BpRemove ids) target good readable = remove channel ids target good
+events_tell channel BpIds target good readable = λ fact knows. knows
+events_tell channel (BpProperties id) target good readable = quiet (ask_fault (BpProperties id) target) target _
+events_tell channel (BpGetStatus id) target good readable = quiet (ask_fault (BpGetStatus id) target) target _
+events_tell channel (BpCapabilities id) target good readable = quiet (ask_fault (BpCapabilities id) target) target _
+events_tell channel (MemGet id addr word size mode) target good readable = asks (data_fault (MemGet id addr word size mode) target.contexts) target _
+events_tell channel (MemSet id addr word size mode bytes) target good readable = set_memory channel id addr word size mode bytes target good readable
+events_tell channel (RegGet id) target good readable = asks (data_fault (RegGet id) target.contexts) target _
+events_tell channel (RegSet id bytes) target good readable = set_register channel id bytes target good
+events_tell channel (RegGetm list) target good readable = asks (data_fault (RegGetm list) target.contexts) target _
+events_tell channel (RegSetm list bytes) target good readable = set_registers channel list bytes target good
+events_tell channel (ProcContext id) target good readable = asks (run_fault (ProcContext id) target.contexts) target _
+events_tell channel (ProcChildren id attached) target good readable = asks (run_fault (ProcChildren id attached) target.contexts) target _
+events_tell channel (ProcStart directory file args environment attach) target good readable = start channel directory file args environment attach target good
+events_tell channel (ProcAttach id) target good readable = attach channel id target good
+events_tell channel (ProcDetach id) target good readable = detach channel id target good
+events_tell channel (ProcTerminate id) target good readable = terminate_process channel id target good
+events_tell channel (TraceRun id count) target good readable = trace channel id count target good
 
 -- ---- answers
 
@@ -81,15 +81,15 @@ asked : (fault : Option Fault) (target : Target) (message : Message) → Moves t
     → Moves (with_contexts (targets_by fault target.contexts target.contexts) target) (with_contexts (targets_by fault target.contexts target.contexts) target) message
 asked fault target message moves = subst (λ (contexts : TargetsValue). Moves (with_contexts contexts target) (with_contexts contexts target) message) (sym (same_by fault target.contexts)) moves
 
-pub answers_so : Laws → (channel : ℕ) (command : Command) (target : Target) → IsGood target → IsReadable command
+pub answers_so : (channel : ℕ) (command : Command) (target : Target) → IsGood target → IsReadable command
     → Moves (exec_after channel command target) (exec_after channel command target) (reply channel command target)
 unfolding exec_after
-answers_so laws channel (GetContext id) target good readable = asked (run_fault (GetContext id) target.contexts) target _ (get_context laws channel id target good)
-answers_so laws channel (GetState id) target good readable = asked (run_fault (GetState id) target.contexts) target _ (get_state laws channel id target good)
-answers_so laws channel (BpProperties id) target good readable = get_properties laws channel id target good
-answers_so laws channel (BpGetStatus id) target good readable = get_status laws channel id target good
-answers_so laws channel (MemGet id addr word size mode) target good readable =
-    asked (data_fault (MemGet id addr word size mode) target.contexts) target _ (get_memory laws channel id addr word size mode target good)
-answers_so laws channel (RegGet id) target good readable = asked (data_fault (RegGet id) target.contexts) target _ (get_register laws channel id target good)
-answers_so laws channel (RegGetm list) target good readable = asked (data_fault (RegGetm list) target.contexts) target _ (get_registers laws channel list target good readable)
-answers_so laws channel command target good readable = unheard (exec_after channel command target) command (answer_data command (exec_effect channel command target).answer) (λ answer. refl)
+answers_so channel (GetContext id) target good readable = asked (run_fault (GetContext id) target.contexts) target _ (get_context channel id target good)
+answers_so channel (GetState id) target good readable = asked (run_fault (GetState id) target.contexts) target _ (get_state channel id target good)
+answers_so channel (BpProperties id) target good readable = get_properties channel id target good
+answers_so channel (BpGetStatus id) target good readable = get_status channel id target good
+answers_so channel (MemGet id addr word size mode) target good readable =
+    asked (data_fault (MemGet id addr word size mode) target.contexts) target _ (get_memory channel id addr word size mode target good)
+answers_so channel (RegGet id) target good readable = asked (data_fault (RegGet id) target.contexts) target _ (get_register channel id target good)
+answers_so channel (RegGetm list) target good readable = asked (data_fault (RegGetm list) target.contexts) target _ (get_registers channel list target good readable)
+answers_so channel command target good readable = unheard (exec_after channel command target) command (answer_data command (exec_effect channel command target).answer) (λ answer. refl)

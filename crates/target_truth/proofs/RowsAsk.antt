@@ -39,7 +39,7 @@ use Rattle.target_truth.proofs.RegisterPartsRead.{parts_so}
 use Rattle.target_truth.proofs.RegistersRead.{whole_so, word_whole}
 use Rattle.target_truth.proofs.Seen.{number_seen, state_seen}
 use Rattle.target_truth.proofs.Faults.{check_passed}
-use Rattle.target_truth.proofs.Whole.{IsGood, Laws}
+use Rattle.target_truth.proofs.Whole.{IsGood}
 use Rattle.target_truth.proofs.ContextLimits.{thread_fits}
 use Rattle.target_truth.proofs.StatusLimits.{instances_fit}
 use Rattle.tcf_values.specs.Ids.{context_of, register_of}
@@ -80,10 +80,10 @@ context_so : (id : List ℕ) (target : Target) (found : Option ContextData) → 
 context_so id target None is within some = absurd cc
 context_so id target (Some context) is within some = record { limits = (refl, within); typed = tt; so = (is, tt) }
 
-pub get_context : Laws → (channel : ℕ) (id : List ℕ) (target : Target) → IsGood target → Answers channel (commands.GetContext id) target
+pub get_context : (channel : ℕ) (id : List ℕ) (target : Target) → IsGood target → Answers channel (commands.GetContext id) target
 unfolding exec_effect
-get_context laws channel id target good =
-    answered laws target (commands.GetContext id) _ (answer_by_fault target (commands.GetContext id) (context_fault id target.contexts.processes) _ (λ none.
+get_context channel id target good =
+    answered target (commands.GetContext id) _ (answer_by_fault target (commands.GetContext id) (context_fault id target.contexts.processes) _ (λ none.
     context_so id target (data_in id target) refl (data_within target.contexts.processes (context_of id)) (check_passed _ _ _ none).0))
 
 -- ---- states
@@ -124,10 +124,10 @@ state_so id target None good is some = absurd cc
 state_so id target (Some (ids.Process number)) good is some = absurd cc
 state_so id target (Some (ids.Thread number thread)) good is some = thread_state id target number thread (thread == 1) good is refl some
 
-pub get_state : Laws → (channel : ℕ) (id : List ℕ) (target : Target) → IsGood target → Answers channel (commands.GetState id) target
+pub get_state : (channel : ℕ) (id : List ℕ) (target : Target) → IsGood target → Answers channel (commands.GetState id) target
 unfolding exec_effect
-get_state laws channel id target good =
-    answered laws target (commands.GetState id) _ (answer_by_fault target (commands.GetState id) (state_fault id target.contexts.processes) _ (λ none.
+get_state channel id target good =
+    answered target (commands.GetState id) _ (answer_by_fault target (commands.GetState id) (state_fault id target.contexts.processes) _ (λ none.
     state_so id target (context_of id) good refl (check_passed _ _ _ none).0))
 
 -- ---- breakpoints
@@ -146,10 +146,10 @@ properties_so : (id : List ℕ) (target : Target) (found : Option BpProps) → p
 properties_so id target None is readable some = absurd cc
 properties_so id target (Some props) is readable some = record { limits = (refl, readable); typed = tt; so = (is, tt) }
 
-pub get_properties : Laws → (channel : ℕ) (id : List ℕ) (target : Target) → IsGood target → Answers channel (commands.BpProperties id) target
+pub get_properties : (channel : ℕ) (id : List ℕ) (target : Target) → IsGood target → Answers channel (commands.BpProperties id) target
 unfolding exec_effect
-get_properties laws channel id target good =
-    answered laws target (commands.BpProperties id) _ (answer_by_fault target (commands.BpProperties id) (ask_fault (commands.BpProperties id) target) _ (λ none.
+get_properties channel id target good =
+    answered target (commands.BpProperties id) _ (answer_by_fault target (commands.BpProperties id) (ask_fault (commands.BpProperties id) target) _ (λ none.
     properties_so id target (props_of id target.breakpoints) refl (found_readable id target.breakpoints good.consistent.properties) (check_passed _ _ _ none).0))
 
 status_so : (id : List ℕ) (target : Target) (found : Option BpProps) → props_of id target.breakpoints ≡ found → is_none found ≡ false
@@ -161,56 +161,56 @@ status_so id target (Some props) is some = record {
   so = (ap (option_map (λ (p : BpProps). record { instances = instances_of p (attached_in target.contexts.processes) })) is, tt);
 }
 
-pub get_status : Laws → (channel : ℕ) (id : List ℕ) (target : Target) → IsGood target → Answers channel (commands.BpGetStatus id) target
+pub get_status : (channel : ℕ) (id : List ℕ) (target : Target) → IsGood target → Answers channel (commands.BpGetStatus id) target
 unfolding exec_effect
-get_status laws channel id target good =
-    answered laws target (commands.BpGetStatus id) _ (answer_by_fault target (commands.BpGetStatus id) (ask_fault (commands.BpGetStatus id) target) _ (λ none.
+get_status channel id target good =
+    answered target (commands.BpGetStatus id) _ (answer_by_fault target (commands.BpGetStatus id) (ask_fault (commands.BpGetStatus id) target) _ (λ none.
     status_so id target (props_of id target.breakpoints) refl (check_passed _ _ _ none).0))
 
 -- ---- memory
 
-memory_found : Laws → (id : List ℕ) (addr word size mode : ℤ) (target : Target) (context : ContextId) (number : ℕ) (found : Option Process) → IsGood target → context_of id ≡ Some context
+memory_found : (id : List ℕ) (addr word size mode : ℤ) (target : Target) (context : ContextId) (number : ℕ) (found : Option Process) → IsGood target → context_of id ≡ Some context
     → process_for context ≡ number → process_in number target ≡ found → is_none found ≡ false → IsTrueAnswer target (commands.MemGet id addr word size mode) (answers.Blob (memory_bytes addr size found))
-memory_found laws id addr word size mode target context number None good is named there some = absurd cc
-memory_found laws id addr word size mode target context number (Some process) good is named there some =
+memory_found id addr word size mode target context number None good is named there some = absurd cc
+memory_found id addr word size mode target context number (Some process) good is named there some =
     let bytes = part_of (unsigned_abs addr) (unsigned_abs size) process.memory in
     record {
       limits = refl;
-      typed = blob_typed laws bytes (part_bytes (unsigned_abs addr) (unsigned_abs size) process.memory (good.whole number process there).memory.bytes);
+      typed = blob_typed bytes (part_bytes (unsigned_abs addr) (unsigned_abs size) process.memory (good.whole number process there).memory.bytes);
       so = subst (λ (c : Option ContextId). AllByRecursion (IsSo target) (memory_read c addr size bytes)) (sym is)
           (subst (λ n. AllByRecursion (IsSo target) (range_read n addr size bytes)) (sym named) (range_so number target process addr size there));
     }
 
-memory_thread : Laws → (id : List ℕ) (addr word size mode : ℤ) (target : Target) (number thread : ℕ) (test : Bool) → IsGood target → context_of id ≡ Some (ids.Thread number thread)
+memory_thread : (id : List ℕ) (addr word size mode : ℤ) (target : Target) (number thread : ℕ) (test : Bool) → IsGood target → context_of id ≡ Some (ids.Thread number thread)
     → is_none (process_at_number (cond test (Some number) None) target.contexts.processes) ≡ false
     → IsTrueAnswer target (commands.MemGet id addr word size mode) (answers.Blob (memory_bytes addr size (process_at_number (cond test (Some number) None) target.contexts.processes)))
-memory_thread laws id addr word size mode target number thread false good is some = absurd cc
-memory_thread laws id addr word size mode target number thread true good is some =
-    memory_found laws id addr word size mode target (ids.Thread number thread) number (process_in number target) good is refl refl some
+memory_thread id addr word size mode target number thread false good is some = absurd cc
+memory_thread id addr word size mode target number thread true good is some =
+    memory_found id addr word size mode target (ids.Thread number thread) number (process_in number target) good is refl refl some
 
-memory_so : Laws → (id : List ℕ) (addr word size mode : ℤ) (target : Target) (context : Option ContextId) → IsGood target → context_of id ≡ context
+memory_so : (id : List ℕ) (addr word size mode : ℤ) (target : Target) (context : Option ContextId) → IsGood target → context_of id ≡ context
     → is_none (process_at_number (option_and_then number_for context) target.contexts.processes) ≡ false
     → IsTrueAnswer target (commands.MemGet id addr word size mode) (answers.Blob (memory_bytes addr size (process_at_number (option_and_then number_for context) target.contexts.processes)))
-memory_so laws id addr word size mode target None good is some = absurd cc
-memory_so laws id addr word size mode target (Some (ids.Process number)) good is some =
-    memory_found laws id addr word size mode target (ids.Process number) number (process_in number target) good is refl refl some
-memory_so laws id addr word size mode target (Some (ids.Thread number thread)) good is some = memory_thread laws id addr word size mode target number thread (thread == 1) good is some
+memory_so id addr word size mode target None good is some = absurd cc
+memory_so id addr word size mode target (Some (ids.Process number)) good is some =
+    memory_found id addr word size mode target (ids.Process number) number (process_in number target) good is refl refl some
+memory_so id addr word size mode target (Some (ids.Thread number thread)) good is some = memory_thread id addr word size mode target number thread (thread == 1) good is some
 
-pub get_memory : Laws → (channel : ℕ) (id : List ℕ) (addr word size mode : ℤ) (target : Target) → IsGood target
+pub get_memory : (channel : ℕ) (id : List ℕ) (addr word size mode : ℤ) (target : Target) → IsGood target
     → Answers channel (commands.MemGet id addr word size mode) target
 unfolding exec_effect
-get_memory laws channel id addr word size mode target good =
+get_memory channel id addr word size mode target good =
     let command = commands.MemGet id addr word size mode in
-    answered laws target command _ (answer_by_fault target command (memory_get_fault id addr size target.contexts.processes) _ (λ none.
-    memory_so laws id addr word size mode target (context_of id) good refl (check_passed _ _ _ none).0))
+    answered target command _ (answer_by_fault target command (memory_get_fault id addr size target.contexts.processes) _ (λ none.
+    memory_so id addr word size mode target (context_of id) good refl (check_passed _ _ _ none).0))
 
 -- ---- registers
 
-register_so : Laws → (id : List ℕ) (target : Target) → IsGood target → register_get_fault id target.contexts.processes ≡ None
+register_so : (id : List ℕ) (target : Target) → IsGood target → register_get_fault id target.contexts.processes ≡ None
     → IsTrueAnswer target (commands.RegGet id) (answers.Blob (register_bytes (register_of id) (holder_of id target.contexts.processes)))
-register_so laws id target good none =
+register_so id target good none =
     let some = check_passed _ _ _ none in
-    let found = held_found laws target id good some.0 (check_passed _ _ _ some.1).0 in
+    let found = held_found target id good some.0 (check_passed _ _ _ some.1).0 in
     let register = found.0 in
     let process = found.1 in
     let number = number_in register.index process.cpu in
@@ -218,25 +218,25 @@ register_so laws id target good none =
     ap (λ (o : Option RegisterId). register_bytes o (holder_of id target.contexts.processes)) found.2.holder.read ∙ ap (λ (o : Option Process). register_bytes (Some register) o) found.2.holder.holder in
     subst (λ (xs : List ℕ). IsTrueAnswer target (commands.RegGet id) (answers.Blob xs)) (sym bytes) (record {
       limits = refl;
-      typed = blob_typed laws (word_bytes number) (word_typed number);
+      typed = blob_typed (word_bytes number) (word_typed number);
       so = subst (λ (xs : List ℕ). AllByRecursion (IsSo target) (whole_read id xs)) (word_whole number) (whole_so target id register process 0 4 found.2);
     })
 
-pub get_register : Laws → (channel : ℕ) (id : List ℕ) (target : Target) → IsGood target → Answers channel (commands.RegGet id) target
+pub get_register : (channel : ℕ) (id : List ℕ) (target : Target) → IsGood target → Answers channel (commands.RegGet id) target
 unfolding exec_effect
-get_register laws channel id target good =
-    answered laws target (commands.RegGet id) _ (answer_by_fault target (commands.RegGet id) (register_get_fault id target.contexts.processes) _ (register_so laws id target good))
+get_register channel id target good =
+    answered target (commands.RegGet id) _ (answer_by_fault target (commands.RegGet id) (register_get_fault id target.contexts.processes) _ (register_so id target good))
 
-registers_so : Laws → (list : List Location) (target : Target) → IsGood target → registers_get_fault list target.contexts.processes ≡ None
+registers_so : (list : List Location) (target : Target) → IsGood target → registers_get_fault list target.contexts.processes ≡ None
     → IsTrueAnswer target (commands.RegGetm list) (answers.Blob (bytes_of target.contexts.processes (parts_named list)))
-registers_so laws list target good none = record {
+registers_so list target good none = record {
   limits = refl;
-  typed = blob_typed laws (bytes_of target.contexts.processes (parts_named list)) (parts_typed target.contexts.processes list);
-  so = parts_so laws target list good (check_passed _ _ _ none).1;
+  typed = blob_typed (bytes_of target.contexts.processes (parts_named list)) (parts_typed target.contexts.processes list);
+  so = parts_so target list good (check_passed _ _ _ none).1;
 }
 
-pub get_registers : Laws → (channel : ℕ) (list : List Location) (target : Target) → IsGood target → IsReadable (commands.RegGetm list)
+pub get_registers : (channel : ℕ) (list : List Location) (target : Target) → IsGood target → IsReadable (commands.RegGetm list)
     → Answers channel (commands.RegGetm list) target
 unfolding exec_effect
-get_registers laws channel list target good readable =
-    answered laws target (commands.RegGetm list) _ (answer_by_fault target (commands.RegGetm list) (registers_get_fault list target.contexts.processes) _ (registers_so laws list target good))
+get_registers channel list target good readable =
+    answered target (commands.RegGetm list) _ (answer_by_fault target (commands.RegGetm list) (registers_get_fault list target.contexts.processes) _ (registers_so list target good))

@@ -16,7 +16,7 @@ use Rattle.target_truth.proofs.MemoryTold.{Fits, memory_of}
 use Rattle.target_truth.proofs.RegistersTold.{register_of_named, registers_told}
 use Rattle.target_truth.proofs.RowsRun.{Tells}
 use Rattle.target_truth.proofs.Tells.{Tell}
-use Rattle.target_truth.proofs.Whole.{IsGood, Laws}
+use Rattle.target_truth.proofs.Whole.{IsGood}
 use Rattle.tcf_values.specs.Effects.{tells}
 use Rattle.tcf_values.specs.Ids.{register_of}
 use Rattle.tcf_values.specs.declared.answer.Answer.TheVariants.{Nothing}
@@ -27,10 +27,10 @@ use Rattle.tcf_values.specs.declared.values.Location.{Location}
 
 -- ---- memory
 
-pub set_memory : Laws → (channel : ℕ) (id : List ℕ) (addr word size mode : ℤ) (bytes : List ℕ) (target : Target) → IsGood target
+pub set_memory : (channel : ℕ) (id : List ℕ) (addr word size mode : ℤ) (bytes : List ℕ) (target : Target) → IsGood target
     → IsReadable (commands.MemSet id addr word size mode bytes) → Tells channel (commands.MemSet id addr word size mode bytes) target
 unfolding exec_after exec_effect
-set_memory laws channel id addr word size mode bytes target good readable =
+set_memory channel id addr word size mode bytes target good readable =
     let rows = target.contexts.processes in
     by_fault (memory_set_fault id addr size bytes rows) target (memory_after id addr bytes target.contexts) (tells (memory_events (number_named id) addr size) Nothing)
     (λ fault.
@@ -45,33 +45,33 @@ set_memory laws channel id addr word size mode bytes target good readable =
       whole_addr = readable.0;
       whole_size = readable.2;
     } in
-    memory_of laws addr size bytes target (number_named id) good fits found.0)
+    memory_of addr size bytes target (number_named id) good fits found.0)
 
 -- ---- registers
 
-pub set_register : Laws → (channel : ℕ) (id bytes : List ℕ) (target : Target) → IsGood target → Tells channel (commands.RegSet id bytes) target
+pub set_register : (channel : ℕ) (id bytes : List ℕ) (target : Target) → IsGood target → Tells channel (commands.RegSet id bytes) target
 unfolding exec_after exec_effect
-set_register laws channel id bytes target good =
+set_register channel id bytes target good =
     let rows = target.contexts.processes in
     by_fault (register_set_fault id bytes rows) target (register_after (register_of id) (word_of bytes) target.contexts) (tells (RegChanged id ∷ []) Nothing)
     (λ fault.
     let found = check_passed (is_none (holder_of id rows)) BadContext _ fault in
-    (record { limits = tt; typed = tt; leads = register_of_named laws id (word_of bytes) target found.0 }, tt))
+    (record { limits = tt; typed = tt; leads = register_of_named id (word_of bytes) target found.0 }, tt))
 
-parts_told : Laws → (list : List Location) (bytes : List ℕ) (target : Target) → registers_set_fault list bytes target.contexts ≡ None
+parts_told : (list : List Location) (bytes : List ℕ) (target : Target) → registers_set_fault list bytes target.contexts ≡ None
     → Tell target (with_contexts (registers_after list bytes target.contexts) target) (registers_events list)
-parts_told laws [] bytes target fault = λ fact knows. knows
-parts_told laws (first ∷ list) bytes target fault =
+parts_told [] bytes target fault = λ fact knows. knows
+parts_told (first ∷ list) bytes target fault =
     let rows = target.contexts.processes in
     let got = both_passed (registers_get_fault (first ∷ list) rows) _ fault in
     let few = check_passed (nat_lt 256 (length (first ∷ list))) BadSize (locations_fault rows (first ∷ list)) got.0 in
     let here = both_passed (location_fault rows first) (locations_fault rows list) few.1 in
     let found = check_passed (is_none (holder_of first.register rows)) BadContext _ here.0 in
-    registers_told laws first list bytes target found.0 (name_one first.register (first ∷ list)) refl
+    registers_told first list bytes target found.0 (name_one first.register (first ∷ list)) refl
 
-pub set_registers : Laws → (channel : ℕ) (list : List Location) (bytes : List ℕ) (target : Target) → IsGood target
+pub set_registers : (channel : ℕ) (list : List Location) (bytes : List ℕ) (target : Target) → IsGood target
     → Tells channel (commands.RegSetm list bytes) target
 unfolding exec_after exec_effect
-set_registers laws channel list bytes target good =
+set_registers channel list bytes target good =
     by_fault (registers_set_fault list bytes target.contexts) target (registers_after list bytes target.contexts) (tells (registers_events list) Nothing)
-    (parts_told laws list bytes target)
+    (parts_told list bytes target)

@@ -20,6 +20,7 @@ use Rattle.target_contexts.specs.declared.process.ThreadState.TheVariants.{Runni
 use Rattle.target_hub.specs.Execution.{exec_after, exec_effect}
 use Rattle.target_hub.specs.declared.target.Target.{Target}
 use Rattle.target_truth.specs.Holds.{process_in}
+use Rattle.target_contexts.proofs.TheLaws.{starts_one}
 use Rattle.target_truth.proofs.Becoming.{change_stays, changed, rests, stays, stays_attached, with_contexts}
 use Rattle.target_truth.proofs.Live.{number_found, next_unused, none_found}
 use Rattle.target_truth.proofs.First.{came, switched}
@@ -28,7 +29,7 @@ use Rattle.target_truth.proofs.Tells.{IsTold, Tell}
 use Rattle.target_truth.proofs.Faults.{by_fault, check_passed}
 use Rattle.target_truth.proofs.Telling.{end_told, ended, if_there, resumed_told, stopped_told}
 use Rattle.target_truth.proofs.ContextLimits.{thread_fits}
-use Rattle.target_truth.proofs.Whole.{IsGood, Laws}
+use Rattle.target_truth.proofs.Whole.{IsGood}
 use Rattle.tcf_values.specs.Spelling.{IsNumber}
 use Rattle.tcf_values.specs.declared.command.Command.{Command}
 use Rattle.tcf_values.specs.declared.command.Command.TheVariants as commands
@@ -41,66 +42,66 @@ Tells channel command target = Tell target (exec_after channel command target) (
 
 -- ---- resume and suspend
 
-resume_told : Laws → (left : Option ℕ) (target : Target) → IsGood target → (number : ℕ) (old : Process) → process_in number target ≡ Some old
+resume_told : (left : Option ℕ) (target : Target) → IsGood target → (number : ℕ) (old : Process) → process_in number target ≡ Some old
     → Tell target (with_contexts (resume_after left number target.contexts) target) (resumed_events number)
-resume_told laws left target good number old there =
+resume_told left target good number old there =
     let is = number_found target number old good there in
-    let stays = change_stays laws.changes (with_state (Running left)) number target old there refl refl in
-    (resumed_told laws number target _ old (with_state (Running left) old) left is stays refl, tt)
+    let stays = change_stays (with_state (Running left)) number target old there refl refl in
+    (resumed_told number target _ old (with_state (Running left) old) left is stays refl, tt)
 
-pub resume : Laws → (channel : ℕ) (id : List ℕ) (mode count : ℤ) (target : Target) → IsGood target → Tells channel (commands.Resume id mode count) target
+pub resume : (channel : ℕ) (id : List ℕ) (mode count : ℤ) (target : Target) → IsGood target → Tells channel (commands.Resume id mode count) target
 unfolding exec_after exec_effect
-resume laws channel id mode count target good =
+resume channel id mode count target good =
     by_fault (resume_fault id mode count target.contexts.processes) target _ _ (λ none.
     if_there (resume_after (left_by mode count)) (λ number after. resumed_events number) target (thread_named id) (check_passed _ _ _ none).0
-    (resume_told laws (left_by mode count) target good))
+    (resume_told (left_by mode count) target good))
 
-suspend_told : Laws → (target : Target) → IsGood target → (number : ℕ) (old : Process) → process_in number target ≡ Some old
+suspend_told : (target : Target) → IsGood target → (number : ℕ) (old : Process) → process_in number target ≡ Some old
     → Tell target (with_contexts (suspend_after number target.contexts) target) (suspend_events number (suspend_after number target.contexts))
-suspend_told laws target good number old there =
+suspend_told target good number old there =
     let new = with_state (Suspended suspended_text []) old in
-    let becomes = changed laws.changes (with_state (Suspended suspended_text [])) number target.contexts old there in
+    let becomes = changed (with_state (Suspended suspended_text [])) number target.contexts old there in
     let is = number_found target number old good there in
     let now = with_contexts (suspend_after number target.contexts) target in
     subst (λ (o : Option Process). Tell target now (suspended_events number o)) (sym becomes.found)
-    (stopped_told laws number target now old new suspended_text [] is (good.whole number old there).cpu.pc (stays_attached number target _ old new there becomes refl refl) refl, tt)
+    (stopped_told number target now old new suspended_text [] is (good.whole number old there).cpu.pc (stays_attached number target _ old new there becomes refl refl) refl, tt)
 
-pub suspend : Laws → (channel : ℕ) (id : List ℕ) (target : Target) → IsGood target → Tells channel (commands.Suspend id) target
+pub suspend : (channel : ℕ) (id : List ℕ) (target : Target) → IsGood target → Tells channel (commands.Suspend id) target
 unfolding exec_after exec_effect
-suspend laws channel id target good =
+suspend channel id target good =
     by_fault (suspend_fault id target.contexts.processes) target _ _ (λ none.
-    if_there suspend_after suspend_events target (thread_named id) (check_passed _ _ _ none).0 (suspend_told laws target good))
+    if_there suspend_after suspend_events target (thread_named id) (check_passed _ _ _ none).0 (suspend_told target good))
 
 -- ---- the end of a process
 
-terminate_told : Laws → (target : Target) → IsGood target → (number : ℕ) (old : Process) → process_in number target ≡ Some old
+terminate_told : (target : Target) → IsGood target → (number : ℕ) (old : Process) → process_in number target ≡ Some old
     → Tell target (with_contexts (end_after number target.contexts) target) (end_events target.breakpoints number terminate_code (end_after number target.contexts))
-terminate_told laws target good number old there =
+terminate_told target good number old there =
     let is = number_found target number old good there in
-    end_told laws number target (end_after number target.contexts) terminate_code is good.consistent.breakpoints.differ
-    (ended laws number target.contexts good.consistent.processes) (lit< {m = 0} {n = 2 ^ 63} tt)
+    end_told number target (end_after number target.contexts) terminate_code is good.consistent.breakpoints.differ
+    (ended number target.contexts good.consistent.processes) (lit< {m = 0} {n = 2 ^ 63} tt)
 
-pub terminate : Laws → (channel : ℕ) (id : List ℕ) (target : Target) → IsGood target → Tells channel (commands.Terminate id) target
+pub terminate : (channel : ℕ) (id : List ℕ) (target : Target) → IsGood target → Tells channel (commands.Terminate id) target
 unfolding exec_after exec_effect
-terminate laws channel id target good =
+terminate channel id target good =
     by_fault (terminate_fault id target.contexts.processes) target _ _ (λ none.
-    if_there end_after (λ number after. end_events target.breakpoints number terminate_code after) target (number_named id) (check_passed _ _ _ none).0 (terminate_told laws target good))
+    if_there end_after (λ number after. end_events target.breakpoints number terminate_code after) target (number_named id) (check_passed _ _ _ none).0 (terminate_told target good))
 
-pub terminate_process : Laws → (channel : ℕ) (id : List ℕ) (target : Target) → IsGood target → Tells channel (commands.ProcTerminate id) target
+pub terminate_process : (channel : ℕ) (id : List ℕ) (target : Target) → IsGood target → Tells channel (commands.ProcTerminate id) target
 unfolding exec_after exec_effect
-terminate_process laws channel id target good =
+terminate_process channel id target good =
     by_fault (process_fault id target.contexts.processes) target _ _ (λ none.
-    if_there end_after (λ number after. end_events target.breakpoints number terminate_code after) target (process_named id) (check_passed _ _ _ none).0 (terminate_told laws target good))
+    if_there end_after (λ number after. end_events target.breakpoints number terminate_code after) target (process_named id) (check_passed _ _ _ none).0 (terminate_told target good))
 
 -- ---- start
 
 -- of an attached process its suspension is told behind it, and of another nothing
-first_told : Laws → (number : ℕ) (now : Target) (image : Image) (attach : Bool) → IsNumber number → process_in number now ≡ Some (new_process attach image)
+first_told : (number : ℕ) (now : Target) (image : Image) (attach : Bool) → IsNumber number → process_in number now ≡ Some (new_process attach image)
     → AllByRecursion (IsTold now now) (statuses_in now.breakpoints now.contexts)
     → AllByRecursion (IsTold now now) (stop_events number 0 (first_state attach) ++ statuses_in now.breakpoints now.contexts)
-first_told laws number now image true is there statuses =
-    (stopped_told laws number now now _ _ suspended_text [] is (lit< tt) (rests number now (new_process true image) there) refl, statuses)
-first_told laws number now image false is there statuses = statuses
+first_told number now image true is there statuses =
+    (stopped_told number now now _ _ suspended_text [] is (lit< tt) (rests number now (new_process true image) there) refl, statuses)
+first_told number now image false is there statuses = statuses
 
 -- no refusal is due, so there is a number left
 room : (full large spent : Bool) → option_map start_fault_for (cond full (Some refusals.Full) (cond large (Some refusals.Size) (cond spent (Some refusals.Numbers) None))) ≡ None → spent ≡ false
@@ -109,17 +110,17 @@ room false true spent none = absurd cc
 room false false true none = absurd cc
 room false false false none = refl
 
-start_of : Laws → (image : Option Image) (attach : Bool) (target : Target) → IsGood target
+start_of : (image : Option Image) (attach : Bool) (target : Target) → IsGood target
     → option_map start_fault_for (refusal_for image (length target.contexts.processes) target.contexts.next) ≡ None
     → Tell target (with_contexts (with_started attach target.contexts image) target) (start_events target.breakpoints target.contexts.next (with_started attach target.contexts image))
-start_of laws None attach target good none = absurd cc
-start_of laws (Some image) attach target good none =
+start_of None attach target good none = absurd cc
+start_of (Some image) attach target good none =
     let next = target.contexts.next in
     let process = new_process attach image in
     let contexts = with_started attach target.contexts (Some image) in
     let now = with_contexts contexts target in
     let in_order = good.consistent.processes in
-    let starts = laws.starts target.contexts.processes next process in_order in
+    let starts = starts_one target.contexts.processes next process in_order in
     let least : 0 < next = below target.contexts.processes 0 next in_order.rising in
     let most : next ≤ 4294967295 = ltb-false 4294967295 next (room _ _ _ none) in
     let is : IsNumber next = (omega arith, omega arith) in
@@ -127,65 +128,65 @@ start_of laws (Some image) attach target good none =
       record {
         limits = (process_fits next process, (thread_fits next process, tt));
         typed = tt;
-        leads = came laws.contexts next target now process is (record { others = starts.1; breakpoints = refl }) (none_found next target.contexts.processes (next_unused next target.contexts.processes in_order)) starts.0;
+        leads = came next target now process is (record { others = starts.1; breakpoints = refl }) (none_found next target.contexts.processes (next_unused next target.contexts.processes in_order)) starts.0;
       },
-      first_told laws next now image attach is starts.0 (statuses_told now good.consistent.breakpoints.differ),
+      first_told next now image attach is starts.0 (statuses_told now good.consistent.breakpoints.differ),
     )
 
-pub start : Laws → (channel : ℕ) (directory file : List ℕ) (args environment : List (List ℕ)) (attach : Bool) (target : Target) → IsGood target
+pub start : (channel : ℕ) (directory file : List ℕ) (args environment : List (List ℕ)) (attach : Bool) (target : Target) → IsGood target
     → Tells channel (commands.ProcStart directory file args environment attach) target
 unfolding exec_after exec_effect
-start laws channel directory file args environment attach target good =
-    by_fault (start_fault file target.contexts) target _ _ (start_of laws (image_of file target.contexts.images) attach target good)
+start channel directory file args environment attach target good =
+    by_fault (start_fault file target.contexts) target _ _ (start_of (image_of file target.contexts.images) attach target good)
 
 -- ---- attach and detach
 
-attach_told : Laws → (target : Target) → IsGood target → (number : ℕ) (old : Process) → process_in number target ≡ Some old
+attach_told : (target : Target) → IsGood target → (number : ℕ) (old : Process) → process_in number target ≡ Some old
     → Tell target (with_contexts (attach_after number target.contexts) target) (attach_events target.breakpoints number (attach_after number target.contexts))
-attach_told laws target good number old there =
+attach_told target good number old there =
     let new = attached old in
     let contexts = attach_after number target.contexts in
     let now = with_contexts contexts target in
-    let becomes = changed laws.changes attached number target.contexts old there in
+    let becomes = changed attached number target.contexts old there in
     let is = number_found target number old good there in
     subst (λ (o : Option Process). Tell target now (changed_events number o ++ (suspended_events number o ++ statuses_in target.breakpoints contexts))) (sym becomes.found) (
-      record { limits = (thread_fits number new, tt); typed = tt; leads = switched laws.contexts number target now old new is (stays number target contexts old new there becomes refl) },
+      record { limits = (thread_fits number new, tt); typed = tt; leads = switched number target now old new is (stays number target contexts old new there becomes refl) },
       (
-        stopped_told laws number now now new new suspended_text [] is (good.whole number old there).cpu.pc (rests number now new becomes.found) refl,
+        stopped_told number now now new new suspended_text [] is (good.whole number old there).cpu.pc (rests number now new becomes.found) refl,
         statuses_told now good.consistent.breakpoints.differ,
       ),
     )
 
-pub attach : Laws → (channel : ℕ) (id : List ℕ) (target : Target) → IsGood target → Tells channel (commands.ProcAttach id) target
+pub attach : (channel : ℕ) (id : List ℕ) (target : Target) → IsGood target → Tells channel (commands.ProcAttach id) target
 unfolding exec_after exec_effect
-attach laws channel id target good =
+attach channel id target good =
     by_fault (attach_fault id target.contexts.processes) target _ _ (λ none.
-    if_there attach_after (attach_events target.breakpoints) target (process_named id) (check_passed _ _ _ none).0 (attach_told laws target good))
+    if_there attach_after (attach_events target.breakpoints) target (process_named id) (check_passed _ _ _ none).0 (attach_told target good))
 
 -- that the thread goes on, whether or not it is told
-maybe_resumed : Laws → (number : ℕ) (now : Target) (process : Process) (was : Bool) → IsNumber number → process_in number now ≡ Some process → process.state ≡ Running None
+maybe_resumed : (number : ℕ) (now : Target) (process : Process) (was : Bool) → IsNumber number → process_in number now ≡ Some process → process.state ≡ Running None
     → AllByRecursion (IsTold now now) (statuses_in now.breakpoints now.contexts)
     → AllByRecursion (IsTold now now) (cond was (resumed_events number) [] ++ statuses_in now.breakpoints now.contexts)
-maybe_resumed laws number now process true is there runs statuses =
-    (resumed_told laws number now now process process None is (rests number now process there) runs, statuses)
-maybe_resumed laws number now process false is there runs statuses = statuses
+maybe_resumed number now process true is there runs statuses =
+    (resumed_told number now now process process None is (rests number now process there) runs, statuses)
+maybe_resumed number now process false is there runs statuses = statuses
 
-detach_told : Laws → (was : Bool) (target : Target) → IsGood target → (number : ℕ) (old : Process) → process_in number target ≡ Some old
+detach_told : (was : Bool) (target : Target) → IsGood target → (number : ℕ) (old : Process) → process_in number target ≡ Some old
     → Tell target (with_contexts (detach_after number target.contexts) target) (detach_events target.breakpoints was number (detach_after number target.contexts))
-detach_told laws was target good number old there =
+detach_told was target good number old there =
     let new = detached old in
     let contexts = detach_after number target.contexts in
     let now = with_contexts contexts target in
-    let becomes = changed laws.changes detached number target.contexts old there in
+    let becomes = changed detached number target.contexts old there in
     let is = number_found target number old good there in
     subst (λ (o : Option Process). Tell target now (changed_events number o ++ (cond was (resumed_events number) [] ++ statuses_in target.breakpoints contexts))) (sym becomes.found) (
-      record { limits = (thread_fits number new, tt); typed = tt; leads = switched laws.contexts number target now old new is (stays number target contexts old new there becomes refl) },
-      maybe_resumed laws number now new was is becomes.found refl (statuses_told now good.consistent.breakpoints.differ),
+      record { limits = (thread_fits number new, tt); typed = tt; leads = switched number target now old new is (stays number target contexts old new there becomes refl) },
+      maybe_resumed number now new was is becomes.found refl (statuses_told now good.consistent.breakpoints.differ),
     )
 
-pub detach : Laws → (channel : ℕ) (id : List ℕ) (target : Target) → IsGood target → Tells channel (commands.ProcDetach id) target
+pub detach : (channel : ℕ) (id : List ℕ) (target : Target) → IsGood target → Tells channel (commands.ProcDetach id) target
 unfolding exec_after exec_effect
-detach laws channel id target good =
+detach channel id target good =
     let was = is_suspended (process_there id target.contexts.processes) in
     by_fault (detach_fault id target.contexts.processes) target _ _ (λ none.
-    if_there detach_after (detach_events target.breakpoints was) target (process_named id) (check_passed _ _ _ none).0 (detach_told laws was target good))
+    if_there detach_after (detach_events target.breakpoints was) target (process_named id) (check_passed _ _ _ none).0 (detach_told was target good))

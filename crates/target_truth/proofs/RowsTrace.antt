@@ -28,7 +28,7 @@ use Rattle.target_truth.proofs.Faults.{by_fault, check_passed}
 use Rattle.target_truth.proofs.Telling.{if_there}
 use Rattle.target_truth.proofs.Tells.{Tell}
 use Rattle.target_truth.proofs.ExitCodes.{machine_fits}
-use Rattle.target_truth.proofs.Whole.{IsGood, IsWhole, Laws}
+use Rattle.target_truth.proofs.Whole.{IsGood, IsWhole}
 use Rattle.tcf_values.specs.OptionLaws.{some_same}
 use Rattle.tcf_values.specs.declared.command.Command.TheVariants as commands
 use Rattle.tcf_values.specs.declared.event.EventData.{EventData}
@@ -70,10 +70,10 @@ last_follows first process (state ∷ states) follows all = last_follows first s
 
 -- ---- Trace.run
 
-trace_told : Laws → (count : ℕ) (target : Target) → IsGood target → (number : ℕ) (old : Process) → process_in number target ≡ Some old
+trace_told : (count : ℕ) (target : Target) → IsGood target → (number : ℕ) (old : Process) → process_in number target ≡ Some old
     → Tell target (with_contexts (trace_after target.breakpoints count number target.contexts) target)
     (trace_events target.breakpoints count number target.contexts (trace_after target.breakpoints count number target.contexts))
-trace_told laws count target good number old there =
+trace_told count target good number old there =
     let bps = target.breakpoints in
     let states = states_of bps number count old in
     let last = last_of old states in
@@ -82,26 +82,26 @@ trace_told laws count target good number old there =
     let follows = last_follows old old states first (hit_follow old bps number (run_from count old) (all_follow old count old first)) in
     let executes : Executes number target contexts old last = record {
       there = there;
-      becomes = changed laws.changes (λ _. last) number target.contexts old there;
+      becomes = changed (λ _. last) number target.contexts old there;
       name = follows.name;
       attached = follows.attached;
       pc = follows.whole.cpu.pc;
     } in
     subst (λ (o : Option Process). Tell target (with_contexts (traced_at bps number count o target.contexts) target) (traced_events_at bps number count o (traced_at bps number count o target.contexts))) (sym there)
-    (stops_settle laws number target contexts old last (Suspended step_text []) old.attached (last_hits bps number old states) (length states == count) last good executes (λ on. absurd (true≢false (sym on))))
+    (stops_settle number target contexts old last (Suspended step_text []) old.attached (last_hits bps number old states) (length states == count) last good executes (λ on. absurd (true≢false (sym on))))
 
-trace_named : Laws → (count : ℕ) (target : Target) (named : Option ℕ) → IsGood target → is_none (process_at_number named target.contexts.processes) ≡ false
+trace_named : (count : ℕ) (target : Target) (named : Option ℕ) → IsGood target → is_none (process_at_number named target.contexts.processes) ≡ false
     → Tell target (with_contexts (left_of (trace_after target.breakpoints count) named target.contexts) target)
     (trace_given target.breakpoints count named target.contexts (left_of (trace_after target.breakpoints count) named target.contexts)).events
-trace_named laws count target None good is = absurd cc
-trace_named laws count target (Some number) good is =
-    if_there (trace_after target.breakpoints count) (λ n after. trace_events target.breakpoints count n target.contexts after) target (Some number) is (trace_told laws count target good)
+trace_named count target None good is = absurd cc
+trace_named count target (Some number) good is =
+    if_there (trace_after target.breakpoints count) (λ n after. trace_events target.breakpoints count n target.contexts after) target (Some number) is (trace_told count target good)
 
-pub trace : Laws → (channel : ℕ) (id : List ℕ) (count : ℤ) (target : Target) → IsGood target → Tells channel (commands.TraceRun id count) target
+pub trace : (channel : ℕ) (id : List ℕ) (count : ℤ) (target : Target) → IsGood target → Tells channel (commands.TraceRun id count) target
 unfolding exec_after exec_effect
-trace laws channel id count target good =
+trace channel id count target good =
     by_fault (trace_fault id count target.contexts.processes) target _ _ (λ none.
-    trace_named laws (unsigned_abs count) target (thread_named id) good (check_passed _ _ _ none).0)
+    trace_named (unsigned_abs count) target (thread_named id) good (check_passed _ _ _ none).0)
 
 -- ---- a tick
 
@@ -120,31 +120,31 @@ steps process (goes_on cpu memory) is whole = record { name = refl; attached = r
 steps process (ends code) is whole = record { name = refl; attached = refl; pc = whole.cpu.pc }
 steps process excepts is whole = record { name = refl; attached = refl; pc = whole.cpu.pc }
 
-tick_found : Laws → (number : ℕ) (target : Target) (found : Option Process) → IsGood target → process_in number target ≡ found
+tick_found : (number : ℕ) (target : Target) (found : Option Process) → IsGood target → process_in number target ≡ found
     → Tell target (with_contexts (ticked_at target.breakpoints number found target.contexts) target)
     (ticked_events_at target.breakpoints number found (ticked_at target.breakpoints number found target.contexts))
-tick_found laws number target None good there = λ fact knows. knows
-tick_found laws number target (Some old) good there =
+tick_found number target None good there = λ fact knows. knows
+tick_found number target (Some old) good there =
     let whole = good.whole number old there in
     let step = machine old.cpu old.memory in
     let contexts = with_change stepped number target.contexts in
     let is = steps old step (machine_whole old.cpu old.memory whole.cpu whole.memory) whole in
     let executes : Executes number target contexts old (stepped old) = record {
       there = there;
-      becomes = changed laws.changes stepped number target.contexts old there;
+      becomes = changed stepped number target.contexts old there;
       name = is.name;
       attached = is.attached;
       pc = is.pc;
     } in
-    settles laws number target contexts old (stepped old) (counted old.state) old.attached step good executes (counted_runs old.state) (machine_fits old.cpu old.memory)
+    settles number target contexts old (stepped old) (counted old.state) old.attached step good executes (counted_runs old.state) (machine_fits old.cpu old.memory)
 
-tick_by : Laws → (target : Target) (number : Option ℕ) (events : List EventData) → IsGood target → option_map (λ n. ticked_events target.breakpoints n target.contexts) number ≡ Some events
+tick_by : (target : Target) (number : Option ℕ) (events : List EventData) → IsGood target → option_map (λ n. ticked_events target.breakpoints n target.contexts) number ≡ Some events
     → Tell target (with_contexts (option_map_or (λ n. ticked_number target.breakpoints n target.contexts) number target.contexts) target) events
-tick_by laws target None events good told = absurd (none-some events told)
-tick_by laws target (Some number) events good told =
+tick_by target None events good told = absurd (none-some events told)
+tick_by target (Some number) events good told =
     subst (λ (list : List EventData). Tell target (with_contexts (ticked_number target.breakpoints number target.contexts) target) list) (some_same _ _ told)
-    (tick_found laws number target (process_of number target.contexts.processes) good refl)
+    (tick_found number target (process_of number target.contexts.processes) good refl)
 
-pub tick : Laws → (thread : ContextId) (target : Target) (events : List EventData) → IsGood target → tick_told thread target ≡ Some events
+pub tick : (thread : ContextId) (target : Target) (events : List EventData) → IsGood target → tick_told thread target ≡ Some events
     → Tell target (ticked thread target) events
-tick laws thread target events good told = tick_by laws target (running_number thread target.contexts.processes) events good told
+tick thread target events good told = tick_by target (running_number thread target.contexts.processes) events good told

@@ -23,7 +23,7 @@ use Rattle.target_truth.proofs.Silent.{ran_on}
 use Rattle.target_truth.proofs.Telling.{Ended, end_told, ended, stopped_told}
 use Rattle.target_truth.proofs.Tells.{Tell}
 use Rattle.target_truth.proofs.ExitCodes.{machine_fits}
-use Rattle.target_truth.proofs.Whole.{IsGood, Laws}
+use Rattle.target_truth.proofs.Whole.{IsGood}
 use Rattle.target_hub.proofs.Told.{StepFits}
 
 -- ---- a process that executed: it is still the one that was started, and its pc is a number of 32 bits
@@ -41,34 +41,34 @@ Lives number target contexts state =
     Tell target (with_contexts after target) (suspended_events number (process_of number after.processes))
 
 -- it lives on, and its thread has this state
-lives : Laws → (number : ℕ) (target : Target) (contexts : TargetsValue) (old new : Process) (state : ThreadState) → IsGood target → Executes number target contexts old new
+lives : (number : ℕ) (target : Target) (contexts : TargetsValue) (old new : Process) (state : ThreadState) → IsGood target → Executes number target contexts old new
     → (runs state ≡ true → runs old.state ≡ true) → Lives number target contexts state
-lives laws number target contexts old new (Running left) good executes ran =
+lives number target contexts old new (Running left) good executes ran =
     let last = with_state (Running left) new in
     let after = with_change (with_state (Running left)) number contexts in
-    let both = twice number target.contexts contexts after new last executes.becomes (changed laws.changes (with_state (Running left)) number contexts new executes.becomes.found) in
+    let both = twice number target.contexts contexts after new last executes.becomes (changed (with_state (Running left)) number contexts new executes.becomes.found) in
     subst (λ (o : Option Process). Tell target (with_contexts after target) (suspended_events number o)) (sym both.found)
     (ran_on number target (with_contexts after target) old last (stays_attached number target after old last executes.there both executes.name executes.attached) (ran refl) refl)
-lives laws number target contexts old new (Suspended reason hits) good executes ran =
+lives number target contexts old new (Suspended reason hits) good executes ran =
     let is = number_found target number old good executes.there in
     let last = with_state (Suspended reason hits) new in
     let after = with_change (with_state (Suspended reason hits)) number contexts in
-    let both = twice number target.contexts contexts after new last executes.becomes (changed laws.changes (with_state (Suspended reason hits)) number contexts new executes.becomes.found) in
+    let both = twice number target.contexts contexts after new last executes.becomes (changed (with_state (Suspended reason hits)) number contexts new executes.becomes.found) in
     subst (λ (o : Option Process). Tell target (with_contexts after target) (suspended_events number o)) (sym both.found)
-    (stopped_told laws number target (with_contexts after target) old last reason hits is executes.pc (stays_attached number target after old last executes.there both executes.name executes.attached) refl, tt)
+    (stopped_told number target (with_contexts after target) old last reason hits is executes.pc (stays_attached number target after old last executes.there both executes.name executes.attached) refl, tt)
 
 -- it ends with this code
-ends_so : Laws → (number : ℕ) (target : Target) (contexts : TargetsValue) (old new : Process) (code : ℤ) → IsGood target → Executes number target contexts old new → IsWhole code
+ends_so : (number : ℕ) (target : Target) (contexts : TargetsValue) (old new : Process) (code : ℤ) → IsGood target → Executes number target contexts old new → IsWhole code
     → Tell target (with_contexts (end_after number contexts) target) (end_events target.breakpoints number code (end_after number contexts))
-ends_so laws number target contexts old new code good executes whole =
+ends_so number target contexts old new code good executes whole =
     let is = number_found target number old good executes.there in
-    let gone = ended laws number contexts (orderly number target.contexts contexts new executes.becomes good.consistent.processes) in
+    let gone = ended number contexts (orderly number target.contexts contexts new executes.becomes good.consistent.processes) in
     let all : Ended number target.contexts (end_after number contexts) = record { gone = gone.gone; others = λ other differ. gone.others other differ ∙ executes.becomes.others other differ } in
-    end_told laws number target (end_after number contexts) code is good.consistent.breakpoints.differ all whole
+    end_told number target (end_after number contexts) code is good.consistent.breakpoints.differ all whole
 
-suspends : Laws → (number : ℕ) (target : Target) (contexts : TargetsValue) (old new : Process) (reason : List ℕ) (hits : List (List ℕ)) → IsGood target → Executes number target contexts old new
+suspends : (number : ℕ) (target : Target) (contexts : TargetsValue) (old new : Process) (reason : List ℕ) (hits : List (List ℕ)) → IsGood target → Executes number target contexts old new
     → Lives number target contexts (Suspended reason hits)
-suspends laws number target contexts old new reason hits good executes = lives laws number target contexts old new (Suspended reason hits) good executes (λ on. absurd (true≢false (sym on)))
+suspends number target contexts old new reason hits good executes = lives number target contexts old new (Suspended reason hits) good executes (λ on. absurd (true≢false (sym on)))
 
 -- ---- one instruction
 
@@ -77,12 +77,12 @@ SettlesHalt number target contexts plain attached step =
     let fate = fate_by plain attached (halt_by step) in
     Tell target (with_contexts (settled number fate contexts) target) (settled_events target.breakpoints number fate (settled number fate contexts))
 
-halts_settle : Laws → (number : ℕ) (target : Target) (contexts : TargetsValue) (old new : Process) (plain : ThreadState) (attached : Bool) (step : Step) → IsGood target
+halts_settle : (number : ℕ) (target : Target) (contexts : TargetsValue) (old new : Process) (plain : ThreadState) (attached : Bool) (step : Step) → IsGood target
     → Executes number target contexts old new → (runs plain ≡ true → runs old.state ≡ true) → StepFits step → SettlesHalt number target contexts plain attached step
-halts_settle laws number target contexts old new plain attached (goes_on cpu memory) good executes ran fits = lives laws number target contexts old new plain good executes ran
-halts_settle laws number target contexts old new plain attached (ends code) good executes ran fits = ends_so laws number target contexts old new code good executes fits
-halts_settle laws number target contexts old new plain true excepts good executes ran fits = suspends laws number target contexts old new exception_text [] good executes
-halts_settle laws number target contexts old new plain false excepts good executes ran fits = ends_so laws number target contexts old new exception_code good executes (lit< {m = 1} {n = 2 ^ 63} tt)
+halts_settle number target contexts old new plain attached (goes_on cpu memory) good executes ran fits = lives number target contexts old new plain good executes ran
+halts_settle number target contexts old new plain attached (ends code) good executes ran fits = ends_so number target contexts old new code good executes fits
+halts_settle number target contexts old new plain true excepts good executes ran fits = suspends number target contexts old new exception_text [] good executes
+halts_settle number target contexts old new plain false excepts good executes ran fits = ends_so number target contexts old new exception_code good executes (lit< {m = 1} {n = 2 ^ 63} tt)
 
 abbrev Settles : ℕ → Target → TargetsValue → ThreadState → Bool → Process → Step → Type 0
 Settles number target contexts plain attached process step =
@@ -94,16 +94,16 @@ SettlesHit number target contexts plain attached hits =
     let fate = fate_by plain attached (executed_with hits) in
     Tell target (with_contexts (settled number fate contexts) target) (settled_events target.breakpoints number fate (settled number fate contexts))
 
-hits_settle : Laws → (number : ℕ) (target : Target) (contexts : TargetsValue) (old new : Process) (plain : ThreadState) (attached : Bool) (hits : List (List ℕ)) → IsGood target
+hits_settle : (number : ℕ) (target : Target) (contexts : TargetsValue) (old new : Process) (plain : ThreadState) (attached : Bool) (hits : List (List ℕ)) → IsGood target
     → Executes number target contexts old new → (runs plain ≡ true → runs old.state ≡ true) → SettlesHit number target contexts plain attached hits
-hits_settle laws number target contexts old new plain attached [] good executes ran = lives laws number target contexts old new plain good executes ran
-hits_settle laws number target contexts old new plain attached (hit ∷ hits) good executes ran = suspends laws number target contexts old new breakpoint_text (hit ∷ hits) good executes
+hits_settle number target contexts old new plain attached [] good executes ran = lives number target contexts old new plain good executes ran
+hits_settle number target contexts old new plain attached (hit ∷ hits) good executes ran = suspends number target contexts old new breakpoint_text (hit ∷ hits) good executes
 
-pub settles : Laws → (number : ℕ) (target : Target) (contexts : TargetsValue) (old new : Process) (plain : ThreadState) (attached : Bool) (step : Step) → IsGood target
+pub settles : (number : ℕ) (target : Target) (contexts : TargetsValue) (old new : Process) (plain : ThreadState) (attached : Bool) (step : Step) → IsGood target
     → Executes number target contexts old new → (runs plain ≡ true → runs old.state ≡ true) → StepFits step → Settles number target contexts plain attached old step
-settles laws number target contexts old new plain attached (goes_on cpu memory) good executes ran fits =
-    hits_settle laws number target contexts old new plain attached (hits_at target.breakpoints number (record old { cpu = cpu; memory = memory })) good executes ran
-settles laws number target contexts old new plain attached step good executes ran fits = halts_settle laws number target contexts old new plain attached step good executes ran fits
+settles number target contexts old new plain attached (goes_on cpu memory) good executes ran fits =
+    hits_settle number target contexts old new plain attached (hits_at target.breakpoints number (record old { cpu = cpu; memory = memory })) good executes ran
+settles number target contexts old new plain attached step good executes ran fits = halts_settle number target contexts old new plain attached step good executes ran fits
 
 -- ---- several, which end as one does or at a breakpoint
 
@@ -112,9 +112,9 @@ SettlesStop number target contexts plain attached hits all last =
     let fate = fate_by plain attached (stop_by hits all last) in
     Tell target (with_contexts (settled number fate contexts) target) (settled_events target.breakpoints number fate (settled number fate contexts))
 
-pub stops_settle : Laws → (number : ℕ) (target : Target) (contexts : TargetsValue) (old new : Process) (plain : ThreadState) (attached : Bool) (hits : List (List ℕ)) (all : Bool) (last : Process) → IsGood target
+pub stops_settle : (number : ℕ) (target : Target) (contexts : TargetsValue) (old new : Process) (plain : ThreadState) (attached : Bool) (hits : List (List ℕ)) (all : Bool) (last : Process) → IsGood target
     → Executes number target contexts old new → (runs plain ≡ true → runs old.state ≡ true) → SettlesStop number target contexts plain attached hits all last
-stops_settle laws number target contexts old new plain attached (hit ∷ hits) all last good executes ran = suspends laws number target contexts old new breakpoint_text (hit ∷ hits) good executes
-stops_settle laws number target contexts old new plain attached [] true last good executes ran = lives laws number target contexts old new plain good executes ran
-stops_settle laws number target contexts old new plain attached [] false last good executes ran =
-    halts_settle laws number target contexts old new plain attached (machine last.cpu last.memory) good executes ran (machine_fits last.cpu last.memory)
+stops_settle number target contexts old new plain attached (hit ∷ hits) all last good executes ran = suspends number target contexts old new breakpoint_text (hit ∷ hits) good executes
+stops_settle number target contexts old new plain attached [] true last good executes ran = lives number target contexts old new plain good executes ran
+stops_settle number target contexts old new plain attached [] false last good executes ran =
+    halts_settle number target contexts old new plain attached (machine last.cpu last.memory) good executes ran (machine_fits last.cpu last.memory)

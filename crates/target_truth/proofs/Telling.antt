@@ -15,12 +15,12 @@ use Rattle.target_contexts.specs.declared.process.Process.{Process}
 use Rattle.target_contexts.specs.declared.process.ThreadState.TheVariants.{Running, Suspended}
 use Rattle.target_hub.specs.declared.target.Target.{Target}
 use Rattle.target_truth.specs.Holds.{process_in}
+use Rattle.target_contexts.proofs.TheLaws.{ends_one}
 use Rattle.target_truth.proofs.Becoming.{with_contexts}
 use Rattle.target_truth.proofs.First.{StaysAttached, exited, stopped, went, went_on}
 use Rattle.target_truth.proofs.Live.{none_found}
 use Rattle.target_truth.proofs.Statuses.{statuses_told}
 use Rattle.target_truth.proofs.Tells.{IsTold, Tell}
-use Rattle.target_truth.proofs.Whole.{Laws}
 use Rattle.tcf_values.specs.Spelling.{IsNumber}
 use Rattle.tcf_values.specs.declared.event.EventData.{EventData}
 use Rattle.tcf_values.specs.declared.event.EventData.TheVariants as events
@@ -41,20 +41,20 @@ if_there after told target (Some number) is each =
 
 -- ---- a thread that stops or goes on
 
-pub stopped_told : Laws → (number : ℕ) (before now : Target) (old new : Process) (reason : List ℕ) (hits : List (List ℕ)) → IsNumber number → new.cpu.pc < 2 ^ 32
+pub stopped_told : (number : ℕ) (before now : Target) (old new : Process) (reason : List ℕ) (hits : List (List ℕ)) → IsNumber number → new.cpu.pc < 2 ^ 32
     → StaysAttached number before now old new → new.state ≡ Suspended reason hits → IsTold before now (events.Suspended (thread_id number) new.cpu.pc reason hits)
-stopped_told laws number before now old new reason hits is pc stays suspended = record {
+stopped_told number before now old new reason hits is pc stays suspended = record {
   limits = tt;
   typed = pc;
-  leads = stopped laws.contexts number before now old new reason hits is stays suspended;
+  leads = stopped number before now old new reason hits is stays suspended;
 }
 
-pub resumed_told : Laws → (number : ℕ) (before now : Target) (old new : Process) (left : Option ℕ) → IsNumber number
+pub resumed_told : (number : ℕ) (before now : Target) (old new : Process) (left : Option ℕ) → IsNumber number
     → StaysAttached number before now old new → new.state ≡ Running left → IsTold before now (events.Resumed (thread_id number))
-resumed_told laws number before now old new left is stays running = record {
+resumed_told number before now old new left is stays running = record {
   limits = tt;
   typed = tt;
-  leads = went_on laws.contexts number before now old new left is stays running;
+  leads = went_on number before now old new left is stays running;
 }
 
 -- ---- a process that ends
@@ -63,15 +63,15 @@ pub record Ended (number : ℕ) (old new : TargetsValue) : Type 0 where
   pub gone : process_of number new.processes ≡ None
   pub others : AgreeBut number old.processes new.processes
 
-pub ended : Laws → (number : ℕ) (targets : TargetsValue) → IsOrderly targets.processes targets.next → Ended number targets (end_after number targets)
-ended laws number targets orderly =
-    let is = laws.ends targets.processes targets.next number orderly in
+pub ended : (number : ℕ) (targets : TargetsValue) → IsOrderly targets.processes targets.next → Ended number targets (end_after number targets)
+ended number targets orderly =
+    let is = ends_one targets.processes targets.next number orderly in
     record { gone = none_found number (end_after number targets).processes is.0; others = is.1 }
 
-pub end_told : Laws → (number : ℕ) (target : Target) (contexts : TargetsValue) (code : ℤ) → IsNumber number → IsDistinct bytes_eq (ids_of target.breakpoints)
+pub end_told : (number : ℕ) (target : Target) (contexts : TargetsValue) (code : ℤ) → IsNumber number → IsDistinct bytes_eq (ids_of target.breakpoints)
     → Ended number target.contexts contexts → IsWhole code → Tell target (with_contexts contexts target) (end_events target.breakpoints number code contexts)
-end_told laws number target contexts code is distinct ended whole =
+end_told number target contexts code is distinct ended whole =
     let now = with_contexts contexts target in (
-      record { limits = tt; typed = tt; leads = went laws.contexts number target now is (record { others = ended.others; breakpoints = refl }) ended.gone },
+      record { limits = tt; typed = tt; leads = went number target now is (record { others = ended.others; breakpoints = refl }) ended.gone },
       (record { limits = whole; typed = tt; leads = exited now (process_id number) code }, statuses_told now distinct),
     )

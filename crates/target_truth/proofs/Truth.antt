@@ -23,7 +23,7 @@ use Rattle.target_truth.proofs.Good.{history_good}
 use Rattle.target_truth.proofs.Lives.{executes_none, in_part, nowhere, was_live}
 use Rattle.target_truth.proofs.Messages.{Lead, all_kept, input_answers, input_leads, lead_kept, left_after, taught_append}
 use Rattle.target_truth.proofs.Positions.{last_at, target_there}
-use Rattle.target_truth.proofs.Whole.{IsGood, Laws}
+use Rattle.target_truth.proofs.Whole.{IsGood}
 
 -- ---- nothing is known behind the Hello
 
@@ -66,15 +66,15 @@ pub record Ready (k : ℕ) (before : List Input) (target : Target) (input : Inpu
   pub allowed : IsAllowed before target input
   pub holds : is_live k before ≡ true → Holds known target
 
-leads : Laws → (k : ℕ) (before : List Input) (target : Target) (input : Input) (known : Facts) (commands : List ReadCommand) → Ready k before target input known → opens k input ≡ false
+leads : (k : ℕ) (before : List Input) (target : Target) (input : Input) (known : Facts) (commands : List ReadCommand) → Ready k before target input known → opens k input ≡ false
     → Lead target (input_after input target) (taught (executed_by k input ++ commands) (told_by k (length before + 1) target input))
-leads laws k before target input known commands ready other = input_leads laws k before target input commands ready.good ready.allowed other
+leads k before target input known commands ready other = input_leads k before target input commands ready.good ready.allowed other
 
 -- after each of its messages
-each_holds : Laws → (k : ℕ) (before : List Input) (target : Target) (input : Input) (known : Facts) (commands : List ReadCommand) → Ready k before target input known
+each_holds : (k : ℕ) (before : List Input) (target : Target) (input : Input) (known : Facts) (commands : List ReadCommand) → Ready k before target input known
     → is_live k (before ++ input ∷ []) ≡ true → (front rest : List Told) (last : Told) → told_by k (length before + 1) target input ≡ front ++ last ∷ rest
     → Holds (learn_all (taught (executed_by k input ++ commands) (front ++ last ∷ [])) known) (input_after input target)
-each_holds laws k before target input known commands ready live front rest last told =
+each_holds k before target input known commands ready live front rest last told =
     let asked = executed_by k input ++ commands in
     let now = input_after input target in
     elim (cases_Bool (opens k input)) [
@@ -83,17 +83,17 @@ each_holds laws k before target input known commands ready live front rest last 
           subst (λ (told : List Told). Holds (learn_all (taught asked told) known) now) (sym only) (hello_holds now (length before + 1) asked known)
       | inr other ↦
           let lead : Lead target now (taught asked (front ++ last ∷ rest)) =
-          subst (λ (told : List Told). Lead target now (taught asked told)) told (leads laws k before target input known commands ready other) in
+          subst (λ (told : List Told). Lead target now (taught asked told)) told (leads k before target input known commands ready other) in
           let parts : Lead target now (taught asked front ++ taught (left_after front asked) (last ∷ rest)) = subst (Lead target now) (taught_append asked front (last ∷ rest)) lead in
           subst (λ (messages : List Message). Holds (learn_all messages known) now) (sym (taught_append asked front (last ∷ [])))
-          (lead_kept laws.monotone target now (taught asked front) _ (message_of (left_after front asked) last) known parts (ready.holds (was_live k before input other live)))
+          (lead_kept target now (taught asked front) _ (message_of (left_after front asked) last) known parts (ready.holds (was_live k before input other live)))
     ]
 
 -- and after all of them
-all_hold : Laws → (k : ℕ) (before : List Input) (target : Target) (input : Input) (known : Facts) (commands : List ReadCommand) → Ready k before target input known
+all_hold : (k : ℕ) (before : List Input) (target : Target) (input : Input) (known : Facts) (commands : List ReadCommand) → Ready k before target input known
     → is_live k (before ++ input ∷ []) ≡ true
     → Holds (learn_all (taught (executed_by k input ++ commands) (told_while_live k before target input)) known) (input_after input target)
-all_hold laws k before target input known commands ready live =
+all_hold k before target input known commands ready live =
     let asked = executed_by k input ++ commands in
     let now = input_after input target in
     subst (λ (told : List Told). Holds (learn_all (taught asked told) known) now) (sym (cond-true _ _ _ live))
@@ -102,7 +102,7 @@ all_hold laws k before target input known commands ready live =
           subst (λ (told : List Told). Holds (learn_all (taught asked told) known) now) (sym (opening_tells k (length before + 1) target input own))
           (hello_holds now (length before + 1) asked known)
       | inr other ↦
-          all_kept laws.monotone target now (taught asked (told_by k (length before + 1) target input)) known (leads laws k before target input known commands ready other)
+          all_kept target now (taught asked (told_by k (length before + 1) target input)) known (leads k before target input known commands ready other)
           (ready.holds (was_live k before input other live))
     ])
 
@@ -133,16 +133,16 @@ learn_append [] more known = refl
 learn_append (message ∷ some) more known = learn_append some more _
 
 -- what is known holds before these inputs, where the channel is live then
-pub true_from : Laws → (images : List Image) (k : ℕ) (before inputs : List Input) (known : Facts) → IsLegal images (before ++ inputs) → AreTyped images
+pub true_from : (images : List Image) (k : ℕ) (before inputs : List Input) (known : Facts) → IsLegal images (before ++ inputs) → AreTyped images
     → (is_live k before ≡ true → Holds known (inputs_after before (new_target images)))
     → (front rest : List Told) (last : Told) → sent_after k before (inputs_after before (new_target images)) inputs ≡ front ++ last ∷ rest
     → Holds (learn_all (taught (executed_on k inputs) (front ++ last ∷ [])) known) (target_at images (before ++ inputs) (position_of last))
-true_from laws images k before [] known legal typed holds front rest last told = absurd (nowhere front rest last told)
-true_from laws images k before (input ∷ inputs) known legal typed holds front rest last told =
+true_from images k before [] known legal typed holds front rest last told = absurd (nowhere front rest last told)
+true_from images k before (input ∷ inputs) known legal typed holds front rest last told =
     let target = inputs_after before (new_target images) in
     let asked = executed_by k input ++ executed_on k inputs in
     let ready : Ready k before target input known = record {
-      good = history_good laws images before (front_legal images before (input ∷ inputs) legal) typed;
+      good = history_good images before (front_legal images before (input ∷ inputs) legal) typed;
       allowed = legal before input inputs refl;
       holds = holds;
     } in
@@ -153,15 +153,15 @@ true_from laws images k before (input ∷ inputs) known legal typed holds front 
           let there = last_at k (length before + 1) target input front found.0 last tells.1 in
           subst (λ (now : Target). Holds (learn_all (taught asked (front ++ last ∷ [])) known) now)
           (sym (ap (target_at images (before ++ input ∷ inputs)) there ∙ target_there images before inputs input))
-          (each_holds laws k before target input known (executed_on k inputs) ready tells.0 front found.0 last tells.1)
+          (each_holds k before target input known (executed_on k inputs) ready tells.0 front found.0 last tells.1)
       | inr found ↦
           let more = found.0 in
           let made : input_after input target ≡ inputs_after (before ++ input ∷ []) (new_target images) = sym (inputs_append before (input ∷ []) (new_target images)) in
           let together = append_assoc before (input ∷ []) inputs in
           let newly = learn_all (taught asked heard) known in
           let then : Holds (learn_all (taught (executed_on k inputs) (more ++ last ∷ [])) newly) (target_at images ((before ++ input ∷ []) ++ inputs) (position_of last)) =
-          true_from laws images k (before ++ input ∷ []) inputs newly (subst (IsLegal images) (sym together) legal) typed
-          (λ live. subst (Holds newly) made (all_hold laws k before target input known (executed_on k inputs) ready live))
+          true_from images k (before ++ input ∷ []) inputs newly (subst (IsLegal images) (sym together) legal) typed
+          (λ live. subst (Holds newly) made (all_hold k before target input known (executed_on k inputs) ready live))
           more rest last (ap (λ (t : Target). sent_after k (before ++ input ∷ []) t inputs) (sym made) ∙ found.2) in
           let learned : learn_all (taught asked (front ++ last ∷ [])) known ≡ learn_all (taught (executed_on k inputs) (more ++ last ∷ [])) newly =
           ap (λ (told : List Told). learn_all (taught asked (told ++ last ∷ [])) known) found.1
@@ -176,6 +176,6 @@ true_from laws images k before (input ∷ inputs) known legal typed holds front 
 none_live : (k : ℕ) → is_live k [] ≡ true → ⊥
 none_live k live = cc
 
-pub told_true : Laws → IsTrueAfterEachMessage
-told_true laws images history legal typed k front rest last told =
-    true_from laws images k [] history nothing legal typed (λ live. absurd (none_live k live)) front rest last told
+pub told_true : IsTrueAfterEachMessage
+told_true images history legal typed k front rest last told =
+    true_from images k [] history nothing legal typed (λ live. absurd (none_live k live)) front rest last told

@@ -2,29 +2,12 @@
 use Rattle.std.proofs.Common.{◌≡◌, ℕ, ◌<◌, ◌^◌, List, length, Some}
 use Rattle.std.specs.List.{AllByRecursion}
 use Rattle.command_tables.specs.Canonical.{AreBytes}
-use Rattle.knowledge.specs.Laws.{IsMonotone}
-use Rattle.reply_tables.specs.ReadingLaws.{AnswersReadBack, BytesReadBack, EventsReadBack}
 use Rattle.rv32i_core.specs.declared.registers.Cpu.{Cpu}
-use Rattle.target_contexts.specs.Laws.{ChangesOne, EndsOne, StartsOne}
 use Rattle.target_contexts.specs.declared.process.Process.{Process}
-use Rattle.target_hub.specs.HistoryLaws.{IsConsistent, StaysConsistent}
+use Rattle.target_hub.specs.HistoryLaws.{IsConsistent}
 use Rattle.target_hub.specs.declared.target.Target.{Target}
 use Rattle.target_truth.specs.Holds.{process_in}
 use Rattle.target_truth.specs.Typed.{AreTyped}
-use Rattle.tcf_values.specs.Ids.{ContextRoundTrip, RegisterRoundTrip}
-
--- the laws of the crates below that are needed
-pub record Laws : Type 0 where
-  pub monotone : IsMonotone
-  pub consistent : StaysConsistent
-  pub starts : StartsOne
-  pub changes : ChangesOne
-  pub ends : EndsOne
-  pub contexts : ContextRoundTrip
-  pub registers : RegisterRoundTrip
-  pub events_read : EventsReadBack
-  pub answers_read : AnswersReadBack
-  pub bytes_read : BytesReadBack
 
 -- 32 registers and a pc of 32 bits
 pub record IsCpu (cpu : Cpu) : Type 0 where

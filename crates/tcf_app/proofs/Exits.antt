@@ -1,18 +1,22 @@
 -- What the exit of a run tells, from the run as a whole.
-use Rattle.std.proofs.Common.{◌≡◌, ℕ, Bool, true, false, List, [], ◌∷◌, sym, ap, ◌∙◌, subst, inl, inr, ◌⊎◌, arith}
+use Rattle.std.proofs.Common.{◌≡◌, ℕ, Bool, true, false, List, [], ◌∷◌, refl, sym, ap, ◌∙◌, subst, inl, inr, ◌⊎◌, arith}
 use Rattle.std.specs.Prelude.{Option, None, Some, Result, Ok, Err, IfSome}
 use Rattle.std.specs.List.{list_any}
 use Rattle.tcf_outside.specs.Faults.{Rose}
+use Rattle.tcf_outside.specs.Files.{FilesSeen}
+use Rattle.tcf_outside.specs.Sink.{SinkSeen}
 use Rattle.tcf_outside.specs.declared.files.HeldFile.{HeldFile}
 use Rattle.tcf_schedules.specs.Refusal.{BadLine}
 use Rattle.tcf_schedules.specs.Script.{script_of}
 use Rattle.tcf_schedules.specs.declared.script.ScriptLine.{ScriptLine}
+use Rattle.tcf_wires.specs.Told.{WiresSeen}
 use Rattle.tcf_wires.specs.declared.call.WireCall.{WireCall}
 use Rattle.tcf_wires.specs.declared.event.WireRefusal.{WireRefusal}
 use Rattle.tcf_wires.specs.declared.event.WireRefusal.TheVariants as refusals
 use Rattle.serving_wires.specs.Calls.{Makes, faults_through, with_calls}
 use Rattle.serving_wires.specs.Serving.{fails, breaks}
-use Rattle.serving_wires.proofs.Making.{makes_so, told_none}
+use Rattle.serving_wires.proofs.Making.{makes_so, seen_same, told_none}
+use Rattle.serving_wires.proofs.Rising.{rose_raised}
 use Rattle.serving_wires.specs.Ends.{AreTaken, EndsSo, IsStopped}
 use Rattle.serving_wires.specs.declared.end.ServeEnd.{ServeEnd}
 use Rattle.serving_wires.specs.declared.end.ServeEnd.TheVariants as serve_ends
@@ -22,13 +26,13 @@ use Rattle.client_serving.specs.declared.end.ClientEnd.TheVariants as client_end
 use Rattle.client_serving.specs.declared.end.ClientRun.{ClientRun}
 use Rattle.tcf_app.specs.declared.exit.Exit.{Exit}
 use Rattle.tcf_app.specs.declared.exit.Exit.TheVariants.{Usage, SinkFault, NoMemory}
-use Rattle.tcf_app.specs.Exit.{IsGivenUp}
+use Rattle.tcf_app.specs.Exit.{IsGivenUp, TellsFault, faults_by}
 use Rattle.tcf_app.specs.Words.{OrderValue, chain, show, load, agent, value, client, names_of}
-use Rattle.tcf_app.specs.Heard.{Heard, whole, longer, failed, Hears, heard_in}
-use Rattle.tcf_app.specs.Ending.{Ending, Ends, IsEnding, IsRanEnding, fault_ending, served_ending, exit_of, ran_ending, wire_ending}
-use Rattle.tcf_app.specs.Run.{RunsBy, serves_peers, is_early, SparesWires, ends_run, AreHeeded, PutsFront, ExitsOver}
+use Rattle.tcf_app.specs.Heard.{Heard, whole, longer, failed, Agrees, Hears, heard_in}
+use Rattle.tcf_app.specs.Ending.{Ending, Ends, IsEnding, IsRanEnding, served_ending, exit_of, ran_ending, wire_ending}
+use Rattle.tcf_app.specs.Run.{RunsBy, serves_peers, is_early, SparesWires, ends_run, AreHeeded, IsReadHeeded, PutsFront, IsFrontPut, ExitsOver, IsDecided}
 use Rattle.tcf_app.proofs.Hearing.{heard_of_held}
-use Rattle.tcf_app.proofs.Tells.{Laws, Seen, Tells, given_up_tells, ending_tells}
+use Rattle.tcf_app.proofs.Tells.{Seen, Tells, given_up_tells, ending_tells}
 
 -- ---- where no call is made
 
@@ -86,10 +90,10 @@ not_given_up : (exit : Exit) → is_early exit ≡ true → IsGivenUp exit → �
 not_given_up exit early (inl is) = let e : is_early SinkFault ≡ true = sym (ap is_early is) ∙ early in cc
 not_given_up exit early (inr is) = let e : is_early NoMemory ≡ true = sym (ap is_early is) ∙ early in cc
 
-spared_calls : (order : Option OrderValue) (files : Option (List HeldFile)) (n m : ℕ) (exit : Exit) (before after : Option (List ℕ)) (calls : List WireCall)
-    → RunsBy order files n m exit before after calls → SparesWires order exit → calls ≡ []
-spared_calls order files n m exit before after calls r (inl none) = early_calls order r.heard calls r.ends.0 r.ends.1 (inl none)
-spared_calls order files n m exit before after calls r (inr early) = by_which r.ends.2.which
+spared_calls : (order : Option OrderValue) (exit : Exit) (files files' : FilesSeen) (before after : SinkSeen) (calls : List WireCall)
+    → RunsBy order exit files files' before after calls → SparesWires order exit → calls ≡ []
+spared_calls order exit files files' before after calls r (inl none) = early_calls order r.heard calls r.ends.0 r.ends.1 (inl none)
+spared_calls order exit files files' before after calls r (inr early) = by_which r.ends.2.which
   where
     by_which : (exit ≡ r.ends.0.exit) ⊎ IsGivenUp exit → calls ≡ []
     by_which (inl same) = early_calls order r.heard calls r.ends.0 r.ends.1 (inr (sym (ap is_early same) ∙ early))
@@ -139,83 +143,92 @@ heeded (Some (client address name turns)) (whole (file ∷ other ∷ more)) call
 
 -- ---- where a read failed
 
-reads_heeded : (order : Option OrderValue) (files : Option (List HeldFile)) (n m : ℕ) (exit : Exit) (before after : Option (List ℕ)) (heard : Heard) (calls : List WireCall) (ending : Ending)
-    → Hears (names_of order) files n m heard → IsEnding order heard calls ending → Ends ending exit before after → (m ≡ n) ⊎ Ends fault_ending exit before after
-reads_heeded order files n m exit before after (whole contents) calls ending hears its e = inl hears.counts
-reads_heeded order files n m exit before after (longer count) calls ending hears its e = inl hears.counts
-reads_heeded None files n m exit before after (failed count) calls ending hears its e = absurd (omega (arith, hears.is_of))
-reads_heeded (Some order) files n m exit before after (failed count) calls ending hears its e = inr (subst (λ x. Ends x exit before after) its.1 e)
+reads_heeded : (order : Option OrderValue) (exit : Exit) (files files' : FilesSeen) (before after : SinkSeen) (heard : Heard) (calls : List WireCall) (ending : Ending)
+    → Hears (names_of order) files files' heard → IsEnding order heard calls ending → Ends ending exit before after → IsReadHeeded exit files files' before after
+reads_heeded order exit files files' before after (whole contents) calls ending hears its e = inl hears.counts
+reads_heeded order exit files files' before after (longer count) calls ending hears its e = inl hears.counts
+reads_heeded None exit files files' before after (failed count) calls ending hears its e = absurd (omega (arith, hears.is_of))
+reads_heeded (Some order) exit files files' before after (failed count) calls ending hears its e = inr (subst (λ x. Ends x exit before after) its.1 e)
 
 -- ---- what is heard where no read fails
 
-calm_heard : (names : List (List ℕ)) (held : List HeldFile) (n m : ℕ) (heard : Heard) → Hears names (Some held) n m heard → (Rose n m → ⊥) → heard ≡ heard_in names held
-calm_heard names held n m (whole contents) hears calm = heard_of_held names (whole contents) held hears.agrees tt
-calm_heard names held n m (longer count) hears calm = heard_of_held names (longer count) held hears.agrees tt
-calm_heard names held n m (failed count) hears calm = absurd (calm hears.counts)
+calm_heard : (names : List (List ℕ)) (held : List HeldFile) (files files' : FilesSeen) (heard : Heard) → files.held ≡ Some held → Hears names files files' heard
+    → (Rose files.faults files'.faults → ⊥) → heard ≡ heard_in names held
+calm_heard names held files files' (whole contents) is hears calm = heard_of_held names (whole contents) held (subst (λ h. IfSome h (Agrees names (whole contents))) is hears.agrees) tt
+calm_heard names held files files' (longer count) is hears calm = heard_of_held names (longer count) held (subst (λ h. IfSome h (Agrees names (longer count))) is hears.agrees) tt
+calm_heard names held files files' (failed count) is hears calm = absurd (calm hears.counts)
 
 -- ---- each clause
 
-module _ (order : Option OrderValue) (files : Option (List HeldFile)) (n m : ℕ) (exit : Exit) (before after : Option (List ℕ)) (told told' : Option (List WireCall)) (k l : ℕ) (made : Makes (RunsBy order files n m exit before after) told told' k l) where
-  pub told_of : Laws → Tells (record { files = files; reads = n; reads_after = m; told = told; told_after = told'; wires = k; wires_after = l; before = before; after = after }) order exit
-  told_of laws =
-      let s : Seen = record { files = files; reads = n; reads_after = m; told = told; told_after = told'; wires = k; wires_after = l; before = before; after = after } in
+module _ (order : Option OrderValue) (exit : Exit) (files files' : FilesSeen) (wires wires' : WiresSeen) (before after : SinkSeen) (made : Makes (RunsBy order exit files files' before after) wires wires') where
+  pub told_of : Tells (record { files = files; files_after = files'; wires = wires; wires_after = wires'; before = before; after = after }) order exit
+  told_of =
+      let s : Seen = record { files = files; files_after = files'; wires = wires; wires_after = wires'; before = before; after = after } in
       let r = made.fits in
       elim r.ends.2.which as (λ _. Tells s order exit) [
-        | inl same ↦ subst (Tells s order) (sym same) (ending_tells laws s order r.heard made.calls r.ends.0 r.hears made.told made.faults r.ends.1 (r.ends.2.whole same))
+        | inl same ↦ subst (Tells s order) (sym same) (ending_tells s order r.heard made.calls r.ends.0 r.hears made.told made.faults r.ends.1 (r.ends.2.whole same))
         | inr up ↦ given_up_tells s order exit up
       ]
 
-  pub tells_at : Laws → (other : Exit) → exit ≡ other → Tells (record { files = files; reads = n; reads_after = m; told = told; told_after = told'; wires = k; wires_after = l; before = before; after = after }) order other
-  tells_at laws other is =
-      subst (Tells (record { files = files; reads = n; reads_after = m; told = told; told_after = told'; wires = k; wires_after = l; before = before; after = after }) order) is (told_of laws)
+  pub tells_at : (other : Exit) → exit ≡ other → Tells (record { files = files; files_after = files'; wires = wires; wires_after = wires'; before = before; after = after }) order other
+  tells_at other is =
+      subst (Tells (record { files = files; files_after = files'; wires = wires; wires_after = wires'; before = before; after = after }) order) is told_of
 
   pub usage_only_of : order ≡ None → (exit ≡ Usage) ⊎ IsGivenUp exit
   usage_only_of is = by_order order is made.fits
     where
-      by_order : (o : Option OrderValue) → o ≡ None → RunsBy o files n m exit before after made.calls → (exit ≡ Usage) ⊎ IsGivenUp exit
+      by_order : (o : Option OrderValue) → o ≡ None → RunsBy o exit files files' before after made.calls → (exit ≡ Usage) ⊎ IsGivenUp exit
       by_order None none r = elim r.ends.2.which as (λ _. (exit ≡ Usage) ⊎ IsGivenUp exit) [
         | inl same ↦ inl (same ∙ ap (λ (e : Ending). e.exit) r.ends.1.1)
         | inr up ↦ inr up
       ]
       by_order (Some o) none r = cc
 
-  pub files_unharmed_of : (m ≡ n) ⊎ Ends fault_ending exit before after
-  files_unharmed_of = let r = made.fits in reads_heeded order files n m exit before after r.heard made.calls r.ends.0 r.hears r.ends.1 r.ends.2
+  pub files_unharmed_of : IsReadHeeded exit files files' before after
+  files_unharmed_of = let r = made.fits in reads_heeded order exit files files' before after r.heard made.calls r.ends.0 r.hears r.ends.1 r.ends.2
 
-  pub heeded_of : Makes (AreHeeded order exit before after) told told' k l
+  pub heeded_of : Makes (AreHeeded order exit before after) wires wires'
   heeded_of =
-      makes_so (RunsBy order files n m exit before after) (AreHeeded order exit before after) told told' k l
+      makes_so (RunsBy order exit files files' before after) (AreHeeded order exit before after) wires wires'
       (λ calls r. elim (heeded order r.heard calls r.ends.0 r.ends.1) as (λ _. AreHeeded order exit before after calls) [
         | inl none ↦ inl none
         | inr is ↦ inr (subst (λ x. Ends x exit before after) is r.ends.2)
       ])
       made
 
-  pub spared_of : SparesWires order exit → told' ≡ told
+  pub spared_of : SparesWires order exit → wires' ≡ wires
   spared_of spares =
-      made.told ∙ ap (λ cs. with_calls cs told) (spared_calls order files n m exit before after made.calls made.fits spares) ∙ sym (told_none told)
+      let none = spared_calls order exit files files' before after made.calls made.fits spares in
+      seen_same wires' wires
+      (made.told ∙ ap (λ cs. with_calls cs wires.told) none ∙ sym (told_none wires.told))
+      (made.faults ∙ ap (λ cs. faults_through cs wires.faults) none)
 
-  pub wires_unharmed_of : SparesWires order exit → l ≡ k
-  wires_unharmed_of spares =
-      made.faults ∙ ap (λ cs. faults_through cs k) (spared_calls order files n m exit before after made.calls made.fits spares)
-
-  pub front_of : Makes (PutsFront order files n m before after) told told' k l
+  pub front_of : IsFrontPut order files files' wires wires' before after
   front_of =
-      makes_so (RunsBy order files n m exit before after) (PutsFront order files n m before after) told told' k l
+      makes_so (RunsBy order exit files files' before after) (PutsFront order files files' before after) wires wires'
       (λ calls r. record { heard = r.heard; hears = r.hears; ending = r.ends.0; its = r.ends.1; front = r.ends.2.front })
       made
 
-pub complete_of : (order : Option OrderValue) (files : Option (List HeldFile)) (n m : ℕ) (exit : Exit) (before after : Option (List ℕ)) (told told' : Option (List WireCall)) (k l : ℕ) (sink sink' : ℕ)
-    → Makes (RunsBy order files n m exit before after) told told' k l → (exit ≡ SinkFault → Rose sink sink')
-    → IfSome files (λ held. (Rose n m → ⊥) → (Rose sink sink' → ⊥) → Makes (ExitsOver order held exit) told told' k l)
-complete_of order None n m exit before after told told' k l sink sink' made fault = tt
-complete_of order (Some held) n m exit before after told told' k l sink sink' made fault =
-    λ calm quiet.
-    makes_so (RunsBy order (Some held) n m exit before after) (ExitsOver order held exit) told told' k l
-    (λ calls r. elim r.ends.2.which as (λ _. ExitsOver order held exit calls) [
-      | inl same ↦
-          let is = calm_heard (names_of order) held n m r.heard r.hears calm in
-          inl (r.ends.0, subst (λ h. IsEnding order h calls r.ends.0) is r.ends.1, same)
-      | inr up ↦ elim up as (λ _. ExitsOver order held exit calls) [ inl broken ↦ absurd (quiet (fault broken)) | inr wanting ↦ inr wanting ]
-    ])
-    made
+  -- the files are told
+  complete_over : (held : List HeldFile) → files.held ≡ Some held → (exit ≡ SinkFault → Rose before.faults after.faults)
+      → (Rose files.faults files'.faults → ⊥) → (Rose before.faults after.faults → ⊥) → Makes (ExitsOver order held exit) wires wires'
+  complete_over held is fault calm quiet =
+      makes_so (RunsBy order exit files files' before after) (ExitsOver order held exit) wires wires'
+      (λ calls r. elim r.ends.2.which as (λ _. ExitsOver order held exit calls) [
+        | inl same ↦
+            let heard_is = calm_heard (names_of order) held files files' r.heard is r.hears calm in
+            inl (r.ends.0, subst (λ h. IsEnding order h calls r.ends.0) heard_is r.ends.1, same)
+        | inr up ↦ elim up as (λ _. ExitsOver order held exit calls) [ inl broken ↦ absurd (quiet (fault broken)) | inr wanting ↦ inr wanting ]
+      ])
+      made
+
+  pub complete_of : TellsFault exit before after → IsDecided order exit files files' wires wires' before after
+  complete_of tells = by_held files.held refl
+    where
+      fault : exit ≡ SinkFault → Rose before.faults after.faults
+      fault is = subst (Rose before.faults) (sym (tells ∙ ap (λ (e : Exit). faults_by e before.faults) is)) (rose_raised before.faults before.faults (inl (omega arith)))
+
+      by_held : (held : Option (List HeldFile)) → files.held ≡ held
+          → IfSome held (λ h. (Rose files.faults files'.faults → ⊥) → (Rose before.faults after.faults → ⊥) → Makes (ExitsOver order h exit) wires wires')
+      by_held None is = tt
+      by_held (Some held) is = λ calm quiet. complete_over held is fault calm quiet

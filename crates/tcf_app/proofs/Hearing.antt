@@ -3,13 +3,13 @@ use Rattle.std.proofs.Common.{◌≡◌, ℕ, suc, ◌+◌, ◌<◌, ◌≤◌, 
 use Rattle.std.specs.Prelude.{Option, None, Some, IfSome, map, nat_lt, if◌then◌else◌}
 use Rattle.std.proofs.lemmas.Bool.{ltb-true, ltb-false}
 use Rattle.std.proofs.lemmas.List.{take_all}
-use Rattle.tcf_outside.specs.Files.{content_of, read_of}
+use Rattle.tcf_outside.specs.Files.{FilesSeen, content_of, read_of}
 use Rattle.tcf_outside.specs.declared.files.FileRead.{FileRead}
 use Rattle.tcf_outside.specs.declared.files.FileRead.TheVariants.{Whole, Longer}
 use Rattle.tcf_outside.specs.declared.files.HeldFile.{HeldFile}
 use Rattle.tcf_app.specs.declared.reading.Unread.{Unread}
 use Rattle.tcf_app.specs.declared.reading.Unread.TheVariants as unread
-use Rattle.tcf_app.specs.Heard.{Heard, whole, longer, failed, most_file, heard_first, heard_in, IsOf, Agrees, Counts, Hears, HearsPart, AreHeld, IsFirstLong}
+use Rattle.tcf_app.specs.Heard.{Heard, whole, longer, failed, most_file, heard_first, heard_in, IsOf, Agrees, Counts, Hears, HearsPart, IsHeld, AreHeld, IsFirstLong}
 use Rattle.tcf_app.specs.Reading.{IsWholly, IsUnread, CountsUnread}
 
 -- ---- where something is told
@@ -62,11 +62,11 @@ one_whole_in name bytes files is = ap (λ a. heard_first a (whole [])) is
 long_in : (name : List ℕ) (more : List (List ℕ)) (files : List HeldFile) → Longer ≡ read_of (content_of name files) most_file → longer 0 ≡ heard_in (name ∷ more) files
 long_in name more files is = ap (λ a. heard_first a (heard_in more files)) is
 
-pub one_whole : (name : List ℕ) (files : Option (List HeldFile)) (n m : ℕ) (bytes : List ℕ) → IsWholly name files bytes → m ≡ n → Hears (name ∷ []) files n m (whole (bytes ∷ []))
-one_whole name files n m bytes is calm =
+pub one_whole : (name : List ℕ) (before after : FilesSeen) (bytes : List ℕ) → IsWholly name before.held bytes → after.faults ≡ before.faults → Hears (name ∷ []) before after (whole (bytes ∷ []))
+one_whole name before after bytes is calm =
     record {
       is_of = refl;
-      agrees = some_so (λ fs. Whole bytes ≡ read_of (content_of name fs) most_file) (Agrees (name ∷ []) (whole (bytes ∷ []))) files (λ fs e. one_whole_in name bytes fs e) is;
+      agrees = some_so (λ fs. Whole bytes ≡ read_of (content_of name fs) most_file) (Agrees (name ∷ []) (whole (bytes ∷ []))) before.held (λ fs e. one_whole_in name bytes fs e) is;
       counts = calm;
     }
 
@@ -100,13 +100,13 @@ far_more names count files contents name bytes so_far next is =
     }
 
 -- all were
-pub far_all : (names : List (List ℕ)) (count : ℕ) (files : Option (List HeldFile)) (n m : ℕ) (contents : List (List ℕ)) → SoFar names count files contents → count ≡ length names → m ≡ n
-    → Hears names files n m (whole contents)
-far_all names count files n m contents so_far all calm =
+pub far_all : (names : List (List ℕ)) (count : ℕ) (before after : FilesSeen) (contents : List (List ℕ)) → SoFar names count before.held contents → count ≡ length names
+    → after.faults ≡ before.faults → Hears names before after (whole contents)
+far_all names count before after contents so_far all calm =
     record {
       is_of = so_far.size ∙ all;
       agrees =
-          some_so (λ fs. whole contents ≡ heard_in (take count names) fs) (Agrees names (whole contents)) files
+          some_so (λ fs. whole contents ≡ heard_in (take count names) fs) (Agrees names (whole contents)) before.held
           (λ fs e. e ∙ ap (λ ns. heard_in ns fs) (take_all count names (omega arith))) so_far.agrees;
       counts = calm;
     }
@@ -121,34 +121,34 @@ longer_at names count files contents name rest parts size first is =
     ∙ ap (λ ns. heard_in ns files) (sym parts)
 
 -- the next one wasn't read whole
-pub far_part : (names : List (List ℕ)) (count : ℕ) (files : Option (List HeldFile)) (n m : ℕ) (contents : List (List ℕ)) (name : List ℕ) (rest : List (List ℕ)) (u : Unread)
-    → SoFar names count files contents → names ≡ take count names ++ name ∷ rest → count < length names → IsUnread name count files u → CountsUnread n m u
-    → HearsPart names files n m u
-far_part names count files n m contents name rest (unread.Longer at) so_far parts below is counts =
-    subst (λ k. Hears names files n m (longer k)) (sym is.place)
+pub far_part : (names : List (List ℕ)) (count : ℕ) (before after : FilesSeen) (contents : List (List ℕ)) (name : List ℕ) (rest : List (List ℕ)) (u : Unread)
+    → SoFar names count before.held contents → names ≡ take count names ++ name ∷ rest → count < length names → IsUnread name count before.held u
+    → CountsUnread before.faults after.faults u → HearsPart names before after u
+far_part names count before after contents name rest (unread.Longer at) so_far parts below is counts =
+    subst (λ k. Hears names before after (longer k)) (sym is.place)
     (record {
       is_of = below;
       agrees =
-          some_both (λ fs. whole contents ≡ heard_in (take count names) fs) (λ fs. Longer ≡ read_of (content_of name fs) most_file) (Agrees names (longer count)) files
+          some_both (λ fs. whole contents ≡ heard_in (take count names) fs) (λ fs. Longer ≡ read_of (content_of name fs) most_file) (Agrees names (longer count)) before.held
           (λ fs first e. longer_at names count fs contents name rest parts so_far.size first e)
           so_far.agrees is.why;
       counts = counts;
     })
-far_part names count files n m contents name rest (unread.Failed at) so_far parts below is counts =
-    subst (λ k. Hears names files n m (failed k)) (sym is)
+far_part names count before after contents name rest (unread.Failed at) so_far parts below is counts =
+    subst (λ k. Hears names before after (failed k)) (sym is)
     (record {
       is_of = below;
-      agrees = some_so (λ fs. whole contents ≡ heard_in (take count names) fs) (Agrees names (failed count)) files (λ fs e. (contents, e)) so_far.agrees;
+      agrees = some_so (λ fs. whole contents ≡ heard_in (take count names) fs) (Agrees names (failed count)) before.held (λ fs e. (contents, e)) so_far.agrees;
       counts = counts;
     })
-far_part names count files n m contents name rest unread.NoMemory so_far parts below is counts = counts
+far_part names count before after contents name rest unread.NoMemory so_far parts below is counts = counts
 
 -- memory was wanting behind a file that was read
-pub far_wanting : (names : List (List ℕ)) (files : Option (List HeldFile)) (n m : ℕ) (u : Unread) → u ≡ unread.NoMemory → m ≡ n → HearsPart names files n m u
-far_wanting names files n m u is calm = subst (HearsPart names files n m) (sym is) calm
+pub far_wanting : (names : List (List ℕ)) (before after : FilesSeen) (u : Unread) → u ≡ unread.NoMemory → after.faults ≡ before.faults → HearsPart names before after u
+far_wanting names before after u is calm = subst (HearsPart names before after) (sym is) calm
 
-pub one_part : (name : List ℕ) (files : Option (List HeldFile)) (n m : ℕ) (u : Unread) → IsUnread name 0 files u → CountsUnread n m u → HearsPart (name ∷ []) files n m u
-one_part name files n m u is counts = far_part (name ∷ []) 0 files n m [] name [] u (far_none (name ∷ []) files) refl (omega arith) is counts
+pub one_part : (name : List ℕ) (before after : FilesSeen) (u : Unread) → IsUnread name 0 before.held u → CountsUnread before.faults after.faults u → HearsPart (name ∷ []) before after u
+one_part name before after u is counts = far_part (name ∷ []) 0 before after [] name [] u (far_none (name ∷ []) before.held) refl (omega arith) is counts
 
 -- ---- what that says of the files
 
@@ -189,21 +189,36 @@ counts_itself (whole contents) n m good calm = calm
 counts_itself (longer before) n m good calm = calm
 counts_itself (failed before) n m good calm = absurd good
 
+-- what is heard where no read fails, and the files are told or not
+abbrev heard_over : List (List ℕ) → Option (List HeldFile) → Heard
+heard_over names None = heard_in names []
+heard_over names (Some files) = heard_in names files
+
+over_is_of : (names : List (List ℕ)) (held : Option (List HeldFile)) → IsOf (length names) (heard_over names held)
+over_is_of names None = heard_is_of names []
+over_is_of names (Some files) = heard_is_of names files
+
+over_not_failed : (names : List (List ℕ)) (held : Option (List HeldFile)) → NotFailed (heard_over names held)
+over_not_failed names None = heard_not_failed names []
+over_not_failed names (Some files) = heard_not_failed names files
+
+over_agrees : (names : List (List ℕ)) (held : Option (List HeldFile)) → IfSome held (Agrees names (heard_over names held))
+over_agrees names None = tt
+over_agrees names (Some files) = agrees_itself names files (heard_in names files) refl (heard_not_failed names files)
+
 -- something can be heard, before anything was
-pub record CanHear (names : List (List ℕ)) (files : Option (List HeldFile)) (n m : ℕ) : Type 0 where
+pub record CanHear (names : List (List ℕ)) (before after : FilesSeen) : Type 0 where
   pub heard : Heard
-  pub hears : Hears names files n m heard
+  pub hears : Hears names before after heard
   pub good : NotFailed heard
 
-pub can_hear : (names : List (List ℕ)) (files : Option (List HeldFile)) (n m : ℕ) → m ≡ n → CanHear names files n m
-can_hear names None n m calm =
-    let good = heard_not_failed names [] in
-    record { heard = heard_in names []; hears = record { is_of = heard_is_of names []; agrees = tt; counts = counts_itself (heard_in names []) n m good calm }; good = good }
-can_hear names (Some files) n m calm =
-    let good = heard_not_failed names files in
+pub can_hear : (names : List (List ℕ)) (before after : FilesSeen) → after.faults ≡ before.faults → CanHear names before after
+can_hear names before after calm =
+    let heard = heard_over names before.held in
+    let good = over_not_failed names before.held in
     record {
-      heard = heard_in names files;
-      hears = record { is_of = heard_is_of names files; agrees = agrees_itself names files (heard_in names files) refl good; counts = counts_itself (heard_in names files) n m good calm };
+      heard = heard;
+      hears = record { is_of = over_is_of names before.held; agrees = over_agrees names before.held; counts = counts_itself heard before.faults after.faults good calm };
       good = good;
     }
 
@@ -234,15 +249,15 @@ contents_are (name ∷ names) contents files is =
     by_first (Whole bytes) (failed before) read rest e = cc
 
 -- one file has what was read
-pub content_is : (name bytes : List ℕ) (files : Option (List HeldFile)) (n m : ℕ) → Hears (name ∷ []) files n m (whole (bytes ∷ [])) → IfSome files (λ fs. bytes ≡ content_of name fs)
-content_is name bytes files n m h =
-    some_so (Agrees (name ∷ []) (whole (bytes ∷ []))) (λ fs. bytes ≡ content_of name fs) files (λ fs e. let all = contents_are (name ∷ []) (bytes ∷ []) fs e in cc) h.agrees
+pub content_is : (name bytes : List ℕ) (before after : FilesSeen) → Hears (name ∷ []) before after (whole (bytes ∷ [])) → IsHeld name bytes before
+content_is name bytes before after h =
+    some_so (Agrees (name ∷ []) (whole (bytes ∷ []))) (λ fs. bytes ≡ content_of name fs) before.held (λ fs e. let all = contents_are (name ∷ []) (bytes ∷ []) fs e in cc) h.agrees
 
-pub are_held : (names contents : List (List ℕ)) (files : Option (List HeldFile)) (n m : ℕ) → Hears names files n m (whole contents) → AreHeld names contents files
-are_held names contents files n m h =
+pub are_held : (names contents : List (List ℕ)) (before after : FilesSeen) → Hears names before after (whole contents) → AreHeld names contents before
+are_held names contents before after h =
     record {
       count = h.is_of;
-      held = some_so (Agrees names (whole contents)) (λ fs. contents ≡ map (λ name. content_of name fs) names) files (λ fs e. contents_are names contents fs e) h.agrees;
+      held = some_so (Agrees names (whole contents)) (λ fs. contents ≡ map (λ name. content_of name fs) names) before.held (λ fs e. contents_are names contents fs e) h.agrees;
     }
 
 pub first_long : (names : List (List ℕ)) (before : ℕ) (files : List HeldFile) → longer before ≡ heard_in names files → IsFirstLong names before files

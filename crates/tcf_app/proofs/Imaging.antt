@@ -2,11 +2,12 @@
 use Rattle.std.proofs.Common.{◌≡◌, ℕ, ◌+◌, ◌<◌, List, [], ◌∷◌, ◌++◌, length, take, suc, refl, sym, ap, ◌∙◌, subst, arith}
 use Rattle.std.specs.Prelude.{Option, Result, Ok, Err, IfErr, IsErrAnd}
 use Rattle.std.proofs.lemmas.List.{length-take}
+use Rattle.tcf_outside.specs.Files.{FilesSeen}
 use Rattle.tcf_outside.specs.declared.files.HeldFile.{HeldFile}
 use Rattle.target_contexts.specs.declared.process.Image.{Image}
 use Rattle.tcf_app.specs.declared.reading.Unread.{Unread}
 use Rattle.tcf_app.specs.Words.{NamedFile}
-use Rattle.tcf_app.specs.Heard.{HearsPart}
+use Rattle.tcf_app.specs.Heard.{AreNoted, HearsPart}
 use Rattle.tcf_app.specs.Reading.{IsWholly, IsUnread, CountsUnread}
 use Rattle.tcf_app.specs.Ending.{images_with, contents_of}
 use Rattle.tcf_app.proofs.Hearing.{SoFar, far_more, far_part}
@@ -58,22 +59,22 @@ far_step names i held held_first items items' image name own so_far next named k
     subst (λ cs. SoFar names (i + 1) held_first cs) (sym (ap contents_of pushed ∙ contents_more items image))
     (far_more names i held_first (contents_of items) name image.bytes so_far next here)
 
-pub told_step : (names : List (List ℕ)) (i : ℕ) (first told after : Option (List (List ℕ))) (name own : List ℕ) → take (i + 1) names ≡ take i names ++ name ∷ [] → own ≡ name
-    → told ≡ told_more (take i names) first → after ≡ told_more (own ∷ []) told → after ≡ told_more (take (i + 1) names) first
-told_step names i first told after name own next named so_far noted =
+pub told_step : (names : List (List ℕ)) (i : ℕ) (first now after : FilesSeen) (name own : List ℕ) → take (i + 1) names ≡ take i names ++ name ∷ [] → own ≡ name
+    → AreNoted (take i names) first now → AreNoted (own ∷ []) now after → AreNoted (take (i + 1) names) first after
+told_step names i first now after name own next named so_far noted =
     noted
-    ∙ ap (λ x. told_more (x ∷ []) told) named
+    ∙ ap (λ x. told_more (x ∷ []) now.names) named
     ∙ ap (told_more (name ∷ [])) so_far
-    ∙ told_both (take i names) (name ∷ []) first
-    ∙ ap (λ ns. told_more ns first) (sym next)
+    ∙ told_both (take i names) (name ∷ []) first.names
+    ∙ ap (λ ns. told_more ns first.names) (sym next)
 
 -- ---- the next file wasn't read whole
 
-pub part_step : (names : List (List ℕ)) (i size : ℕ) (held held_first : Option (List HeldFile)) (n k m : ℕ) (items : List Image) (name own : List ℕ) (rest : List (List ℕ)) (u : Unread)
-    → SoFar names i held_first (contents_of items) → names ≡ take i names ++ name ∷ rest → i < length names → own ≡ name → size ≡ length items → held ≡ held_first → k ≡ n
-    → IsUnread own size held u → CountsUnread k m u → HearsPart names held_first n m u
-part_step names i size held held_first n k m items name own rest u so_far parts below named sized kept calm is counts =
+pub part_step : (names : List (List ℕ)) (i size : ℕ) (first now after : FilesSeen) (items : List Image) (name own : List ℕ) (rest : List (List ℕ)) (u : Unread)
+    → SoFar names i first.held (contents_of items) → names ≡ take i names ++ name ∷ rest → i < length names → own ≡ name → size ≡ length items
+    → now.held ≡ first.held → now.faults ≡ first.faults → IsUnread own size now.held u → CountsUnread now.faults after.faults u → HearsPart names first after u
+part_step names i size first now after items name own rest u so_far parts below named sized kept calm is counts =
     let place : size ≡ i = sized ∙ sym (contents_count items) ∙ so_far.size in
-    let here : IsUnread name i held_first u =
-    subst (λ h. IsUnread name i h u) kept (subst (λ s. IsUnread name s held u) place (subst (λ x. IsUnread x size held u) named is)) in
-    far_part names i held_first n m (contents_of items) name rest u so_far parts below here (subst (λ c. CountsUnread c m u) calm counts)
+    let here : IsUnread name i first.held u =
+    subst (λ h. IsUnread name i h u) kept (subst (λ s. IsUnread name s now.held u) place (subst (λ x. IsUnread x size now.held u) named is)) in
+    far_part names i first after (contents_of items) name rest u so_far parts below here (subst (λ c. CountsUnread c after.faults u) calm counts)

@@ -1,8 +1,9 @@
 -- The names of the files that were read.
 use Rattle.std.proofs.Common.{◌≡◌, ℕ, zero, suc, ◌+◌, ◌<◌, List, [], ◌∷◌, ◌++◌, length, take, drop, get_or, refl, sym, ap, ◌∙◌, subst, arith, append-nil, append_assoc, add-one}
 use Rattle.std.specs.Prelude.{Option, None, Some, Result, Ok, Err, OnOk, OnErr, option_map, map}
+use Rattle.tcf_outside.specs.Files.{FilesSeen}
 use Rattle.tcf_app.specs.Words.{image_in, images_in, files_in}
-use Rattle.tcf_app.specs.Heard.{ReadsInOrder}
+use Rattle.tcf_app.specs.Heard.{AreNoted, ReadsInOrder}
 
 -- the names that were told, and more
 abbrev pub told_more : List (List ℕ) → Option (List (List ℕ)) → Option (List (List ℕ))
@@ -16,32 +17,35 @@ pub told_both : (first more : List (List ℕ)) (told : Option (List (List ℕ)))
 told_both first more None = refl
 told_both first more (Some names) = ap Some (append_assoc names first more)
 
-pub reads_none : (names : List (List ℕ)) (told : Option (List (List ℕ))) → ReadsInOrder names told told
-reads_none names told = record { read = []; front = (names, refl); told = told_none told }
+pub reads_none : (names : List (List ℕ)) (seen : FilesSeen) → ReadsInOrder names seen seen
+reads_none names seen = record { read = []; front = (names, refl); told = told_none seen.names }
 
-pub reads_one : (name : List ℕ) (before after : Option (List (List ℕ))) → after ≡ told_more (name ∷ []) before → ReadsInOrder (name ∷ []) before after
+-- nothing that is told was read, as where memory was wanting
+pub reads_still : (names : List (List ℕ)) (before after : FilesSeen) → after.names ≡ before.names → ReadsInOrder names before after
+reads_still names before after same = record { read = []; front = (names, refl); told = same ∙ told_none before.names }
+
+pub reads_one : (name : List ℕ) (before after : FilesSeen) → AreNoted (name ∷ []) before after → ReadsInOrder (name ∷ []) before after
 reads_one name before after told = record { read = name ∷ []; front = ([], refl); told = told }
 
 -- a front of the names was read, and then a part of the next
-pub reads_part : (names front : List (List ℕ)) (name : List ℕ) (rest : List (List ℕ)) (before mid after : Option (List (List ℕ))) → names ≡ front ++ name ∷ rest
-    → mid ≡ told_more front before → ReadsInOrder (name ∷ []) mid after → ReadsInOrder names before after
+pub reads_part : (names front : List (List ℕ)) (name : List ℕ) (rest : List (List ℕ)) (before mid after : FilesSeen) → names ≡ front ++ name ∷ rest
+    → AreNoted front before mid → ReadsInOrder (name ∷ []) mid after → ReadsInOrder names before after
 reads_part names front name rest before mid after parts first next =
     record {
       read = front ++ next.read;
       front = (
         next.front.0 ++ rest,
-        append_assoc front next.read (next.front.0 ++ rest)
-            ∙ ap (λ xs. front ++ xs) (sym (append_assoc next.read next.front.0 rest) ∙ ap (λ xs. xs ++ rest) next.front.1)
-            ∙ sym parts,
+        parts ∙ ap (λ xs. front ++ xs) (ap (λ xs. xs ++ rest) next.front.1 ∙ append_assoc next.read next.front.0 rest)
+            ∙ sym (append_assoc front next.read (next.front.0 ++ rest)),
       );
-      told = next.told ∙ ap (told_more next.read) first ∙ told_both front next.read before;
+      told = next.told ∙ ap (told_more next.read) first ∙ told_both front next.read before.names;
     }
 
-pub reads_front : (names front rest : List (List ℕ)) (before after : Option (List (List ℕ))) → names ≡ front ++ rest → after ≡ told_more front before → ReadsInOrder names before after
-reads_front names front rest before after parts told = record { read = front; front = (rest, sym parts); told = told }
+pub reads_front : (names front rest : List (List ℕ)) (before after : FilesSeen) → names ≡ front ++ rest → AreNoted front before after → ReadsInOrder names before after
+reads_front names front rest before after parts told = record { read = front; front = (rest, parts); told = told }
 
 -- a read that gave the file, or not
-pub reads_either : {T E : Type 0} (r : Result T E) (name : List ℕ) (before after : Option (List (List ℕ))) → OnOk r (after ≡ told_more (name ∷ []) before)
+pub reads_either : {T E : Type 0} (r : Result T E) (name : List ℕ) (before after : FilesSeen) → OnOk r (AreNoted (name ∷ []) before after)
     → OnErr r (ReadsInOrder (name ∷ []) before after) → ReadsInOrder (name ∷ []) before after
 reads_either (Ok file) name before after noted part = reads_one name before after noted
 reads_either (Err refusal) name before after noted part = part

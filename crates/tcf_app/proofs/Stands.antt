@@ -4,17 +4,17 @@ use Rattle.std.proofs.Math.Seq.{take-append_seam}
 use Rattle.std.specs.Prelude.{Option, None, Some, Result, Ok, Err, if◌then◌else◌, IfNone}
 use Rattle.std.specs.Option.{option_or}
 use Rattle.std.specs.Result.{result_err}
-use Rattle.tcf_outside.specs.Sink.{added}
+use Rattle.tcf_outside.specs.Sink.{SinkSeen, Took, added}
 use Rattle.stream_escape.specs.declared.stream.Item.{Item}
 use Rattle.stream_escape.specs.declared.stream.StreamFault.{StreamFault}
 use Rattle.stream_escape.specs.declared.stream.StreamFault.TheVariants as faults
 use Rattle.stream_escape.specs.Stream.{Ending, Reads, begun, Cause, bad_escape, too_long, after_end, Refuses, fault_at}
 use Rattle.stream_escape.specs.Value.{UnescapeValue, capped, IsBetween, is_inside}
 use Rattle.stream_escape.specs.Feeding.{Stops, Tells, Takes, Feeds}
-use Rattle.stream_escape.specs.Laws.{EachGoesOn}
+use Rattle.stream_escape.proofs.TheLaws.{each_goes_on}
 use Rattle.tcf_app.specs.declared.exit.BadPlace.{BadPlace}
 use Rattle.tcf_app.specs.declared.exit.StreamWhat.TheVariants.{Unended}
-use Rattle.tcf_app.specs.Show.{Shown, bad_at, what_for, onto, shown_items, unended, IsShown, whole, broken}
+use Rattle.tcf_app.specs.Show.{Shown, bad_at, what_for, onto, shown_items, unended, IsShown, PutsLines, PutsPart, whole, broken}
 use Rattle.tcf_app.specs.Pieces.{frames_length, bad_behind, ShowsPiece}
 use Rattle.tcf_app.proofs.Items.{shown_as, joined, bad_at_capped, shown_capped, shown_append, shown_behind}
 use Rattle.tcf_app.proofs.Frames.{frames_append}
@@ -22,7 +22,7 @@ use Rattle.tcf_app.proofs.Endings.{added_nothing, added_twice}
 use Rattle.stream_escape.proofs.Cuts.{capped_twice as capped_more}
 
 -- what the items before have on the stream was read, all of them are good, and exactly their lines were told
-pub record Standing (file rest : List ℕ) (unescape : UnescapeValue) (place : ℕ) (before told : Option (List ℕ)) : Type 0 where
+pub record Standing (file rest : List ℕ) (unescape : UnescapeValue) (place : ℕ) (before now : SinkSeen) : Type 0 where
   pub front : List ℕ
   pub split : file ≡ front ++ rest
   pub its : List Item
@@ -31,11 +31,11 @@ pub record Standing (file rest : List ℕ) (unescape : UnescapeValue) (place : �
   pub counted : unescape.offset ≡ capped (length front)
   pub good : (shown_items 0 its None).bad ≡ None
   pub place_is : place ≡ capped (frames_length its)
-  pub told_is : told ≡ added (shown_items 0 its None).text before
+  pub told_is : Took (shown_items 0 its None).text before now
 
-pub stands_first : (file : List ℕ) (unescape : UnescapeValue) (place : ℕ) (told : Option (List ℕ)) → IsBetween unescape → unescape.offset ≡ 0 → place ≡ 0
-    → Standing file file unescape place told told
-stands_first file unescape place told between none first = record {
+pub stands_first : (file : List ℕ) (unescape : UnescapeValue) (place : ℕ) (sink : SinkSeen) → IsBetween unescape → unescape.offset ≡ 0 → place ≡ 0
+    → Standing file file unescape place sink sink
+stands_first file unescape place sink between none first = record {
   front = [];
   split = refl;
   its = [];
@@ -44,7 +44,7 @@ stands_first file unescape place told between none first = record {
   counted = none;
   good = refl;
   place_is = first;
-  told_is = sym (added_nothing told);
+  told_is = sym (added_nothing sink.told);
 }
 
 -- ---- The whole file, from a front of it on
@@ -55,9 +55,9 @@ pub record Completes (file : List ℕ) (its : List Item) : Type 0 where
   pub behind : Option BadPlace
   pub shown : IsShown file (shown_items 0 (its ++ more) behind)
 
-pub completes : EachGoesOn → (file front rest : List ℕ) (its : List Item) (ending : Ending) → file ≡ front ++ rest → Reads front its ending → Completes file its
-completes law file front rest its ending split h =
-    elim (law ending rest) as (λ _. Completes file its) [
+pub completes : (file front rest : List ℕ) (its : List Item) (ending : Ending) → file ≡ front ++ rest → Reads front its ending → Completes file its
+completes file front rest its ending split h =
+    elim (each_goes_on ending rest) as (λ _. Completes file its) [
       | inl a ↦ record {
         more = a.items;
         behind = unended (length file) a.new;
@@ -129,12 +129,12 @@ bad_told n too_long = refl
 bad_told n after_end = refl
 
 -- the piece is read, and then whatever comes behind it
-next_read : EachGoesOn → (file front piece after : List ℕ) (its items : List Item) (new : Ending) (place : ℕ) (text : List ℕ) (bad : Option BadPlace)
+next_read : (file front piece after : List ℕ) (its items : List Item) (new : Ending) (place : ℕ) (text : List ℕ) (bad : Option BadPlace)
     → file ≡ (front ++ piece) ++ after → Reads (front ++ piece) (its ++ items) new → (shown_items 0 its None).bad ≡ None → place ≡ capped (frames_length its)
     → text ≡ (shown_items place items None).text → bad ≡ (shown_items place items None).bad → Next file (shown_items 0 its None).text text bad
-next_read law file front piece after its items new place text bad split h good is lines bads =
+next_read file front piece after its items new place text bad split h good is lines bads =
     let start = (shown_items 0 its None).text in
-    let c = completes law file (front ++ piece) after (its ++ items) new split h in
+    let c = completes file (front ++ piece) after (its ++ items) new split h in
     let later = shown_items (place + frames_length items) c.more c.behind in
     let e : shown_items 0 ((its ++ items) ++ c.more) c.behind ≡ onto start (joined text bad later) =
     ap (λ xs. shown_items 0 xs c.behind) (append_assoc its items c.more)
@@ -172,30 +172,30 @@ next_refused file front piece after its items old new offset place text bad faul
       bad_is = λ b e. ap (λ x. shown_as (start ++ text) x) e;
     }
 
-next_for : EachGoesOn → (file rest piece after : List ℕ) (old new : UnescapeValue) (place next : ℕ) (text : List ℕ) (bad : Option BadPlace) (before told : Option (List ℕ))
-    → (s : Standing file rest old place before told) (items : List Item) (answer : Result Unit StreamFault) → rest ≡ piece ++ after
+next_for : (file rest piece after : List ℕ) (old new : UnescapeValue) (place next : ℕ) (text : List ℕ) (bad : Option BadPlace) (before now : SinkSeen)
+    → (s : Standing file rest old place before now) (items : List Item) (answer : Result Unit StreamFault) → rest ≡ piece ++ after
     → Tells old.offset old.ending piece items answer new.ending → answer ≢ Err faults.NoMemory
     → text ≡ (shown_items place items (bad_behind answer)).text → bad ≡ (shown_items place items (bad_behind answer)).bad
     → Next file (shown_items 0 s.its None).text text bad
-next_for law file rest piece after old new place next text bad before told s items (Ok done) cut t known lines bads =
-    next_read law file s.front piece after s.its items new.ending place text bad
+next_for file rest piece after old new place next text bad before now s items (Ok done) cut t known lines bads =
+    next_read file s.front piece after s.its items new.ending place text bad
     (s.split ∙ ap (λ bs. s.front ++ bs) cut ∙ sym (append_assoc s.front piece after)) (t.reads s.front s.its s.reads) s.good s.place_is lines bads
-next_for law file rest piece after old new place next text bad before told s items (Err faults.NoMemory) cut t known lines bads = absurd (known refl)
-next_for law file rest piece after old new place next text bad before told s items (Err (faults.BadEscape offset byte)) cut t known lines bads =
+next_for file rest piece after old new place next text bad before now s items (Err faults.NoMemory) cut t known lines bads = absurd (known refl)
+next_for file rest piece after old new place next text bad before now s items (Err (faults.BadEscape offset byte)) cut t known lines bads =
     next_refused file s.front piece after s.its items old.ending new.ending old.offset place text bad (faults.BadEscape offset byte)
     (s.split ∙ ap (λ bs. s.front ++ bs) cut ∙ sym (append_assoc s.front piece after)) s.reads s.counted t s.good s.place_is lines bads
-next_for law file rest piece after old new place next text bad before told s items (Err (faults.TooLong offset)) cut t known lines bads =
+next_for file rest piece after old new place next text bad before now s items (Err (faults.TooLong offset)) cut t known lines bads =
     next_refused file s.front piece after s.its items old.ending new.ending old.offset place text bad (faults.TooLong offset)
     (s.split ∙ ap (λ bs. s.front ++ bs) cut ∙ sym (append_assoc s.front piece after)) s.reads s.counted t s.good s.place_is lines bads
-next_for law file rest piece after old new place next text bad before told s items (Err (faults.AfterEnd offset)) cut t known lines bads =
+next_for file rest piece after old new place next text bad before now s items (Err (faults.AfterEnd offset)) cut t known lines bads =
     next_refused file s.front piece after s.its items old.ending new.ending old.offset place text bad (faults.AfterEnd offset)
     (s.split ∙ ap (λ bs. s.front ++ bs) cut ∙ sym (append_assoc s.front piece after)) s.reads s.counted t s.good s.place_is lines bads
 
-pub next_piece : EachGoesOn → (file rest piece after : List ℕ) (old new : UnescapeValue) (place next : ℕ) (text : List ℕ) (bad : Option BadPlace) (before told : Option (List ℕ))
-    → (s : Standing file rest old place before told) → ShowsPiece old place piece bad text new next → rest ≡ piece ++ after
+pub next_piece : (file rest piece after : List ℕ) (old new : UnescapeValue) (place next : ℕ) (text : List ℕ) (bad : Option BadPlace) (before now : SinkSeen)
+    → (s : Standing file rest old place before now) → ShowsPiece old place piece bad text new next → rest ≡ piece ++ after
     → Next file (shown_items 0 s.its None).text text bad
-next_piece law file rest piece after old new place next text bad before told s p cut =
-    next_for law file rest piece after old new place next text bad before told s p.items p.answer cut p.tells p.remembered p.text_is p.bad_is
+next_piece file rest piece after old new place next text bad before now s p cut =
+    next_for file rest piece after old new place next text bad before now s p.items p.answer cut p.tells p.remembered p.text_is p.bad_is
 
 -- ---- A good piece
 
@@ -209,12 +209,12 @@ bad_stays place items bad e =
     by_bad text (Some x) e = cc
 
 -- what stands after a piece that is read
-stands_read : (file rest piece after : List ℕ) (old new : UnescapeValue) (place next : ℕ) (text : List ℕ) (bad : Option BadPlace) (before told later : Option (List ℕ))
-    → (s : Standing file rest old place before told) (items : List Item) → rest ≡ piece ++ after → Reads (s.front ++ piece) (s.its ++ items) new.ending
+stands_read : (file rest piece after : List ℕ) (old new : UnescapeValue) (place next : ℕ) (text : List ℕ) (bad : Option BadPlace) (before now later : SinkSeen)
+    → (s : Standing file rest old place before now) (items : List Item) → rest ≡ piece ++ after → Reads (s.front ++ piece) (s.its ++ items) new.ending
     → new.fault ≡ None → new.offset ≡ capped (old.offset + length piece) → bad ≡ None
-    → text ≡ (shown_items place items None).text → bad ≡ (shown_items place items None).bad → next ≡ capped (place + frames_length items) → later ≡ added text told
+    → text ≡ (shown_items place items None).text → bad ≡ (shown_items place items None).bad → next ≡ capped (place + frames_length items) → Took text now later
     → Standing file after new next before later
-stands_read file rest piece after old new place next text bad before told later s items cut h sound counted none lines bads goes put =
+stands_read file rest piece after old new place next text bad before now later s items cut h sound counted none lines bads goes put =
     let start = (shown_items 0 s.its None).text in
     let e : shown_items 0 (s.its ++ items) None ≡ onto start (shown_items place items None) = behind_good s.its items place None s.good s.place_is in
     record {
@@ -226,75 +226,67 @@ stands_read file rest piece after old new place next text bad before told later 
       counted = counted ∙ ap (λ n. capped (n + length piece)) s.counted ∙ capped_more (length s.front) (length piece) ∙ ap capped (sym (length-append s.front piece));
       good = ap (λ (x : Shown). x.bad) e ∙ sym bads ∙ none;
       place_is = goes ∙ ap (λ n. capped (n + frames_length items)) s.place_is ∙ capped_more (frames_length s.its) (frames_length items) ∙ ap capped (sym (frames_append s.its items));
-      told_is = put ∙ ap (λ (t : Option (List ℕ)). added text t) s.told_is ∙ added_twice start text before
-          ∙ ap (λ (t : List ℕ). added (start ++ t) before) lines ∙ ap (λ (x : Shown). added x.text before) (sym e);
+      told_is = put ∙ ap (λ (t : Option (List ℕ)). added text t) s.told_is ∙ added_twice start text before.told
+          ∙ ap (λ (t : List ℕ). added (start ++ t) before.told) lines ∙ ap (λ (x : Shown). added x.text before.told) (sym e);
     }
 
-stands_for : (file rest piece after : List ℕ) (old new : UnescapeValue) (place next : ℕ) (text : List ℕ) (bad : Option BadPlace) (before told later : Option (List ℕ))
-    → (s : Standing file rest old place before told) (items : List Item) (answer : Result Unit StreamFault) → rest ≡ piece ++ after
+stands_for : (file rest piece after : List ℕ) (old new : UnescapeValue) (place next : ℕ) (text : List ℕ) (bad : Option BadPlace) (before now later : SinkSeen)
+    → (s : Standing file rest old place before now) (items : List Item) (answer : Result Unit StreamFault) → rest ≡ piece ++ after
     → Tells old.offset old.ending piece items answer new.ending → answer ≢ Err faults.NoMemory
     → new.fault ≡ result_err answer → new.offset ≡ capped (old.offset + length piece) → bad ≡ None
     → text ≡ (shown_items place items (bad_behind answer)).text → bad ≡ (shown_items place items (bad_behind answer)).bad
-    → next ≡ capped (place + frames_length items) → later ≡ added text told
+    → next ≡ capped (place + frames_length items) → Took text now later
     → Standing file after new next before later
-stands_for file rest piece after old new place next text bad before told later s items (Ok done) cut t known sound counted none lines bads goes put =
-    stands_read file rest piece after old new place next text bad before told later s items cut (t.reads s.front s.its s.reads) sound counted none lines bads goes put
-stands_for file rest piece after old new place next text bad before told later s items (Err faults.NoMemory) cut t known sound counted none lines bads goes put = absurd (known refl)
-stands_for file rest piece after old new place next text bad before told later s items (Err (faults.BadEscape offset byte)) cut t known sound counted none lines bads goes put =
+stands_for file rest piece after old new place next text bad before now later s items (Ok done) cut t known sound counted none lines bads goes put =
+    stands_read file rest piece after old new place next text bad before now later s items cut (t.reads s.front s.its s.reads) sound counted none lines bads goes put
+stands_for file rest piece after old new place next text bad before now later s items (Err faults.NoMemory) cut t known sound counted none lines bads goes put = absurd (known refl)
+stands_for file rest piece after old new place next text bad before now later s items (Err (faults.BadEscape offset byte)) cut t known sound counted none lines bads goes put =
     absurd (bad_stays place items _ (sym none ∙ bads))
-stands_for file rest piece after old new place next text bad before told later s items (Err (faults.TooLong offset)) cut t known sound counted none lines bads goes put =
+stands_for file rest piece after old new place next text bad before now later s items (Err (faults.TooLong offset)) cut t known sound counted none lines bads goes put =
     absurd (bad_stays place items _ (sym none ∙ bads))
-stands_for file rest piece after old new place next text bad before told later s items (Err (faults.AfterEnd offset)) cut t known sound counted none lines bads goes put =
+stands_for file rest piece after old new place next text bad before now later s items (Err (faults.AfterEnd offset)) cut t known sound counted none lines bads goes put =
     absurd (bad_stays place items _ (sym none ∙ bads))
 
-pub stands_next : (file rest piece after : List ℕ) (old new : UnescapeValue) (place next : ℕ) (text : List ℕ) (bad : Option BadPlace) (before told later : Option (List ℕ))
-    → Standing file rest old place before told → ShowsPiece old place piece bad text new next → rest ≡ piece ++ after → bad ≡ None → later ≡ added text told
+pub stands_next : (file rest piece after : List ℕ) (old new : UnescapeValue) (place next : ℕ) (text : List ℕ) (bad : Option BadPlace) (before now later : SinkSeen)
+    → Standing file rest old place before now → ShowsPiece old place piece bad text new next → rest ≡ piece ++ after → bad ≡ None → Took text now later
     → Standing file after new next before later
-stands_next file rest piece after old new place next text bad before told later s p cut none put =
-    stands_for file rest piece after old new place next text bad before told later s p.items p.answer cut p.tells p.remembered p.fault p.offset none p.text_is p.bad_is (p.next_is none) put
+stands_next file rest piece after old new place next text bad before now later s p cut none put =
+    stands_for file rest piece after old new place next text bad before now later s p.items p.answer cut p.tells p.remembered p.fault p.offset none p.text_is p.bad_is (p.next_is none) put
 
 -- ---- Where the run stops
 
--- the file is shown so, and exactly these lines were told
-abbrev pub Lines : List ℕ → Option BadPlace → Option (List ℕ) → Option (List ℕ) → Type 0
-Lines file bad before told = (text : List ℕ) × IsShown file (shown_as text bad) × (told ≡ added text before)
-
--- a front of the lines was told that the file is shown as
-abbrev pub Part : List ℕ → Option (List ℕ) → Option (List ℕ) → Type 0
-Part file before told = (shown : Shown) × IsShown file shown × (count : ℕ) × (told ≡ added (take count shown.text) before)
-
 -- these were told, and the lines go on behind them
-part_told : (file told later : List ℕ) (shown : Shown) (before now : Option (List ℕ)) → IsShown file shown → shown.text ≡ told ++ later → now ≡ added told before → Part file before now
+part_told : (file told later : List ℕ) (shown : Shown) (before now : SinkSeen) → IsShown file shown → shown.text ≡ told ++ later → Took told before now → PutsPart file before now
 part_told file told later shown before now is e put =
-    (shown, is, length told, put ∙ ap (λ (t : List ℕ). added t before) (sym (ap (λ t. take (length told) t) e ∙ take-append_seam told later)))
+    (shown, is, (length told, put ∙ ap (λ (t : List ℕ). added t before.told) (sym (ap (λ t. take (length told) t) e ∙ take-append_seam told later))))
 
 -- before a piece
-pub part_here : EachGoesOn → (file rest : List ℕ) (unescape : UnescapeValue) (place : ℕ) (before told : Option (List ℕ)) → Standing file rest unescape place before told → Part file before told
-part_here law file rest unescape place before told s =
-    let c = completes law file s.front rest s.its unescape.ending s.split s.reads in
+pub part_here : (file rest : List ℕ) (unescape : UnescapeValue) (place : ℕ) (before now : SinkSeen) → Standing file rest unescape place before now → PutsPart file before now
+part_here file rest unescape place before now s =
+    let c = completes file s.front rest s.its unescape.ending s.split s.reads in
     let later = shown_items place c.more c.behind in
-    part_told file (shown_items 0 s.its None).text later.text (shown_items 0 (s.its ++ c.more) c.behind) before told c.shown
+    part_told file (shown_items 0 s.its None).text later.text (shown_items 0 (s.its ++ c.more) c.behind) before now c.shown
     (ap (λ (x : Shown). x.text) (behind_good s.its c.more place c.behind s.good s.place_is)) s.told_is
 
 -- within the lines of a piece
-pub part_within : (file start text : List ℕ) (bad : Option BadPlace) (before told now : Option (List ℕ)) (count : ℕ) → Next file start text bad
-    → told ≡ added start before → now ≡ added (take count text) told → Part file before now
-part_within file start text bad before told now count n so_far put =
+pub part_within : (file start text : List ℕ) (bad : Option BadPlace) (before mid now : SinkSeen) (count : ℕ) → Next file start text bad
+    → Took start before mid → Took (take count text) mid now → PutsPart file before now
+part_within file start text bad before mid now count n so_far put =
     part_told file (start ++ take count text) (drop count text ++ n.later) n.shown before now n.its
     (n.text_is
     ∙ ap (λ t. (start ++ t) ++ n.later) (sym (take-append-drop count text))
     ∙ ap (λ t. t ++ n.later) (sym (append_assoc start (take count text) (drop count text)))
     ∙ append_assoc (start ++ take count text) (drop count text) n.later)
-    (put ∙ ap (λ (t : Option (List ℕ)). added (take count text) t) so_far ∙ added_twice start (take count text) before)
+    (put ∙ ap (λ (t : Option (List ℕ)). added (take count text) t) so_far ∙ added_twice start (take count text) before.told)
 
 -- at a bad place
-pub lines_bad : (file start text : List ℕ) (bad : Option BadPlace) (b : BadPlace) (before told now : Option (List ℕ)) → Next file start text bad → bad ≡ Some b
-    → told ≡ added start before → now ≡ added text told → Lines file bad before now
-lines_bad file start text bad b before told now n is so_far put =
+pub lines_bad : (file start text : List ℕ) (bad : Option BadPlace) (b : BadPlace) (before mid now : SinkSeen) → Next file start text bad → bad ≡ Some b
+    → Took start before mid → Took text mid now → PutsLines file bad before now
+lines_bad file start text bad b before mid now n is so_far put =
     let P : Shown → Type 0 = λ s. IsShown file s in (
       start ++ text,
       subst P (n.bad_is b is ∙ ap (λ x. shown_as (start ++ text) x) (sym is)) n.its,
-      put ∙ ap (λ (t : Option (List ℕ)). added text t) so_far ∙ added_twice start text before,
+      put ∙ ap (λ (t : Option (List ℕ)). added text t) so_far ∙ added_twice start text before.told,
     )
 
 -- at the end of the file
@@ -305,9 +297,9 @@ unended_capped size ending = by_test (is_inside ending)
     by_test true = ap Some (bad_at_capped size Unended)
     by_test false = refl
 
-pub lines_end : (file rest : List ℕ) (unescape : UnescapeValue) (place : ℕ) (bad : Option BadPlace) (before told : Option (List ℕ)) → Standing file rest unescape place before told → rest ≡ []
-    → bad ≡ unended unescape.offset unescape.ending → Lines file bad before told
-lines_end file rest unescape place bad before told s none is =
+pub lines_end : (file rest : List ℕ) (unescape : UnescapeValue) (place : ℕ) (bad : Option BadPlace) (before now : SinkSeen) → Standing file rest unescape place before now → rest ≡ []
+    → bad ≡ unended unescape.offset unescape.ending → PutsLines file bad before now
+lines_end file rest unescape place bad before now s none is =
     let text = (shown_items 0 s.its None).text in
     let all : file ≡ s.front = s.split ∙ ap (λ bs. s.front ++ bs) none ∙ append-nil s.front in
     let same : bad ≡ unended (length file) unescape.ending =

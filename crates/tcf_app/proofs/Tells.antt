@@ -2,20 +2,21 @@
 use Rattle.std.proofs.Common.{◌≡◌, ℕ, ◌+◌, Bool, false, List, [], ◌∷◌, ◌++◌, refl, sym, ◌∙◌, subst, inl, inr}
 use Rattle.std.specs.Prelude.{Option, None, Some, Result, Ok, Err}
 use Rattle.tcf_outside.specs.Faults.{Rose}
-use Rattle.tcf_outside.specs.Sink.{added}
-use Rattle.tcf_outside.specs.declared.files.HeldFile.{HeldFile}
+use Rattle.tcf_outside.specs.Files.{FilesSeen}
+use Rattle.tcf_outside.specs.Sink.{SinkSeen, Took}
 use Rattle.tcf_schedules.specs.Refusal.{BadLine}
 use Rattle.tcf_schedules.specs.Schedule.{ScheduleValue, schedule_of}
 use Rattle.tcf_schedules.specs.Script.{script_of}
 use Rattle.tcf_schedules.specs.declared.script.ScriptLine.{ScriptLine}
-use Rattle.world_laws.specs.Playing.{CoherentOfEveryFile, EndsOfEveryFile, FreshOfEveryFile, HoldsOfEveryFile, UnstuckOfEveryFile}
+use Rattle.world_laws.proofs.TheLaws.{file_coherent, file_ends, file_faithful, file_fresh, file_unstuck}
 use Rattle.tcf_text.specs.Once.{Once}
+use Rattle.tcf_wires.specs.Told.{WiresSeen}
 use Rattle.tcf_wires.specs.declared.call.WireCall.{WireCall}
 use Rattle.tcf_wires.specs.declared.call.WireCall.TheVariants.{Connected, Gave, Listened}
 use Rattle.tcf_wires.specs.declared.event.WireRefusal.{WireRefusal}
 use Rattle.tcf_wires.specs.declared.event.WireRefusal.TheVariants as refusals
 use Rattle.client_node.specs.ClientValue.{ClientValue}
-use Rattle.client_node.specs.Runs.{OnceAfterAnyCalls}
+use Rattle.client_node.proofs.TheLaws.{answered_once}
 use Rattle.serving_wires.specs.Calls.{events_in, faults_through, with_calls}
 use Rattle.serving_wires.specs.Serving.{breaks, fails}
 use Rattle.serving_wires.specs.Ends.{IsBroken, IsLastCall, no_listening, no_event}
@@ -23,12 +24,12 @@ use Rattle.agent_serving.specs.Serve.{ServesAgent}
 use Rattle.serving_wires.specs.declared.end.ServeEnd.{ServeEnd}
 use Rattle.serving_wires.specs.declared.end.ServeEnd.TheVariants as serve_ends
 use Rattle.value_serving.specs.Serve.{ServesValueAdds}
-use Rattle.client_serving.specs.Client.{ServesAClient}
+use Rattle.client_serving.proofs.TheLaws.{served_is_a_client}
 use Rattle.client_serving.specs.Run.{RunsClient, no_calls, not_connected, connected, HasRun as RunHas, IsBroken as RunBreaks}
 use Rattle.client_serving.specs.declared.end.ClientEnd.{ClientEnd}
 use Rattle.client_serving.specs.declared.end.ClientEnd.TheVariants as client_ends
 use Rattle.client_serving.specs.declared.end.ClientRun.{ClientRun}
-use Rattle.load_schedules.specs.Generated.{GeneratesWhatIsSaid}
+use Rattle.load_schedules.proofs.TheLaws.{generates_what_is_said}
 use Rattle.tcf_app.specs.declared.exit.BadPlace.{BadPlace}
 use Rattle.tcf_app.specs.declared.exit.Exit.{Exit}
 use Rattle.tcf_app.specs.declared.exit.Exit.TheVariants.{Done, Usage, BadText, FileFault, SinkFault, WireFault, Turns, NoMemory, BadStream, Ended, TooLong}
@@ -44,30 +45,14 @@ use Rattle.tcf_app.proofs.Items.{shown_as}
 use Rattle.tcf_app.proofs.Hearing.{are_held, content_is, first_long, some_so}
 use Rattle.serving_wires.proofs.Rising.{last_rises}
 
--- ---- what is known beside the run
-
--- what holds of the world that a file brings about, of the schedule that a number gives, and of a client
-pub record Laws : Type 0 where
-  pub faithful : HoldsOfEveryFile
-  pub ends : EndsOfEveryFile
-  pub coherent : CoherentOfEveryFile
-  pub fresh : FreshOfEveryFile
-  pub unstuck : UnstuckOfEveryFile
-  pub said : GeneratesWhatIsSaid
-  pub once : OnceAfterAnyCalls
-  pub serves : ServesAClient
-
-pub laws_of : HoldsOfEveryFile → EndsOfEveryFile → CoherentOfEveryFile → FreshOfEveryFile → UnstuckOfEveryFile → GeneratesWhatIsSaid → OnceAfterAnyCalls → ServesAClient → Laws
-laws_of faithful ends coherent fresh unstuck said once serves = record { faithful = faithful; ends = ends; coherent = coherent; fresh = fresh; unstuck = unstuck; said = said; once = once; serves = serves }
-
 -- in the log of a client that was run each command is answered once
-run_once : Laws → (script : List ScriptLine) (address : List ℕ) (turns : ℕ) (run : ClientRun) (calls : List WireCall) → RunsClient script address turns (Ok run) calls → Once false run.client.log
-run_once laws script address turns run calls (no_calls is none) = cc
-run_once laws script address turns run calls (not_connected is called) = cc
-run_once laws script address turns run calls (connected channel later first alone served) =
+run_once : (script : List ScriptLine) (address : List ℕ) (turns : ℕ) (run : ClientRun) (calls : List WireCall) → RunsClient script address turns (Ok run) calls → Once false run.client.log
+run_once script address turns run calls (no_calls is none) = cc
+run_once script address turns run calls (not_connected is called) = cc
+run_once script address turns run calls (connected channel later first alone served) =
     let has : RunHas channel script turns run calls = served.ends in
-    let client = laws.serves channel script (events_in calls) in
-    subst (λ (c : ClientValue). Once false c.log) (sym (has.client ∙ client.client)) (laws.once client.calls)
+    let client = served_is_a_client channel script (events_in calls) in
+    subst (λ (c : ClientValue). Once false c.log) (sym (has.client ∙ client.client)) (answered_once client.calls)
 
 -- ---- the count of faults rose where the wires failed
 
@@ -90,27 +75,24 @@ running_rises script address turns count calls (connected channel later first al
 
 -- what is told and counted before a run and after it
 pub record Seen : Type 0 where
-  pub files : Option (List HeldFile)
-  pub reads : ℕ
-  pub reads_after : ℕ
-  pub told : Option (List WireCall)
-  pub told_after : Option (List WireCall)
-  pub wires : ℕ
-  pub wires_after : ℕ
-  pub before : Option (List ℕ)
-  pub after : Option (List ℕ)
+  pub files : FilesSeen
+  pub files_after : FilesSeen
+  pub wires : WiresSeen
+  pub wires_after : WiresSeen
+  pub before : SinkSeen
+  pub after : SinkSeen
 
 abbrev pub Tells : Seen → Option OrderValue → Exit → Type 0
-Tells s order Done = IsDone order s.files s.told s.told_after s.wires s.wires_after s.before s.after
-Tells s order Usage = (order ≡ None) × (s.after ≡ added usage_text s.before)
-Tells s order (BadText line what) = IsBadText order s.files line what s.before s.after
-Tells s order FileFault = Rose s.reads s.reads_after × (s.after ≡ added file_fault_text s.before)
+Tells s order Done = IsDone order s.files s.wires s.wires_after s.before s.after
+Tells s order Usage = (order ≡ None) × Took usage_text s.before s.after
+Tells s order (BadText line what) = IsBadText order s.files (record { line = line; what = what }) s.before s.after
+Tells s order FileFault = Rose s.files.faults s.files_after.faults × Took file_fault_text s.before s.after
 Tells s order SinkFault = Unit {0}
-Tells s order WireFault = Rose s.wires s.wires_after × HaveFailed order s.files s.told s.told_after s.wires s.wires_after s.before s.after
-Tells s order Turns = AreTaken order s.files s.told s.told_after s.wires s.wires_after s.before s.after
+Tells s order WireFault = Rose s.wires.faults s.wires_after.faults × HaveFailed order s.files s.wires s.wires_after s.before s.after
+Tells s order Turns = AreTaken order s.files s.wires s.wires_after s.before s.after
 Tells s order NoMemory = Unit {0}
 Tells s order (BadStream offset what) = IsBadStream order s.files (record { offset = offset; what = what }) s.before s.after
-Tells s order (Ended cause) = HasEnded cause order s.files s.told s.told_after s.wires s.wires_after s.before s.after
+Tells s order (Ended cause) = HasEnded cause order s.files s.wires s.wires_after s.before s.after
 Tells s order (TooLong word) = IsTooLong order s.files word s.before s.after
 
 pub given_up_tells : (s : Seen) (order : Option OrderValue) (exit : Exit) → IsGivenUp exit → Tells s order exit
@@ -118,43 +100,43 @@ given_up_tells s order exit (inl is) = subst (Tells s order) (sym is) tt
 given_up_tells s order exit (inr is) = subst (Tells s order) (sym is) tt
 
 -- the text of the ending was put, and it is this one
-told_at : (s : Seen) (order : Option OrderValue) (ending other : Ending) → ending ≡ other → (s.after ≡ added other.text s.before → Tells s order other.exit)
-    → s.after ≡ added ending.text s.before → Tells s order ending.exit
-told_at s order ending other is tells = subst (λ (e : Ending). s.after ≡ added e.text s.before → Tells s order e.exit) (sym is) tells
+told_at : (s : Seen) (order : Option OrderValue) (ending other : Ending) → ending ≡ other → (Took other.text s.before s.after → Tells s order other.exit)
+    → Took ending.text s.before s.after → Tells s order ending.exit
+told_at s order ending other is tells = subst (λ (e : Ending). Took e.text s.before s.after → Tells s order e.exit) (sym is) tells
 
 -- ---- each order
 
-chain_tells : Laws → (s : Seen) (name file : List ℕ) (ending : Ending) → Hears (name ∷ []) s.files s.reads s.reads_after (whole (file ∷ [])) → ending ≡ played_ending (schedule_of file)
-    → s.after ≡ added ending.text s.before → Tells s (Some (chain name)) ending.exit
-chain_tells laws s name file ending hears its = by_schedule (schedule_of file) refl its
+chain_tells : (s : Seen) (name file : List ℕ) (ending : Ending) → Hears (name ∷ []) s.files s.files_after (whole (file ∷ [])) → ending ≡ played_ending (schedule_of file)
+    → Took ending.text s.before s.after → Tells s (Some (chain name)) ending.exit
+chain_tells s name file ending hears its = by_schedule (schedule_of file) refl its
   where
-    by_schedule : (r : Result ScheduleValue BadLine) → schedule_of file ≡ r → ending ≡ played_ending r → s.after ≡ added ending.text s.before → Tells s (Some (chain name)) ending.exit
+    by_schedule : (r : Result ScheduleValue BadLine) → schedule_of file ≡ r → ending ≡ played_ending r → Took ending.text s.before s.after → Tells s (Some (chain name)) ending.exit
     by_schedule (Ok schedule) is e = told_at s (Some (chain name)) ending (played_ending (Ok schedule)) e (λ put. record {
       file = file;
-      held = content_is name file s.files s.reads s.reads_after hears;
+      held = content_is name file s.files s.files_after hears;
       schedule = schedule;
       says = is;
       put = put;
-      faithful = laws.faithful file schedule is;
-      ends = laws.ends file schedule is;
-      coherent = laws.coherent file schedule is;
-      fresh = laws.fresh file schedule is;
-      unstuck = laws.unstuck file schedule is;
+      faithful = file_faithful file schedule is;
+      ends = file_ends file schedule is;
+      coherent = file_coherent file schedule is;
+      fresh = file_fresh file schedule is;
+      unstuck = file_unstuck file schedule is;
     })
     by_schedule (Err bad) is e = told_at s (Some (chain name)) ending (played_ending (Err bad)) e (λ put. record {
       name = name;
       named = refl;
       file = file;
-      held = content_is name file s.files s.reads s.reads_after hears;
+      held = content_is name file s.files s.files_after hears;
       says = is;
       put = put;
     })
 
-show_tells : (s : Seen) (name file : List ℕ) (ending : Ending) (text : List ℕ) (bad : Option BadPlace) → Hears (name ∷ []) s.files s.reads s.reads_after (whole (file ∷ []))
-    → IsShown file (shown_as text bad) → ending ≡ lines_ending text bad → s.after ≡ added ending.text s.before → Tells s (Some (show name)) ending.exit
+show_tells : (s : Seen) (name file : List ℕ) (ending : Ending) (text : List ℕ) (bad : Option BadPlace) → Hears (name ∷ []) s.files s.files_after (whole (file ∷ []))
+    → IsShown file (shown_as text bad) → ending ≡ lines_ending text bad → Took ending.text s.before s.after → Tells s (Some (show name)) ending.exit
 show_tells s name file ending text None hears is e = told_at s (Some (show name)) ending (lines_ending text None) e (λ put. record {
   file = file;
-  held = content_is name file s.files s.reads s.reads_after hears;
+  held = content_is name file s.files s.files_after hears;
   text = text;
   shown = is;
   put = put;
@@ -163,45 +145,45 @@ show_tells s name file ending text (Some bad) hears is e = told_at s (Some (show
   name = name;
   ordered = refl;
   file = file;
-  held = content_is name file s.files s.reads s.reads_after hears;
+  held = content_is name file s.files s.files_after hears;
   text = text;
   shown = is;
   put = put;
 })
 
 -- a file says the schedule that a number gives
-numbered_said : GeneratesWhatIsSaid → (number : ℕ) → (file : List ℕ) × (schedule_of file ≡ Ok (numbered number))
+numbered_said : (number : ℕ) → (file : List ℕ) × (schedule_of file ≡ Ok (numbered number))
 unfolding numbered
-numbered_said law number = law number
+numbered_said number = generates_what_is_said number
 
-load_tells : Laws → (s : Seen) (number : ℕ) (ending : Ending) → ending ≡ summed_ending number → s.after ≡ added ending.text s.before → Tells s (Some (load number)) ending.exit
-load_tells laws s number ending e =
-    let said = numbered_said laws.said number in
+load_tells : (s : Seen) (number : ℕ) (ending : Ending) → ending ≡ summed_ending number → Took ending.text s.before s.after → Tells s (Some (load number)) ending.exit
+load_tells s number ending e =
+    let said = numbered_said number in
     told_at s (Some (load number)) ending (summed_ending number) e (λ put. record {
       put = put;
-      faithful = laws.faithful said.0 (numbered number) said.1;
-      ends = laws.ends said.0 (numbered number) said.1;
-      coherent = laws.coherent said.0 (numbered number) said.1;
-      fresh = laws.fresh said.0 (numbered number) said.1;
-      unstuck = laws.unstuck said.0 (numbered number) said.1;
+      faithful = file_faithful said.0 (numbered number) said.1;
+      ends = file_ends said.0 (numbered number) said.1;
+      coherent = file_coherent said.0 (numbered number) said.1;
+      fresh = file_fresh said.0 (numbered number) said.1;
+      unstuck = file_unstuck said.0 (numbered number) said.1;
     })
 
 agent_tells : (s : Seen) (address : List ℕ) (turns : ℕ) (images : List NamedFile) (contents : List (List ℕ)) (calls : List WireCall) (end : ServeEnd) (ending : Ending)
-    → Hears (files_in images) s.files s.reads s.reads_after (whole contents) → s.told_after ≡ with_calls calls s.told → s.wires_after ≡ faults_through calls s.wires
+    → Hears (files_in images) s.files s.files_after (whole contents) → s.wires_after.told ≡ with_calls calls s.wires.told → s.wires_after.faults ≡ faults_through calls s.wires.faults
     → ServesAgent (images_with images contents) address turns end calls → ending ≡ served_ending turns end
-    → s.after ≡ added ending.text s.before → Tells s (Some (agent address turns images)) ending.exit
+    → Took ending.text s.before s.after → Tells s (Some (agent address turns images)) ending.exit
 agent_tells s address turns images contents calls end ending hears told counted fits = by_end end fits
   where
-    served : (e : ServeEnd) (text : List ℕ) → ServesAgent (images_with images contents) address turns e calls → s.after ≡ added text s.before
-        → IsServed address turns images e text s.files s.told s.told_after s.wires s.wires_after s.before s.after
+    served : (e : ServeEnd) (text : List ℕ) → ServesAgent (images_with images contents) address turns e calls → Took text s.before s.after
+        → IsServed address turns images e text s.files s.wires s.wires_after s.before s.after
     served e text so put = record {
       contents = contents;
-      held = are_held (files_in images) contents s.files s.reads s.reads_after hears;
+      held = are_held (files_in images) contents s.files s.files_after hears;
       serves = record { calls = calls; fits = so; told = told; faults = counted };
       put = put;
     }
 
-    by_end : (e : ServeEnd) → ServesAgent (images_with images contents) address turns e calls → ending ≡ served_ending turns e → s.after ≡ added ending.text s.before
+    by_end : (e : ServeEnd) → ServesAgent (images_with images contents) address turns e calls → ending ≡ served_ending turns e → Took ending.text s.before s.after
         → Tells s (Some (agent address turns images)) ending.exit
     by_end (serve_ends.Stopped events) so e =
         told_at s (Some (agent address turns images)) ending (served_ending turns (serve_ends.Stopped events)) e (λ put. (events, served (serve_ends.Stopped events) (turns_text events) so put))
@@ -209,81 +191,81 @@ agent_tells s address turns images contents calls end ending hears told counted 
         told_at s (Some (agent address turns images)) ending (served_ending turns serve_ends.Turns) e (λ put. served serve_ends.Turns (turns_text turns) so put)
     by_end serve_ends.WireFault so e =
         told_at s (Some (agent address turns images)) ending wire_ending e (λ put. (
-          subst (Rose s.wires) (sym counted) (serving_rises fails turns s.wires calls so.ends),
+          subst (Rose s.wires.faults) (sym counted) (serving_rises fails turns s.wires.faults calls so.ends),
           served serve_ends.WireFault wire_ending.text so put,
         ))
     by_end serve_ends.NoMemory so e = told_at s (Some (agent address turns images)) ending (served_ending turns serve_ends.NoMemory) e (λ put. tt)
 
 value_tells : (s : Seen) (address peer : List ℕ) (turns : ℕ) (calls : List WireCall) (end : ServeEnd) (ending : Ending)
-    → s.told_after ≡ with_calls calls s.told → s.wires_after ≡ faults_through calls s.wires → ServesValueAdds peer address turns end calls → ending ≡ served_ending turns end
-    → s.after ≡ added ending.text s.before → Tells s (Some (value address peer turns)) ending.exit
+    → s.wires_after.told ≡ with_calls calls s.wires.told → s.wires_after.faults ≡ faults_through calls s.wires.faults → ServesValueAdds peer address turns end calls → ending ≡ served_ending turns end
+    → Took ending.text s.before s.after → Tells s (Some (value address peer turns)) ending.exit
 value_tells s address peer turns calls end ending told counted fits = by_end end fits
   where
-    served : (e : ServeEnd) (text : List ℕ) → ServesValueAdds peer address turns e calls → s.after ≡ added text s.before
-        → AreServed address peer turns e text s.told s.told_after s.wires s.wires_after s.before s.after
+    served : (e : ServeEnd) (text : List ℕ) → ServesValueAdds peer address turns e calls → Took text s.before s.after
+        → AreServed address peer turns e text s.wires s.wires_after s.before s.after
     served e text so put = record { serves = record { calls = calls; fits = so; told = told; faults = counted }; put = put }
 
-    by_end : (e : ServeEnd) → ServesValueAdds peer address turns e calls → ending ≡ served_ending turns e → s.after ≡ added ending.text s.before → Tells s (Some (value address peer turns)) ending.exit
+    by_end : (e : ServeEnd) → ServesValueAdds peer address turns e calls → ending ≡ served_ending turns e → Took ending.text s.before s.after → Tells s (Some (value address peer turns)) ending.exit
     by_end (serve_ends.Stopped events) so e =
         told_at s (Some (value address peer turns)) ending (served_ending turns (serve_ends.Stopped events)) e (λ put. (events, served (serve_ends.Stopped events) (turns_text events) so put))
     by_end serve_ends.Turns so e =
         told_at s (Some (value address peer turns)) ending (served_ending turns serve_ends.Turns) e (λ put. served serve_ends.Turns (turns_text turns) so put)
     by_end serve_ends.WireFault so e =
         told_at s (Some (value address peer turns)) ending wire_ending e (λ put. (
-          subst (Rose s.wires) (sym counted) (serving_rises breaks turns s.wires calls so.ends),
+          subst (Rose s.wires.faults) (sym counted) (serving_rises breaks turns s.wires.faults calls so.ends),
           served serve_ends.WireFault wire_ending.text so put,
         ))
     by_end serve_ends.NoMemory so e = told_at s (Some (value address peer turns)) ending (served_ending turns serve_ends.NoMemory) e (λ put. tt)
 
-client_tells : Laws → (s : Seen) (address name file : List ℕ) (turns : ℕ) (calls : List WireCall) (ending : Ending) → Hears (name ∷ []) s.files s.reads s.reads_after (whole (file ∷ []))
-    → s.told_after ≡ with_calls calls s.told → s.wires_after ≡ faults_through calls s.wires → IsRanEnding (script_of file) address turns calls ending
-    → s.after ≡ added ending.text s.before → Tells s (Some (client address name turns)) ending.exit
-client_tells laws s address name file turns calls ending hears told counted its = by_script (script_of file) refl its
+client_tells : (s : Seen) (address name file : List ℕ) (turns : ℕ) (calls : List WireCall) (ending : Ending) → Hears (name ∷ []) s.files s.files_after (whole (file ∷ []))
+    → s.wires_after.told ≡ with_calls calls s.wires.told → s.wires_after.faults ≡ faults_through calls s.wires.faults → IsRanEnding (script_of file) address turns calls ending
+    → Took ending.text s.before s.after → Tells s (Some (client address name turns)) ending.exit
+client_tells s address name file turns calls ending hears told counted its = by_script (script_of file) refl its
   where
     by_end : (script : List ScriptLine) (run : ClientRun) (end : ClientEnd) → script_of file ≡ Ok script → RunsClient script address turns (Ok run) calls → run.end ≡ end
-        → ending ≡ record { exit = exit_of end; text = client_text run.client.log } → s.after ≡ added ending.text s.before → Tells s (Some (client address name turns)) ending.exit
+        → ending ≡ record { exit = exit_of end; text = client_text run.client.log } → Took ending.text s.before s.after → Tells s (Some (client address name turns)) ending.exit
     by_end script run client_ends.Done is fits so e = told_at s (Some (client address name turns)) ending (record { exit = Done; text = client_text run.client.log }) e (λ put. record {
       file = file;
-      held = content_is name file s.files s.reads s.reads_after hears;
+      held = content_is name file s.files s.files_after hears;
       script = script;
       says = is;
       run = run;
       ended = so;
       runs = record { calls = calls; fits = fits; told = told; faults = counted };
-      once = run_once laws script address turns run calls fits;
+      once = run_once script address turns run calls fits;
       put = put;
     })
     by_end script run (client_ends.Ended cause) is fits so e = told_at s (Some (client address name turns)) ending (record { exit = Ended cause; text = client_text run.client.log }) e (λ put. record {
       file = file;
-      held = content_is name file s.files s.reads s.reads_after hears;
+      held = content_is name file s.files s.files_after hears;
       script = script;
       says = is;
       run = run;
       ended = so;
       runs = record { calls = calls; fits = fits; told = told; faults = counted };
-      once = run_once laws script address turns run calls fits;
+      once = run_once script address turns run calls fits;
       put = put;
     })
     by_end script run client_ends.Turns is fits so e = told_at s (Some (client address name turns)) ending (record { exit = Turns; text = client_text run.client.log }) e (λ put. record {
       file = file;
-      held = content_is name file s.files s.reads s.reads_after hears;
+      held = content_is name file s.files s.files_after hears;
       script = script;
       says = is;
       run = run;
       ended = so;
       runs = record { calls = calls; fits = fits; told = told; faults = counted };
-      once = run_once laws script address turns run calls fits;
+      once = run_once script address turns run calls fits;
       put = put;
     })
 
     by_result : (script : List ScriptLine) (result : Result ClientRun WireRefusal) → script_of file ≡ Ok script → RunsClient script address turns result calls → ending ≡ ran_ending result
-        → s.after ≡ added ending.text s.before → Tells s (Some (client address name turns)) ending.exit
+        → Took ending.text s.before s.after → Tells s (Some (client address name turns)) ending.exit
     by_result script (Ok run) is fits e = by_end script run run.end is fits refl e
     by_result script (Err refusals.Failed) is fits e = told_at s (Some (client address name turns)) ending wire_ending e (λ put. (
-      subst (Rose s.wires) (sym counted) (running_rises script address turns s.wires calls fits),
+      subst (Rose s.wires.faults) (sym counted) (running_rises script address turns s.wires.faults calls fits),
       record {
         file = file;
-        held = content_is name file s.files s.reads s.reads_after hears;
+        held = content_is name file s.files s.files_after hears;
         script = script;
         says = is;
         runs = record { calls = calls; fits = fits; told = told; faults = counted };
@@ -292,13 +274,13 @@ client_tells laws s address name file turns calls ending hears told counted its 
     ))
     by_result script (Err refusals.NoMemory) is fits e = told_at s (Some (client address name turns)) ending (ran_ending (Err refusals.NoMemory)) e (λ put. tt)
 
-    by_script : (said : Result (List ScriptLine) BadLine) → script_of file ≡ said → IsRanEnding said address turns calls ending → s.after ≡ added ending.text s.before
+    by_script : (said : Result (List ScriptLine) BadLine) → script_of file ≡ said → IsRanEnding said address turns calls ending → Took ending.text s.before s.after
         → Tells s (Some (client address name turns)) ending.exit
     by_script (Err bad) is i = told_at s (Some (client address name turns)) ending (bad_ending bad) i.1 (λ put. record {
       name = name;
       named = refl;
       file = file;
-      held = content_is name file s.files s.reads s.reads_after hears;
+      held = content_is name file s.files s.files_after hears;
       says = is;
       put = put;
     })
@@ -306,34 +288,34 @@ client_tells laws s address name file turns calls ending hears told counted its 
 
 -- ---- any run
 
-pub ending_tells : Laws → (s : Seen) (order : Option OrderValue) (heard : Heard) (calls : List WireCall) (ending : Ending) → Hears (names_of order) s.files s.reads s.reads_after heard
-    → s.told_after ≡ with_calls calls s.told → s.wires_after ≡ faults_through calls s.wires → IsEnding order heard calls ending
-    → s.after ≡ added ending.text s.before → Tells s order ending.exit
-ending_tells laws s None heard calls ending hears told counted its = told_at s None ending usage_ending its.1 (λ put. (refl, put))
-ending_tells laws s (Some order) (longer count) calls ending hears told counted its =
+pub ending_tells : (s : Seen) (order : Option OrderValue) (heard : Heard) (calls : List WireCall) (ending : Ending) → Hears (names_of order) s.files s.files_after heard
+    → s.wires_after.told ≡ with_calls calls s.wires.told → s.wires_after.faults ≡ faults_through calls s.wires.faults → IsEnding order heard calls ending
+    → Took ending.text s.before s.after → Tells s order ending.exit
+ending_tells s None heard calls ending hears told counted its = told_at s None ending usage_ending its.1 (λ put. (refl, put))
+ending_tells s (Some order) (longer count) calls ending hears told counted its =
     told_at s (Some order) ending (long_ending (first_place order + count)) its.1 (λ put. record {
       what = order;
       ordered = refl;
       count = count;
       some = hears.is_of;
-      held = some_so (Agrees (files_named order) (longer count)) (IsFirstLong (files_named order) count) s.files (λ fs e. first_long (files_named order) count fs e) hears.agrees;
+      held = some_so (Agrees (files_named order) (longer count)) (IsFirstLong (files_named order) count) s.files.held (λ fs e. first_long (files_named order) count fs e) hears.agrees;
       place = refl;
       put = put;
     })
-ending_tells laws s (Some order) (failed count) calls ending hears told counted its = told_at s (Some order) ending fault_ending its.1 (λ put. (hears.counts, put))
-ending_tells laws s (Some (chain name)) (whole []) calls ending hears told counted its = absurd its
-ending_tells laws s (Some (chain name)) (whole (file ∷ [])) calls ending hears told counted its = chain_tells laws s name file ending hears its.1
-ending_tells laws s (Some (chain name)) (whole (file ∷ other ∷ more)) calls ending hears told counted its = absurd its
-ending_tells laws s (Some (show name)) (whole []) calls ending hears told counted its = absurd its
-ending_tells laws s (Some (show name)) (whole (file ∷ [])) calls ending hears told counted its = show_tells s name file ending its.1.0.text its.1.0.bad hears its.1.1 its.1.2
-ending_tells laws s (Some (show name)) (whole (file ∷ other ∷ more)) calls ending hears told counted its = absurd its
-ending_tells laws s (Some (load number)) (whole []) calls ending hears told counted its = load_tells laws s number ending its.1
-ending_tells laws s (Some (load number)) (whole (file ∷ more)) calls ending hears told counted its = absurd its
-ending_tells laws s (Some (agent address turns images)) (whole contents) calls ending hears told counted its =
+ending_tells s (Some order) (failed count) calls ending hears told counted its = told_at s (Some order) ending fault_ending its.1 (λ put. (hears.counts, put))
+ending_tells s (Some (chain name)) (whole []) calls ending hears told counted its = absurd its
+ending_tells s (Some (chain name)) (whole (file ∷ [])) calls ending hears told counted its = chain_tells s name file ending hears its.1
+ending_tells s (Some (chain name)) (whole (file ∷ other ∷ more)) calls ending hears told counted its = absurd its
+ending_tells s (Some (show name)) (whole []) calls ending hears told counted its = absurd its
+ending_tells s (Some (show name)) (whole (file ∷ [])) calls ending hears told counted its = show_tells s name file ending its.1.0.text its.1.0.bad hears its.1.1 its.1.2
+ending_tells s (Some (show name)) (whole (file ∷ other ∷ more)) calls ending hears told counted its = absurd its
+ending_tells s (Some (load number)) (whole []) calls ending hears told counted its = load_tells s number ending its.1
+ending_tells s (Some (load number)) (whole (file ∷ more)) calls ending hears told counted its = absurd its
+ending_tells s (Some (agent address turns images)) (whole contents) calls ending hears told counted its =
     agent_tells s address turns images contents calls its.0 ending hears told counted its.1 its.2
-ending_tells laws s (Some (value address peer turns)) (whole []) calls ending hears told counted its = value_tells s address peer turns calls its.0 ending told counted its.1 its.2
-ending_tells laws s (Some (value address peer turns)) (whole (file ∷ more)) calls ending hears told counted its = absurd its
-ending_tells laws s (Some (client address name turns)) (whole []) calls ending hears told counted its = absurd its
-ending_tells laws s (Some (client address name turns)) (whole (file ∷ [])) calls ending hears told counted its =
-    client_tells laws s address name file turns calls ending hears told counted its
-ending_tells laws s (Some (client address name turns)) (whole (file ∷ other ∷ more)) calls ending hears told counted its = absurd its
+ending_tells s (Some (value address peer turns)) (whole []) calls ending hears told counted its = value_tells s address peer turns calls its.0 ending told counted its.1 its.2
+ending_tells s (Some (value address peer turns)) (whole (file ∷ more)) calls ending hears told counted its = absurd its
+ending_tells s (Some (client address name turns)) (whole []) calls ending hears told counted its = absurd its
+ending_tells s (Some (client address name turns)) (whole (file ∷ [])) calls ending hears told counted its =
+    client_tells s address name file turns calls ending hears told counted its
+ending_tells s (Some (client address name turns)) (whole (file ∷ other ∷ more)) calls ending hears told counted its = absurd its

@@ -1,6 +1,6 @@
 -- How a run is to end.
-use Rattle.std.specs.Prelude.{ℕ, ◌≡◌, ◌+◌, ◌⊎◌, List, [], ◌∷◌, ◌++◌, Option, None, Some, Result, Ok, Err, map, take}
-use Rattle.tcf_outside.specs.Sink.{added}
+use Rattle.std.specs.Prelude.{ℕ, ◌≡◌, ◌+◌, ◌⊎◌, List, [], ◌∷◌, ◌++◌, Option, None, Some, Result, Ok, Err, map}
+use Rattle.tcf_outside.specs.Sink.{SinkSeen, Took, TookFront}
 use Rattle.tcf_schedules.specs.Refusal.{BadLine}
 use Rattle.tcf_schedules.specs.Schedule.{ScheduleValue, schedule_of}
 use Rattle.tcf_schedules.specs.Script.{script_of}
@@ -152,17 +152,17 @@ IsEnding (Some order) (failed before) calls ending = (calls ≡ []) × (ending �
 -- ---- how it ends then
 
 -- A run with this ending ends so, or is given up; what was told then is a front of the text, and else all of it.
-pub record Ends (ending : Ending) (exit : Exit) (before after : Option (List ℕ)) : Type 0 where
+pub record Ends (ending : Ending) (exit : Exit) (before after : SinkSeen) : Type 0 where
   pub which : (exit ≡ ending.exit) ⊎ IsGivenUp exit
-  pub whole : exit ≡ ending.exit → after ≡ added ending.text before
-  pub front : (count : ℕ) × (after ≡ added (take count ending.text) before)
+  pub whole : exit ≡ ending.exit → Took ending.text before after
+  pub front : TookFront ending.text before after
 
 -- the run ends as one of these endings is
-abbrev pub EndsIn : (Ending → Type 0) → Exit → Option (List ℕ) → Option (List ℕ) → Type 0
+abbrev pub EndsIn : (Ending → Type 0) → Exit → SinkSeen → SinkSeen → Type 0
 EndsIn IsIts exit before after = (ending : Ending) × IsIts ending × Ends ending exit before after
 
 -- where the files weren't all read whole, of which this word names the first; where memory was wanting nothing was put
-abbrev pub EndsUnread : ℕ → Unread → Exit → Option (List ℕ) → Option (List ℕ) → Type 0
+abbrev pub EndsUnread : ℕ → Unread → Exit → SinkSeen → SinkSeen → Type 0
 EndsUnread place (unread.Longer count) exit before after = Ends (long_ending (place + count)) exit before after
 EndsUnread place (unread.Failed count) exit before after = Ends fault_ending exit before after
 EndsUnread place unread.NoMemory exit before after = (exit ≡ NoMemory) × (after ≡ before)

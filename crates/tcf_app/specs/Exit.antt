@@ -1,4 +1,7 @@
+-- The status of each exit, and which exits give a run up.
 use Rattle.std.specs.Prelude.{ℕ, ◌≡◌, ◌⊎◌}
+use Rattle.tcf_outside.specs.Faults.{raised}
+use Rattle.tcf_outside.specs.Sink.{SinkSeen}
 use Rattle.tcf_app.specs.declared.exit.Exit.{Exit}
 use Rattle.tcf_app.specs.declared.exit.Exit.TheVariants.{Done, Usage, BadText, FileFault, SinkFault, WireFault, Turns, NoMemory, BadStream, Ended, TooLong}
 
@@ -19,3 +22,12 @@ status_of (TooLong word) = 10
 -- the run was given up, with no text of its own: a put was a fault, or memory was wanting
 abbrev pub IsGivenUp : Exit → Type 0
 IsGivenUp exit = (exit ≡ SinkFault) ⊎ (exit ≡ NoMemory)
+
+-- the count of the sink's faults after a run: a fault ends it as such
+abbrev pub faults_by : Exit → ℕ → ℕ
+faults_by SinkFault count = raised count
+faults_by exit count = count
+
+-- a put that was a fault is answered as such, and as nothing else
+abbrev pub TellsFault : Exit → SinkSeen → SinkSeen → Type 0
+TellsFault exit before after = after.faults ≡ faults_by exit before.faults

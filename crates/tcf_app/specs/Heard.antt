@@ -1,12 +1,12 @@
 -- What is heard of files that are read from the left.
-use Rattle.std.specs.Prelude.{ℕ, ◌≡◌, ◌+◌, ◌<◌, ◌≤◌, List, [], ◌∷◌, ◌++◌, length, map, take, Option, option_map, IfSome}
+use Rattle.std.specs.Prelude.{ℕ, ◌≡◌, ◌+◌, ◌<◌, ◌≤◌, List, [], ◌∷◌, ◌++◌, length, map, take, option_map, IfSome}
 use Rattle.std.specs.List.{AllByRecursion}
 use Rattle.tcf_outside.specs.Faults.{Rose}
-use Rattle.tcf_outside.specs.Files.{content_of, read_of}
+use Rattle.tcf_outside.specs.Files.{FilesSeen, content_of, read_of}
 use Rattle.tcf_outside.specs.declared.files.FileRead.{FileRead}
 use Rattle.tcf_outside.specs.declared.files.FileRead.TheVariants.{Whole, Longer}
 use Rattle.tcf_outside.specs.declared.files.HeldFile.{HeldFile}
-use Rattle.target_hub.specs.Ordered.{IsPrefixOf}
+use Rattle.list_laws.specs.Fronts.{IsFront}
 use Rattle.tcf_app.specs.declared.reading.Unread.{Unread}
 use Rattle.tcf_app.specs.declared.reading.Unread.TheVariants as unread
 
@@ -52,29 +52,37 @@ Counts (longer place) before after = after ≡ before
 Counts (failed place) before after = Rose before after
 
 -- This was heard of the files of these names.
-pub record Hears (names : List (List ℕ)) (files : Option (List HeldFile)) (faults_before faults_after : ℕ) (heard : Heard) : Type 0 where
+pub record Hears (names : List (List ℕ)) (before after : FilesSeen) (heard : Heard) : Type 0 where
   pub is_of : IsOf (length names) heard
-  pub agrees : IfSome files (Agrees names heard)
-  pub counts : Counts heard faults_before faults_after
+  pub agrees : IfSome before.held (Agrees names heard)
+  pub counts : Counts heard before.faults after.faults
 
 -- This was heard where not all files were read whole: nothing where memory was wanting.
-abbrev pub HearsPart : List (List ℕ) → Option (List HeldFile) → ℕ → ℕ → Unread → Type 0
-HearsPart names files faults_before faults_after (unread.Longer before) = Hears names files faults_before faults_after (longer before)
-HearsPart names files faults_before faults_after (unread.Failed before) = Hears names files faults_before faults_after (failed before)
-HearsPart names files faults_before faults_after unread.NoMemory = faults_after ≡ faults_before
+abbrev pub HearsPart : List (List ℕ) → FilesSeen → FilesSeen → Unread → Type 0
+HearsPart names before after (unread.Longer count) = Hears names before after (longer count)
+HearsPart names before after (unread.Failed count) = Hears names before after (failed count)
+HearsPart names before after unread.NoMemory = after.faults ≡ before.faults
+
+-- these names were told, one read behind the other
+abbrev pub AreNoted : List (List ℕ) → FilesSeen → FilesSeen → Type 0
+AreNoted read before after = after.names ≡ option_map (λ so_far. so_far ++ read) before.names
 
 -- as many of these names as were read were told, from the left
-pub record ReadsInOrder (names : List (List ℕ)) (before after : Option (List (List ℕ))) : Type 0 where
+pub record ReadsInOrder (names : List (List ℕ)) (before after : FilesSeen) : Type 0 where
   pub read : List (List ℕ)
-  pub front : IsPrefixOf read names
-  pub told : after ≡ option_map (λ so_far. so_far ++ read) before
+  pub front : IsFront read names
+  pub told : AreNoted read before after
 
 -- ---- what that says of files that are held
 
--- the files of these names have these contents, where the files tell
-pub record AreHeld (names contents : List (List ℕ)) (files : Option (List HeldFile)) : Type 0 where
+-- the file of this name has these bytes, where the files are told
+abbrev pub IsHeld : List ℕ → List ℕ → FilesSeen → Type 0
+IsHeld name bytes files = IfSome files.held (λ held. bytes ≡ content_of name held)
+
+-- the files of these names have these contents
+pub record AreHeld (names contents : List (List ℕ)) (files : FilesSeen) : Type 0 where
   pub count : length contents ≡ length names
-  pub held : IfSome files (λ fs. contents ≡ map (λ name. content_of name fs) names)
+  pub held : IfSome files.held (λ held. contents ≡ map (λ name. content_of name held) names)
 
 -- behind so many files, each within the limit, this one has more bytes
 pub record IsFirstLong (names : List (List ℕ)) (before : ℕ) (files : List HeldFile) : Type 0 where

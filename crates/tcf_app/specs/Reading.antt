@@ -1,21 +1,16 @@
 -- How one file is read behind others.
-use Rattle.std.specs.Prelude.{ℕ, ◌≡◌, ◌^◌, ◌<◌, List, Option, IfSome}
+use Rattle.std.specs.Prelude.{ℕ, ◌≡◌, ◌^◌, ◌<◌, List, Option}
 use Rattle.tcf_outside.specs.Faults.{Rose}
-use Rattle.tcf_outside.specs.Files.{content_of, read_of}
-use Rattle.tcf_outside.specs.declared.files.FileRead.{FileRead}
+use Rattle.tcf_outside.specs.Files.{IsReadOf}
 use Rattle.tcf_outside.specs.declared.files.FileRead.TheVariants.{Whole, Longer}
 use Rattle.tcf_outside.specs.declared.files.HeldFile.{HeldFile}
 use Rattle.tcf_app.specs.declared.reading.Unread.{Unread}
 use Rattle.tcf_app.specs.declared.reading.Unread.TheVariants as unread
 use Rattle.tcf_app.specs.Heard.{most_file}
 
--- a read of this file gives this, where the files tell what they hold
-abbrev pub Gives : List ℕ → Option (List HeldFile) → FileRead → Type 0
-Gives name files answer = IfSome files (λ fs. answer ≡ read_of (content_of name fs) most_file)
-
--- the file has these bytes
+-- a read of the file gives these bytes, where the files are told
 abbrev pub IsWholly : List ℕ → Option (List HeldFile) → List ℕ → Type 0
-IsWholly name files bytes = Gives name files (Whole bytes)
+IsWholly name held bytes = IsReadOf name most_file held (Whole bytes)
 
 -- behind so many it wasn't read whole
 pub record IsStopped (count before : ℕ) (Why : Type 0) : Type 0 where
@@ -23,9 +18,9 @@ pub record IsStopped (count before : ℕ) (Why : Type 0) : Type 0 where
   pub why : Why
 
 abbrev pub IsUnread : List ℕ → ℕ → Option (List HeldFile) → Unread → Type 0
-IsUnread name before files (unread.Longer count) = IsStopped count before (Gives name files Longer)
-IsUnread name before files (unread.Failed count) = count ≡ before
-IsUnread name before files unread.NoMemory = Unit {0}
+IsUnread name before held (unread.Longer count) = IsStopped count before (IsReadOf name most_file held Longer)
+IsUnread name before held (unread.Failed count) = count ≡ before
+IsUnread name before held unread.NoMemory = Unit {0}
 
 -- the count of faults rose where the read failed, and else stands still
 abbrev pub CountsUnread : ℕ → ℕ → Unread → Type 0

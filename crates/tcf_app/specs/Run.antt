@@ -1,16 +1,17 @@
 -- What each end of a run tells.
-use Rattle.std.specs.Prelude.{ℕ, ◌≡◌, ◌+◌, ◌<◌, ◌⊎◌, Bool, true, false, List, [], ◌∷◌, ◌++◌, length, Option, None, Some, Ok, Err, IfSome, take}
+use Rattle.std.specs.Prelude.{ℕ, ◌≡◌, ◌+◌, ◌<◌, ◌⊎◌, Bool, true, false, List, [], ◌∷◌, ◌++◌, length, Option, None, Some, Ok, Err, IfSome}
 use Rattle.std.specs.List.{list_any}
-use Rattle.tcf_outside.specs.Files.{content_of}
-use Rattle.tcf_outside.specs.Sink.{added}
+use Rattle.tcf_outside.specs.Faults.{Rose}
+use Rattle.tcf_outside.specs.Files.{FilesSeen}
+use Rattle.tcf_outside.specs.Sink.{SinkSeen, Took, TookFront}
 use Rattle.tcf_outside.specs.declared.files.HeldFile.{HeldFile}
 use Rattle.channel_core.specs.declared.states.Cause.{Cause}
 use Rattle.tcf_schedules.specs.Refusal.{BadLine}
 use Rattle.tcf_schedules.specs.Schedule.{ScheduleValue, schedule_of}
 use Rattle.tcf_schedules.specs.Script.{script_of}
-use Rattle.tcf_schedules.specs.declared.schedule.TextFault.{TextFault}
 use Rattle.tcf_schedules.specs.declared.script.ScriptLine.{ScriptLine}
 use Rattle.tcf_text.specs.Once.{Once}
+use Rattle.tcf_wires.specs.Told.{WiresSeen}
 use Rattle.tcf_wires.specs.declared.call.WireCall.{WireCall}
 use Rattle.tcf_wires.specs.declared.event.WireRefusal.TheVariants as refusals
 use Rattle.serving_wires.specs.Calls.{Makes}
@@ -32,17 +33,21 @@ use Rattle.tcf_app.specs.declared.exit.Exit.TheVariants.{Done, Usage, BadText, F
 use Rattle.tcf_app.specs.Words.{NamedFile, OrderValue, chain, show, load, agent, value, client, first_place, files_in, files_named, names_of}
 use Rattle.tcf_app.specs.Texts.{wire_fault_text, turns_text, bad_line_text, bad_stream_text, too_long_text}
 use Rattle.tcf_app.specs.Played.{printed, numbered, summed, client_text, world_of}
-use Rattle.tcf_app.specs.Heard.{Heard, Hears, heard_in, AreHeld, IsFirstLong}
+use Rattle.tcf_app.specs.Heard.{Heard, Hears, heard_in, IsHeld, AreHeld, IsFirstLong}
 use Rattle.tcf_app.specs.Show.{IsShown}
-use Rattle.tcf_app.specs.Ending.{Ending, Ends, EndsIn, IsEnding, images_with, wire_ending}
+use Rattle.tcf_app.specs.Ending.{Ending, Ends, EndsIn, IsEnding, images_with, fault_ending, wire_ending}
 
 -- ---- the run as a whole
 
 -- Something was heard of the files that the order names, these calls were made, and the run ends as it is to end then.
-pub record RunsBy (order : Option OrderValue) (files : Option (List HeldFile)) (faults_before faults_after : ℕ) (exit : Exit) (before after : Option (List ℕ)) (calls : List WireCall) : Type 0 where
+pub record RunsBy (order : Option OrderValue) (exit : Exit) (files files' : FilesSeen) (before after : SinkSeen) (calls : List WireCall) : Type 0 where
   pub heard : Heard
-  pub hears : Hears (names_of order) files faults_before faults_after heard
+  pub hears : Hears (names_of order) files files' heard
   pub ends : EndsIn (IsEnding order heard calls) exit before after
+
+-- the run made such calls: by what is seen of the files, the wires and the sink, before it and after it
+abbrev pub Runs : Option OrderValue → Exit → FilesSeen → FilesSeen → WiresSeen → WiresSeen → SinkSeen → SinkSeen → Type 0
+Runs order exit files files' wires wires' before after = Makes (RunsBy order exit files files' before after) wires wires'
 
 -- ---- chain, load and show
 
@@ -51,12 +56,12 @@ pub record RunsBy (order : Option OrderValue) (files : Option (List HeldFile)) (
 -- and shows where its cache is asked, and what each bound value-add knows, is true of the target at the position of the last
 -- message; each answer to a command that a value-add may answer is what the target answers at its position; and nothing is
 -- stuck.
-pub record IsPlayed (name : List ℕ) (files : Option (List HeldFile)) (before after : Option (List ℕ)) : Type 0 where
+pub record IsPlayed (name : List ℕ) (files : FilesSeen) (before after : SinkSeen) : Type 0 where
   pub file : List ℕ
-  pub held : IfSome files (λ fs. file ≡ content_of name fs)
+  pub held : IsHeld name file files
   pub schedule : ScheduleValue
   pub says : schedule_of file ≡ Ok schedule
-  pub put : after ≡ added (printed schedule) before
+  pub put : Took (printed schedule) before after
   pub faithful : IsFaithful (images_of schedule.images) (world_of schedule)
   pub ends : EndsAllRightly schedule.plans (world_of schedule)
   pub coherent : AreCoherent (images_of schedule.images) (world_of schedule)
@@ -65,8 +70,8 @@ pub record IsPlayed (name : List ℕ) (files : Option (List HeldFile)) (before a
 
 -- Exactly the sum of the schedule that the number gives was put: a line for each chain, which sums up the log that playing
 -- the schedule gives, and the length of the history. Of that world the same holds as of one that a file says.
-pub record IsSummed (number : ℕ) (before after : Option (List ℕ)) : Type 0 where
-  pub put : after ≡ added (summed (numbered number)) before
+pub record IsSummed (number : ℕ) (before after : SinkSeen) : Type 0 where
+  pub put : Took (summed (numbered number)) before after
   pub faithful : IsFaithful (images_of (numbered number).images) (world_of (numbered number))
   pub ends : EndsAllRightly (numbered number).plans (world_of (numbered number))
   pub coherent : AreCoherent (images_of (numbered number).images) (world_of (numbered number))
@@ -74,86 +79,86 @@ pub record IsSummed (number : ℕ) (before after : Option (List ℕ)) : Type 0 w
   pub unstuck : NothingIsStuck (world_of (numbered number))
 
 -- The file is shown without a bad place, and exactly the lines of its messages were put.
-pub record IsPrinted (name : List ℕ) (files : Option (List HeldFile)) (before after : Option (List ℕ)) : Type 0 where
+pub record IsPrinted (name : List ℕ) (files : FilesSeen) (before after : SinkSeen) : Type 0 where
   pub file : List ℕ
-  pub held : IfSome files (λ fs. file ≡ content_of name fs)
+  pub held : IsHeld name file files
   pub text : List ℕ
   pub shown : IsShown file (record { text = text; bad = None })
-  pub put : after ≡ added text before
+  pub put : Took text before after
 
 -- ---- agent, value and client
 
 -- An agent was served whose images have these names and what these files hold; its serving ended so, and this text was
 -- put.
-pub record IsServed (address : List ℕ) (turns : ℕ) (images : List NamedFile) (end : ServeEnd) (text : List ℕ) (files : Option (List HeldFile)) (told_before told_after : Option (List WireCall)) (wires_before wires_after : ℕ) (before after : Option (List ℕ)) : Type 0 where
+pub record IsServed (address : List ℕ) (turns : ℕ) (images : List NamedFile) (end : ServeEnd) (text : List ℕ) (files : FilesSeen) (wires wires' : WiresSeen) (before after : SinkSeen) : Type 0 where
   pub contents : List (List ℕ)
   pub held : AreHeld (files_in images) contents files
-  pub serves : Makes (ServesAgent (images_with images contents) address turns end) told_before told_after wires_before wires_after
-  pub put : after ≡ added text before
+  pub serves : Makes (ServesAgent (images_with images contents) address turns end) wires wires'
+  pub put : Took text before after
 
 -- Value-adds of this peer were served; their serving ended so, and this text was put.
-pub record AreServed (address peer : List ℕ) (turns : ℕ) (end : ServeEnd) (text : List ℕ) (told_before told_after : Option (List WireCall)) (wires_before wires_after : ℕ) (before after : Option (List ℕ)) : Type 0 where
-  pub serves : Makes (ServesValueAdds peer address turns end) told_before told_after wires_before wires_after
-  pub put : after ≡ added text before
+pub record AreServed (address peer : List ℕ) (turns : ℕ) (end : ServeEnd) (text : List ℕ) (wires wires' : WiresSeen) (before after : SinkSeen) : Type 0 where
+  pub serves : Makes (ServesValueAdds peer address turns end) wires wires'
+  pub put : Took text before after
 
 -- A client did the script that this file says; its run ended so, and its log was put, in which each command is answered
 -- once.
-pub record HasRun (address name : List ℕ) (turns : ℕ) (end : ClientEnd) (files : Option (List HeldFile)) (told_before told_after : Option (List WireCall)) (wires_before wires_after : ℕ) (before after : Option (List ℕ)) : Type 0 where
+pub record HasRun (address name : List ℕ) (turns : ℕ) (end : ClientEnd) (files : FilesSeen) (wires wires' : WiresSeen) (before after : SinkSeen) : Type 0 where
   pub file : List ℕ
-  pub held : IfSome files (λ fs. file ≡ content_of name fs)
+  pub held : IsHeld name file files
   pub script : List ScriptLine
   pub says : script_of file ≡ Ok script
   pub run : ClientRun
   pub ended : run.end ≡ end
-  pub runs : Makes (RunsClient script address turns (Ok run)) told_before told_after wires_before wires_after
+  pub runs : Makes (RunsClient script address turns (Ok run)) wires wires'
   pub once : Once false run.client.log
-  pub put : after ≡ added (client_text run.client.log) before
+  pub put : Took (client_text run.client.log) before after
 
 -- A client was to do the script that this file says, and the wires failed.
-pub record HasFailed (address name : List ℕ) (turns : ℕ) (files : Option (List HeldFile)) (told_before told_after : Option (List WireCall)) (wires_before wires_after : ℕ) (before after : Option (List ℕ)) : Type 0 where
+pub record HasFailed (address name : List ℕ) (turns : ℕ) (files : FilesSeen) (wires wires' : WiresSeen) (before after : SinkSeen) : Type 0 where
   pub file : List ℕ
-  pub held : IfSome files (λ fs. file ≡ content_of name fs)
+  pub held : IsHeld name file files
   pub script : List ScriptLine
   pub says : script_of file ≡ Ok script
-  pub runs : Makes (RunsClient script address turns (Err refusals.Failed)) told_before told_after wires_before wires_after
-  pub put : after ≡ added wire_fault_text before
+  pub runs : Makes (RunsClient script address turns (Err refusals.Failed)) wires wires'
+  pub put : Took wire_fault_text before after
 
 -- ---- each exit, by what was ordered
 
 -- what was done; of an agent and of value-adds, that `Stop` came, as the last of so many events
-abbrev pub IsDone : Option OrderValue → Option (List HeldFile) → Option (List WireCall) → Option (List WireCall) → ℕ → ℕ → Option (List ℕ) → Option (List ℕ) → Type 0
-IsDone None files told told' wires wires' before after = ⊥
-IsDone (Some (chain name)) files told told' wires wires' before after = IsPlayed name files before after
-IsDone (Some (show name)) files told told' wires wires' before after = IsPrinted name files before after
-IsDone (Some (load number)) files told told' wires wires' before after = IsSummed number before after
-IsDone (Some (agent address turns images)) files told told' wires wires' before after =
-    (events : ℕ) × IsServed address turns images (serve_ends.Stopped events) (turns_text events) files told told' wires wires' before after
-IsDone (Some (value address peer turns)) files told told' wires wires' before after =
-    (events : ℕ) × AreServed address peer turns (serve_ends.Stopped events) (turns_text events) told told' wires wires' before after
-IsDone (Some (client address name turns)) files told told' wires wires' before after = HasRun address name turns client_ends.Done files told told' wires wires' before after
+abbrev pub IsDone : Option OrderValue → FilesSeen → WiresSeen → WiresSeen → SinkSeen → SinkSeen → Type 0
+IsDone None files wires wires' before after = ⊥
+IsDone (Some (chain name)) files wires wires' before after = IsPlayed name files before after
+IsDone (Some (show name)) files wires wires' before after = IsPrinted name files before after
+IsDone (Some (load number)) files wires wires' before after = IsSummed number before after
+IsDone (Some (agent address turns images)) files wires wires' before after =
+    (events : ℕ) × IsServed address turns images (serve_ends.Stopped events) (turns_text events) files wires wires' before after
+IsDone (Some (value address peer turns)) files wires wires' before after =
+    (events : ℕ) × AreServed address peer turns (serve_ends.Stopped events) (turns_text events) wires wires' before after
+IsDone (Some (client address name turns)) files wires wires' before after = HasRun address name turns client_ends.Done files wires wires' before after
 
 -- all turns were taken
-abbrev pub AreTaken : Option OrderValue → Option (List HeldFile) → Option (List WireCall) → Option (List WireCall) → ℕ → ℕ → Option (List ℕ) → Option (List ℕ) → Type 0
-AreTaken (Some (agent address turns images)) files told told' wires wires' before after =
-    IsServed address turns images serve_ends.Turns (turns_text turns) files told told' wires wires' before after
-AreTaken (Some (value address peer turns)) files told told' wires wires' before after =
-    AreServed address peer turns serve_ends.Turns (turns_text turns) told told' wires wires' before after
-AreTaken (Some (client address name turns)) files told told' wires wires' before after = HasRun address name turns client_ends.Turns files told told' wires wires' before after
-AreTaken order files told told' wires wires' before after = ⊥
+abbrev pub AreTaken : Option OrderValue → FilesSeen → WiresSeen → WiresSeen → SinkSeen → SinkSeen → Type 0
+AreTaken (Some (agent address turns images)) files wires wires' before after =
+    IsServed address turns images serve_ends.Turns (turns_text turns) files wires wires' before after
+AreTaken (Some (value address peer turns)) files wires wires' before after =
+    AreServed address peer turns serve_ends.Turns (turns_text turns) wires wires' before after
+AreTaken (Some (client address name turns)) files wires wires' before after = HasRun address name turns client_ends.Turns files wires wires' before after
+AreTaken order files wires wires' before after = ⊥
 
 -- a client's run ended for this cause
-abbrev pub HasEnded : Cause → Option OrderValue → Option (List HeldFile) → Option (List WireCall) → Option (List WireCall) → ℕ → ℕ → Option (List ℕ) → Option (List ℕ) → Type 0
-HasEnded cause (Some (client address name turns)) files told told' wires wires' before after = HasRun address name turns (client_ends.Ended cause) files told told' wires wires' before after
-HasEnded cause order files told told' wires wires' before after = ⊥
+abbrev pub HasEnded : Cause → Option OrderValue → FilesSeen → WiresSeen → WiresSeen → SinkSeen → SinkSeen → Type 0
+HasEnded cause (Some (client address name turns)) files wires wires' before after = HasRun address name turns (client_ends.Ended cause) files wires wires' before after
+HasEnded cause order files wires wires' before after = ⊥
 
 -- a call of the wires failed, the last one; of value-adds, that one listened or asked for an event, and didn't connect
-abbrev pub HaveFailed : Option OrderValue → Option (List HeldFile) → Option (List WireCall) → Option (List WireCall) → ℕ → ℕ → Option (List ℕ) → Option (List ℕ) → Type 0
-HaveFailed (Some (agent address turns images)) files told told' wires wires' before after =
-    IsServed address turns images serve_ends.WireFault wire_fault_text files told told' wires wires' before after
-HaveFailed (Some (value address peer turns)) files told told' wires wires' before after =
-    AreServed address peer turns serve_ends.WireFault wire_fault_text told told' wires wires' before after
-HaveFailed (Some (client address name turns)) files told told' wires wires' before after = HasFailed address name turns files told told' wires wires' before after
-HaveFailed order files told told' wires wires' before after = ⊥
+abbrev pub HaveFailed : Option OrderValue → FilesSeen → WiresSeen → WiresSeen → SinkSeen → SinkSeen → Type 0
+HaveFailed (Some (agent address turns images)) files wires wires' before after =
+    IsServed address turns images serve_ends.WireFault wire_fault_text files wires wires' before after
+HaveFailed (Some (value address peer turns)) files wires wires' before after =
+    AreServed address peer turns serve_ends.WireFault wire_fault_text wires wires' before after
+HaveFailed (Some (client address name turns)) files wires wires' before after = HasFailed address name turns files wires wires' before after
+HaveFailed order files wires wires' before after = ⊥
 
 -- a file has this line as its first bad one, by the command that reads it
 abbrev pub SaysBad : Option OrderValue → List ℕ → BadLine → Type 0
@@ -163,33 +168,33 @@ SaysBad order file bad = ⊥
 
 -- The file that `chain` or `client` names has this line as its first bad one, with this as the first of its reasons, and
 -- the text that says so was put.
-pub record IsBadText (order : Option OrderValue) (files : Option (List HeldFile)) (line : ℕ) (what : TextFault) (before after : Option (List ℕ)) : Type 0 where
+pub record IsBadText (order : Option OrderValue) (files : FilesSeen) (bad : BadLine) (before after : SinkSeen) : Type 0 where
   pub name : List ℕ
   pub named : names_of order ≡ name ∷ []
   pub file : List ℕ
-  pub held : IfSome files (λ fs. file ≡ content_of name fs)
-  pub says : SaysBad order file (record { line = line; what = what })
-  pub put : after ≡ added (bad_line_text line what) before
+  pub held : IsHeld name file files
+  pub says : SaysBad order file bad
+  pub put : Took (bad_line_text bad.line bad.what) before after
 
 -- The file that `show` names is shown with this bad place. The lines before it were put, and the text that names it.
-pub record IsBadStream (order : Option OrderValue) (files : Option (List HeldFile)) (bad : BadPlace) (before after : Option (List ℕ)) : Type 0 where
+pub record IsBadStream (order : Option OrderValue) (files : FilesSeen) (bad : BadPlace) (before after : SinkSeen) : Type 0 where
   pub name : List ℕ
   pub ordered : order ≡ Some (show name)
   pub file : List ℕ
-  pub held : IfSome files (λ fs. file ≡ content_of name fs)
+  pub held : IsHeld name file files
   pub text : List ℕ
   pub shown : IsShown file (record { text = text; bad = Some bad })
-  pub put : after ≡ added (text ++ bad_stream_text bad) before
+  pub put : Took (text ++ bad_stream_text bad) before after
 
 -- The file that this word names is the first one that has more bytes than the limit, and the text that says so was put.
-pub record IsTooLong (order : Option OrderValue) (files : Option (List HeldFile)) (word : ℕ) (before after : Option (List ℕ)) : Type 0 where
+pub record IsTooLong (order : Option OrderValue) (files : FilesSeen) (word : ℕ) (before after : SinkSeen) : Type 0 where
   pub what : OrderValue
   pub ordered : order ≡ Some what
   pub count : ℕ
   pub some : count < length (files_named what)
-  pub held : IfSome files (IsFirstLong (files_named what) count)
+  pub held : IfSome files.held (IsFirstLong (files_named what) count)
   pub place : word ≡ first_place what + count
-  pub put : after ≡ added (too_long_text word) before
+  pub put : Took (too_long_text word) before after
 
 -- ---- where the wires are used
 
@@ -226,20 +231,33 @@ ends_run (Some (value address peer turns)) = breaks
 ends_run order = fails
 
 -- such a call ends the run with the line that says so, or while that is put
-abbrev pub AreHeeded : Option OrderValue → Exit → Option (List ℕ) → Option (List ℕ) → List WireCall → Type 0
+abbrev pub AreHeeded : Option OrderValue → Exit → SinkSeen → SinkSeen → List WireCall → Type 0
 AreHeeded order exit before after calls = (list_any (ends_run order) calls ≡ false) ⊎ Ends wire_ending exit before after
+
+-- a read that failed ends the run with the line that says so, or while that is put
+abbrev pub IsReadHeeded : Exit → FilesSeen → FilesSeen → SinkSeen → SinkSeen → Type 0
+IsReadHeeded exit files files' before after = (files'.faults ≡ files.faults) ⊎ Ends fault_ending exit before after
 
 -- ---- given up, and complete
 
 -- What was put is a front of the text of an ending that the order has for what was heard of its files and the calls that
 -- were made.
-pub record PutsFront (order : Option OrderValue) (files : Option (List HeldFile)) (faults_before faults_after : ℕ) (before after : Option (List ℕ)) (calls : List WireCall) : Type 0 where
+pub record PutsFront (order : Option OrderValue) (files files' : FilesSeen) (before after : SinkSeen) (calls : List WireCall) : Type 0 where
   pub heard : Heard
-  pub hears : Hears (names_of order) files faults_before faults_after heard
+  pub hears : Hears (names_of order) files files' heard
   pub ending : Ending
   pub its : IsEnding order heard calls ending
-  pub front : (count : ℕ) × (after ≡ added (take count ending.text) before)
+  pub front : TookFront ending.text before after
+
+abbrev pub IsFrontPut : Option OrderValue → FilesSeen → FilesSeen → WiresSeen → WiresSeen → SinkSeen → SinkSeen → Type 0
+IsFrontPut order files files' wires wires' before after = Makes (PutsFront order files files' before after) wires wires'
 
 -- an exit that the order has over these files and by these calls, or want of memory
 abbrev pub ExitsOver : Option OrderValue → List HeldFile → Exit → List WireCall → Type 0
-ExitsOver order files exit calls = ((ending : Ending) × IsEnding order (heard_in (names_of order) files) calls ending × (exit ≡ ending.exit)) ⊎ (exit ≡ NoMemory)
+ExitsOver order files exit calls =
+    ((ending : Ending) × IsEnding order (heard_in (names_of order) files) calls ending × (exit ≡ ending.exit)) ⊎ (exit ≡ NoMemory)
+
+-- where the files are told, and neither a read nor a put was a fault, nothing but these and the calls decides the exit
+abbrev pub IsDecided : Option OrderValue → Exit → FilesSeen → FilesSeen → WiresSeen → WiresSeen → SinkSeen → SinkSeen → Type 0
+IsDecided order exit files files' wires wires' before after =
+    IfSome files.held (λ held. (Rose files.faults files'.faults → ⊥) → (Rose before.faults after.faults → ⊥) → Makes (ExitsOver order held exit) wires wires')

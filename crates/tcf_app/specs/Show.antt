@@ -1,5 +1,6 @@
 -- What `show` makes of a file: the lines of its messages, and the place where it is bad, if it is.
 use Rattle.std.specs.Prelude.{◌≡◌, ℕ, ◌+◌, List, [], ◌∷◌, ◌++◌, length, codes, Option, Some, None, Result, Ok, Err, if◌then◌else◌}
+use Rattle.tcf_outside.specs.Sink.{SinkSeen, Took, TookFront}
 use Rattle.stream_escape.specs.declared.stream.Item.{Item}
 use Rattle.stream_escape.specs.declared.stream.Item.TheVariants.{Message, End}
 use Rattle.stream_escape.specs.Stream.{Ending, framed, Reads, Cause, bad_escape, too_long, after_end, Refuses}
@@ -72,6 +73,14 @@ pub data IsShown (file : List ℕ) (shown : Shown) : Type 0 where
   broken : (items : List Item) (ending : Ending) (place : ℕ) (cause : Cause)
       → Refuses file items ending place cause → shown ≡ shown_items 0 items (Some (bad_at place (what_for cause)))
       → IsShown file shown
+
+-- the file is shown with this bad place, or with none, and exactly its lines were put
+abbrev pub PutsLines : List ℕ → Option BadPlace → SinkSeen → SinkSeen → Type 0
+PutsLines file bad before after = (text : List ℕ) × IsShown file (record { text = text; bad = bad }) × Took text before after
+
+-- a front of the lines that the file is shown as was put
+abbrev pub PutsPart : List ℕ → SinkSeen → SinkSeen → Type 0
+PutsPart file before after = (shown : Shown) × IsShown file shown × TookFront shown.text before after
 
 -- the law: each file is shown in one way,
 abbrev pub IsShownOnce : Type 0

@@ -1,6 +1,7 @@
 -- What the words after the program's name ask for.
-use Rattle.std.specs.Prelude.{ℕ, ◌==◌, ◌^◌, Bool, true, ◌&&◌, not, List, [], ◌∷◌, length, map, nat_lt, string_bytes, Option, Some, None, option_map, if◌then◌else◌, codes, decimal}
+use Rattle.std.specs.Prelude.{ℕ, ◌==◌, ◌^◌, Bool, true, ◌&&◌, not, List, [], ◌∷◌, length, map, nat_lt, String, string_bytes, Option, Some, None, option_map, if◌then◌else◌, codes, decimal}
 use Rattle.std.specs.List.{list_any}
+use Rattle.std.specs.declared.alloc.Global.{Global}
 use Rattle.std.specs.Str.{bytes_eq}
 use Rattle.std.specs.Str.Parse.{digits_value}
 use Rattle.tcf_values.specs.Cut.{cut_of}
@@ -36,6 +37,10 @@ image_in word = image_by (cut_of 61 word)
 abbrev pub images_in : List (List ℕ) → List NamedFile
 images_in words = map image_in words
 
+-- the images that these words of a program give
+abbrev pub images_given : List (String Global) → List NamedFile
+images_given words = images_in (map string_bytes words)
+
 -- the files of the images
 abbrev pub files_in : List NamedFile → List (List ℕ)
 files_in images = map (λ (image : NamedFile). image.file) images
@@ -55,7 +60,7 @@ abbrev pub order_value : Order → OrderValue
 order_value (Chain file) = chain file.now
 order_value (Show file) = show file.now
 order_value (Load number) = load number
-order_value (Agent address turns images) = agent address.now turns (images_in (map string_bytes images.now))
+order_value (Agent address turns images) = agent address.now turns (images_given images.now)
 order_value (Value address peer turns) = value address.now peer.now turns
 order_value (Client address script turns) = client address.now script.now turns
 
@@ -132,6 +137,10 @@ abbrev pub order_of : List (List ℕ) → Option OrderValue
 order_of (command ∷ file ∷ []) = order_with command file
 order_of (command ∷ address ∷ word ∷ words) = serving_with command address word words
 order_of words = None
+
+-- the order that these words of a program are
+abbrev pub order_in : List (String Global) → Option OrderValue
+order_in words = order_of (map string_bytes words)
 
 -- ---- the files that an order names, from the left
 

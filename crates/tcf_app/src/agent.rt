@@ -1,7 +1,6 @@
 //! The run of `agent`: it is served, and the number of the events that it took is printed.
-ghost use Rattle.std.specs.Prelude.{◌≡◌};
-ghost use Rattle.tcf_outside.specs.Faults.{Rose};
 ghost use Rattle.serving_wires.specs.Calls.{Makes};
+ghost use Rattle.tcf_app.specs.Exit.{TellsFault};
 ghost use Rattle.tcf_app.specs.Ending.{EndsIn, IsServedEnding};
 
 use crate::exit::Exit;
@@ -20,9 +19,9 @@ pub(crate) fn serve_images<S: Sink, W: Wires>(
     out: &mut S,
     wires: &mut W,
 ) -> Exit
-    ensures ends { Makes (λ calls. EndsIn (IsServedEnding images.items address.now turns calls) result (S.told out.old) (S.told out.new)) (W.told wires.old) (W.told wires.new) (W.faults wires.old) (W.faults wires.new) }
-    ensures fault { result ≡ Exit.SinkFault → Rose (S.faults out.old) (S.faults out.new) }
-    ensures unharmed { (result ≡ Exit.SinkFault → ⊥) → S.faults out.new ≡ S.faults out.old }
+    ensures ends { Makes (λ calls. EndsIn (IsServedEnding images.items address.now turns calls) result
+        (S.seen out.old) (S.seen out.new)) (W.seen wires.old) (W.seen wires.new) }
+    ensures fault { TellsFault result (S.seen out.old) (S.seen out.new) }
 {
     let end = serve_agent(alloc, wires, address, turns, images);
     report_serving(alloc, end, turns, out)

@@ -1,10 +1,10 @@
 //! The run of `chain`: the schedule is played, and the log of each chain is printed.
 ghost use Rattle.std.specs.Prelude.{◌≡◌, ◌++◌, length, IfOk, OnOk};
 ghost use Rattle.std.specs.List.{AllByRecursion};
-ghost use Rattle.tcf_outside.specs.Faults.{Rose};
 ghost use Rattle.tcf_schedules.specs.Plan.{plans_of};
 ghost use Rattle.tcf_schedules.specs.Schedule.{meaning, schedule_of};
 ghost use Rattle.chain_world.specs.World.{IsPlayable};
+ghost use Rattle.tcf_app.specs.Exit.{TellsFault};
 ghost use Rattle.tcf_app.specs.Ending.{Ends, played_ending};
 ghost use Rattle.tcf_app.specs.Played.{printed, chain_line, history_line, chains_text, world_of};
 
@@ -74,9 +74,8 @@ fn text_of(alloc: Global, schedule: &Schedule) -> Result<Octets, AllocError>
 
 /// Plays the schedule that the file says, and puts what comes of it.
 pub(crate) fn play_file<S: Sink>(alloc: Global, file: &[u8], out: &mut S) -> Exit
-    ensures ends { Ends (played_ending (schedule_of file.now)) result (S.told out.old) (S.told out.new) }
-    ensures fault { result ≡ Exit.SinkFault → Rose (S.faults out.old) (S.faults out.new) }
-    ensures unharmed { (result ≡ Exit.SinkFault → ⊥) → S.faults out.new ≡ S.faults out.old }
+    ensures ends { Ends (played_ending (schedule_of file.now)) result (S.seen out.old) (S.seen out.new) }
+    ensures fault { TellsFault result (S.seen out.old) (S.seen out.new) }
 {
     read_is_playable();
     match read_schedule(alloc, file) {

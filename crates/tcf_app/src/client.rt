@@ -1,8 +1,8 @@
 //! The run of `client`: the script is done, and the client's log is printed.
 ghost use Rattle.std.specs.Prelude.{◌≡◌, IfOk};
-ghost use Rattle.tcf_outside.specs.Faults.{Rose};
 ghost use Rattle.tcf_schedules.specs.Script.{script_of};
 ghost use Rattle.serving_wires.specs.Calls.{Makes};
+ghost use Rattle.tcf_app.specs.Exit.{TellsFault};
 ghost use Rattle.tcf_app.specs.Played.{client_text};
 ghost use Rattle.tcf_app.specs.Ending.{Ends, EndsIn, IsRanEnding, exit_of, ran_ending};
 
@@ -40,18 +40,17 @@ fn exit_of(end: ClientEnd) -> Exit
 
 /// Puts the log of a run.
 fn put_log<S: Sink>(alloc: Global, run: &ClientRun, out: &mut S) -> Exit
-    ensures ends { Ends (record { exit = exit_of run.now.end; text = client_text run.now.client.log }) result (S.told out.old) (S.told out.new) }
-    ensures fault { result ≡ Exit.SinkFault → Rose (S.faults out.old) (S.faults out.new) }
-    ensures unharmed { (result ≡ Exit.SinkFault → ⊥) → S.faults out.new ≡ S.faults out.old }
+    ensures ends { Ends (record { exit = exit_of run.now.end; text = client_text run.now.client.log }) result
+        (S.seen out.old) (S.seen out.new) }
+    ensures fault { TellsFault result (S.seen out.old) (S.seen out.new) }
 {
     finish_made(out, text_of(alloc, &run.client), exit_of(run.end))
 }
 
 /// Puts the text of a run that came to this.
 fn report_run<S: Sink>(alloc: Global, ran: Result<ClientRun, WireRefusal>, out: &mut S) -> Exit
-    ensures ends { Ends (ran_ending ran) result (S.told out.old) (S.told out.new) }
-    ensures fault { result ≡ Exit.SinkFault → Rose (S.faults out.old) (S.faults out.new) }
-    ensures unharmed { (result ≡ Exit.SinkFault → ⊥) → S.faults out.new ≡ S.faults out.old }
+    ensures ends { Ends (ran_ending ran) result (S.seen out.old) (S.seen out.new) }
+    ensures fault { TellsFault result (S.seen out.old) (S.seen out.new) }
 {
     match ran {
         Ok(run) => put_log(alloc, &run, out),
@@ -69,9 +68,9 @@ pub(crate) fn do_script<S: Sink, W: Wires>(
     out: &mut S,
     wires: &mut W,
 ) -> Exit
-    ensures ends { Makes (λ calls. EndsIn (IsRanEnding (script_of file.now) address.now turns calls) result (S.told out.old) (S.told out.new)) (W.told wires.old) (W.told wires.new) (W.faults wires.old) (W.faults wires.new) }
-    ensures fault { result ≡ Exit.SinkFault → Rose (S.faults out.old) (S.faults out.new) }
-    ensures unharmed { (result ≡ Exit.SinkFault → ⊥) → S.faults out.new ≡ S.faults out.old }
+    ensures ends { Makes (λ calls. EndsIn (IsRanEnding (script_of file.now) address.now turns calls) result
+        (S.seen out.old) (S.seen out.new)) (W.seen wires.old) (W.seen wires.new) }
+    ensures fault { TellsFault result (S.seen out.old) (S.seen out.new) }
 {
     match read_script(alloc, file) {
         Ok(script) => {

@@ -1,7 +1,6 @@
 //! The end of a run: its last text is put, and its exit is given.
 ghost use Rattle.std.specs.Prelude.{◌≡◌, ◌++◌, ◌∷◌, [], IfOk, OnOk, OnErr};
-ghost use Rattle.tcf_outside.specs.Faults.{Rose};
-ghost use Rattle.tcf_app.specs.Exit.{IsGivenUp};
+ghost use Rattle.tcf_app.specs.Exit.{IsGivenUp, TellsFault};
 ghost use Rattle.tcf_app.specs.Ending.{Ends};
 
 use crate::exit::Exit;
@@ -11,9 +10,8 @@ use tcf_outside::{Octets, Sink, SinkRefusal, put_all};
 /// Puts the text, and gives the exit where all of it was put.
 pub(crate) fn finish<S: Sink>(out: &mut S, text: &[u8], exit: Exit) -> Exit
     requires { IsGivenUp exit → ⊥ }
-    ensures ends { Ends (record { exit = exit; text = text.now }) result (S.told out.old) (S.told out.new) }
-    ensures fault { result ≡ Exit.SinkFault → Rose (S.faults out.old) (S.faults out.new) }
-    ensures unharmed { (result ≡ Exit.SinkFault → ⊥) → S.faults out.new ≡ S.faults out.old }
+    ensures ends { Ends (record { exit = exit; text = text.now }) result (S.seen out.old) (S.seen out.new) }
+    ensures fault { TellsFault result (S.seen out.old) (S.seen out.new) }
 {
     match put_all(out, text) {
         Ok(()) => exit,
@@ -29,10 +27,10 @@ pub(crate) fn finish_made<S: Sink>(
     exit: Exit,
 ) -> Exit
     requires { IsGivenUp exit → ⊥ }
-    ensures ends { IfOk made (λ text. Ends (record { exit = exit; text = text }) result (S.told out.old) (S.told out.new)) }
-    ensures wanting { OnErr made ((result ≡ Exit.NoMemory) × (S.told out.new ≡ S.told out.old)) }
-    ensures fault { result ≡ Exit.SinkFault → Rose (S.faults out.old) (S.faults out.new) }
-    ensures unharmed { (result ≡ Exit.SinkFault → ⊥) → S.faults out.new ≡ S.faults out.old }
+    ensures ends { IfOk made (λ text. Ends (record { exit = exit; text = text }) result
+        (S.seen out.old) (S.seen out.new)) }
+    ensures wanting { OnErr made ((result ≡ Exit.NoMemory) × (S.seen out.new ≡ S.seen out.old)) }
+    ensures fault { TellsFault result (S.seen out.old) (S.seen out.new) }
 {
     match made {
         Ok(text) => finish(out, text.as_slice(), exit),

@@ -1,10 +1,10 @@
 //! The run of `load`: the schedule that a number gives is played, and the log of each chain is summed up.
 ghost use Rattle.std.specs.Prelude.{◌≡◌, ◌++◌, length, IfOk, OnOk};
 ghost use Rattle.std.specs.List.{AllByRecursion};
-ghost use Rattle.tcf_outside.specs.Faults.{Rose};
 ghost use Rattle.tcf_schedules.specs.Plan.{plans_of};
 ghost use Rattle.tcf_schedules.specs.Schedule.{meaning};
 ghost use Rattle.chain_world.specs.World.{IsPlayable};
+ghost use Rattle.tcf_app.specs.Exit.{TellsFault};
 ghost use Rattle.tcf_app.specs.Ending.{Ends, summed_ending};
 ghost use Rattle.tcf_app.specs.Played.{numbered, summed, sums_text};
 
@@ -55,9 +55,8 @@ fn text_of(alloc: Global, number: u64) -> Result<Octets, AllocError>
 
 /// Plays the schedule that the number gives, and puts the sum of what comes of it.
 pub(crate) fn play_number<S: Sink>(alloc: Global, number: u64, out: &mut S) -> Exit
-    ensures ends { Ends (summed_ending number) result (S.told out.old) (S.told out.new) }
-    ensures fault { result ≡ Exit.SinkFault → Rose (S.faults out.old) (S.faults out.new) }
-    ensures unharmed { (result ≡ Exit.SinkFault → ⊥) → S.faults out.new ≡ S.faults out.old }
+    ensures ends { Ends (summed_ending number) result (S.seen out.old) (S.seen out.new) }
+    ensures fault { TellsFault result (S.seen out.old) (S.seen out.new) }
 {
     finish_made(out, text_of(alloc, number), Exit::Done)
 }

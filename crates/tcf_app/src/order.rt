@@ -1,6 +1,6 @@
 //! What the words after the program's name ask for.
 ghost use Rattle.std.specs.Prelude.{◌≡◌, option_map, map, string_bytes};
-ghost use Rattle.tcf_app.specs.Words.{load, order_value, image_value, image_in, images_in, has_name, are_named, number_in, turns_of, last_turns, order_with, agent_by, value_by, client_by, serving_with, order_of};
+ghost use Rattle.tcf_app.specs.Words.{load, order_value, image_value, image_in, images_given, has_name, are_named, number_in, turns_of, last_turns, order_with, agent_by, value_by, client_by, serving_with, order_in};
 
 use itoa::Buffer;
 use tcf_values::number_within;
@@ -59,7 +59,7 @@ pub(crate) fn image_in(word: &str) -> ImageWord<'_>
 
 /// Whether one of the words gives this name.
 fn has_name(name: &str, words: &[String]) -> bool
-    ensures { result ≡ has_name name.now (images_in (map string_bytes words.now)) }
+    ensures { result ≡ has_name name.now (images_given words.now) }
 {
     for word in words {
         if image_in(word.as_str()).name == name {
@@ -71,7 +71,7 @@ fn has_name(name: &str, words: &[String]) -> bool
 
 /// Whether each word gives an image a name, and no name is given twice.
 fn are_images(words: &[String]) -> bool
-    ensures { result ≡ are_named (images_in (map string_bytes words.now)) }
+    ensures { result ≡ are_named (images_given words.now) }
 {
     for (at, word) in words.iter().enumerate() {
         let name = image_in(word.as_str()).name;
@@ -132,7 +132,7 @@ fn order_with<'a>(command: &str, word: &'a str) -> Option<Order<'a>>
 
 /// The order to serve an agent.
 fn agent_order<'a>(address: &'a str, turns: &str, images: &'a [String]) -> Option<Order<'a>>
-    ensures { option_map order_value result ≡ agent_by address.now (images_in (map string_bytes images.now)) (turns_of turns.now) }
+    ensures { option_map order_value result ≡ agent_by address.now (images_given images.now) (turns_of turns.now) }
 {
     let turns = turns_in(turns)?;
     if !are_images(images) {
@@ -189,7 +189,7 @@ fn serving_with<'a>(
 
 /// The order that the words are, if they are one.
 pub(crate) fn read_words(words: &[String]) -> Option<Order<'_>>
-    ensures { option_map order_value result ≡ order_of (map string_bytes words.now) }
+    ensures { option_map order_value result ≡ order_in words.now }
 {
     match words {
         [command, word] => order_with(command.as_str(), word.as_str()),

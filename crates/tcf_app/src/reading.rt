@@ -1,7 +1,7 @@
 //! The files that an order names are read from the left, each whole.
-ghost use Rattle.std.specs.Prelude.{◌≡◌, ◌++◌, ◌∷◌, [], map, option_map, string_bytes, IfOk, IfErr, OnOk, OnErr};
-ghost use Rattle.tcf_app.specs.Words.{image_in, images_in, files_in};
-ghost use Rattle.tcf_app.specs.Heard.{whole, Hears, HearsPart, ReadsInOrder};
+ghost use Rattle.std.specs.Prelude.{◌≡◌, ◌∷◌, [], IfOk, IfErr, OnOk, OnErr};
+ghost use Rattle.tcf_app.specs.Words.{image_in, images_given, files_in};
+ghost use Rattle.tcf_app.specs.Heard.{whole, Hears, HearsPart, AreNoted, ReadsInOrder};
 ghost use Rattle.tcf_app.specs.Reading.{IsWholly, IsUnread, CountsUnread, HasRoom};
 ghost use Rattle.tcf_app.specs.Ending.{images_with, contents_of};
 
@@ -46,13 +46,13 @@ impl<T: Drop> From<AllocFailed<T>> for Unread {
 
 /// Reads the file of this name, behind so many others.
 fn read_next<F: Files>(files: &mut F, name: &str, before: usize) -> Result<Octets, Unread>
-    ensures whole { IfOk result (IsWholly name.now (F.held files.old)) }
-    ensures calm { OnOk result (F.faults files.new ≡ F.faults files.old) }
-    ensures noted { OnOk result (F.names files.new ≡ option_map (λ so_far. so_far ++ name.now ∷ []) (F.names files.old)) }
-    ensures part { IfErr result (IsUnread name.now before (F.held files.old)) }
-    ensures counts { IfErr result (CountsUnread (F.faults files.old) (F.faults files.new)) }
-    ensures part_noted { OnErr result (ReadsInOrder (name.now ∷ []) (F.names files.old) (F.names files.new)) }
-    ensures kept { F.held files.new ≡ F.held files.old }
+    ensures whole { IfOk result (IsWholly name.now (F.seen files.old).held) }
+    ensures calm { OnOk result ((F.seen files.new).faults ≡ (F.seen files.old).faults) }
+    ensures noted { OnOk result (AreNoted (name.now ∷ []) (F.seen files.old) (F.seen files.new)) }
+    ensures part { IfErr result (IsUnread name.now before (F.seen files.old).held) }
+    ensures counts { IfErr result (CountsUnread (F.seen files.old).faults (F.seen files.new).faults) }
+    ensures part_noted { OnErr result (ReadsInOrder (name.now ∷ []) (F.seen files.old) (F.seen files.new)) }
+    ensures kept { (F.seen files.new).held ≡ (F.seen files.old).held }
 {
     match files.read(name, FILE_LIMIT) {
         Ok(FileRead::Whole(bytes)) => Ok(bytes),
@@ -64,10 +64,11 @@ fn read_next<F: Files>(files: &mut F, name: &str, before: usize) -> Result<Octet
 
 /// Reads the one file of this name.
 pub(crate) fn read_file<F: Files>(files: &mut F, name: &str) -> Result<Octets, Unread>
-    ensures whole { IfOk result (λ bytes. Hears (name.now ∷ []) (F.held files.old) (F.faults files.old) (F.faults files.new) (whole (bytes ∷ []))) }
-    ensures part { IfErr result (HearsPart (name.now ∷ []) (F.held files.old) (F.faults files.old) (F.faults files.new)) }
+    ensures whole { IfOk result (λ bytes. Hears (name.now ∷ []) (F.seen files.old) (F.seen files.new)
+        (whole (bytes ∷ []))) }
+    ensures part { IfErr result (HearsPart (name.now ∷ []) (F.seen files.old) (F.seen files.new)) }
     ensures room { IfErr result HasRoom }
-    ensures reads { ReadsInOrder (name.now ∷ []) (F.names files.old) (F.names files.new) }
+    ensures reads { ReadsInOrder (name.now ∷ []) (F.seen files.old) (F.seen files.new) }
 {
     read_next(files, name, 0)
 }
@@ -80,13 +81,14 @@ fn read_image<F: Files>(
     files: &mut F,
 ) -> Result<Image, Unread>
     ensures named { IfOk result (λ image. image.name ≡ (image_in word.now).name) }
-    ensures whole { IfOk result (λ image. IsWholly (image_in word.now).file (F.held files.old) image.bytes) }
-    ensures calm { OnOk result (F.faults files.new ≡ F.faults files.old) }
-    ensures noted { OnOk result (F.names files.new ≡ option_map (λ so_far. so_far ++ (image_in word.now).file ∷ []) (F.names files.old)) }
-    ensures part { IfErr result (IsUnread (image_in word.now).file before (F.held files.old)) }
-    ensures counts { IfErr result (CountsUnread (F.faults files.old) (F.faults files.new)) }
-    ensures part_noted { OnErr result (ReadsInOrder ((image_in word.now).file ∷ []) (F.names files.old) (F.names files.new)) }
-    ensures kept { F.held files.new ≡ F.held files.old }
+    ensures whole { IfOk result (λ image. IsWholly (image_in word.now).file (F.seen files.old).held image.bytes) }
+    ensures calm { OnOk result ((F.seen files.new).faults ≡ (F.seen files.old).faults) }
+    ensures noted { OnOk result (AreNoted ((image_in word.now).file ∷ []) (F.seen files.old) (F.seen files.new)) }
+    ensures part { IfErr result (IsUnread (image_in word.now).file before (F.seen files.old).held) }
+    ensures counts { IfErr result (CountsUnread (F.seen files.old).faults (F.seen files.new).faults) }
+    ensures part_noted { OnErr result (ReadsInOrder ((image_in word.now).file ∷ [])
+        (F.seen files.old) (F.seen files.new)) }
+    ensures kept { (F.seen files.new).held ≡ (F.seen files.old).held }
 {
     let word = image_in(word);
     let bytes = read_next(files, word.file, before)?;
@@ -100,11 +102,14 @@ pub(crate) fn read_images<F: Files>(
     words: &[String],
     files: &mut F,
 ) -> Result<Vec<Image>, Unread>
-    ensures named { IfOk result (λ images. images.items ≡ images_with (images_in (map string_bytes words.now)) (contents_of images.items)) }
-    ensures whole { IfOk result (λ images. Hears (files_in (images_in (map string_bytes words.now))) (F.held files.old) (F.faults files.old) (F.faults files.new) (whole (contents_of images.items))) }
-    ensures part { IfErr result (HearsPart (files_in (images_in (map string_bytes words.now))) (F.held files.old) (F.faults files.old) (F.faults files.new)) }
+    ensures named { IfOk result (λ images. images.items
+        ≡ images_with (images_given words.now) (contents_of images.items)) }
+    ensures whole { IfOk result (λ images. Hears (files_in (images_given words.now))
+        (F.seen files.old) (F.seen files.new) (whole (contents_of images.items))) }
+    ensures part { IfErr result (HearsPart (files_in (images_given words.now))
+        (F.seen files.old) (F.seen files.new)) }
     ensures room { IfErr result HasRoom }
-    ensures reads { ReadsInOrder (files_in (images_in (map string_bytes words.now))) (F.names files.old) (F.names files.new) }
+    ensures reads { ReadsInOrder (files_in (images_given words.now)) (F.seen files.old) (F.seen files.new) }
 {
     let mut images = Vec::new(alloc);
     for word in words {

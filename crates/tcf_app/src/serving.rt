@@ -1,6 +1,5 @@
 //! The end of a run that served: the number of the events that were taken is printed.
-ghost use Rattle.std.specs.Prelude.{◌≡◌};
-ghost use Rattle.tcf_outside.specs.Faults.{Rose};
+ghost use Rattle.tcf_app.specs.Exit.{TellsFault};
 ghost use Rattle.tcf_app.specs.Ending.{Ends, served_ending};
 
 use crate::exit::Exit;
@@ -13,9 +12,8 @@ use tcf_outside::Sink;
 
 /// Puts the text of a serving that ended so, of so many turns.
 pub(crate) fn report_serving<S: Sink>(alloc: Global, end: ServeEnd, turns: u32, out: &mut S) -> Exit
-    ensures ends { Ends (served_ending turns end) result (S.told out.old) (S.told out.new) }
-    ensures fault { result ≡ Exit.SinkFault → Rose (S.faults out.old) (S.faults out.new) }
-    ensures unharmed { (result ≡ Exit.SinkFault → ⊥) → S.faults out.new ≡ S.faults out.old }
+    ensures ends { Ends (served_ending turns end) result (S.seen out.old) (S.seen out.new) }
+    ensures fault { TellsFault result (S.seen out.old) (S.seen out.new) }
 {
     match end {
         ServeEnd::Stopped { events } => finish_made(out, turns_line(alloc, events), Exit::Done),

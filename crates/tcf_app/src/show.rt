@@ -1,10 +1,10 @@
 //! The run of `show`: a stream is read in pieces, and the lines of each piece's messages are put.
-ghost use Rattle.std.specs.Prelude.{◌≡◌, ◌≢◌, ◌==◌, ◌+◌, ◌++◌, ◌∷◌, [], ℕ, List, None, Some, Option, take, count_by, IfOk, OnOk, OnErr, Err};
-ghost use Rattle.tcf_outside.specs.Faults.{Rose};
-ghost use Rattle.tcf_outside.specs.Sink.{added};
+ghost use Rattle.std.specs.Prelude.{◌≡◌, ◌≢◌, ◌==◌, ◌+◌, ◌++◌, ◌∷◌, [], None, count_by, IfOk, OnOk, OnErr, Err};
+ghost use Rattle.tcf_outside.specs.Sink.{faults_at_end};
 ghost use Rattle.stream_escape.specs.Value.{capped, IsBetween};
 ghost use Rattle.tcf_message.specs.Message.{reading};
-ghost use Rattle.tcf_app.specs.Show.{Shown, what_of, nothing, shown_message, shown_items, unended, IsShown};
+ghost use Rattle.tcf_app.specs.Exit.{TellsFault};
+ghost use Rattle.tcf_app.specs.Show.{what_of, nothing, shown_message, shown_items, unended, PutsLines, PutsPart};
 ghost use Rattle.tcf_app.specs.Pieces.{frame_length, frames_length, bad_behind, ShowsPiece};
 ghost use Rattle.tcf_app.specs.Ending.{EndsIn, IsShownEnding};
 
@@ -12,7 +12,7 @@ use crate::exit::{BadPlace, Exit, StreamWhat};
 use crate::finish::finish_made;
 use crate::lines::bad_stream;
 use std::alloc::{AllocError, Global};
-use stream_escape::{Item, StreamFault, Unescape, each_goes_on};
+use stream_escape::{Item, StreamFault, Unescape};
 use tcf_message::{MessageFault, read};
 use tcf_outside::{Octets, Sink, SinkRefusal, put_all};
 use tcf_text::show_line;
@@ -155,7 +155,8 @@ impl Shower {
     /// Reads one more piece of the stream, and has the lines of its messages up to the first bad place, which is told.
     fn show_piece(&mut self, piece: &[u8]) -> Result<Option<BadPlace>, AllocError>
         requires { self.old.unescape.fault ≡ None }
-        ensures { IfOk result (λ bad. ShowsPiece self.old.unescape self.old.place piece.now bad self.new.text self.new.unescape self.new.place) }
+        ensures { IfOk result (λ bad. ShowsPiece self.old.unescape self.old.place piece.now bad
+            self.new.text self.new.unescape self.new.place) }
     {
         self.text.clear();
         let mut items = Vec::new(self.alloc);
@@ -184,12 +185,10 @@ fn put_lines<S: Sink>(
     file: &[u8],
     out: &mut S,
 ) -> Result<Option<BadPlace>, SinkRefusal>
-    ensures lines { IfOk result (λ bad. (text : List ℕ) × IsShown file.now (record { text = text; bad = bad }) × (S.told out.new ≡ added text (S.told out.old))) }
-    ensures part { OnErr result ((shown : Shown) × IsShown file.now shown × (count : ℕ) × (S.told out.new ≡ added (take count shown.text) (S.told out.old))) }
-    ensures failed { result ≡ Err SinkRefusal.Failed → Rose (S.faults out.old) (S.faults out.new) }
-    ensures unharmed { (result ≡ Err SinkRefusal.Failed → ⊥) → S.faults out.new ≡ S.faults out.old }
+    ensures lines { IfOk result (λ bad. PutsLines file.now bad (S.seen out.old) (S.seen out.new)) }
+    ensures part { OnErr result (PutsPart file.now (S.seen out.old) (S.seen out.new)) }
+    ensures cause { (S.seen out.new).faults ≡ faults_at_end result (S.seen out.old).faults }
 {
-    each_goes_on();
     let mut shower = Shower::new(alloc);
     let mut rest = file;
     while !rest.is_empty() {
@@ -206,9 +205,8 @@ fn put_lines<S: Sink>(
 
 /// Shows the messages of the file, and puts the last line where it is bad.
 pub(crate) fn show_file<S: Sink>(alloc: Global, file: &[u8], out: &mut S) -> Exit
-    ensures ends { EndsIn (IsShownEnding file.now) result (S.told out.old) (S.told out.new) }
-    ensures fault { result ≡ Exit.SinkFault → Rose (S.faults out.old) (S.faults out.new) }
-    ensures unharmed { (result ≡ Exit.SinkFault → ⊥) → S.faults out.new ≡ S.faults out.old }
+    ensures ends { EndsIn (IsShownEnding file.now) result (S.seen out.old) (S.seen out.new) }
+    ensures fault { TellsFault result (S.seen out.old) (S.seen out.new) }
 {
     match put_lines(alloc, file, out) {
         Ok(None) => Exit::Done,

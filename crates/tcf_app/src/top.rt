@@ -1,43 +1,37 @@
 //! The top call.
-ghost use Rattle.std.specs.Prelude.{◌≡◌, ◌⊎◌, ◌∷◌, [], ℕ, None, Some, IfSome, map, string_bytes};
+ghost use Rattle.std.specs.Prelude.{◌≡◌, ◌⊎◌, ◌∷◌, [], ℕ, None, Some};
 ghost use Rattle.tcf_outside.specs.Faults.{Rose};
-ghost use Rattle.tcf_outside.specs.Sink.{added};
+ghost use Rattle.tcf_outside.specs.Sink.{Took};
 ghost use Rattle.channel_core.specs.declared.states.Cause.{Cause};
-ghost use Rattle.tcf_schedules.specs.declared.schedule.TextFault.{TextFault};
+ghost use Rattle.tcf_schedules.specs.Refusal.{BadLine};
 ghost use Rattle.serving_wires.specs.Calls.{Makes};
-ghost use Rattle.tcf_app.specs.declared.exit.StreamWhat.{StreamWhat};
-ghost use Rattle.tcf_app.specs.Exit.{IsGivenUp};
-ghost use Rattle.tcf_app.specs.Words.{agent, chain, client, show, files_in, images_in, order_value, order_of, names_of};
+ghost use Rattle.tcf_app.specs.declared.exit.BadPlace.{BadPlace};
+ghost use Rattle.tcf_app.specs.Exit.{IsGivenUp, TellsFault};
+ghost use Rattle.tcf_app.specs.Words.{agent, chain, client, show, files_in, images_given, order_in, order_value, names_of};
 ghost use Rattle.tcf_app.specs.Texts.{usage_text, file_fault_text};
 ghost use Rattle.tcf_app.specs.Heard.{ReadsInOrder};
-ghost use Rattle.tcf_app.specs.Ending.{Ends, fault_ending};
-ghost use Rattle.tcf_app.specs.Run.{RunsBy, IsDone, AreTaken, HasEnded, HaveFailed, IsBadText, IsBadStream, IsTooLong, SparesWires, AreHeeded, PutsFront, ExitsOver};
+ghost use Rattle.tcf_app.specs.Run.{RunsBy, Runs, IsDone, AreTaken, HasEnded, HaveFailed, IsBadText, IsBadStream, IsTooLong, SparesWires, AreHeeded, IsReadHeeded, IsFrontPut, IsDecided};
 
 use crate::agent::serve_images;
 use crate::chain::play_file;
 use crate::client::do_script;
 use crate::exit::Exit;
-use crate::laws::one_outcome;
 use crate::load::play_number;
 use crate::order::{Order, read_words};
 use crate::reading::{read_file, read_images};
 use crate::refusing::{refuse_unread, refuse_words};
 use crate::show::show_file;
 use crate::value::serve_adds;
-use client_node::each_command_is_answered_once;
-use client_serving::what_is_served_is_a_client;
-use load_schedules::laws::generates_what_is_said;
 use std::alloc::Global;
 use tcf_outside::{Files, Sink};
 use tcf_wires::Wires;
-use world_laws::every_file;
 
 /// Reads the schedule of this name, and plays it.
 fn run_chain<F: Files, S: Sink>(alloc: Global, name: &str, files: &mut F, out: &mut S) -> Exit
-    ensures runs { RunsBy (Some (chain name.now)) (F.held files.old) (F.faults files.old) (F.faults files.new) result (S.told out.old) (S.told out.new) [] }
-    ensures reads { ReadsInOrder (name.now ∷ []) (F.names files.old) (F.names files.new) }
-    ensures fault { result ≡ Exit.SinkFault → Rose (S.faults out.old) (S.faults out.new) }
-    ensures unharmed { (result ≡ Exit.SinkFault → ⊥) → S.faults out.new ≡ S.faults out.old }
+    ensures runs { RunsBy (Some (chain name.now)) result (F.seen files.old) (F.seen files.new)
+        (S.seen out.old) (S.seen out.new) [] }
+    ensures reads { ReadsInOrder (name.now ∷ []) (F.seen files.old) (F.seen files.new) }
+    ensures fault { TellsFault result (S.seen out.old) (S.seen out.new) }
 {
     match read_file(files, name) {
         Ok(file) => play_file(alloc, file.as_slice(), out),
@@ -47,12 +41,11 @@ fn run_chain<F: Files, S: Sink>(alloc: Global, name: &str, files: &mut F, out: &
 
 /// Reads the stream of this name, and shows it.
 fn run_show<F: Files, S: Sink>(alloc: Global, name: &str, files: &mut F, out: &mut S) -> Exit
-    ensures runs { RunsBy (Some (show name.now)) (F.held files.old) (F.faults files.old) (F.faults files.new) result (S.told out.old) (S.told out.new) [] }
-    ensures reads { ReadsInOrder (name.now ∷ []) (F.names files.old) (F.names files.new) }
-    ensures fault { result ≡ Exit.SinkFault → Rose (S.faults out.old) (S.faults out.new) }
-    ensures unharmed { (result ≡ Exit.SinkFault → ⊥) → S.faults out.new ≡ S.faults out.old }
+    ensures runs { RunsBy (Some (show name.now)) result (F.seen files.old) (F.seen files.new)
+        (S.seen out.old) (S.seen out.new) [] }
+    ensures reads { ReadsInOrder (name.now ∷ []) (F.seen files.old) (F.seen files.new) }
+    ensures fault { TellsFault result (S.seen out.old) (S.seen out.new) }
 {
-    one_outcome();
     match read_file(files, name) {
         Ok(file) => show_file(alloc, file.as_slice(), out),
         Err(unread) => refuse_unread(alloc, 2, unread, out),
@@ -69,10 +62,11 @@ fn run_agent<F: Files, S: Sink, W: Wires>(
     out: &mut S,
     wires: &mut W,
 ) -> Exit
-    ensures runs { Makes (RunsBy (Some (agent address.now turns (images_in (map string_bytes words.now)))) (F.held files.old) (F.faults files.old) (F.faults files.new) result (S.told out.old) (S.told out.new)) (W.told wires.old) (W.told wires.new) (W.faults wires.old) (W.faults wires.new) }
-    ensures reads { ReadsInOrder (files_in (images_in (map string_bytes words.now))) (F.names files.old) (F.names files.new) }
-    ensures fault { result ≡ Exit.SinkFault → Rose (S.faults out.old) (S.faults out.new) }
-    ensures unharmed { (result ≡ Exit.SinkFault → ⊥) → S.faults out.new ≡ S.faults out.old }
+    ensures runs { Runs (Some (agent address.now turns (images_given words.now))) result
+        (F.seen files.old) (F.seen files.new)
+        (W.seen wires.old) (W.seen wires.new) (S.seen out.old) (S.seen out.new) }
+    ensures reads { ReadsInOrder (files_in (images_given words.now)) (F.seen files.old) (F.seen files.new) }
+    ensures fault { TellsFault result (S.seen out.old) (S.seen out.new) }
 {
     match read_images(alloc, words, files) {
         Ok(images) => serve_images(alloc, address, turns, images, out, wires),
@@ -90,10 +84,10 @@ fn run_script<F: Files, S: Sink, W: Wires>(
     out: &mut S,
     wires: &mut W,
 ) -> Exit
-    ensures runs { Makes (RunsBy (Some (client address.now name.now turns)) (F.held files.old) (F.faults files.old) (F.faults files.new) result (S.told out.old) (S.told out.new)) (W.told wires.old) (W.told wires.new) (W.faults wires.old) (W.faults wires.new) }
-    ensures reads { ReadsInOrder (name.now ∷ []) (F.names files.old) (F.names files.new) }
-    ensures fault { result ≡ Exit.SinkFault → Rose (S.faults out.old) (S.faults out.new) }
-    ensures unharmed { (result ≡ Exit.SinkFault → ⊥) → S.faults out.new ≡ S.faults out.old }
+    ensures runs { Runs (Some (client address.now name.now turns)) result (F.seen files.old) (F.seen files.new)
+        (W.seen wires.old) (W.seen wires.new) (S.seen out.old) (S.seen out.new) }
+    ensures reads { ReadsInOrder (name.now ∷ []) (F.seen files.old) (F.seen files.new) }
+    ensures fault { TellsFault result (S.seen out.old) (S.seen out.new) }
 {
     match read_file(files, name) {
         Ok(file) => do_script(alloc, address, file.as_slice(), turns, out, wires),
@@ -109,10 +103,11 @@ fn run_order<F: Files, S: Sink, W: Wires>(
     out: &mut S,
     wires: &mut W,
 ) -> Exit
-    ensures runs { Makes (RunsBy (Some (order_value order.entry)) (F.held files.old) (F.faults files.old) (F.faults files.new) result (S.told out.old) (S.told out.new)) (W.told wires.old) (W.told wires.new) (W.faults wires.old) (W.faults wires.new) }
-    ensures reads { ReadsInOrder (names_of (Some (order_value order.entry))) (F.names files.old) (F.names files.new) }
-    ensures fault { result ≡ Exit.SinkFault → Rose (S.faults out.old) (S.faults out.new) }
-    ensures unharmed { (result ≡ Exit.SinkFault → ⊥) → S.faults out.new ≡ S.faults out.old }
+    ensures runs { Runs (Some (order_value order.entry)) result (F.seen files.old) (F.seen files.new)
+        (W.seen wires.old) (W.seen wires.new) (S.seen out.old) (S.seen out.new) }
+    ensures reads { ReadsInOrder (names_of (Some (order_value order.entry)))
+        (F.seen files.old) (F.seen files.new) }
+    ensures fault { TellsFault result (S.seen out.old) (S.seen out.new) }
 {
     match order {
         Order::Chain { file } => run_chain(alloc, file, files, out),
@@ -144,10 +139,10 @@ fn run_words<F: Files, S: Sink, W: Wires>(
     out: &mut S,
     wires: &mut W,
 ) -> Exit
-    ensures runs { Makes (RunsBy (order_of (map string_bytes words.now)) (F.held files.old) (F.faults files.old) (F.faults files.new) result (S.told out.old) (S.told out.new)) (W.told wires.old) (W.told wires.new) (W.faults wires.old) (W.faults wires.new) }
-    ensures reads { ReadsInOrder (names_of (order_of (map string_bytes words.now))) (F.names files.old) (F.names files.new) }
-    ensures fault { result ≡ Exit.SinkFault → Rose (S.faults out.old) (S.faults out.new) }
-    ensures unharmed { (result ≡ Exit.SinkFault → ⊥) → S.faults out.new ≡ S.faults out.old }
+    ensures runs { Runs (order_in words.now) result (F.seen files.old) (F.seen files.new)
+        (W.seen wires.old) (W.seen wires.new) (S.seen out.old) (S.seen out.new) }
+    ensures reads { ReadsInOrder (names_of (order_in words.now)) (F.seen files.old) (F.seen files.new) }
+    ensures fault { TellsFault result (S.seen out.old) (S.seen out.new) }
 {
     match read_words(words) {
         Some(order) => run_order(alloc, order, files, out, wires),
@@ -184,61 +179,58 @@ pub fn tcf<F: Files, S: Sink, W: Wires>(
     wires: &mut W,
 ) -> Exit
     // The run as a whole: what was heard of the files, and which calls of the wires were made, say how it ends.
-    ensures runs { Makes (RunsBy (order_of (map string_bytes words.now)) (F.held files.old) (F.faults files.old) (F.faults files.new) result (S.told out.old) (S.told out.new)) (W.told wires.old) (W.told wires.new) (W.faults wires.old) (W.faults wires.new) }
+    ensures runs { Runs (order_in words.now) result (F.seen files.old) (F.seen files.new)
+        (W.seen wires.old) (W.seen wires.new) (S.seen out.old) (S.seen out.new) }
 
     // What is printed: of a played schedule, whose logs are true to the history, whole or in sum; of a stream without a bad
     // place; of an agent and of value-adds for which `Stop` came; and of a client whose script is done.
-    ensures done { result ≡ Exit.Done
-        → IsDone (order_of (map string_bytes words.now)) (F.held files.old) (W.told wires.old) (W.told wires.new) (W.faults wires.old) (W.faults wires.new) (S.told out.old) (S.told out.new) }
+    ensures done { result ≡ Exit.Done → IsDone (order_in words.now) (F.seen files.old)
+        (W.seen wires.old) (W.seen wires.new) (S.seen out.old) (S.seen out.new) }
 
     // How a serving command ends otherwise. A connect that fails is no wire fault of a value-add.
-    ensures turns { result ≡ Exit.Turns
-        → AreTaken (order_of (map string_bytes words.now)) (F.held files.old) (W.told wires.old) (W.told wires.new) (W.faults wires.old) (W.faults wires.new) (S.told out.old) (S.told out.new) }
-    ensures ended { (cause : Cause) → result ≡ Exit.Ended cause
-        → HasEnded cause (order_of (map string_bytes words.now)) (F.held files.old) (W.told wires.old) (W.told wires.new) (W.faults wires.old) (W.faults wires.new) (S.told out.old) (S.told out.new) }
-    ensures wire_fault { result ≡ Exit.WireFault → Rose (W.faults wires.old) (W.faults wires.new) }
-    ensures wire_fault_calls { result ≡ Exit.WireFault
-        → HaveFailed (order_of (map string_bytes words.now)) (F.held files.old) (W.told wires.old) (W.told wires.new) (W.faults wires.old) (W.faults wires.new) (S.told out.old) (S.told out.new) }
+    ensures turns { result ≡ Exit.Turns → AreTaken (order_in words.now) (F.seen files.old)
+        (W.seen wires.old) (W.seen wires.new) (S.seen out.old) (S.seen out.new) }
+    ensures ended { (cause : Cause) → result ≡ Exit.Ended cause → HasEnded cause (order_in words.now)
+        (F.seen files.old) (W.seen wires.old) (W.seen wires.new) (S.seen out.old) (S.seen out.new) }
+    ensures wire_fault { result ≡ Exit.WireFault → Rose (W.seen wires.old).faults (W.seen wires.new).faults }
+    ensures wire_fault_calls { result ≡ Exit.WireFault → HaveFailed (order_in words.now) (F.seen files.old)
+        (W.seen wires.old) (W.seen wires.new) (S.seen out.old) (S.seen out.new) }
 
     // When each refusal comes, and what it prints.
-    ensures usage { result ≡ Exit.Usage → order_of (map string_bytes words.now) ≡ None }
-    ensures usage_text { result ≡ Exit.Usage → S.told out.new ≡ added usage_text (S.told out.old) }
-    ensures bad_text { (line : ℕ) (what : TextFault) → result ≡ Exit.BadText line what
-        → IsBadText (order_of (map string_bytes words.now)) (F.held files.old) line what (S.told out.old) (S.told out.new) }
-    ensures bad_stream { (offset : ℕ) (what : StreamWhat) → result ≡ Exit.BadStream offset what
-        → IsBadStream (order_of (map string_bytes words.now)) (F.held files.old) (record { offset = offset; what = what }) (S.told out.old) (S.told out.new) }
+    ensures usage { result ≡ Exit.Usage → order_in words.now ≡ None }
+    ensures usage_text { result ≡ Exit.Usage → Took usage_text (S.seen out.old) (S.seen out.new) }
+    ensures bad_text { (bad : BadLine) → result ≡ Exit.BadText bad.line bad.what
+        → IsBadText (order_in words.now) (F.seen files.old) bad (S.seen out.old) (S.seen out.new) }
+    ensures bad_stream { (bad : BadPlace) → result ≡ Exit.BadStream bad.offset bad.what
+        → IsBadStream (order_in words.now) (F.seen files.old) bad (S.seen out.old) (S.seen out.new) }
     ensures too_long { (word : ℕ) → result ≡ Exit.TooLong word
-        → IsTooLong (order_of (map string_bytes words.now)) (F.held files.old) word (S.told out.old) (S.told out.new) }
-    ensures file_fault { result ≡ Exit.FileFault → Rose (F.faults files.old) (F.faults files.new) }
-    ensures file_fault_text { result ≡ Exit.FileFault → S.told out.new ≡ added file_fault_text (S.told out.old) }
-    ensures sink_fault { result ≡ Exit.SinkFault → Rose (S.faults out.old) (S.faults out.new) }
+        → IsTooLong (order_in words.now) (F.seen files.old) word (S.seen out.old) (S.seen out.new) }
+    ensures file_fault { result ≡ Exit.FileFault → Rose (F.seen files.old).faults (F.seen files.new).faults }
+    ensures file_fault_text { result ≡ Exit.FileFault → Took file_fault_text (S.seen out.old) (S.seen out.new) }
 
     // A put that failed is always answered as such, so never as want of memory. A read that failed ends the run with
     // the line that says so, or while that is put, and so does a call of the wires.
-    ensures sink_unharmed { (result ≡ Exit.SinkFault → ⊥) → S.faults out.new ≡ S.faults out.old }
-    ensures files_unharmed { (F.faults files.new ≡ F.faults files.old) ⊎ Ends fault_ending result (S.told out.old) (S.told out.new) }
-    ensures wires_heeded { Makes (AreHeeded (order_of (map string_bytes words.now)) result (S.told out.old) (S.told out.new)) (W.told wires.old) (W.told wires.new) (W.faults wires.old) (W.faults wires.new) }
+    ensures sink_fault { TellsFault result (S.seen out.old) (S.seen out.new) }
+    ensures files_unharmed { IsReadHeeded result (F.seen files.old) (F.seen files.new)
+        (S.seen out.old) (S.seen out.new) }
+    ensures wires_heeded { Makes (AreHeeded (order_in words.now) result (S.seen out.old) (S.seen out.new))
+        (W.seen wires.old) (W.seen wires.new) }
 
     // The wires are used only where an order serves, and behind its files.
-    ensures wires_spared { SparesWires (order_of (map string_bytes words.now)) result → W.told wires.new ≡ W.told wires.old }
-    ensures wires_unharmed { SparesWires (order_of (map string_bytes words.now)) result → W.faults wires.new ≡ W.faults wires.old }
+    ensures wires_spared { SparesWires (order_in words.now) result → W.seen wires.new ≡ W.seen wires.old }
 
     // What was put of a run that was given up.
-    ensures given_up { IsGivenUp result
-        → Makes (PutsFront (order_of (map string_bytes words.now)) (F.held files.old) (F.faults files.old) (F.faults files.new) (S.told out.old) (S.told out.new)) (W.told wires.old) (W.told wires.new) (W.faults wires.old) (W.faults wires.new) }
+    ensures given_up { IsGivenUp result → IsFrontPut (order_in words.now) (F.seen files.old) (F.seen files.new)
+        (W.seen wires.old) (W.seen wires.new) (S.seen out.old) (S.seen out.new) }
 
     // The files are read in the order of the words.
-    ensures reads { ReadsInOrder (names_of (order_of (map string_bytes words.now))) (F.names files.old) (F.names files.new) }
+    ensures reads { ReadsInOrder (names_of (order_in words.now)) (F.seen files.old) (F.seen files.new) }
 
     // Without a fault of the files or the sink nothing but the words, the files and the calls of the wires decides, unless
     // memory is wanting.
-    ensures usage_only { order_of (map string_bytes words.now) ≡ None → (result ≡ Exit.Usage) ⊎ IsGivenUp result }
-    ensures complete { IfSome (F.held files.old) (λ held. (Rose (F.faults files.old) (F.faults files.new) → ⊥) → (Rose (S.faults out.old) (S.faults out.new) → ⊥)
-        → Makes (ExitsOver (order_of (map string_bytes words.now)) held result) (W.told wires.old) (W.told wires.new) (W.faults wires.old) (W.faults wires.new)) }
+    ensures usage_only { order_in words.now ≡ None → (result ≡ Exit.Usage) ⊎ IsGivenUp result }
+    ensures complete { IsDecided (order_in words.now) result (F.seen files.old) (F.seen files.new)
+        (W.seen wires.old) (W.seen wires.new) (S.seen out.old) (S.seen out.new) }
 {
-    every_file();
-    each_command_is_answered_once();
-    what_is_served_is_a_client();
-    generates_what_is_said();
     run_words(alloc, words, files, out, wires)
 }

@@ -3,3 +3,4 @@ pub mod LevelLaws
 pub mod MessageLaws
 pub mod WholeLaws
 pub mod PutLaws
+pub mod TheLaws

@@ -8,7 +8,7 @@ use Rattle.tcf_message.specs.declared.message.Message.{Message}
 use Rattle.tcf_message.specs.declared.message.MessageFault.{MessageFault}
 use Rattle.tcf_message.specs.declared.message.MessageFault.TheVariants.{Empty, Unended, Kind, Token, Level, Trailing, Body}
 use Rattle.tcf_message.specs.Message.{most_body, most_token, MessageValue, command, final, progress, not_known, event, flow, value_of, ◌•◌, spelling, HasNoZero, IsWellFormed, HasFields, Says, Gives, body_length, field_at, limited, command_of, final_of, progress_of, not_known_of, event_of, flow_of, by_letter, by_kind, level_of, reading}
-use Rattle.tcf_message.specs.Fault.{IsAmong, Front, start, kind, command_token, command_service, event_service, IsFront, followed, EndsInField, IsFault, IsReadBack, IsOneSpelling, AreFaults, IsOneAnswer, IsAnswered}
+use Rattle.tcf_message.specs.Fault.{IsAmong, Front, start, kind, command_token, command_service, event_service, IsRight, followed, EndsInField, IsFault, IsReadBack, IsOneSpelling, AreFaults, IsOneAnswer, IsAnswered}
 use Rattle.tcf_message.proofs.FieldLaws.{bind_ok, bind_err, ok_is, err_is, field_takes, field_again, field_faults, field_none, token_none, token_again, token_bad, IsWrongLength}
 use Rattle.tcf_message.proofs.LevelLaws.{no_level}
 use Rattle.tcf_message.proofs.MessageLaws.{limited_again, limited_bad, ended_bad, command_takes, command_again, command_faults, final_takes, final_again, final_faults, progress_takes, progress_again, progress_faults, not_known_takes, not_known_again, not_known_faults, event_takes, event_again, event_faults, flow_takes, flow_again, flow_faults}
@@ -181,7 +181,7 @@ kind_again letter rest six none =
     at_letter letter rest (six_not_zero letter six)
     ∙ six_same (eqb letter 67) (eqb letter 82) (eqb letter 80) (eqb letter 78) (eqb letter 69) (eqb letter 70) (command_of rest) (final_of rest) (progress_of rest) (not_known_of rest) (event_of rest) (flow_of rest) (Err (Kind letter)) (Err (Unended 2)) six e1 e2 e3 e4 e5 e6
 
-unended_again : (front : Front) (rest : List ℕ) → IsFront front → HasNoZero rest → 0 < length (followed front rest) → reading (followed front rest) ≡ Err (Unended (length (followed front [])))
+unended_again : (front : Front) (rest : List ℕ) → IsRight front → HasNoZero rest → 0 < length (followed front rest) → reading (followed front rest) ≡ Err (Unended (length (followed front [])))
 unfolding command_of event_of
 unended_again start rest right none some = start_again rest none some
 unended_again (kind letter) rest right none some = kind_again letter rest right none

@@ -19,12 +19,12 @@ pub data Front : Type 0 where
   command_service : (token service : List ℕ) → Front
   event_service : (service : List ℕ) → Front
 
-abbrev pub IsFront : Front → Type 0
-IsFront start = Unit {0}
-IsFront (kind letter) = IsAmong letter (codes "CRPNEF")
-IsFront (command_token token) = IsToken token
-IsFront (command_service token service) = IsToken token × HasNoZero service
-IsFront (event_service service) = HasNoZero service
+abbrev pub IsRight : Front → Type 0
+IsRight start = Unit {0}
+IsRight (kind letter) = IsAmong letter (codes "CRPNEF")
+IsRight (command_token token) = IsToken token
+IsRight (command_service token service) = IsToken token × HasNoZero service
+IsRight (event_service service) = HasNoZero service
 
 -- these fields, and what follows them
 abbrev pub followed : Front → List ℕ → List ℕ
@@ -47,7 +47,7 @@ abbrev pub IsFault : MessageFault → List ℕ → Type 0
 IsFault Empty bytes = bytes ≡ []
 -- right fields, and then bytes without a zero
 IsFault (Unended place) bytes =
-    (front : Front) × (rest : List ℕ) × IsFront front × HasNoZero rest × (bytes ≡ followed front rest)
+    (front : Front) × (rest : List ℕ) × IsRight front × HasNoZero rest × (bytes ≡ followed front rest)
     × (place ≡ length (followed front [])) × (0 < length bytes)
 -- a first field that is no letter of the six
 IsFault (Kind byte) bytes =

@@ -1,3 +1,4 @@
+-- Counts of faults that rise.
 use Rattle.std.specs.Prelude.{ℕ, ◌≡◌, ◌+◌, ◌-◌, ◌^◌, ◌<◌, ◌⊎◌, min}
 
 -- a count of faults after one more: it stands still at the end of its type

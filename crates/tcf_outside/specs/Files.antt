@@ -1,4 +1,5 @@
-use Rattle.std.specs.Prelude.{ℕ, ◌≤◌, List, [], ◌∷◌, ◌++◌, length, Option, option_map, Result, Ok, Err, if◌then◌else◌, nat_lt}
+-- What a read of a file gives, and what it changes.
+use Rattle.std.specs.Prelude.{ℕ, ◌≡◌, ◌≤◌, List, [], ◌∷◌, ◌++◌, length, Option, option_map, IfSome, Result, Ok, Err, if◌then◌else◌, nat_lt}
 use Rattle.std.specs.Str.{bytes_eq}
 use Rattle.tcf_outside.specs.Faults.{raised}
 use Rattle.tcf_outside.specs.declared.files.HeldFile.{HeldFile}
@@ -6,6 +7,12 @@ use Rattle.tcf_outside.specs.declared.files.FileRead.{FileRead}
 use Rattle.tcf_outside.specs.declared.files.FileRead.TheVariants.{Whole, Longer}
 use Rattle.tcf_outside.specs.declared.files.ReadRefusal.{ReadRefusal}
 use Rattle.tcf_outside.specs.declared.files.ReadRefusal.TheVariants.{Failed, NoMemory}
+
+-- what is seen of files
+pub record FilesSeen : Type 0 where
+  pub held : Option (List HeldFile)  -- the files that there are, where they are told
+  pub names : Option (List (List ℕ))  -- the names of the reads so far, in order, where they are told
+  pub faults : ℕ  -- how many reads failed, as far as a u64 counts
 
 -- the bytes of the file of this name; a file that isn't there has none
 abbrev pub content_of : List ℕ → List HeldFile → List ℕ
@@ -15,6 +22,10 @@ content_of name (file ∷ files) = if bytes_eq file.name name then file.bytes el
 -- what a read of these bytes gives
 abbrev pub read_of : List ℕ → ℕ → FileRead
 read_of bytes limit = if nat_lt limit (length bytes) then Longer else Whole bytes
+
+-- this is what a read of the file of this name gives, where the files are told
+abbrev pub IsReadOf : List ℕ → ℕ → Option (List HeldFile) → FileRead → Type 0
+IsReadOf name limit held answer = IfSome held (λ files. answer ≡ read_of (content_of name files) limit)
 
 -- a file that is read whole is within the limit
 abbrev pub IsWithin : ℕ → FileRead → Type 0

@@ -1,3 +1,4 @@
+-- Files and a sink in memory, as contracts see them.
 use Rattle.std.specs.Prelude.{ℕ, List}
 use Rattle.tcf_outside.specs.declared.files.HeldFile.{HeldFile}
 

@@ -1,5 +1,5 @@
 //! Files that are read whole: the trait, and files in memory.
-ghost use Rattle.std.specs.Prelude.{◌≡◌, ℕ, ◌++◌, ◌∷◌, [], List, Option, Some, IfOk, IfSome, OnOk, OnErr};
+ghost use Rattle.std.specs.Prelude.{◌≡◌, ◌++◌, ◌∷◌, [], Some, IfOk, OnOk, OnErr};
 ghost use Rattle.tcf_outside.specs.Files.{content_of, read_of};
 
 use crate::sequence::{Duplicate, Octets, Sequence};
@@ -49,26 +49,19 @@ pub struct HeldFile {
 
 /// Files under names, each read whole.
 pub trait Files {
-    ghost use Rattle.tcf_outside.specs.declared.files.HeldFile.{HeldFile};
-    ghost use Rattle.tcf_outside.specs.Files.{content_of, read_of, IsWithin, names_after, faults_after};
+    ghost use Rattle.tcf_outside.specs.Files.{FilesSeen, IsReadOf, IsWithin, names_after, faults_after};
 
-    /// The files that there are, where they are told.
-    ghost held: { Self → Option (List HeldFile) };
-
-    /// The names of the reads so far, in order, where they are told.
-    ghost names: { Self → Option (List (List ℕ)) };
-
-    /// How many reads failed, as far as a `u64` counts.
-    ghost faults: { Self → ℕ };
+    /// The files that there are and the names of the reads so far, where they are told, and how many reads failed.
+    ghost seen: { Self → FilesSeen };
 
     /// Reads the file of this name whole, if it has at most `limit` bytes. A name that isn't there is an empty
     /// file. A read that wants memory is as if it had not been asked for.
     fn read(&mut self, name: &str, limit: usize) -> Result<FileRead, ReadRefusal>
-        ensures content { IfOk result (λ answer. IfSome (held self.old) (λ files. answer ≡ read_of (content_of name.now files) limit)) }
+        ensures content { IfOk result (IsReadOf name.now limit (seen self.old).held) }
         ensures within { IfOk result (IsWithin limit) }
-        ensures kept { held self.new ≡ held self.old }
-        ensures noted { names self.new ≡ names_after result name.now (names self.old) }
-        ensures cause { faults self.new ≡ faults_after result (faults self.old) };
+        ensures kept { (seen self.new).held ≡ (seen self.old).held }
+        ensures noted { (seen self.new).names ≡ names_after result name.now (seen self.old).names }
+        ensures cause { (seen self.new).faults ≡ faults_after result (seen self.old).faults };
 }
 
 /// Files in memory, which tell what they hold and which names were read. They can be made to fail at some reads.
@@ -154,11 +147,7 @@ fn read_within(alloc: Global, bytes: &[u8], limit: usize) -> Result<FileRead, Al
 }
 
 impl Files for MemoryFiles {
-    ghost held = { λ m. Some m.files };
-
-    ghost names = { λ m. Some m.names };
-
-    ghost faults = { λ m. m.faults };
+    ghost seen = { λ m. record { held = Some m.files; names = Some m.names; faults = m.faults } };
 
     fn read(&mut self, name: &str, limit: usize) -> Result<FileRead, ReadRefusal> {
         let noted = Octets::from_slice(self.alloc, name.as_bytes())?;

@@ -38,11 +38,7 @@ impl<R: rt::Files + Drop> RealFiles<R> {
 }
 
 impl<R: rt::Files + Drop> Files for RealFiles<R> {
-    ghost held = { λ _. None };
-
-    ghost names = { λ _. None };
-
-    ghost faults = { λ files. files.faults };
+    ghost seen = { λ files. record { held = None; names = None; faults = files.faults } };
 
     fn read(&mut self, name: &str, limit: usize) -> Result<FileRead, ReadRefusal> {
         match self.front(name, limit) {
@@ -73,9 +69,7 @@ impl<W: Write + Drop> RealSink<W> {
 }
 
 impl<W: Write + Drop> Sink for RealSink<W> {
-    ghost told = { λ _. None };
-
-    ghost faults = { λ sink. sink.faults };
+    ghost seen = { λ sink. record { told = None; faults = sink.faults } };
 
     fn put(&mut self, piece: &[u8]) -> Result<usize, SinkRefusal> {
         match self.writer.write(piece) {

@@ -1,7 +1,6 @@
 //! A sink that text is put into: the trait, a sink in memory, and the loop that puts a text whole.
-ghost use Rattle.std.specs.Prelude.{◌≡◌, ◌<◌, ◌≤◌, ◌++◌, ◌∷◌, ℕ, [], List, Option, Some, take, length, IfOk, OnOk, OnErr};
-ghost use Rattle.tcf_outside.specs.Faults.{Rose};
-ghost use Rattle.tcf_outside.specs.Sink.{added};
+ghost use Rattle.std.specs.Prelude.{◌≡◌, ◌≤◌, ◌++◌, ◌∷◌, [], Some, length, IfOk, OnOk, OnErr};
+ghost use Rattle.tcf_outside.specs.Sink.{Took, TookFront, faults_at_end};
 
 use crate::sequence::Octets;
 use std::alloc::{AllocError, Global};
@@ -26,20 +25,17 @@ impl From<AllocError> for SinkRefusal {
 
 /// Something that takes bytes in order, as a file that is written.
 pub trait Sink {
-    ghost use Rattle.tcf_outside.specs.Sink.{taken, faults_after};
+    ghost use Rattle.tcf_outside.specs.Sink.{SinkSeen, taken, faults_after};
 
-    /// All bytes that were taken, where they are told.
-    ghost told: { Self → Option (List ℕ) };
-
-    /// How many puts failed or took nothing of what they were offered, as far as a `u64` counts.
-    ghost faults: { Self → ℕ };
+    /// All bytes that were taken, where they are told, and how many puts were faults.
+    ghost seen: { Self → SinkSeen };
 
     /// Takes some of the piece's first bytes, and answers how many. To take none of a piece that has bytes is a
     /// fault, as a failed put is. A put that wants memory takes none.
     fn put(&mut self, piece: &[u8]) -> Result<usize, SinkRefusal>
         ensures count { IfOk result (λ count. count ≤ length piece.now) }
-        ensures took { told self.new ≡ added (taken result piece.now) (told self.old) }
-        ensures cause { faults self.new ≡ faults_after result piece.now (faults self.old) };
+        ensures took { Took (taken result piece.now) (seen self.old) (seen self.new) }
+        ensures cause { (seen self.new).faults ≡ faults_after result piece.now (seen self.old).faults };
 }
 
 /// A sink in memory, which tells all bytes that it took. It can be made to take few bytes at a time, and to fail
@@ -100,9 +96,7 @@ impl MemorySink {
 }
 
 impl Sink for MemorySink {
-    ghost told = { λ m. Some m.told };
-
-    ghost faults = { λ m. m.faults };
+    ghost seen = { λ m. record { told = Some m.told; faults = m.faults } };
 
     fn put(&mut self, piece: &[u8]) -> Result<usize, SinkRefusal> {
         let number = self.puts;
@@ -124,10 +118,9 @@ impl Sink for MemorySink {
 /// failure.
 #[tactic(auto, using(crate::proofs::Told::added_more))]
 pub fn put_all<S: Sink>(sink: &mut S, bytes: &[u8]) -> Result<(), SinkRefusal>
-    ensures put { OnOk result (S.told sink.new ≡ added bytes.now (S.told sink.old)) }
-    ensures part { OnErr result ((count : ℕ) × (S.told sink.new ≡ added (take count bytes.now) (S.told sink.old))) }
-    ensures failed { result ≡ Err SinkRefusal.Failed → Rose (S.faults sink.old) (S.faults sink.new) }
-    ensures unharmed { (result ≡ Err SinkRefusal.Failed → ⊥) → S.faults sink.new ≡ S.faults sink.old }
+    ensures put { OnOk result (Took bytes.now (S.seen sink.old) (S.seen sink.new)) }
+    ensures part { OnErr result (TookFront bytes.now (S.seen sink.old) (S.seen sink.new)) }
+    ensures cause { (S.seen sink.new).faults ≡ faults_at_end result (S.seen sink.old).faults }
 {
     let mut done = 0usize;
     while done < bytes.len() {

@@ -11,11 +11,12 @@ use Rattle.tcf_schedules.specs.declared.schedule.TextFault.TheVariants.{Form, La
 use Rattle.tcf_schedules.specs.Refusal.{BadLine}
 use Rattle.tcf_schedules.specs.Plan.{Plan, step_size, step_count}
 use Rattle.tcf_schedules.specs.Line.{LineHead, image, chain, LineStep, LineValue, head, step, Says}
-use Rattle.tcf_schedules.specs.Reading.{value_of, ReadsTheText}
-use Rattle.tcf_schedules.specs.Schedule.{lines_of, is_skipped, ScheduleValue, nothing, has_step, is_image, is_chain, plan_in, with_plan, after_head, after_value, after_said, after_line, at_line, going_on, after_lines, schedule_of, is_repeat, IsReason, IsFirstBad, WantsMemory, kept_lines, ReadsWhatIsSaid, RefusesTheFirst}
+use Rattle.tcf_schedules.specs.Reading.{value_of}
+use Rattle.tcf_schedules.specs.Schedule.{lines_of, is_skipped, ScheduleValue, nothing, has_step, is_image, is_chain, plan_in, with_plan, after_head, after_value, after_said, after_line, at_line, going_on, after_lines, schedule_of, is_repeat, IsReason, IsFirstBad, WantsMemory, kept_lines, RefusesTheFirst}
 use Rattle.tcf_schedules.proofs.Lines.{lines_cut}
-use Rattle.tcf_schedules.proofs.Schedules.{goes_on, one_line, skipping, kept_skipping, kept_more, taking}
+use Rattle.tcf_schedules.proofs.Schedules.{goes_on, kept_more, kept_skipping, one_line, reads_what_is_said, skipping, taking}
 use Rattle.list_laws.proofs.Lists.{nil_cons}
+use Rattle.tcf_schedules.proofs.Values.{reads_the_text}
 
 -- ---- A file of some lines
 
@@ -178,19 +179,19 @@ value_reason s line (step x) what says e = plan_reason s line x what says (plan_
 none_some : (o : Option LineValue) (value : LineValue) → o ≡ None → o ≡ Some value → ⊥
 none_some o value none some = cc
 
-reason_of : ReadsTheText → (s : ScheduleValue) (line : List ℕ) (what : TextFault) → after_line s line ≡ Err what → IsReason s line what
-reason_of law s line what e = by_value (value_of line) refl (sym (cond-false (is_skipped line) _ _ (kept_of s line what e)) ∙ e)
+reason_of : (s : ScheduleValue) (line : List ℕ) (what : TextFault) → after_line s line ≡ Err what → IsReason s line what
+reason_of s line what e = by_value (value_of line) refl (sym (cond-false (is_skipped line) _ _ (kept_of s line what e)) ∙ e)
   where
     by_value : (o : Option LineValue) → value_of line ≡ o → after_said s o ≡ Err what → IsReason s line what
-    by_value None is refused = subst (IsReason s line) (same_fault Form what refused) (λ value says. none_some (value_of line) value is ((law line value).1 says))
-    by_value (Some value) is refused = value_reason s line value what ((law line value).0 is) refused
+    by_value None is refused = subst (IsReason s line) (same_fault Form what refused) (λ value says. none_some (value_of line) value is ((reads_the_text line value).1 says))
+    by_value (Some value) is refused = value_reason s line value what ((reads_the_text line value).0 is) refused
 
-says_nothing : ReadsTheText → (s : ScheduleValue) (line : List ℕ) → is_skipped line ≡ false → ((value : LineValue) → Says line value → ⊥) → after_line s line ≡ Err Form
-says_nothing law s line kept none = cond-false (is_skipped line) _ _ kept ∙ by_value (value_of line) refl
+says_nothing : (s : ScheduleValue) (line : List ℕ) → is_skipped line ≡ false → ((value : LineValue) → Says line value → ⊥) → after_line s line ≡ Err Form
+says_nothing s line kept none = cond-false (is_skipped line) _ _ kept ∙ by_value (value_of line) refl
   where
     by_value : (o : Option LineValue) → value_of line ≡ o → after_said s o ≡ Err Form
     by_value None is = refl
-    by_value (Some value) is = absurd (none value ((law line value).0 is))
+    by_value (Some value) is = absurd (none value ((reads_the_text line value).0 is))
 
 late : (s : ScheduleValue) (h : LineHead) → has_step s ≡ true → after_head s h ≡ Err Late
 late s (image name digits) some = cond-true (has_step s) _ _ some
@@ -201,17 +202,17 @@ repeats s (image name digits) none same = cond-false (has_step s) _ _ none ∙ c
 repeats s (chain name adds) none same = cond-false (has_step s) _ _ none ∙ cond-true (is_chain name s) _ _ same
 
 -- a line is refused for a reason that it has
-refused : ReadsTheText → (s : ScheduleValue) (line : List ℕ) (what : TextFault) → is_skipped line ≡ false → IsReason s line what → after_line s line ≡ Err what
-refused law s line Form kept none = says_nothing law s line kept none
-refused law s line Late kept r = taking law s line (head r.0) r.1 ∙ late s r.0 r.2
-refused law s line Repeat kept r = taking law s line (head r.0) r.1.0 ∙ repeats s r.0 r.1.1 r.2
-refused law s line Unknown kept r = taking law s line (step r.0) r.1 ∙ ap (λ o. with_plan o s) r.2
-refused law s line Many kept (inl r) =
-    taking law s line (head (chain r.0 r.1)) r.2.0
+refused : (s : ScheduleValue) (line : List ℕ) (what : TextFault) → is_skipped line ≡ false → IsReason s line what → after_line s line ≡ Err what
+refused s line Form kept none = says_nothing s line kept none
+refused s line Late kept r = taking s line (head r.0) r.1 ∙ late s r.0 r.2
+refused s line Repeat kept r = taking s line (head r.0) r.1.0 ∙ repeats s r.0 r.1.1 r.2
+refused s line Unknown kept r = taking s line (step r.0) r.1 ∙ ap (λ o. with_plan o s) r.2
+refused s line Many kept (inl r) =
+    taking s line (head (chain r.0 r.1)) r.2.0
     ∙ (cond-false (has_step s) _ _ r.2.1
     ∙ (cond-false (is_chain r.0 s) _ _ r.3 ∙ cond-false (nat_lt (length s.chains) 64) _ _ (le-ltb (length s.chains) 64 r.4)))
-refused law s line Many kept (inr r) =
-    taking law s line (step r.0) r.2
+refused s line Many kept (inr r) =
+    taking s line (step r.0) r.2
     ∙ (ap (λ o. with_plan o s) r.3
     ∙ cond-false (nat_le (step_count s.plans + step_size r.1) 1000000) _ _ (lt-leb (step_count s.plans + step_size r.1) 1000000 r.4))
 
@@ -232,8 +233,8 @@ front_refused lines place what r other s same e =
     ok_err s (bad_at (1 + length r.front) what)
     (sym e ∙ (ap (after_lines 1 nothing) other_is ∙ (goes_behind 1 nothing r.given r.front (r.line ∷ drop place other) r.gives ∙ stop)))
 
-first_bad : ReadsTheText → ReadsWhatIsSaid → (file : List ℕ) (number : ℕ) (what : TextFault) → schedule_of file ≡ Err (bad_at number what) → IsFirstBad file number what
-first_bad text law file number what e =
+first_bad : (file : List ℕ) (number : ℕ) (what : TextFault) → schedule_of file ≡ Err (bad_at number what) → IsFirstBad file number what
+first_bad file number what e =
     let r = stops 1 nothing (lines_of file) number what e in
     let at : number ≡ 1 + length r.front = r.at in
     let same : lines_of (file_of r.front) ≡ r.front = lines_of_file r.front (front_are r.front (r.line ∷ r.rest) (subst AreLines r.parts (lines_are file))) in
@@ -241,26 +242,26 @@ first_bad text law file number what e =
     record {
       front = file_of r.front;
       schedule = r.given;
-      accepted = (law (file_of r.front) r.given).0 (ap (after_lines 1 nothing) same ∙ r.gives);
+      accepted = (reads_what_is_said (file_of r.front) r.given).0 (ap (after_lines 1 nothing) same ∙ r.gives);
       line = r.line;
       rest = r.rest;
       lines = r.parts ∙ ap (λ ls. ls ++ r.line ∷ r.rest) (sym same);
       place = place ∙ ap (λ ls. length ls + 1) (sym same);
       kept = kept_of r.given r.line what r.refuses;
-      reason = reason_of text r.given r.line what r.refuses;
-      bad = λ other s front accepted. front_refused (lines_of file) number what r (lines_of other) s front ((law other s).1 accepted);
+      reason = reason_of r.given r.line what r.refuses;
+      bad = λ other s front accepted. front_refused (lines_of file) number what r (lines_of other) s front ((reads_what_is_said other s).1 accepted);
     }
 
-the_first : ReadsTheText → ReadsWhatIsSaid → (file : List ℕ) (number : ℕ) (what : TextFault) → IsFirstBad file number what → schedule_of file ≡ Err (bad_at number what)
-the_first text law file number what is =
+the_first : (file : List ℕ) (number : ℕ) (what : TextFault) → IsFirstBad file number what → schedule_of file ≡ Err (bad_at number what)
+the_first file number what is =
     let place : 1 + length (lines_of is.front) ≡ number = let p = is.place in omega arith in
     ap (after_lines 1 nothing) is.lines
-    ∙ (goes_behind 1 nothing is.schedule (lines_of is.front) (is.line ∷ is.rest) ((law is.front is.schedule).1 is.accepted)
-    ∙ (stopped (1 + length (lines_of is.front)) is.schedule is.line is.rest what (refused text is.schedule is.line what is.kept is.reason)
+    ∙ (goes_behind 1 nothing is.schedule (lines_of is.front) (is.line ∷ is.rest) ((reads_what_is_said is.front is.schedule).1 is.accepted)
+    ∙ (stopped (1 + length (lines_of is.front)) is.schedule is.line is.rest what (refused is.schedule is.line what is.kept is.reason)
     ∙ ap (λ n. Err (bad_at n what)) place))
 
-pub refuses_the_first : ReadsTheText → ReadsWhatIsSaid → RefusesTheFirst
-refuses_the_first text law file number what = (first_bad text law file number what, the_first text law file number what)
+pub refuses_the_first : RefusesTheFirst
+refuses_the_first file number what = (first_bad file number what, the_first file number what)
 
 -- ---- Want of memory
 
@@ -300,17 +301,17 @@ ok_of (Ok next) is = (next, refl)
 ok_of (Err what) is = absurd (false≢true is)
 
 -- a line that wants memory is taken
-pub wants_memory : ReadsWhatIsSaid → (file : List ℕ) (s : ScheduleValue) (rest line after : List ℕ) → Reached file s rest → lines_of rest ≡ line ∷ lines_of after
+pub wants_memory : (file : List ℕ) (s : ScheduleValue) (rest line after : List ℕ) → Reached file s rest → lines_of rest ≡ line ∷ lines_of after
     → is_skipped line ≡ false → IsOk (after_line s line) → WantsMemory file
 unfolding reached_next
-wants_memory law file s rest line after r is kept ok =
+wants_memory file s rest line after r is kept ok =
     let o = ok_of (after_line s line) ok in
     let n = reached_next file s o.0 rest line after r is o.1 in
     let same : lines_of (file_of n.front) ≡ n.front = lines_of_file n.front (front_are n.front (lines_of after) (subst AreLines n.lines (lines_are file))) in
     record {
       front = file_of n.front;
       schedule = o.0;
-      accepted = (law (file_of n.front) o.0).0 (ap (after_lines 1 nothing) same ∙ n.gives);
+      accepted = (reads_what_is_said (file_of n.front) o.0).0 (ap (after_lines 1 nothing) same ∙ n.gives);
       rest = lines_of after;
       lines = n.lines ∙ ap (λ ls. ls ++ lines_of after) (sym same);
       says = λ none. kept_last r.front line kept (ap kept_lines (sym same) ∙ none);

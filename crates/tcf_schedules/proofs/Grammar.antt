@@ -7,7 +7,7 @@ use Rattle.std.proofs.lemmas.Bool.{and_parts, and_from, cond-true}
 use Rattle.std.proofs.lemmas.List.Splits.{join_with_byte-slice_split}
 use Rattle.std.proofs.lemmas.Option.{none-some}
 use Rattle.tcf_values.specs.Cut.{Lacks}
-use Rattle.tcf_values.specs.Ids.{context_of, ContextRoundTrip}
+use Rattle.tcf_values.specs.Ids.{context_of}
 use Rattle.tcf_values.specs.Spelling.{context_spelling}
 use Rattle.tcf_values.specs.OptionLaws.{some_same, and_then_found}
 use Rattle.tcf_values.specs.declared.ids.ContextId.{ContextId}
@@ -18,6 +18,7 @@ use Rattle.tcf_schedules.specs.Plan.{IsThread}
 use Rattle.tcf_schedules.specs.Words.{words_of, is_name, is_numeral, is_hex_word}
 use Rattle.tcf_schedules.specs.Line.{up_word, down_word, direction_word, joined}
 use Rattle.tcf_schedules.specs.Reading.{name_of, numeral_of, hex_of, direction_of, only_thread, thread_of, command_in, command_of}
+use Rattle.tcf_values.proofs.TheLaws.{context_round_trip}
 use Rattle.tcf_schedules.proofs.Cuts.{split_cut, split_lacks}
 
 -- ---- Texts that pass a test
@@ -74,21 +75,21 @@ direction_words false good = all_lack is_ascii_alphanumeric refl down_word refl
 
 -- ---- Threads
 
-pub thread_exact : ContextRoundTrip → IsExact ContextId thread_of IsThread context_spelling
+pub thread_exact : IsExact ContextId thread_of IsThread context_spelling
 unfolding thread_of
-thread_exact law = record { found = reads; there = spells }
+thread_exact = record { found = reads; there = spells }
   where
     by_kind : (t : List ℕ) (id thread : ContextId) → context_of t ≡ Some id → only_thread id ≡ Some thread → IsThread thread × (t ≡ context_spelling thread)
     by_kind t (Process p) thread is e = absurd (none-some thread e)
     by_kind t (Thread p q) thread is e =
-        subst (λ x. IsThread x × (t ≡ context_spelling x)) (some_same (Thread p q) thread e) ((law t (Thread p q)).0 is)
+        subst (λ x. IsThread x × (t ≡ context_spelling x)) (some_same (Thread p q) thread e) ((context_round_trip t (Thread p q)).0 is)
 
     reads : (t : List ℕ) (thread : ContextId) → thread_of t ≡ Some thread → IsThread thread × (t ≡ context_spelling thread)
     reads t thread e = let m = and_then_found only_thread (context_of t) thread e in by_kind t m.0 thread m.1 m.2
 
     spells : (thread : ContextId) → IsThread thread → thread_of (context_spelling thread) ≡ Some thread
     spells (Process p) good = absurd good
-    spells (Thread p q) good = ap (option_and_then only_thread) ((law (context_spelling (Thread p q)) (Thread p q)).1 (good, refl))
+    spells (Thread p q) good = ap (option_and_then only_thread) ((context_round_trip (context_spelling (Thread p q)) (Thread p q)).1 (good, refl))
 
 -- ---- Commands
 

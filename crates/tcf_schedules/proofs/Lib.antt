@@ -10,3 +10,4 @@ pub mod Schedules
 pub mod Scripts
 pub mod Steps
 pub mod Values
+pub mod TheLaws

@@ -12,11 +12,12 @@ use Rattle.tcf_schedules.specs.declared.schedule.TextFault.TheVariants.{Form, La
 use Rattle.tcf_schedules.specs.Plan.{Plan, step_size, step_count, AreSteps}
 use Rattle.tcf_schedules.specs.Refusal.{BadLine}
 use Rattle.tcf_schedules.specs.Line.{PlainStep, opens, sends, delivers, turns, ticks, closes, cuts, asks, LineStep, once, rounds, times, LineHead, image, chain, LineValue, head, step, IsHead, IsLineStep, image_word, chain_word, open_word, send_word, deliver_word, turn_word, tick_word, close_word, cut_word, cached_word, rounds_word, times_word, plain_spelling, step_spelling, head_spelling, spelling, Says}
-use Rattle.tcf_schedules.specs.Reading.{value_of, ReadsTheText}
+use Rattle.tcf_schedules.specs.Reading.{value_of}
 use Rattle.tcf_schedules.specs.Schedule.{lines_of, is_skipped, ScheduleValue, nothing, image_of, head_of, plan_in, has_step, is_image, is_chain, and_image, and_chain, and_plan, with_plan, after_head, after_value, after_said, after_line, at_line, going_on, after_lines, schedule_of, kept_lines, images_in, chains_in, AreDistinct, Accepts, ReadsWhatIsSaid}
 use Rattle.tcf_schedules.proofs.Names.{IsNew, distinct_push, distinct_front, new_of, none_of}
 use Rattle.tcf_schedules.proofs.Steps.{steps_are}
 use Rattle.list_laws.proofs.Lists.{nil_cons, cons_parts}
+use Rattle.tcf_schedules.proofs.Values.{reads_the_text}
 
 -- ---- Outcomes
 
@@ -100,17 +101,17 @@ record Follows (s : ScheduleValue) (line : List ℕ) (next : ScheduleValue) : Ty
   says : Says line value
   gives : after_value s value ≡ Ok next
 
-follows : ReadsTheText → (s : ScheduleValue) (line : List ℕ) (next : ScheduleValue) → is_skipped line ≡ false → after_line s line ≡ Ok next → Follows s line next
-follows law s line next kept e = by_value (value_of line) refl (sym (cond-false (is_skipped line) _ _ kept) ∙ e)
+follows : (s : ScheduleValue) (line : List ℕ) (next : ScheduleValue) → is_skipped line ≡ false → after_line s line ≡ Ok next → Follows s line next
+follows s line next kept e = by_value (value_of line) refl (sym (cond-false (is_skipped line) _ _ kept) ∙ e)
   where
     by_value : (o : Option LineValue) → value_of line ≡ o → after_said s o ≡ Ok next → Follows s line next
     by_value None is gives = absurd (fault_ok Form next gives)
-    by_value (Some value) is gives = record { value = value; says = (law line value).0 is; gives = gives }
+    by_value (Some value) is gives = record { value = value; says = (reads_the_text line value).0 is; gives = gives }
 
 -- what a line says, taken
-pub taking : ReadsTheText → (s : ScheduleValue) (line : List ℕ) (value : LineValue) → Says line value → after_line s line ≡ after_value s value
-taking law s line value says =
-    cond-false (is_skipped line) _ _ (ap is_skipped says.1 ∙ text_kept value) ∙ ap (after_said s) ((law line value).1 says)
+pub taking : (s : ScheduleValue) (line : List ℕ) (value : LineValue) → Says line value → after_line s line ≡ after_value s value
+taking s line value says =
+    cond-false (is_skipped line) _ _ (ap is_skipped says.1 ∙ text_kept value) ∙ ap (after_said s) ((reads_the_text line value).1 says)
 
 -- ---- What holds of every schedule that is read
 
@@ -322,23 +323,23 @@ value_says s line lines t fine kept (step x) says next gives later =
     let a = step_adds s x next fine gives in
     says_step s line lines t x a.plan kept says a.meant (subst (λ n. SaysMore n lines t) a.next_is (later a.fine))
 
-lines_say : ReadsTheText → (number : ℕ) (s : ScheduleValue) (lines : List (List ℕ)) (t : ScheduleValue) → IsFine s → after_lines number s lines ≡ Ok t → SaysMore s lines t
-lines_say law number s [] t fine e = subst (SaysMore s []) (ok_same s t e) (says_no_more s fine)
-lines_say law number s (line ∷ lines) t fine e =
+lines_say : (number : ℕ) (s : ScheduleValue) (lines : List (List ℕ)) (t : ScheduleValue) → IsFine s → after_lines number s lines ≡ Ok t → SaysMore s lines t
+lines_say number s [] t fine e = subst (SaysMore s []) (ok_same s t e) (says_no_more s fine)
+lines_say number s (line ∷ lines) t fine e =
     let m = goes_on (λ next. after_lines (number + 1) next lines) (after_line s line) number t e in
     elim (cases_Bool (is_skipped line)) [
       | inl skipped ↦
           let same : s ≡ m.0 = line_same s m.0 (sym (skipping s line skipped) ∙ m.1) in
-          says_skipped s line lines t skipped (lines_say law (number + 1) s lines t fine (subst (λ n. after_lines (number + 1) n lines ≡ Ok t) (sym same) m.2))
+          says_skipped s line lines t skipped (lines_say (number + 1) s lines t fine (subst (λ n. after_lines (number + 1) n lines ≡ Ok t) (sym same) m.2))
       | inr kept ↦
-          let f = follows law s line m.0 kept m.1 in
-          value_says s line lines t fine kept f.value f.says m.0 f.gives (λ next_fine. lines_say law (number + 1) m.0 lines t next_fine m.2)
+          let f = follows s line m.0 kept m.1 in
+          value_says s line lines t fine kept f.value f.says m.0 f.gives (λ next_fine. lines_say (number + 1) m.0 lines t next_fine m.2)
     ]
 
 -- a schedule that is read is what the file says
-said : ReadsTheText → (file : List ℕ) (s : ScheduleValue) → schedule_of file ≡ Ok s → Accepts file s
-said law file s e =
-    let r = lines_say law 1 nothing (lines_of file) s nothing_fine e in
+said : (file : List ℕ) (s : ScheduleValue) → schedule_of file ≡ Ok s → Accepts file s
+said file s e =
+    let r = lines_say 1 nothing (lines_of file) s nothing_fine e in
     record {
       heads = r.heads;
       steps = r.steps;
@@ -357,10 +358,10 @@ said law file s e =
 -- ---- What is said is read
 
 -- a step whose place is there, and for which there is room
-step_taken : ReadsTheText → (s : ScheduleValue) (line : List ℕ) (x : LineStep) (plan : Plan) → Says line (step x) → plan_in s.chains x ≡ Some plan
+step_taken : (s : ScheduleValue) (line : List ℕ) (x : LineStep) (plan : Plan) → Says line (step x) → plan_in s.chains x ≡ Some plan
     → step_count (s.plans ++ plan ∷ []) ≤ 1000000 → after_line s line ≡ Ok (and_plan plan s)
-step_taken law s line x plan says meant room =
-    taking law s line (step x) says
+step_taken s line x plan says meant room =
+    taking s line (step x) says
     ∙ (ap (λ o. with_plan o s) meant
     ∙ cond-true (nat_le (step_count s.plans + step_size plan) 1000000) _ _ (le-leb (step_count s.plans + step_size plan) 1000000 (subst (λ n. n ≤ 1000000) (sum_by_push step_size s.plans plan) room)))
 
@@ -379,17 +380,17 @@ record StepsLead (s : ScheduleValue) (lines : List (List ℕ)) (steps : List Lin
   within : step_count t.plans ≤ 1000000
 
 -- a line that isn't skipped, before lines of steps
-step_leads : ReadsTheText → (number : ℕ) (s : ScheduleValue) (line : List ℕ) (lines : List (List ℕ)) (steps : List LineStep) (plans : List Plan) (t : ScheduleValue)
+step_leads : (number : ℕ) (s : ScheduleValue) (line : List ℕ) (lines : List (List ℕ)) (steps : List LineStep) (plans : List Plan) (t : ScheduleValue)
     → is_skipped line ≡ false → StepsLead s (line ∷ lines) steps plans t
     → ((next : ScheduleValue) (xs : List LineStep) (ps : List Plan) → StepsLead next lines xs ps t → after_lines (number + 1) next lines ≡ Ok t)
     → after_lines number s (line ∷ lines) ≡ Ok t
-step_leads law number s line lines [] plans t kept m later = absurd (nil_cons line (kept_lines lines) (sym m.texts ∙ kept_more line lines kept))
-step_leads law number s line lines (x ∷ xs) [] t kept m later = absurd (nil_cons (plan_in s.chains x) (map (plan_in s.chains) xs) (sym m.meant))
-step_leads law number s line lines (x ∷ xs) (p ∷ ps) t kept m later =
+step_leads number s line lines [] plans t kept m later = absurd (nil_cons line (kept_lines lines) (sym m.texts ∙ kept_more line lines kept))
+step_leads number s line lines (x ∷ xs) [] t kept m later = absurd (nil_cons (plan_in s.chains x) (map (plan_in s.chains) xs) (sym m.meant))
+step_leads number s line lines (x ∷ xs) (p ∷ ps) t kept m later =
     let both = cons_parts line (step_spelling x) (kept_lines lines) (map step_spelling xs) (sym (kept_more line lines kept) ∙ m.texts) in
     let meant = cons_parts (plan_in s.chains x) (Some p) (map (plan_in s.chains) xs) (map Some ps) m.meant in
     let room : step_count (s.plans ++ p ∷ ps) ≤ 1000000 = subst (λ qs. step_count qs ≤ 1000000) m.plans_are m.within in
-    one_line number s (and_plan p s) line lines (step_taken law s line x p (m.steps_are.0, both.0) meant.0 (front_room s.plans ps p room))
+    one_line number s (and_plan p s) line lines (step_taken s line x p (m.steps_are.0, both.0) meant.0 (front_room s.plans ps p room))
     ∙ later (and_plan p s) xs ps (record {
       texts = both.1;
       steps_are = m.steps_are.1;
@@ -400,15 +401,15 @@ step_leads law number s line lines (x ∷ xs) (p ∷ ps) t kept m later =
       within = m.within;
     })
 
-steps_taken : ReadsTheText → (number : ℕ) (s : ScheduleValue) (lines : List (List ℕ)) (steps : List LineStep) (plans : List Plan) (t : ScheduleValue)
+steps_taken : (number : ℕ) (s : ScheduleValue) (lines : List (List ℕ)) (steps : List LineStep) (plans : List Plan) (t : ScheduleValue)
     → StepsLead s lines steps plans t → after_lines number s lines ≡ Ok t
-steps_taken law number s [] [] [] t l = ap Ok (same_parts s t (sym l.images) (sym l.chains) (sym (l.plans_are ∙ append-nil s.plans)))
-steps_taken law number s [] [] (plan ∷ plans) t l = absurd (nil_cons (Some plan) (map Some plans) l.meant)
-steps_taken law number s [] (x ∷ steps) plans t l = absurd (nil_cons (step_spelling x) (map step_spelling steps) l.texts)
-steps_taken law number s (line ∷ lines) steps plans t l =
+steps_taken number s [] [] [] t l = ap Ok (same_parts s t (sym l.images) (sym l.chains) (sym (l.plans_are ∙ append-nil s.plans)))
+steps_taken number s [] [] (plan ∷ plans) t l = absurd (nil_cons (Some plan) (map Some plans) l.meant)
+steps_taken number s [] (x ∷ steps) plans t l = absurd (nil_cons (step_spelling x) (map step_spelling steps) l.texts)
+steps_taken number s (line ∷ lines) steps plans t l =
     elim (cases_Bool (is_skipped line)) [
       | inl skipped ↦ one_line number s s line lines (skipping s line skipped)
-          ∙ steps_taken law (number + 1) s lines steps plans t (record {
+          ∙ steps_taken (number + 1) s lines steps plans t (record {
             texts = sym (kept_skipping line lines skipped) ∙ l.texts;
             steps_are = l.steps_are;
             meant = l.meant;
@@ -417,7 +418,7 @@ steps_taken law number s (line ∷ lines) steps plans t l =
             plans_are = l.plans_are;
             within = l.within;
           })
-      | inr kept ↦ step_leads law number s line lines steps plans t kept l (λ next xs ps m. steps_taken law (number + 1) next lines xs ps t m)
+      | inr kept ↦ step_leads number s line lines steps plans t kept l (λ next xs ps m. steps_taken (number + 1) next lines xs ps t m)
     ]
 
 -- lines of a header and of steps behind a schedule without a step, which lead to another
@@ -454,13 +455,13 @@ head_taken s (chain name adds) heads t none images chains fine =
     ∙ cond-true (nat_lt (length s.chains) 64) _ _ (lt-ltb (length s.chains) 64 few))
 
 -- a line that isn't skipped, before lines of a header and of steps
-head_leads : ReadsTheText → (number : ℕ) (s : ScheduleValue) (line : List ℕ) (lines : List (List ℕ)) (h : LineHead) (heads : List LineHead) (steps : List LineStep) (plans : List Plan) (t : ScheduleValue)
+head_leads : (number : ℕ) (s : ScheduleValue) (line : List ℕ) (lines : List (List ℕ)) (h : LineHead) (heads : List LineHead) (steps : List LineStep) (plans : List Plan) (t : ScheduleValue)
     → is_skipped line ≡ false → HeadsLead s (line ∷ lines) (h ∷ heads) steps plans t
     → ((next : ScheduleValue) → HeadsLead next lines heads steps plans t → after_lines (number + 1) next lines ≡ Ok t)
     → after_lines number s (line ∷ lines) ≡ Ok t
-head_leads law number s line lines h heads steps plans t kept m later =
+head_leads number s line lines h heads steps plans t kept m later =
     let both = cons_parts line (head_spelling h) (kept_lines lines) (map head_spelling heads ++ map step_spelling steps) (sym (kept_more line lines kept) ∙ m.texts) in
-    one_line number s (and_head h s) line lines (taking law s line (head h) (m.heads_are.0, both.0) ∙ head_taken s h heads t m.first m.images m.chains m.fine)
+    one_line number s (and_head h s) line lines (taking s line (head h) (m.heads_are.0, both.0) ∙ head_taken s h heads t m.first m.images m.chains m.fine)
     ∙ later (and_head h s) (record {
       first = plans_head h s ∙ m.first;
       texts = both.1;
@@ -487,14 +488,14 @@ steps_left s lines steps plans t m =
       within = m.fine.within;
     }
 
-heads_taken : ReadsTheText → (number : ℕ) (s : ScheduleValue) (lines : List (List ℕ)) (heads : List LineHead) (steps : List LineStep) (plans : List Plan) (t : ScheduleValue)
+heads_taken : (number : ℕ) (s : ScheduleValue) (lines : List (List ℕ)) (heads : List LineHead) (steps : List LineStep) (plans : List Plan) (t : ScheduleValue)
     → HeadsLead s lines heads steps plans t → after_lines number s lines ≡ Ok t
-heads_taken law number s lines [] steps plans t m = steps_taken law number s lines steps plans t (steps_left s lines steps plans t m)
-heads_taken law number s [] (h ∷ heads) steps plans t m = absurd (nil_cons (head_spelling h) (map head_spelling heads ++ map step_spelling steps) m.texts)
-heads_taken law number s (line ∷ lines) (h ∷ heads) steps plans t m =
+heads_taken number s lines [] steps plans t m = steps_taken number s lines steps plans t (steps_left s lines steps plans t m)
+heads_taken number s [] (h ∷ heads) steps plans t m = absurd (nil_cons (head_spelling h) (map head_spelling heads ++ map step_spelling steps) m.texts)
+heads_taken number s (line ∷ lines) (h ∷ heads) steps plans t m =
     elim (cases_Bool (is_skipped line)) [
       | inl skipped ↦ one_line number s s line lines (skipping s line skipped)
-          ∙ heads_taken law (number + 1) s lines (h ∷ heads) steps plans t (record {
+          ∙ heads_taken (number + 1) s lines (h ∷ heads) steps plans t (record {
             first = m.first;
             texts = sym (kept_skipping line lines skipped) ∙ m.texts;
             heads_are = m.heads_are;
@@ -505,13 +506,13 @@ heads_taken law number s (line ∷ lines) (h ∷ heads) steps plans t m =
             plans_are = m.plans_are;
             fine = m.fine;
           })
-      | inr kept ↦ head_leads law number s line lines h heads steps plans t kept m (λ next n. heads_taken law (number + 1) next lines heads steps plans t n)
+      | inr kept ↦ head_leads number s line lines h heads steps plans t kept m (λ next n. heads_taken (number + 1) next lines heads steps plans t n)
     ]
 
 -- what the file says is read
-taken : ReadsTheText → (file : List ℕ) (s : ScheduleValue) → Accepts file s → schedule_of file ≡ Ok s
-taken law file s a =
-    heads_taken law 1 nothing (lines_of file) a.heads a.steps s.plans s (record {
+taken : (file : List ℕ) (s : ScheduleValue) → Accepts file s → schedule_of file ≡ Ok s
+taken file s a =
+    heads_taken 1 nothing (lines_of file) a.heads a.steps s.plans s (record {
       first = refl;
       texts = a.lines;
       heads_are = a.heads_are;
@@ -523,13 +524,13 @@ taken law file s a =
       fine = record { images_differ = a.images_differ; chains_differ = a.chains_differ; few = a.few; within = a.within };
     })
 
-pub reads_what_is_said : ReadsTheText → ReadsWhatIsSaid
-reads_what_is_said law file s = (said law file s, taken law file s)
+pub reads_what_is_said : ReadsWhatIsSaid
+reads_what_is_said file s = (said file s, taken file s)
 
 -- so the steps of a schedule that is read are those that its chains can have
-pub steps_within : ReadsWhatIsSaid → (file : List ℕ) (s : ScheduleValue) → schedule_of file ≡ Ok s → AreSteps s.chains s.plans
-steps_within law file s e = let a = (law file s).0 e in (steps_are s.chains a.steps s.plans a.steps_are a.plans, a.within)
+pub steps_within : (file : List ℕ) (s : ScheduleValue) → schedule_of file ≡ Ok s → AreSteps s.chains s.plans
+steps_within file s e = let a = (reads_what_is_said file s).0 e in (steps_are s.chains a.steps s.plans a.steps_are a.plans, a.within)
 
 -- and so at the end of the file
-pub steps_at_end : ReadsWhatIsSaid → (file rest : List ℕ) (number : ℕ) (s : ScheduleValue) → schedule_of file ≡ after_lines number s (lines_of rest) → length rest ≡ 0 → AreSteps s.chains s.plans
-steps_at_end law file rest number s read end = steps_within law file s (read ∙ ap (λ t. after_lines number s (lines_of t)) (nil_from_length rest end))
+pub steps_at_end : (file rest : List ℕ) (number : ℕ) (s : ScheduleValue) → schedule_of file ≡ after_lines number s (lines_of rest) → length rest ≡ 0 → AreSteps s.chains s.plans
+steps_at_end file rest number s read end = steps_within file s (read ∙ ap (λ t. after_lines number s (lines_of t)) (nil_from_length rest end))

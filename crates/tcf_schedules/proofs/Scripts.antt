@@ -13,7 +13,7 @@ use Rattle.line_words.specs.Words.{spaced, both, word_of}
 use Rattle.line_words.specs.Exact.{guarded, two_ways, same_bytes, made}
 use Rattle.cached_lines.specs.declared.what.CachedWhat.{CachedWhat}
 use Rattle.cached_lines.specs.Asked.{IsAsked, cached_spelling}
-use Rattle.cached_lines.specs.Reading.{cached_of, CachedRoundTrip}
+use Rattle.cached_lines.specs.Reading.{cached_of}
 use Rattle.tcf_schedules.specs.declared.schedule.TextFault.{TextFault}
 use Rattle.tcf_schedules.specs.declared.schedule.TextFault.TheVariants.{Form}
 use Rattle.tcf_schedules.specs.declared.script.ScriptLine.{ScriptLine}
@@ -30,41 +30,41 @@ use Rattle.list_laws.proofs.Lists.{nil_cons, cons_parts}
 
 -- ---- What one line says
 
-behind_found : CachedRoundTrip → (word rest : List ℕ) (value : ScriptLineValue) → script_behind word rest ≡ Some value → IsScriptLine value × (spaced word rest ≡ script_spelling value)
+behind_found : (word rest : List ℕ) (value : ScriptLineValue) → script_behind word rest ≡ Some value → IsScriptLine value × (spaced word rest ≡ script_spelling value)
 unfolding script_behind
-behind_found law word rest value e =
+behind_found word rest value e =
     elim (two_ways (bytes_eq word send_word) (option_map script_sending (both word_of command_of rest)) _ value e) [
       | inl w ↦ made Serving ScriptLineValue (both word_of command_of) GoodServing serving_text script_sending IsScriptLine script_spelling word send_word rest value serving_exact
           (λ y g. (g.0, g.1.0, g.1.1)) (λ y. refl) w.0 w.1
       | inr e ↦
           let g = guarded (bytes_eq word cached_word) (option_map asks (cached_of rest)) value e in
-          made CachedWhat ScriptLineValue cached_of IsAsked cached_spelling asks IsScriptLine script_spelling word cached_word rest value (cached_exact law)
+          made CachedWhat ScriptLineValue cached_of IsAsked cached_spelling asks IsScriptLine script_spelling word cached_word rest value cached_exact
           (λ y g. g) (λ y. refl) g.0 g.1
     ]
 
-value_found : CachedRoundTrip → (line : List ℕ) (value : ScriptLineValue) → script_value_of line ≡ Some value → SaysInScript line value
+value_found : (line : List ℕ) (value : ScriptLineValue) → script_value_of line ≡ Some value → SaysInScript line value
 unfolding script_value_of
-value_found law line value e =
+value_found line value e =
     elim (two_ways (bytes_eq line wait_word) (Some waits) _ value e) [
       | inl w ↦ subst (SaysInScript line) (some_same waits value w.1) (tt, same_bytes line wait_word w.0)
       | inr e ↦ elim (two_ways (bytes_eq line close_word) (Some closes) _ value e) [
         | inl w ↦ subst (SaysInScript line) (some_same closes value w.1) (tt, same_bytes line close_word w.0)
         | inr e ↦
             let m = and_then_found (λ parts. script_behind parts.0 parts.1) (cut_of 32 line) value e in
-            subst (λ t. SaysInScript t value) (sym (cut_found 32 line m.0 m.1)) (behind_found law m.0.0 m.0.1 value m.2)
+            subst (λ t. SaysInScript t value) (sym (cut_found 32 line m.0 m.1)) (behind_found m.0.0 m.0.1 value m.2)
       ]
     ]
 
-value_there : CachedRoundTrip → (value : ScriptLineValue) → IsScriptLine value → script_value_of (script_spelling value) ≡ Some value
+value_there : (value : ScriptLineValue) → IsScriptLine value → script_value_of (script_spelling value) ≡ Some value
 unfolding script_value_of script_behind wait_word send_word cached_word close_word
-value_there law (sends service command args) good = ap (option_map script_sending) (serving_exact.there (service, (command, args)) (good.0, (good.1, good.2)))
-value_there law waits good = refl
-value_there law (asks what) good = ap (option_map asks) ((cached_exact law).there what good)
-value_there law closes good = refl
+value_there (sends service command args) good = ap (option_map script_sending) (serving_exact.there (service, (command, args)) (good.0, (good.1, good.2)))
+value_there waits good = refl
+value_there (asks what) good = ap (option_map asks) (cached_exact.there what good)
+value_there closes good = refl
 
-pub reads_the_script_line : CachedRoundTrip → ReadsTheScriptLine
-reads_the_script_line law line value =
-    (value_found law line value, λ says. subst (λ t. script_value_of t ≡ Some value) (sym says.1) (value_there law value says.0))
+pub reads_the_script_line : ReadsTheScriptLine
+reads_the_script_line line value =
+    (value_found line value, λ says. subst (λ t. script_value_of t ≡ Some value) (sym says.1) (value_there value says.0))
 
 -- the text of a value is no line that is skipped
 text_kept : (value : ScriptLineValue) → is_skipped (script_spelling value) ≡ false
@@ -77,30 +77,30 @@ text_kept closes = refl
 -- ---- What one line adds
 
 -- a line that is a value's text
-adds_value : ReadsTheScriptLine → (line : List ℕ) (value : ScriptLineValue) → SaysInScript line value → added_by line ≡ Some (script_line value ∷ [])
-adds_value law line value says =
-    cond-false (is_skipped line) _ _ (ap is_skipped says.1 ∙ text_kept value) ∙ ap (option_map (λ v. script_line v ∷ [])) ((law line value).1 says)
+adds_value : (line : List ℕ) (value : ScriptLineValue) → SaysInScript line value → added_by line ≡ Some (script_line value ∷ [])
+adds_value line value says =
+    cond-false (is_skipped line) _ _ (ap is_skipped says.1 ∙ text_kept value) ∙ ap (option_map (λ v. script_line v ∷ [])) ((reads_the_script_line line value).1 says)
 
-adds_none : ReadsTheScriptLine → (line : List ℕ) → is_skipped line ≡ false → ((value : ScriptLineValue) → SaysInScript line value → ⊥) → added_by line ≡ None
-adds_none law line kept none = cond-false (is_skipped line) _ _ kept ∙ by_value (script_value_of line) refl
+adds_none : (line : List ℕ) → is_skipped line ≡ false → ((value : ScriptLineValue) → SaysInScript line value → ⊥) → added_by line ≡ None
+adds_none line kept none = cond-false (is_skipped line) _ _ kept ∙ by_value (script_value_of line) refl
   where
     by_value : (o : Option ScriptLineValue) → script_value_of line ≡ o → option_map (λ v. script_line v ∷ []) o ≡ None
     by_value None is = refl
-    by_value (Some value) is = absurd (none value ((law line value).0 is))
+    by_value (Some value) is = absurd (none value ((reads_the_script_line line value).0 is))
 
 -- a line that adds nothing, since it says nothing
-bad_line : ReadsTheScriptLine → (line : List ℕ) → added_by line ≡ None → (is_skipped line ≡ false) × ((value : ScriptLineValue) → SaysInScript line value → ⊥)
-bad_line law line e =
+bad_line : (line : List ℕ) → added_by line ≡ None → (is_skipped line ≡ false) × ((value : ScriptLineValue) → SaysInScript line value → ⊥)
+bad_line line e =
     elim (cases_Bool (is_skipped line)) [
       | inl skipped ↦ absurd (none-some [] (sym e ∙ cond-true (is_skipped line) _ _ skipped))
-      | inr kept ↦ (kept, λ value says. none-some (script_line value ∷ []) (sym e ∙ adds_value law line value says))
+      | inr kept ↦ (kept, λ value says. none-some (script_line value ∷ []) (sym e ∙ adds_value line value says))
     ]
 
 nothing_said : SaysScript [] []
 nothing_said = record { values = []; texts = refl; values_are = tt; means = refl }
 
-one_said : ReadsTheScriptLine → (line : List ℕ) (more : List ScriptLine) → added_by line ≡ Some more → SaysScript (line ∷ []) more
-one_said law line more e =
+one_said : (line : List ℕ) (more : List ScriptLine) → added_by line ≡ Some more → SaysScript (line ∷ []) more
+one_said line more e =
     elim (cases_Bool (is_skipped line)) [
       | inl skipped ↦ record {
         values = [];
@@ -110,7 +110,7 @@ one_said law line more e =
       }
       | inr kept ↦
           let m = map_found (λ v. script_line v ∷ []) (script_value_of line) more (sym (cond-false (is_skipped line) _ _ kept) ∙ e) in
-          let says = (law line m.0).0 m.1 in
+          let says = (reads_the_script_line line m.0).0 m.1 in
           record {
             values = m.0 ∷ [];
             texts = kept_more line [] kept ∙ ap (λ l. l ∷ []) says.1;
@@ -151,12 +151,12 @@ line_found : (number : ℕ) (added : Option (List ScriptLine)) (later : Result (
 line_found number None later s e = absurd (err_ok _ s e)
 line_found number (Some front) later s e = let m = before_found front later s e in (front, m.0, refl, m.1, m.2)
 
-lines_say : ReadsTheScriptLine → (number : ℕ) (lines : List (List ℕ)) (s : List ScriptLine) → script_from number lines ≡ Ok s → SaysScript lines s
-lines_say law number [] s e = subst (SaysScript []) (ok_same [] s e) nothing_said
-lines_say law number (line ∷ lines) s e =
+lines_say : (number : ℕ) (lines : List (List ℕ)) (s : List ScriptLine) → script_from number lines ≡ Ok s → SaysScript lines s
+lines_say number [] s e = subst (SaysScript []) (ok_same [] s e) nothing_said
+lines_say number (line ∷ lines) s e =
     let m = line_found number (added_by line) (script_from (number + 1) lines) s e in
     subst (SaysScript (line ∷ lines)) (sym m.4)
-    (both_said (line ∷ []) lines m.0 m.1 (one_said law line m.0 m.2) (lines_say law (number + 1) lines m.1 m.3))
+    (both_said (line ∷ []) lines m.0 m.1 (one_said line m.0 m.2) (lines_say (number + 1) lines m.1 m.3))
 
 -- ---- What is said is read
 
@@ -166,31 +166,31 @@ one_line : (number : ℕ) (line : List ℕ) (lines : List (List ℕ)) (front mor
 one_line number line lines front more adds read =
     ap (λ a. from_line number a (script_from (number + 1) lines)) adds ∙ ap (before front) read
 
-value_read : ReadsTheScriptLine → (number : ℕ) (line : List ℕ) (lines : List (List ℕ)) (values : List ScriptLineValue) → is_skipped line ≡ false
+value_read : (number : ℕ) (line : List ℕ) (lines : List (List ℕ)) (values : List ScriptLineValue) → is_skipped line ≡ false
     → kept_lines (line ∷ lines) ≡ map script_spelling values → AllByRecursion IsScriptLine values
     → ((rest : List ScriptLineValue) → kept_lines lines ≡ map script_spelling rest → AllByRecursion IsScriptLine rest → script_from (number + 1) lines ≡ Ok (map script_line rest))
     → script_from number (line ∷ lines) ≡ Ok (map script_line values)
-value_read law number line lines [] kept texts are later = absurd (nil_cons line (kept_lines lines) (sym texts ∙ kept_more line lines kept))
-value_read law number line lines (value ∷ values) kept texts are later =
+value_read number line lines [] kept texts are later = absurd (nil_cons line (kept_lines lines) (sym texts ∙ kept_more line lines kept))
+value_read number line lines (value ∷ values) kept texts are later =
     let parts = cons_parts line (script_spelling value) (kept_lines lines) (map script_spelling values) (sym (kept_more line lines kept) ∙ texts) in
-    one_line number line lines (script_line value ∷ []) (map script_line values) (adds_value law line value (are.0, parts.0)) (later values parts.1 are.1)
+    one_line number line lines (script_line value ∷ []) (map script_line values) (adds_value line value (are.0, parts.0)) (later values parts.1 are.1)
 
-values_read : ReadsTheScriptLine → (number : ℕ) (lines : List (List ℕ)) (values : List ScriptLineValue) → kept_lines lines ≡ map script_spelling values
+values_read : (number : ℕ) (lines : List (List ℕ)) (values : List ScriptLineValue) → kept_lines lines ≡ map script_spelling values
     → AllByRecursion IsScriptLine values → script_from number lines ≡ Ok (map script_line values)
-values_read law number [] [] texts are = refl
-values_read law number [] (value ∷ values) texts are = absurd (nil_cons (script_spelling value) (map script_spelling values) texts)
-values_read law number (line ∷ lines) values texts are =
+values_read number [] [] texts are = refl
+values_read number [] (value ∷ values) texts are = absurd (nil_cons (script_spelling value) (map script_spelling values) texts)
+values_read number (line ∷ lines) values texts are =
     elim (cases_Bool (is_skipped line)) [
       | inl skipped ↦ one_line number line lines [] (map script_line values) (cond-true (is_skipped line) _ _ skipped)
-          (values_read law (number + 1) lines values (sym (kept_skipping line lines skipped) ∙ texts) are)
-      | inr kept ↦ value_read law number line lines values kept texts are (λ rest t a. values_read law (number + 1) lines rest t a)
+          (values_read (number + 1) lines values (sym (kept_skipping line lines skipped) ∙ texts) are)
+      | inr kept ↦ value_read number line lines values kept texts are (λ rest t a. values_read (number + 1) lines rest t a)
     ]
 
-lines_read : ReadsTheScriptLine → (number : ℕ) (lines : List (List ℕ)) (s : List ScriptLine) → SaysScript lines s → script_from number lines ≡ Ok s
-lines_read law number lines s says = values_read law number lines says.values says.texts says.values_are ∙ ap Ok (sym says.means)
+lines_read : (number : ℕ) (lines : List (List ℕ)) (s : List ScriptLine) → SaysScript lines s → script_from number lines ≡ Ok s
+lines_read number lines s says = values_read number lines says.values says.texts says.values_are ∙ ap Ok (sym says.means)
 
-pub reads_the_script : ReadsTheScriptLine → ReadsTheScript
-reads_the_script law file script = (lines_say law 1 (lines_of file) script, lines_read law 1 (lines_of file) script)
+pub reads_the_script : ReadsTheScript
+reads_the_script file script = (lines_say 1 (lines_of file) script, lines_read 1 (lines_of file) script)
 
 -- ---- The first bad line
 
@@ -219,10 +219,10 @@ err_found front (Ok more) bad e = absurd (ok_err (front ++ more) bad e)
 err_found front (Err other) bad e = e
 
 -- a bad line, or one before a later one
-stops_at : ReadsTheScriptLine → (number : ℕ) (line : List ℕ) (lines : List (List ℕ)) (place : ℕ) (what : TextFault) (added : Option (List ScriptLine)) → added_by line ≡ added
+stops_at : (number : ℕ) (line : List ℕ) (lines : List (List ℕ)) (place : ℕ) (what : TextFault) (added : Option (List ScriptLine)) → added_by line ≡ added
     → from_line number added (script_from (number + 1) lines) ≡ Err (bad_at place what)
     → (script_from (number + 1) lines ≡ Err (bad_at place what) → Stops (number + 1) lines place what) → Stops number (line ∷ lines) place what
-stops_at law number line lines place what None adds stop later =
+stops_at number line lines place what None adds stop later =
     let same = same_bad number place Form what stop in
     record {
       front = [];
@@ -235,12 +235,12 @@ stops_at law number line lines place what None adds stop later =
       adds = adds;
       form = same.1;
     }
-stops_at law number line lines place what (Some front) adds stop later =
+stops_at number line lines place what (Some front) adds stop later =
     let r = later (err_found front (script_from (number + 1) lines) (bad_at place what) stop) in
     record {
       front = line ∷ r.front;
       script = front ++ r.script;
-      says = both_said (line ∷ []) r.front front r.script (one_said law line front adds) r.says;
+      says = both_said (line ∷ []) r.front front r.script (one_said line front adds) r.says;
       line = r.line;
       rest = r.rest;
       parts = ap (λ ls. line ∷ ls) r.parts;
@@ -249,10 +249,10 @@ stops_at law number line lines place what (Some front) adds stop later =
       form = r.form;
     }
 
-stops : ReadsTheScriptLine → (number : ℕ) (lines : List (List ℕ)) (place : ℕ) (what : TextFault) → script_from number lines ≡ Err (bad_at place what) → Stops number lines place what
-stops law number [] place what e = absurd (ok_err [] (bad_at place what) e)
-stops law number (line ∷ lines) place what e =
-    stops_at law number line lines place what (added_by line) refl e (λ stop. stops law (number + 1) lines place what stop)
+stops : (number : ℕ) (lines : List (List ℕ)) (place : ℕ) (what : TextFault) → script_from number lines ≡ Err (bad_at place what) → Stops number lines place what
+stops number [] place what e = absurd (ok_err [] (bad_at place what) e)
+stops number (line ∷ lines) place what e =
+    stops_at number line lines place what (added_by line) refl e (λ stop. stops (number + 1) lines place what stop)
 
 -- a bad line behind lines that are read
 stopped : (number : ℕ) (front : List (List ℕ)) (s : List ScriptLine) (line : List ℕ) (rest : List (List ℕ)) → script_from number front ≡ Ok s → added_by line ≡ None
@@ -266,10 +266,10 @@ stopped number (first ∷ front) s line rest read none =
     ap (λ a. from_line number a (script_from (number + 1) (front ++ line ∷ rest))) m.2
     ∙ (ap (before m.0) (stopped (number + 1) front m.1 line rest m.3 none) ∙ ap (λ n. Err (bad_at n Form)) place)
 
-first_bad : ReadsTheScriptLine → (lines : List (List ℕ)) (number : ℕ) (what : TextFault) → script_from 1 lines ≡ Err (bad_at number what) → IsFirstBadOfScript lines number × (what ≡ Form)
-first_bad law lines number what e =
-    let r = stops law 1 lines number what e in
-    let is = bad_line law r.line r.adds in (
+first_bad : (lines : List (List ℕ)) (number : ℕ) (what : TextFault) → script_from 1 lines ≡ Err (bad_at number what) → IsFirstBadOfScript lines number × (what ≡ Form)
+first_bad lines number what e =
+    let r = stops 1 lines number what e in
+    let is = bad_line r.line r.adds in (
       record {
         front = r.front;
         script = r.script;
@@ -284,16 +284,16 @@ first_bad law lines number what e =
       r.form,
     )
 
-the_first : ReadsTheScriptLine → (lines : List (List ℕ)) (number : ℕ) (what : TextFault) → IsFirstBadOfScript lines number × (what ≡ Form) → script_from 1 lines ≡ Err (bad_at number what)
-the_first law lines number what is =
+the_first : (lines : List (List ℕ)) (number : ℕ) (what : TextFault) → IsFirstBadOfScript lines number × (what ≡ Form) → script_from 1 lines ≡ Err (bad_at number what)
+the_first lines number what is =
     let bad = is.0 in
     let place : 1 + length bad.front ≡ number = let p = bad.place in omega (arith, p) in
     ap (script_from 1) bad.parts
-    ∙ (stopped 1 bad.front bad.script bad.line bad.rest (lines_read law 1 bad.front bad.script bad.says) (adds_none law bad.line bad.kept bad.none)
+    ∙ (stopped 1 bad.front bad.script bad.line bad.rest (lines_read 1 bad.front bad.script bad.says) (adds_none bad.line bad.kept bad.none)
     ∙ (ap (λ n. Err (bad_at n Form)) place ∙ ap (λ w. Err (bad_at number w)) (sym is.1)))
 
-pub refuses_the_script : ReadsTheScriptLine → RefusesTheScript
-refuses_the_script law file number what = (first_bad law (lines_of file) number what, the_first law (lines_of file) number what)
+pub refuses_the_script : RefusesTheScript
+refuses_the_script file number what = (first_bad (lines_of file) number what, the_first (lines_of file) number what)
 
 -- ---- The lines that a script can have
 
@@ -310,8 +310,8 @@ values_fit (value ∷ values) good = (value_fit value good.0, values_fit values 
 said_fit : (lines : List (List ℕ)) (script : List ScriptLine) → SaysScript lines script → AllByRecursion IsFit script
 said_fit lines script says = subst (AllByRecursion IsFit) (sym says.means) (values_fit says.values says.values_are)
 
-pub scripts_are_fit : ReadsTheScriptLine → ScriptsAreFit
-scripts_are_fit law file script e = said_fit (lines_of file) script (lines_say law 1 (lines_of file) script e)
+pub scripts_are_fit : ScriptsAreFit
+scripts_are_fit file script e = said_fit (lines_of file) script (lines_say 1 (lines_of file) script e)
 
 -- ---- The lines of a file, one after the other
 
@@ -351,14 +351,14 @@ script_next file number script next rest line after read is e =
     ∙ (ap (λ ls. before script (script_from (number + 1) ls)) is
     ∙ (ap (λ a. before script (from_line (number + 1) a later)) m.1 ∙ (before_both script m.0 later ∙ ap (λ s. before s later) m.2)))
 
-pub reached_script : ReadsTheScriptLine → (file : List ℕ) (script next : List ScriptLine) (rest line after : List ℕ) → ReachedScript file script rest → lines_of rest ≡ line ∷ lines_of after
+pub reached_script : (file : List ℕ) (script next : List ScriptLine) (rest line after : List ℕ) → ReachedScript file script rest → lines_of rest ≡ line ∷ lines_of after
     → option_map (λ more. script ++ more) (added_by line) ≡ Some next → ReachedScript file next after
-reached_script law file script next rest line after r is e =
+reached_script file script next rest line after r is e =
     let m = put_last script line next e in
     record {
       front = r.front ++ line ∷ [];
       parts = r.parts ∙ (ap (λ ls. r.front ++ ls) is ∙ sym (append_assoc r.front (line ∷ []) (lines_of after)));
-      says = subst (SaysScript (r.front ++ line ∷ [])) m.2 (both_said r.front (line ∷ []) script m.0 r.says (one_said law line m.0 m.1));
+      says = subst (SaysScript (r.front ++ line ∷ [])) m.2 (both_said r.front (line ∷ []) script m.0 r.says (one_said line m.0 m.1));
     }
 
 pub reached_fit : (file : List ℕ) (script : List ScriptLine) (rest : List ℕ) → ReachedScript file script rest → AllByRecursion IsFit script
@@ -373,15 +373,15 @@ some_behind [] first e = nil_cons first [] (sym e)
 some_behind (line ∷ script) first e = nil_cons line (script ++ first ∷ []) (sym e)
 
 -- a line that isn't skipped and says something, and memory is wanting
-pub script_wants : ReadsTheScriptLine → (file : List ℕ) (script : List ScriptLine) (rest line after : List ℕ) → ReachedScript file script rest → lines_of rest ≡ line ∷ lines_of after
+pub script_wants : (file : List ℕ) (script : List ScriptLine) (rest line after : List ℕ) → ReachedScript file script rest → lines_of rest ≡ line ∷ lines_of after
     → is_skipped line ≡ false → IsSome (added_by line) → ScriptWantsMemory file
-script_wants law file script rest line after r is kept some =
+script_wants file script rest line after r is kept some =
     let o = some_more (added_by line) some in
     let m = map_found (λ v. script_line v ∷ []) (script_value_of line) o.0 (sym (cond-false (is_skipped line) _ _ kept) ∙ o.1) in
     record {
       front = r.front ++ line ∷ [];
       script = script ++ o.0;
-      says = both_said r.front (line ∷ []) script o.0 r.says (one_said law line o.0 o.1);
+      says = both_said r.front (line ∷ []) script o.0 r.says (one_said line o.0 o.1);
       rest = lines_of after;
       parts = r.parts ∙ (ap (λ ls. r.front ++ ls) is ∙ sym (append_assoc r.front (line ∷ []) (lines_of after)));
       some = subst (λ t. script ++ t ≢ []) m.2 (some_behind script (script_line m.0));

@@ -2,7 +2,6 @@
 use Rattle.std.proofs.Common.{◌≡◌, ℕ, Bool, List, refl, sym, ◌∙◌, ap, inl, inr, subst, lit<, arith}
 use Rattle.std.specs.Prelude.{Some, option_map, option_and_then, bytes_eq, decimal}
 use Rattle.tcf_values.specs.Cut.{cut_of}
-use Rattle.tcf_values.specs.Ids.{ContextRoundTrip}
 use Rattle.tcf_values.specs.Number.{number_of}
 use Rattle.tcf_values.specs.Spelling.{context_spelling}
 use Rattle.tcf_values.specs.CutLaws.{cut_found}
@@ -12,11 +11,12 @@ use Rattle.line_words.specs.Words.{spaced, is_word, both, word_of}
 use Rattle.line_words.specs.Exact.{IsExact, both_exact, guarded, two_ways, made, Passes, itself, word_exact, word_words, InRange, number_exact, number_words}
 use Rattle.cached_lines.specs.declared.what.CachedWhat.{CachedWhat}
 use Rattle.cached_lines.specs.Asked.{IsAsked, cached_spelling}
-use Rattle.cached_lines.specs.Reading.{cached_of, CachedRoundTrip}
+use Rattle.cached_lines.specs.Reading.{cached_of}
 use Rattle.tcf_schedules.specs.Plan.{IsThread}
 use Rattle.tcf_schedules.specs.Words.{is_name, is_numeral, is_hex_word}
 use Rattle.tcf_schedules.specs.Line.{PlainStep, opens, sends, delivers, turns, ticks, closes, cuts, asks, LineStep, once, rounds, times, LineHead, image, chain, LineValue, head, step, IsPlainStep, IsLineStep, IsHead, IsLine, image_word, chain_word, open_word, send_word, deliver_word, turn_word, tick_word, close_word, cut_word, cached_word, rounds_word, times_word, direction_word, plain_spelling, step_spelling, head_spelling, spelling, Says}
 use Rattle.tcf_schedules.specs.Reading.{name_of, numeral_of, hex_of, direction_of, thread_of, command_of, sending_of, sending, delivery_of, delivering, turning_of, turning, cutting_of, cutting, asking_of, asking, imaging_of, imaging, chaining_of, chaining, plain_behind, plain_of, repetition_of, repeating, step_behind, value_behind, value_of, ReadsTheText}
+use Rattle.cached_lines.proofs.TheLaws.{cached_round_trip}
 use Rattle.tcf_schedules.proofs.Grammar.{name_exact, numeral_exact, hex_exact, name_words, numeral_words, Always, direction_exact, direction_words, thread_exact, GoodCommand, command_text, command_exact}
 
 -- ---- What stands behind the first word
@@ -82,16 +82,16 @@ turning_exact =
 cutting_exact : IsExact (List ℕ × List ℕ) cutting_of (λ c. Passes is_name c.0 × Passes is_numeral c.1) (λ c. spaced c.0 c.1)
 cutting_exact = both_exact (List ℕ) (List ℕ) name_of numeral_of (Passes is_name) (Passes is_numeral) itself itself name_exact name_words numeral_exact
 
-pub cached_exact : CachedRoundTrip → IsExact CachedWhat cached_of IsAsked cached_spelling
-cached_exact law =
+pub cached_exact : IsExact CachedWhat cached_of IsAsked cached_spelling
+cached_exact =
     record {
-      found = λ t what e. (law t what).0 e;
-      there = λ what good. (law (cached_spelling what) what).1 (good, refl);
+      found = λ t what e. (cached_round_trip t what).0 e;
+      there = λ what good. (cached_round_trip (cached_spelling what) what).1 (good, refl);
     }
 
-asking_exact : CachedRoundTrip → IsExact (List ℕ × CachedWhat) asking_of (λ a. Passes is_name a.0 × IsAsked a.1) (λ a. spaced a.0 (cached_spelling a.1))
-asking_exact law =
-    both_exact (List ℕ) CachedWhat name_of cached_of (Passes is_name) IsAsked itself cached_spelling name_exact name_words (cached_exact law)
+asking_exact : IsExact (List ℕ × CachedWhat) asking_of (λ a. Passes is_name a.0 × IsAsked a.1) (λ a. spaced a.0 (cached_spelling a.1))
+asking_exact =
+    both_exact (List ℕ) CachedWhat name_of cached_of (Passes is_name) IsAsked itself cached_spelling name_exact name_words cached_exact
 
 imaging_exact : IsExact (List ℕ × List ℕ) imaging_of (λ i. Passes is_name i.0 × Passes is_hex_word i.1) (λ i. spaced i.0 i.1)
 imaging_exact = both_exact (List ℕ) (List ℕ) name_of hex_of (Passes is_name) (Passes is_hex_word) itself itself name_exact name_words hex_exact
@@ -102,16 +102,12 @@ chaining_exact =
 
 -- ---- What is read is spelled so
 
--- what the values below the steps have: a context's identifier and what is asked of a cache are read from their texts
-abbrev Below : Type 0
-Below = ContextRoundTrip × CachedRoundTrip
-
 abbrev SaysPlain : List ℕ → List ℕ → PlainStep → Type 0
 SaysPlain word rest x = IsPlainStep x × (spaced word rest ≡ plain_spelling x)
 
-plain_found : Below → (word rest : List ℕ) (x : PlainStep) → plain_behind word rest ≡ Some x → SaysPlain word rest x
+plain_found : (word rest : List ℕ) (x : PlainStep) → plain_behind word rest ≡ Some x → SaysPlain word rest x
 unfolding plain_behind
-plain_found law word rest x e =
+plain_found word rest x e =
     elim (two_ways (bytes_eq word open_word) (option_map opens (name_of rest)) _ x e) [
       | inl w ↦ made (List ℕ) PlainStep name_of (Passes is_name) itself opens IsPlainStep plain_spelling word open_word rest x name_exact (λ y g. g) (λ y. refl) w.0 w.1
       | inr e ↦ elim (two_ways (bytes_eq word send_word) (option_map sending (sending_of rest)) _ x e) [
@@ -124,7 +120,7 @@ plain_found law word rest x e =
             | inl w ↦ made (List ℕ × (List ℕ × Bool)) PlainStep turning_of (λ t. Passes is_name t.0 × GoodWay t.1) (λ t. spaced t.0 (way_text t.1)) turning IsPlainStep plain_spelling
                 word turn_word rest x turning_exact (λ y g. (g.0, g.1.0)) (λ y. refl) w.0 w.1
             | inr e ↦ elim (two_ways (bytes_eq word tick_word) (option_map ticks (thread_of rest)) _ x e) [
-              | inl w ↦ made ContextId PlainStep thread_of IsThread context_spelling ticks IsPlainStep plain_spelling word tick_word rest x (thread_exact law.0) (λ y g. g) (λ y. refl) w.0 w.1
+              | inl w ↦ made ContextId PlainStep thread_of IsThread context_spelling ticks IsPlainStep plain_spelling word tick_word rest x thread_exact (λ y g. g) (λ y. refl) w.0 w.1
               | inr e ↦ elim (two_ways (bytes_eq word close_word) (option_map closes (name_of rest)) _ x e) [
                 | inl w ↦ made (List ℕ) PlainStep name_of (Passes is_name) itself closes IsPlainStep plain_spelling word close_word rest x name_exact (λ y g. g) (λ y. refl) w.0 w.1
                 | inr e ↦ elim (two_ways (bytes_eq word cut_word) (option_map cutting (cutting_of rest)) _ x e) [
@@ -133,7 +129,7 @@ plain_found law word rest x e =
                   | inr e ↦
                       let g = guarded (bytes_eq word cached_word) (option_map asking (asking_of rest)) x e in
                       made (List ℕ × CachedWhat) PlainStep asking_of (λ a. Passes is_name a.0 × IsAsked a.1) (λ a. spaced a.0 (cached_spelling a.1)) asking IsPlainStep plain_spelling
-                      word cached_word rest x (asking_exact law.1) (λ y g. g) (λ y. refl) g.0 g.1
+                      word cached_word rest x asking_exact (λ y g. g) (λ y. refl) g.0 g.1
                 ]
               ]
             ]
@@ -174,57 +170,57 @@ plain_cut (closes name) = refl
 plain_cut (cuts name hop) = refl
 plain_cut (asks name what) = refl
 
-plain_read : Below → (x : PlainStep) → IsPlainStep x → plain_behind (first_of x) (rest_of x) ≡ Some x
+plain_read : (x : PlainStep) → IsPlainStep x → plain_behind (first_of x) (rest_of x) ≡ Some x
 unfolding first_of rest_of plain_behind open_word send_word deliver_word turn_word tick_word close_word cut_word cached_word
-plain_read law (opens name) good = ap (option_map opens) (name_exact.there name good)
-plain_read law (sends name service command args) good =
+plain_read (opens name) good = ap (option_map opens) (name_exact.there name good)
+plain_read (sends name service command args) good =
     ap (option_map sending) (sending_exact.there (name, (service, (command, args))) (good.0, (good.1, (good.2, good.3))))
-plain_read law (delivers name hop up count) good =
+plain_read (delivers name hop up count) good =
     ap (option_map delivering) (delivery_exact.there (name, (hop, (up, count))) (good.0, (good.1, (tt, (good.2, good.3)))))
-plain_read law (turns name node up) good = ap (option_map turning) (turning_exact.there (name, (node, up)) (good.0, (good.1, tt)))
-plain_read law (ticks thread) good = ap (option_map ticks) ((thread_exact law.0).there thread good)
-plain_read law (closes name) good = ap (option_map closes) (name_exact.there name good)
-plain_read law (cuts name hop) good = ap (option_map cutting) (cutting_exact.there (name, hop) good)
-plain_read law (asks name what) good = ap (option_map asking) ((asking_exact law.1).there (name, what) good)
+plain_read (turns name node up) good = ap (option_map turning) (turning_exact.there (name, (node, up)) (good.0, (good.1, tt)))
+plain_read (ticks thread) good = ap (option_map ticks) (thread_exact.there thread good)
+plain_read (closes name) good = ap (option_map closes) (name_exact.there name good)
+plain_read (cuts name hop) good = ap (option_map cutting) (cutting_exact.there (name, hop) good)
+plain_read (asks name what) good = ap (option_map asking) (asking_exact.there (name, what) good)
 
-plain_there : Below → (x : PlainStep) → IsPlainStep x → plain_of (plain_spelling x) ≡ Some x
-plain_there law x good = ap (option_and_then (λ parts. plain_behind parts.0 parts.1)) (plain_cut x) ∙ plain_read law x good
+plain_there : (x : PlainStep) → IsPlainStep x → plain_of (plain_spelling x) ≡ Some x
+plain_there x good = ap (option_and_then (λ parts. plain_behind parts.0 parts.1)) (plain_cut x) ∙ plain_read x good
 
-plain_exact : Below → IsExact PlainStep plain_of IsPlainStep plain_spelling
-plain_exact law =
+plain_exact : IsExact PlainStep plain_of IsPlainStep plain_spelling
+plain_exact =
     record {
       found = λ t x e.
           let m = and_then_found (λ parts. plain_behind parts.0 parts.1) (cut_of 32 t) x e in
-          let f = plain_found law m.0.0 m.0.1 x m.2 in
+          let f = plain_found m.0.0 m.0.1 x m.2 in
           (f.0, cut_found 32 t m.0 m.1 ∙ f.1);
-      there = plain_there law;
+      there = plain_there;
     }
 
-repetition_exact : Below → IsExact (ℕ × PlainStep) repetition_of (λ r. InRange 1 10000 r.0 × IsPlainStep r.1) (λ r. spaced (decimal r.0) (plain_spelling r.1))
-repetition_exact law =
+repetition_exact : IsExact (ℕ × PlainStep) repetition_of (λ r. InRange 1 10000 r.0 × IsPlainStep r.1) (λ r. spaced (decimal r.0) (plain_spelling r.1))
+repetition_exact =
     both_exact ℕ PlainStep (number_of 1 10000) plain_of (InRange 1 10000) IsPlainStep decimal plain_spelling
-    (number_exact 1 10000 (lit< tt)) (number_words 1 10000 (lit< tt)) (plain_exact law)
+    (number_exact 1 10000 (lit< tt)) (number_words 1 10000 (lit< tt)) plain_exact
 
 rounds_exact : IsExact ℕ (number_of 1 10000) (InRange 1 10000) decimal
 rounds_exact = number_exact 1 10000 (lit< tt)
 
-step_found : Below → (word rest : List ℕ) (x : LineStep) → step_behind word rest ≡ Some x → IsLineStep x × (spaced word rest ≡ step_spelling x)
+step_found : (word rest : List ℕ) (x : LineStep) → step_behind word rest ≡ Some x → IsLineStep x × (spaced word rest ≡ step_spelling x)
 unfolding step_behind
-step_found law word rest x e =
+step_found word rest x e =
     elim (two_ways (bytes_eq word rounds_word) (option_map rounds (number_of 1 10000 rest)) _ x e) [
       | inl w ↦ made ℕ LineStep (number_of 1 10000) (InRange 1 10000) decimal rounds IsLineStep step_spelling word rounds_word rest x rounds_exact (λ y g. g) (λ y. refl) w.0 w.1
       | inr e ↦ elim (two_ways (bytes_eq word times_word) (option_map repeating (repetition_of rest)) _ x e) [
         | inl w ↦ made (ℕ × PlainStep) LineStep repetition_of (λ r. InRange 1 10000 r.0 × IsPlainStep r.1) (λ r. spaced (decimal r.0) (plain_spelling r.1)) repeating IsLineStep step_spelling
-            word times_word rest x (repetition_exact law) (λ y g. (g.0.0, g.0.1, g.1)) (λ y. refl) w.0 w.1
+            word times_word rest x repetition_exact (λ y g. (g.0.0, g.0.1, g.1)) (λ y. refl) w.0 w.1
         | inr e ↦
             let m = map_found once (plain_behind word rest) x e in
-            subst (λ y. IsLineStep y × (spaced word rest ≡ step_spelling y)) m.2 (plain_found law word rest m.0 m.1)
+            subst (λ y. IsLineStep y × (spaced word rest ≡ step_spelling y)) m.2 (plain_found word rest m.0 m.1)
       ]
     ]
 
-behind_found : Below → (word rest : List ℕ) (value : LineValue) → value_behind word rest ≡ Some value → Says (spaced word rest) value
+behind_found : (word rest : List ℕ) (value : LineValue) → value_behind word rest ≡ Some value → Says (spaced word rest) value
 unfolding value_behind
-behind_found law word rest value e =
+behind_found word rest value e =
     elim (two_ways (bytes_eq word image_word) (option_map (λ i. head (imaging i)) (imaging_of rest)) _ value e) [
       | inl w ↦ made (List ℕ × List ℕ) LineValue imaging_of (λ i. Passes is_name i.0 × Passes is_hex_word i.1) (λ i. spaced i.0 i.1) (λ i. head (imaging i)) IsLine spelling
           word image_word rest value imaging_exact (λ y g. g) (λ y. refl) w.0 w.1
@@ -233,15 +229,15 @@ behind_found law word rest value e =
             word chain_word rest value chaining_exact (λ y g. (g.0, g.1.1)) (λ y. refl) w.0 w.1
         | inr e ↦
             let m = map_found step (step_behind word rest) value e in
-            subst (λ v. Says (spaced word rest) v) m.2 (step_found law word rest m.0 m.1)
+            subst (λ v. Says (spaced word rest) v) m.2 (step_found word rest m.0 m.1)
       ]
     ]
 
 -- what is read is spelled so
-value_found : Below → (line : List ℕ) (value : LineValue) → value_of line ≡ Some value → Says line value
-value_found law line value e =
+value_found : (line : List ℕ) (value : LineValue) → value_of line ≡ Some value → Says line value
+value_found line value e =
     let m = and_then_found (λ parts. value_behind parts.0 parts.1) (cut_of 32 line) value e in
-    subst (λ t. Says t value) (sym (cut_found 32 line m.0 m.1)) (behind_found law m.0.0 m.0.1 value m.2)
+    subst (λ t. Says t value) (sym (cut_found 32 line m.0 m.1)) (behind_found m.0.0 m.0.1 value m.2)
 
 -- ---- What is spelled so is read
 
@@ -268,21 +264,21 @@ over_others (closes name) rest = refl
 over_others (cuts name hop) rest = refl
 over_others (asks name what) rest = refl
 
-step_there : Below → (x : LineStep) → IsLineStep x → value_of (step_spelling x) ≡ Some (step x)
+step_there : (x : LineStep) → IsLineStep x → value_of (step_spelling x) ≡ Some (step x)
 unfolding rounds_word times_word image_word chain_word value_behind step_behind
-step_there law (once x) good =
+step_there (once x) good =
     value_cut (plain_spelling x) (first_of x) (rest_of x) (plain_cut x)
-    ∙ (over_others x (rest_of x) ∙ ap (λ o. option_map step (option_map once o)) (plain_read law x good))
-step_there law (rounds count) good =
+    ∙ (over_others x (rest_of x) ∙ ap (λ o. option_map step (option_map once o)) (plain_read x good))
+step_there (rounds count) good =
     value_cut (step_spelling (rounds count)) rounds_word (decimal count) refl ∙ ap (λ o. option_map step (option_map rounds o)) (rounds_exact.there count good)
-step_there law (times count x) good =
+step_there (times count x) good =
     value_cut (step_spelling (times count x)) times_word (spaced (decimal count) (plain_spelling x)) refl
-    ∙ ap (λ o. option_map step (option_map repeating o)) ((repetition_exact law).there (count, x) ((good.0, good.1), good.2))
+    ∙ ap (λ o. option_map step (option_map repeating o)) (repetition_exact.there (count, x) ((good.0, good.1), good.2))
 
-value_there : Below → (value : LineValue) → IsLine value → value_of (spelling value) ≡ Some value
-value_there law (head h) good = head_there h good
-value_there law (step x) good = step_there law x good
+value_there : (value : LineValue) → IsLine value → value_of (spelling value) ≡ Some value
+value_there (head h) good = head_there h good
+value_there (step x) good = step_there x good
 
-pub reads_the_text : ContextRoundTrip × CachedRoundTrip → ReadsTheText
-reads_the_text law line value =
-    (value_found law line value, λ says. subst (λ t. value_of t ≡ Some value) (sym says.1) (value_there law value says.0))
+pub reads_the_text : ReadsTheText
+reads_the_text line value =
+    (value_found line value, λ says. subst (λ t. value_of t ≡ Some value) (sym says.1) (value_there value says.0))

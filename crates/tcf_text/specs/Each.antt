@@ -1,3 +1,4 @@
+-- A list of which each element meets something that depends on those before it.
 use Rattle.std.specs.Prelude.{◌≡◌, List, ◌∷◌, ◌++◌}
 
 -- each element of a list, with the elements before it, is as P says

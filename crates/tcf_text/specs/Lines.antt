@@ -2,7 +2,7 @@
 use Rattle.std.specs.Prelude.{ℕ, List, [], ◌∷◌, Option, None, Some, Bool, true, false, if◌then◌else◌}
 use Rattle.std.specs.List.{flat_map, list_any}
 use Rattle.tcf_text.specs.declared.log.LogLine.{LogLine}
-use Rattle.tcf_text.specs.declared.log.LogLine.TheVariants.{Sent, Refused, Hello, Event, Progress, Final, Unknown, Closed, Ended, Cached}
+use Rattle.tcf_text.specs.declared.log.LogLine.TheVariants.{Sent, Hello, Event, Progress, Final, Unknown, Closed}
 
 -- an accepted command: its number, service, name and data
 pub record Accepted : Type 0 where
@@ -13,15 +13,7 @@ pub record Accepted : Type 0 where
 
 abbrev pub accepted_by : LogLine → List Accepted
 accepted_by (Sent number service name body) = record { number = number; service = service; name = name; body = body } ∷ []
-accepted_by (Refused why) = []
-accepted_by (Hello mark body) = []
-accepted_by (Event mark service name body) = []
-accepted_by (Progress number mark body) = []
-accepted_by (Final number mark body) = []
-accepted_by (Unknown number mark) = []
-accepted_by (Closed number) = []
-accepted_by (Ended why) = []
-accepted_by (Cached what value) = []
+accepted_by _ = []
 
 -- the accepted commands, in order: those of the `sent` lines
 abbrev pub accepted : List LogLine → List Accepted
@@ -29,16 +21,10 @@ accepted log = flat_map accepted_by log
 
 -- the number of the command that a line answers for good: `result`, `unknown` and `closed`
 abbrev pub final_of : LogLine → List ℕ
-final_of (Sent number service name body) = []
-final_of (Refused why) = []
-final_of (Hello mark body) = []
-final_of (Event mark service name body) = []
-final_of (Progress number mark body) = []
 final_of (Final number mark body) = number ∷ []
 final_of (Unknown number mark) = number ∷ []
 final_of (Closed number) = number ∷ []
-final_of (Ended why) = []
-final_of (Cached what value) = []
+final_of _ = []
 
 -- the numbers of the commands that have a final answer, in the order of these answers
 abbrev pub finals : List LogLine → List ℕ
@@ -57,11 +43,7 @@ mark_of (Event mark service name body) = Some mark
 mark_of (Progress number mark body) = Some mark
 mark_of (Final number mark body) = Some mark
 mark_of (Unknown number mark) = Some mark
-mark_of (Sent number service name body) = None
-mark_of (Refused why) = None
-mark_of (Closed number) = None
-mark_of (Ended why) = None
-mark_of (Cached what value) = None
+mark_of _ = None
 
 abbrev pub later_or : {A : Type 0} → Option A → Option A → Option A
 later_or (Some later) earlier = Some later

@@ -1,3 +1,4 @@
+-- Which events can come of wires, and what an answer does to their counts.
 use Rattle.std.specs.Prelude.{ℕ, ◌+◌, ◌≤◌, Bool, true, ◌&&◌, nat_le, nat_lt, length, Result, Ok, Err}
 use Rattle.tcf_outside.specs.Faults.{raised}
 use Rattle.tcf_wires.specs.declared.event.Put.{Put}

@@ -1,3 +1,4 @@
+-- What is to come of wires, where it is known, and what each call takes of it.
 use Rattle.std.specs.Prelude.{ℕ, ◌≡◌, ◌+◌, ◌^◌, ◌==◌, Bool, nat_lt, List, [], ◌∷◌, drop, min, max, Option, Some, None, Result, Ok, Err, if◌then◌else◌}
 use Rattle.std.specs.List.{list_any}
 use Rattle.tcf_wires.specs.declared.event.Put.{Put}

@@ -1,3 +1,4 @@
+-- Wires that follow a script, as contracts see them.
 use Rattle.std.specs.Prelude.{ℕ, ◌+◌, List, Option, Some, None}
 use Rattle.tcf_wires.specs.declared.call.WireCall.{WireCall}
 use Rattle.tcf_wires.specs.Script.{Script}

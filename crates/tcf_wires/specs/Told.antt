@@ -1,3 +1,4 @@
+-- What wires tell of their calls.
 use Rattle.std.specs.Prelude.{ℕ, ◌==◌, List, [], ◌∷◌, ◌++◌, take, Option, option_map, Result, Ok, Err, if◌then◌else◌}
 use Rattle.tcf_wires.specs.declared.call.WireCall.{WireCall}
 use Rattle.tcf_wires.specs.declared.call.WireCall.TheVariants.{Offered}
@@ -5,6 +6,11 @@ use Rattle.tcf_wires.specs.declared.event.Put.{Put}
 use Rattle.tcf_wires.specs.declared.event.Put.TheVariants.{Took, NoMemory as NoRoom}
 use Rattle.tcf_wires.specs.declared.event.WireRefusal.{WireRefusal}
 use Rattle.tcf_wires.specs.declared.event.WireRefusal.TheVariants.{NoMemory}
+
+-- what is seen of wires
+pub record WiresSeen : Type 0 where
+  pub told : Option (List WireCall)  -- the calls so far, in order, each with its arguments and its answer, where they are told
+  pub faults : ℕ  -- how many calls failed, as far as a u64 counts
 
 -- the calls that are told, after one more
 abbrev pub and_then : WireCall → Option (List WireCall) → Option (List WireCall)

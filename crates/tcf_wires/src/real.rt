@@ -304,13 +304,11 @@ fn wake(lines: &mut [Line], token: Token) {
 }
 
 impl<R: Net + Drop> Wires for RealWires<R> {
-    ghost told = { λ _. None };
+    ghost seen = { λ wires. record { told = None; faults = wires.faults } };
 
     ghost script = { λ _. None };
 
     ghost unused = { λ wires. wires.unused };
-
-    ghost faults = { λ wires. wires.faults };
 
     /// `Failed` where the text is no address, and where the system doesn't listen on it.
     fn listen(&mut self, address: &str) -> Result<(), WireRefusal>

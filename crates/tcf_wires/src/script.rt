@@ -189,13 +189,11 @@ fn taken_by(call: &WireCall, channel: u64) -> &[u8]
 }
 
 impl Wires for WireScript {
-    ghost told = { λ w. Some w.calls };
+    ghost seen = { λ w. record { told = Some w.calls; faults = w.faults } };
 
     ghost script = { λ w. Some w.script };
 
     ghost unused = { λ w. w.unused };
-
-    ghost faults = { λ w. w.faults };
 
     fn listen(&mut self, address: &str) -> Result<(), WireRefusal> {
         let answer = if self.fails() {

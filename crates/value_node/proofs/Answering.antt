@@ -19,13 +19,12 @@ use Rattle.value_node.specs.ValueValue.{ValueValue}
 use Rattle.value_node.specs.declared.relay.Relay.{Relay}
 use Rattle.value_node.specs.declared.states.Bind.{Bind}
 use Rattle.value_node.specs.declared.states.Bind.TheVariants.{Unbound, Opening, Bound, Closed}
-use Rattle.value_node.proofs.Holding.{Holds, Laws, holds_first}
+use Rattle.value_node.proofs.Holding.{Holds, holds_first}
 use Rattle.value_node.proofs.HoldsCalled.{holds_called}
 use Rattle.value_node.proofs.HoldsEnds.{lower_facts}
 use Rattle.value_node.proofs.HoldsStands.{stands_kept}
 use Rattle.value_node.proofs.OwnAnswers.{Answers, IsLeft, call_answers, spelled}
 use Rattle.value_node.proofs.OwnInOrder.{own_last, own_more}
-use Rattle.value_node.proofs.OwnReplies.{Names}
 use Rattle.value_node.proofs.OwnSilence.{IsPast, stands_past}
 use Rattle.value_node.proofs.OwnStays.{redirect_stays}
 use Rattle.value_node.proofs.Pasts.{after_both, sent_both, taken_in, taken_more}
@@ -136,7 +135,7 @@ pub record Answering (v : Relay) (p : Past) : Type 0 where
   pub unconnected : asked_of p.until_bound ≡ [] → p.connection ≡ None
   pub never : asked_of p.until_bound ≡ [] → p.earlier ≡ []
 
-module _ (laws : Laws) (names : Names) (call : Call) (v : Relay) (p : Past) (h : Holds v p) (other : call ≡ connects → ⊥) where
+module _ (call : Call) (v : Relay) (p : Past) (h : Holds v p) (other : call ≡ connects → ⊥) where
   abbrev next : Relay
   next = relay_called call v
 
@@ -147,11 +146,11 @@ module _ (laws : Laws) (names : Names) (call : Call) (v : Relay) (p : Past) (h :
       → Says (p.until_bound ++ only_if (not flag) (own_by call v)) next.bind next.redirect (flag || is_binding next.bind)
   says_called true on s =
       let past = stands_past v.bind v p h.stands on in
-      let still_past = stands_past next.bind next later_past (stands_kept laws call v p other h) (ap (λ b. b || is_binding next.bind) on) in
+      let still_past = stands_past next.bind next later_past (stands_kept call v p other h) (ap (λ b. b || is_binding next.bind) on) in
       subst (λ calls. Says calls next.bind next.redirect true) (sym (append-nil p.until_bound)) (says_still p.until_bound v.bind next.bind v.redirect next.redirect past still_past (redirect_stays call v past) s)
   says_called false off s =
       let lower : v.lower ≡ (lower_after p.until_bound).end = h.lower ∙ ap (λ calls. (lower_after (p.until_bound ++ calls)).end) (h.unbound off) ∙ ap (λ calls. (lower_after calls).end) (append-nil p.until_bound) in
-      says_more p.until_bound (own_by call v) v.lower lower v.bind next.bind v.redirect next.redirect s (call_answers names call v p s.left (lower_facts laws v p h) h.stands off s.is_left)
+      says_more p.until_bound (own_by call v) v.lower lower v.bind next.bind v.redirect next.redirect s (call_answers call v p s.left (lower_facts v p h) h.stands off s.is_left)
 
   answering_more : Answering v p → Answering next later_past
   answering_more a = record {
@@ -173,13 +172,13 @@ answering_connected true v p on a =
     let asked_some = was_opening v.bind p.until_bound v.redirect p.is_bound (and_parts (is_opening v.bind) (is_free v.upper) on).0 a.says in
     record { says = a.says; unconnected = λ none. absurd (asked_some none); never = λ none. absurd (asked_some none) }
 
-answering_called : Laws → Names → (call : Call) (v : Relay) (p : Past) → Holds v p → Answering v p → Answering (relay_called call v) (remembered call v (relay_called call v) p)
-answering_called laws names (comes side piece mark) v p h a = answering_more laws names (comes side piece mark) v p h (λ is. absurd cc) a
-answering_called laws names (bytes_end side) v p h a = answering_more laws names (bytes_end side) v p h (λ is. absurd cc) a
-answering_called laws names (turns side) v p h a = answering_more laws names (turns side) v p h (λ is. absurd cc) a
-answering_called laws names connects v p h a = answering_connected (awaits v) v p refl a
-answering_called laws names fails v p h a = answering_more laws names fails v p h (λ is. absurd cc) a
-answering_called laws names (gives side) v p h a = answering_more laws names (gives side) v p h (λ is. absurd cc) a
+answering_called : (call : Call) (v : Relay) (p : Past) → Holds v p → Answering v p → Answering (relay_called call v) (remembered call v (relay_called call v) p)
+answering_called (comes side piece mark) v p h a = answering_more (comes side piece mark) v p h (λ is. absurd cc) a
+answering_called (bytes_end side) v p h a = answering_more (bytes_end side) v p h (λ is. absurd cc) a
+answering_called (turns side) v p h a = answering_more (turns side) v p h (λ is. absurd cc) a
+answering_called connects v p h a = answering_connected (awaits v) v p refl a
+answering_called fails v p h a = answering_more fails v p h (λ is. absurd cc) a
+answering_called (gives side) v p h a = answering_more (gives side) v p h (λ is. absurd cc) a
 
 -- ---- after any calls
 
@@ -187,12 +186,12 @@ pub record IsAnswering (r : ValueRun) : Type 0 where
   pub holds : Holds r.value.relay r.past
   pub answering : Answering r.value.relay r.past
 
-answering_from : Laws → Names → (calls : List Call) (v : Relay) (p : Past) → Holds v p → Answering v p → IsAnswering (after_all calls (record { value = whole v; past = p }))
-answering_from laws names [] v p h a = record { holds = h; answering = a }
-answering_from laws names (call ∷ calls) v p h a =
+answering_from : (calls : List Call) (v : Relay) (p : Past) → Holds v p → Answering v p → IsAnswering (after_all calls (record { value = whole v; past = p }))
+answering_from [] v p h a = record { holds = h; answering = a }
+answering_from (call ∷ calls) v p h a =
     let next = relay_called call v in
     subst (λ (value : ValueValue). IsAnswering (after_all calls (record { value = value; past = remembered call v value.relay p }))) (sym (called_whole call v))
-    (answering_from laws names calls next (remembered call v next p) (holds_called laws call v p h).holds (answering_called laws names call v p h a))
+    (answering_from calls next (remembered call v next p) (holds_called call v p h).holds (answering_called call v p h a))
 
 answering_first : (peer : List ℕ) → Answering (new_relay peer) no_past
 answering_first peer = record {
@@ -201,5 +200,5 @@ answering_first peer = record {
   never = λ none. refl;
 }
 
-pub always_answering : Laws → Names → AfterAllCalls IsAnswering
-always_answering laws names peer calls = answering_from laws names calls (new_relay peer) no_past (holds_first peer) (answering_first peer)
+pub always_answering : AfterAllCalls IsAnswering
+always_answering peer calls = answering_from calls (new_relay peer) no_past (holds_first peer) (answering_first peer)

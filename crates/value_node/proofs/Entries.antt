@@ -8,8 +8,8 @@ use Rattle.channel_core.specs.EndValue.{EndValue}
 use Rattle.channel_core.specs.Holding.{is_free, let_out, released, sent_out}
 use Rattle.channel_core.specs.Level.{is_due, level_of, leveled}
 use Rattle.channel_core.specs.Receiving.{came_by, counted, delivered, entered, heard, is_over, item_came, stopped_by}
-use Rattle.channel_core.specs.Runs.{Call as EndCall, Run, after_call, after_calls, begun, closing, commanding, delivering, draining, ending, putting_out, refusal_to, sending, taking, unless_refused}
-use Rattle.channel_core.specs.Sending.{commanded, made}
+use Rattle.channel_core.specs.Runs.{Call as EndCall, Run, after_call, after_calls, begun, closing, commanding, delivering, draining, ending, putting_out, sending, taking, unless_refused}
+use Rattle.channel_core.specs.Sending.{commanded, made, refusal_to}
 use Rattle.channel_core.specs.Taking.{answer_judged, answered, finished, greeted, is_early, is_of, judged, judged_by, next_taken, number_at, progress_judged, progressed, redirected, sent_place, state_greeted, stop_taken, taken_as, taken_from}
 use Rattle.channel_core.specs.Wire.{Said, answers, asks, goes_on, greets, said_in, tells}
 use Rattle.channel_core.specs.declared.held.Arrived.{Arrived}

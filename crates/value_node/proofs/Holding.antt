@@ -4,16 +4,14 @@ use Rattle.std.specs.Prelude.{IfSome, not, option_map, unwrap_or}
 use Rattle.std.proofs.lemmas.List.{append-nil, append_assoc}
 use Rattle.std.specs.List.{AllByRecursion, flat_map, list_any}
 use Rattle.channel_core.specs.Greeting.{is_greeting}
-use Rattle.channel_core.specs.QueueLaws.{ClosesOnlySo, QueuesItsMessages, TakesNothingClosed, is_commanding, sent_in}
+use Rattle.channel_core.specs.QueueLaws.{is_commanding, sent_in}
 use Rattle.channel_core.specs.ReceivingLaws.{SendsReadable, incoming_of}
 use Rattle.channel_core.specs.Runs.{Issued, after_calls}
-use Rattle.channel_core.specs.RunLaws.{AfterAllCalls as AfterEndCalls, CountsAnswers, EndsOnce, SendsInOrder, StaysClosed}
 use Rattle.channel_core.specs.Sending.{last_token, made}
 use Rattle.channel_core.specs.declared.states.EndState.{EndState}
 use Rattle.channel_core.specs.declared.states.EndState.TheVariants as states
 use Rattle.channel_core.specs.declared.taking.Taken.{Taken}
 use Rattle.channel_core.specs.declared.taking.Taken.TheVariants as taken
-use Rattle.tcf_message.specs.Fault.{IsReadBack}
 use Rattle.tcf_message.specs.Message.{IsToken, reading}
 use Rattle.value_node.specs.Asked.{Asked}
 use Rattle.value_node.specs.ForwardedValue.{ForwardedValue, tagged}
@@ -27,25 +25,9 @@ use Rattle.value_node.specs.declared.states.Bind.{Bind}
 use Rattle.value_node.specs.declared.states.Bind.TheVariants.{Bound}
 use Rattle.value_node.specs.Passing.{Upper}
 use Rattle.value_node.proofs.DeedLists.{AreRight}
-use Rattle.value_node.proofs.Knowing.{Knows, Lessons}
+use Rattle.value_node.proofs.Knowing.{Knows}
 use Rattle.value_node.proofs.Pasts.{accepted_in, accepted_more, after_both}
-use Rattle.value_node.proofs.Sendable.{Sizes}
 use Rattle.value_node.proofs.Taken.{IsAnswerTo, IsCommand, IsEvent, IsProgressOf, IsTold}
-
--- the laws that those of a value-add stand on
-pub record Laws : Type 0 where
-  pub lower_takes_none : AfterEndCalls {T = Unit} TakesNothingClosed
-  pub upper_takes_none : AfterEndCalls {T = ForwardedValue} TakesNothingClosed
-  pub lower_closes : AfterEndCalls {T = Unit} ClosesOnlySo
-  pub upper_closes : AfterEndCalls {T = ForwardedValue} ClosesOnlySo
-  pub lower_messages : QueuesItsMessages Unit
-  pub upper_sends : AfterEndCalls {T = ForwardedValue} SendsInOrder
-  pub upper_counts : AfterEndCalls {T = ForwardedValue} CountsAnswers
-  pub lower_ends : AfterEndCalls {T = Unit} EndsOnce
-  pub lower_stays : AfterEndCalls {T = Unit} StaysClosed
-  pub readable : IsReadBack
-  pub sizes : Sizes
-  pub lessons : Lessons
 
 -- ---- the commands: accepted above are those that are forwarded, under 1, 2, 3 and so on
 

@@ -10,7 +10,7 @@ use Rattle.value_node.specs.declared.relay.Relay.{Relay}
 use Rattle.value_node.specs.declared.states.Bind.TheVariants.{Bound}
 use Rattle.value_node.proofs.CallAdds.{asked_now, call_asks}
 use Rattle.value_node.proofs.DeedLists.{asked_both, right_at}
-use Rattle.value_node.proofs.Holding.{Holds, Laws, first_does, holds_first}
+use Rattle.value_node.proofs.Holding.{Holds, first_does, holds_first}
 use Rattle.value_node.proofs.HoldsConnected.{connected_does, holds_connected}
 use Rattle.value_node.proofs.HoldsEnds.{lower_kept, upper_kept}
 use Rattle.value_node.proofs.HoldsHeard.{messages_kept}
@@ -32,46 +32,46 @@ pub record IsKept (next : Relay) (past : Past) (deeds : List Deed) : Type 0 wher
   pub holds : Holds next past
   pub does : holds.deeds ≡ deeds
 
-holds_more : Laws → (call : Call) (v : Relay) (p : Past) → (call ≡ connects → ⊥) → (h : Holds v p)
+holds_more : (call : Call) (v : Relay) (p : Past) → (call ≡ connects → ⊥) → (h : Holds v p)
     → IsKept (relay_called call v) (with_calls call v (relay_called call v) p) (h.deeds ++ deeds_by call v)
-holds_more laws call v p other h =
+holds_more call v p other h =
     let next = relay_called call v in
     let q = with_calls call v next p in
     let kept : Holds next q = record {
       deeds = h.deeds ++ deeds_by call v;
       lower = lower_kept call v p h;
       upper = upper_kept call v p other h;
-      stands = stands_kept laws call v p other h;
-      unbound = unbound_kept laws call v p h;
-      heard = heard_kept laws call v p h;
-      waits = λ off. waits_of laws next q (upper_kept call v p other h) (heard_kept laws call v p h ∙ off);
-      quiet = λ off. quiet_of laws q (heard_kept laws call v p h ∙ off);
+      stands = stands_kept call v p other h;
+      unbound = unbound_kept call v p h;
+      heard = heard_kept call v p h;
+      waits = λ off. waits_of next q (upper_kept call v p other h) (heard_kept call v p h ∙ off);
+      quiet = λ off. quiet_of q (heard_kept call v p h ∙ off);
       earlier = h.earlier;
-      idle = idle_kept laws call v p h;
+      idle = idle_kept call v p h;
       asked = asked_now call v next p h ∙ ap₂ (λ xs ys. xs ++ ys) h.asked (call_asks call v p h) ∙ sym (asked_both h.deeds (deeds_by call v));
-      messages = messages_kept laws call v next p h;
-      passed = passed_more laws call v next p h;
-      accepted = accepted_kept laws call v p h;
+      messages = messages_kept call v next p h;
+      passed = passed_more call v next p h;
+      accepted = accepted_kept call v p h;
       undrained = undrained_kept call v next p h;
-      right = right_kept laws v p h call;
-      fresh = fresh_kept laws call v p h;
-      knows = knows_kept laws call v p h;
-      few = few_kept laws call v p h;
-      named = names_more laws call v p h next;
-      below_readable = below_readable_more laws.readable laws.sizes call v next p h.redirect (upper_tokens laws call v p h) h.below_readable;
-      above_readable = above_readable_more laws.readable call v next p h.above_readable;
-      redirect = redirect_called laws.readable call v h.redirect;
+      right = right_kept v p h call;
+      fresh = fresh_kept call v p h;
+      knows = knows_kept call v p h;
+      few = few_kept call v p h;
+      named = names_more call v p h next;
+      below_readable = below_readable_more call v next p h.redirect (upper_tokens call v p h) h.below_readable;
+      above_readable = above_readable_more call v next p h.above_readable;
+      redirect = redirect_called call v h.redirect;
       uncommanding = uncommanding_more call v next p h.uncommanding;
     } in
     record { holds = kept; does = refl }
 
-pub holds_called : Laws → (call : Call) (v : Relay) (p : Past) (h : Holds v p) → IsKept (relay_called call v) (remembered call v (relay_called call v) p) (h.deeds ++ deeds_by call v)
-holds_called laws (comes side piece mark) v p h = holds_more laws (comes side piece mark) v p (λ is. absurd cc) h
-holds_called laws (bytes_end side) v p h = holds_more laws (bytes_end side) v p (λ is. absurd cc) h
-holds_called laws (turns side) v p h = holds_more laws (turns side) v p (λ is. absurd cc) h
-holds_called laws connects v p h = record { holds = holds_connected v p h; does = connected_does v p h ∙ sym (append-nil h.deeds) }
-holds_called laws fails v p h = holds_more laws fails v p (λ is. absurd cc) h
-holds_called laws (gives side) v p h = holds_more laws (gives side) v p (λ is. absurd cc) h
+pub holds_called : (call : Call) (v : Relay) (p : Past) (h : Holds v p) → IsKept (relay_called call v) (remembered call v (relay_called call v) p) (h.deeds ++ deeds_by call v)
+holds_called (comes side piece mark) v p h = holds_more (comes side piece mark) v p (λ is. absurd cc) h
+holds_called (bytes_end side) v p h = holds_more (bytes_end side) v p (λ is. absurd cc) h
+holds_called (turns side) v p h = holds_more (turns side) v p (λ is. absurd cc) h
+holds_called connects v p h = record { holds = holds_connected v p h; does = connected_does v p h ∙ sym (append-nil h.deeds) }
+holds_called fails v p h = holds_more fails v p (λ is. absurd cc) h
+holds_called (gives side) v p h = holds_more (gives side) v p (λ is. absurd cc) h
 
 -- ---- after any calls
 
@@ -83,21 +83,21 @@ pub record IsHeld (r : ValueRun) (deeds : List Deed) : Type 0 where
 abbrev run_of : Relay → Past → ValueRun
 run_of v p = record { value = whole v; past = p }
 
-held_from : Laws → (calls : List Call) (v : Relay) (p : Past) (h : Holds v p) → IsHeld (after_all calls (run_of v p)) (h.deeds ++ deeds_from calls (run_of v p))
-held_from laws [] v p h = record { unspent = refl; holds = h; does = sym (append-nil h.deeds) }
-held_from laws (call ∷ calls) v p h =
+held_from : (calls : List Call) (v : Relay) (p : Past) (h : Holds v p) → IsHeld (after_all calls (run_of v p)) (h.deeds ++ deeds_from calls (run_of v p))
+held_from [] v p h = record { unspent = refl; holds = h; does = sym (append-nil h.deeds) }
+held_from (call ∷ calls) v p h =
     let next = relay_called call v in
     let q = remembered call v next p in
-    let kept = holds_called laws call v p h in
+    let kept = holds_called call v p h in
     let later = deeds_from calls (run_of next q) in
     let deeds_are : kept.holds.deeds ++ later ≡ h.deeds ++ (deeds_by call v ++ later) = ap (λ ds. ds ++ later) kept.does ∙ append_assoc h.deeds (deeds_by call v) later in
     subst (λ (value : ValueValue). IsHeld (after_all calls (record { value = value; past = remembered call v value.relay p }))
     (h.deeds ++ (deeds_by call v ++ deeds_from calls (record { value = value; past = remembered call v value.relay p })))) (sym (called_whole call v))
-    (subst (IsHeld (after_all calls (run_of next q))) deeds_are (held_from laws calls next q kept.holds))
+    (subst (IsHeld (after_all calls (run_of next q))) deeds_are (held_from calls next q kept.holds))
 
-pub always_held : Laws → AfterAllDeeds IsHeld
-always_held laws peer calls =
-    subst (λ ds. IsHeld (after_all calls (no_calls peer)) (ds ++ deeds_from calls (no_calls peer))) (first_does peer) (held_from laws calls (new_relay peer) no_past (holds_first peer))
+pub always_held : AfterAllDeeds IsHeld
+always_held peer calls =
+    subst (λ ds. IsHeld (after_all calls (no_calls peer)) (ds ++ deeds_from calls (no_calls peer))) (first_does peer) (held_from calls (new_relay peer) no_past (holds_first peer))
 
 -- ---- the law of the ends
 
@@ -116,21 +116,21 @@ ends_are_runs r deeds held =
       above_readable = h.above_readable;
     }
 
-pub always_runs : Laws → AfterAllCalls EndsAreRuns
-always_runs laws peer calls = ends_are_runs _ _ (always_held laws peer calls)
+pub always_runs : AfterAllCalls EndsAreRuns
+always_runs peer calls = ends_are_runs _ _ (always_held peer calls)
 
 -- ---- and those of the store
 
 answers_rightly : (r : ValueRun) (deeds : List Deed) → IsHeld r deeds → AnswersRightly r deeds
 answers_rightly r deeds held = λ before rest c reply mark whole. right_at held.holds.deeds before rest (answers c reply mark) held.holds.right (held.does ∙ whole)
 
-pub always_rightly : Laws → AfterAllDeeds AnswersRightly
-always_rightly laws peer calls = answers_rightly _ _ (always_held laws peer calls)
+pub always_rightly : AfterAllDeeds AnswersRightly
+always_rightly peer calls = answers_rightly _ _ (always_held peer calls)
 
 knows_what_it_heard : (r : ValueRun) (deeds : List Deed) → IsHeld r deeds → KnowsWhatItHeard r deeds
 knows_what_it_heard r deeds held =
     let knows : r.value.relay.bind ≡ Bound → Knows deeds r.value.relay.store = λ bound. subst (λ ds. Knows ds r.value.relay.store) held.does (held.holds.knows bound) in
     record { known = λ bound. (knows bound).known; marked = λ bound. (knows bound).marked }
 
-pub always_knows : Laws → AfterAllDeeds KnowsWhatItHeard
-always_knows laws peer calls = knows_what_it_heard _ _ (always_held laws peer calls)
+pub always_knows : AfterAllDeeds KnowsWhatItHeard
+always_knows peer calls = knows_what_it_heard _ _ (always_held peer calls)

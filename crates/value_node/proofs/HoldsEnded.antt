@@ -31,7 +31,8 @@ use Rattle.value_node.specs.declared.relay.Relay.{Relay}
 use Rattle.value_node.specs.declared.states.Bind.{Bind}
 use Rattle.value_node.specs.declared.states.Bind.TheVariants.{Unbound, Opening, Bound, Closed}
 use Rattle.value_node.specs.declared.states.Side.TheVariants.{Above}
-use Rattle.value_node.proofs.Holding.{Holds, Laws, above_more, below_more, holds_first}
+use Rattle.channel_core.proofs.TheLaws.{closes_only_so, ends_once, stays_closed, takes_nothing_closed}
+use Rattle.value_node.proofs.Holding.{Holds, above_more, below_more, holds_first}
 use Rattle.value_node.proofs.HoldsCalled.{IsHeld, always_held, holds_called}
 use Rattle.value_node.proofs.HoldsHello.{turn_or_not}
 use Rattle.value_node.proofs.Pasts.{taken_in, taken_more}
@@ -84,9 +85,9 @@ calls_end : {T : Type 0} → (calls : List (EndCall T)) (r : Run T) → ((more :
 calls_end [] r none so before = before
 calls_end (call ∷ calls) r none so before = calls_end calls (after_call call r) (λ more. none (call ∷ more)) (λ more. so (call ∷ more)) (call_ends call r (none []) (so []) before)
 
-above_ends : Laws → (p : Past) → EndsClosed (above p)
-above_ends laws p =
-    calls_end (unwrap_or p.connection []) (begun (new_end value_services None)) (λ more. laws.upper_takes_none value_services None more) (λ more. laws.upper_closes value_services None more) (λ on. absurd cc)
+above_ends : (p : Past) → EndsClosed (above p)
+above_ends p =
+    calls_end (unwrap_or p.connection []) (begun (new_end value_services None)) (λ more. takes_nothing_closed value_services None more) (λ more. closes_only_so value_services None more) (λ on. absurd cc)
 
 -- ---- so the value-add is Closed
 
@@ -95,15 +96,15 @@ closed_is_free : (upper : Option Upper) (connection : Option (List UpperCall)) �
 closed_is_free upper None same shut = ap is_free same
 closed_is_free upper (Some calls) same shut = ap is_free same ∙ shut
 
-ended_closed : Laws → (v : Relay) (p : Past) → Holds v p → HasEnded p → v.bind ≡ Closed
-ended_closed laws v p h ended = by_bind v.bind refl h.stands
+ended_closed : (v : Relay) (p : Past) → Holds v p → HasEnded p → v.bind ≡ Closed
+ended_closed v p h ended = by_bind v.bind refl h.stands
   where
     by_bind : (bind : Bind) → v.bind ≡ bind → StandsWell bind v p → v.bind ≡ Closed
     by_bind Unbound is stands = absurd (true≢false (sym ended.0 ∙ stands.2))
     by_bind Opening is stands = absurd (true≢false (sym ended.0 ∙ stands.2))
     by_bind Bound is stands =
         let busy : is_free v.upper ≡ false = stands.1 in
-        let free : is_free v.upper ≡ true = closed_is_free v.upper p.connection h.upper (above_ends laws p ended.1) in absurd cc
+        let free : is_free v.upper ≡ true = closed_is_free v.upper p.connection h.upper (above_ends p ended.1) in absurd cc
     by_bind Closed is stands = is
 
 -- ---- its lower end was closed by its own side
@@ -112,10 +113,10 @@ abbrev IsStopped : Past → Type 0
 IsStopped p = HasEnded p → (below p).end.state ≡ states.Closed causes.Own
 
 -- what is called of a closed one changes nothing
-below_as_it_was : Laws → (call : Call) (v next : Relay) (p : Past) → Holds v p → is_closed (below p).end.state ≡ true → IsAsItWas (below p) (below (with_calls call v next p))
-below_as_it_was laws call v next p h shut =
+below_as_it_was : (call : Call) (v next : Relay) (p : Past) → Holds v p → is_closed (below p).end.state ≡ true → IsAsItWas (below p) (below (with_calls call v next p))
+below_as_it_was call v next p h shut =
     subst (λ (r : Run Unit). IsAsItWas (below p) r) (sym (below_more call v next p h.unbound))
-    (laws.lower_stays value_services None (p.until_bound ++ p.since_bound) (own_by call v ++ passing_by call v) shut)
+    (stays_closed value_services None (p.until_bound ++ p.since_bound) (own_by call v ++ passing_by call v) shut)
 
 own_state : (e : Lower) → is_closed e.state ≡ false → (closed_own e).state ≡ states.Closed causes.Own
 own_state e live = by_flag (is_closed e.state) live
@@ -162,9 +163,9 @@ nothing_ended call v next p h none =
     sym (ap (λ (r : Run ForwardedValue). list_any is_ending r.past.taken) (above_more call v next p h.upper)
     ∙ ap (list_any is_ending) (taken_more (upper_by call v) (above p) ∙ ap (λ ts. (above p).past.taken ++ ts) none ∙ append-nil (above p).past.taken))
 
-stopped_more : Laws → (call : Call) (v : Relay) (p : Past) → Holds v p → Holds (relay_called call v) (with_calls call v (relay_called call v) p) → IsStopped p
+stopped_more : (call : Call) (v : Relay) (p : Past) → Holds v p → Holds (relay_called call v) (with_calls call v (relay_called call v) p) → IsStopped p
     → IsStopped (with_calls call v (relay_called call v) p)
-stopped_more laws call v p h later before ended = by_flag (p.is_bound && list_any is_ending (above p).past.taken) refl
+stopped_more call v p h later before ended = by_flag (p.is_bound && list_any is_ending (above p).past.taken) refl
   where
     next : Relay
     next = relay_called call v
@@ -173,7 +174,7 @@ stopped_more laws call v p h later before ended = by_flag (p.is_bound && list_an
     q = with_calls call v next p
 
     shut : next.bind ≡ Closed
-    shut = ended_closed laws next q later ended
+    shut = ended_closed next q later ended
 
     was_bound : p.is_bound ≡ true
     was_bound = by (p.is_bound) refl
@@ -203,27 +204,27 @@ stopped_more laws call v p h later before ended = by_flag (p.is_bound && list_an
     by_flag : (flag : Bool) → (p.is_bound && list_any is_ending (above p).past.taken) ≡ flag → (below q).end.state ≡ states.Closed causes.Own
     by_flag true on =
         let old = before (and_parts p.is_bound (list_any is_ending (above p).past.taken) on) in
-        (below_as_it_was laws call v next p h (ap is_closed old)).state ∙ old
+        (below_as_it_was call v next p h (ap is_closed old)).state ∙ old
     by_flag false off = by_bind v.bind refl h.stands off
 
 stopped_if : (flag : Bool) (p : Past) → IsStopped p → IsStopped (cond flag (reconnected p) p)
 stopped_if true p before = λ ended. absurd cc
 stopped_if false p before = before
 
-stopped_called : Laws → (call : Call) (v : Relay) (p : Past) → Holds v p → IsStopped p → IsStopped (remembered call v (relay_called call v) p)
-stopped_called laws (comes side piece mark) v p h before = stopped_more laws (comes side piece mark) v p h (holds_called laws (comes side piece mark) v p h).holds before
-stopped_called laws (bytes_end side) v p h before = stopped_more laws (bytes_end side) v p h (holds_called laws (bytes_end side) v p h).holds before
-stopped_called laws (turns side) v p h before = stopped_more laws (turns side) v p h (holds_called laws (turns side) v p h).holds before
-stopped_called laws connects v p h before = stopped_if (awaits v) p before
-stopped_called laws fails v p h before = stopped_more laws fails v p h (holds_called laws fails v p h).holds before
-stopped_called laws (gives side) v p h before = stopped_more laws (gives side) v p h (holds_called laws (gives side) v p h).holds before
+stopped_called : (call : Call) (v : Relay) (p : Past) → Holds v p → IsStopped p → IsStopped (remembered call v (relay_called call v) p)
+stopped_called (comes side piece mark) v p h before = stopped_more (comes side piece mark) v p h (holds_called (comes side piece mark) v p h).holds before
+stopped_called (bytes_end side) v p h before = stopped_more (bytes_end side) v p h (holds_called (bytes_end side) v p h).holds before
+stopped_called (turns side) v p h before = stopped_more (turns side) v p h (holds_called (turns side) v p h).holds before
+stopped_called connects v p h before = stopped_if (awaits v) p before
+stopped_called fails v p h before = stopped_more fails v p h (holds_called fails v p h).holds before
+stopped_called (gives side) v p h before = stopped_more (gives side) v p h (holds_called (gives side) v p h).holds before
 
-stopped_from : Laws → (calls : List Call) (v : Relay) (p : Past) → Holds v p → IsStopped p → IsStopped (after_all calls (record { value = whole v; past = p })).past
-stopped_from laws [] v p h before = before
-stopped_from laws (call ∷ calls) v p h before =
+stopped_from : (calls : List Call) (v : Relay) (p : Past) → Holds v p → IsStopped p → IsStopped (after_all calls (record { value = whole v; past = p })).past
+stopped_from [] v p h before = before
+stopped_from (call ∷ calls) v p h before =
     let next = relay_called call v in
     subst (λ (value : ValueValue). IsStopped (after_all calls (record { value = value; past = remembered call v value.relay p })).past) (sym (called_whole call v))
-    (stopped_from laws calls next (remembered call v next p) (holds_called laws call v p h).holds (stopped_called laws call v p h before))
+    (stopped_from calls next (remembered call v next p) (holds_called call v p h).holds (stopped_called call v p h before))
 
 -- ---- and nothing is said below later
 
@@ -231,41 +232,41 @@ quiet_if : (flag : Bool) (p : Past) → IsAsItWas (below p) (below (cond flag (r
 quiet_if true p = record { state = refl; queued = refl }
 quiet_if false p = record { state = refl; queued = refl }
 
-quiet_call : Laws → (call : Call) (v : Relay) (p : Past) → Holds v p → is_closed (below p).end.state ≡ true → IsAsItWas (below p) (below (remembered call v (relay_called call v) p))
-quiet_call laws (comes side piece mark) v p h shut = below_as_it_was laws (comes side piece mark) v (relay_called (comes side piece mark) v) p h shut
-quiet_call laws (bytes_end side) v p h shut = below_as_it_was laws (bytes_end side) v (relay_called (bytes_end side) v) p h shut
-quiet_call laws (turns side) v p h shut = below_as_it_was laws (turns side) v (relay_called (turns side) v) p h shut
-quiet_call laws connects v p h shut = quiet_if (awaits v) p
-quiet_call laws fails v p h shut = below_as_it_was laws fails v (relay_called fails v) p h shut
-quiet_call laws (gives side) v p h shut = below_as_it_was laws (gives side) v (relay_called (gives side) v) p h shut
+quiet_call : (call : Call) (v : Relay) (p : Past) → Holds v p → is_closed (below p).end.state ≡ true → IsAsItWas (below p) (below (remembered call v (relay_called call v) p))
+quiet_call (comes side piece mark) v p h shut = below_as_it_was (comes side piece mark) v (relay_called (comes side piece mark) v) p h shut
+quiet_call (bytes_end side) v p h shut = below_as_it_was (bytes_end side) v (relay_called (bytes_end side) v) p h shut
+quiet_call (turns side) v p h shut = below_as_it_was (turns side) v (relay_called (turns side) v) p h shut
+quiet_call connects v p h shut = quiet_if (awaits v) p
+quiet_call fails v p h shut = below_as_it_was fails v (relay_called fails v) p h shut
+quiet_call (gives side) v p h shut = below_as_it_was (gives side) v (relay_called (gives side) v) p h shut
 
-quiet_from : Laws → (calls : List Call) (v : Relay) (p : Past) → Holds v p → is_closed (below p).end.state ≡ true
+quiet_from : (calls : List Call) (v : Relay) (p : Past) → Holds v p → is_closed (below p).end.state ≡ true
     → (below (after_all calls (record { value = whole v; past = p })).past).past.queued ≡ (below p).past.queued
-quiet_from laws [] v p h shut = refl
-quiet_from laws (call ∷ calls) v p h shut =
+quiet_from [] v p h shut = refl
+quiet_from (call ∷ calls) v p h shut =
     let next = relay_called call v in
-    let kept = quiet_call laws call v p h shut in
+    let kept = quiet_call call v p h shut in
     subst (λ (value : ValueValue). (below (after_all calls (record { value = value; past = remembered call v value.relay p })).past).past.queued ≡ (below p).past.queued) (sym (called_whole call v))
-    (quiet_from laws calls next (remembered call v next p) (holds_called laws call v p h).holds (ap is_closed kept.state ∙ shut) ∙ kept.queued)
+    (quiet_from calls next (remembered call v next p) (holds_called call v p h).holds (ap is_closed kept.state ∙ shut) ∙ kept.queued)
 
 -- ---- the law
 
 told_last : (state : EndState) (queued : List Outgoing) → state ≡ states.Closed causes.Own → EndsAs state queued → (front : List Outgoing) × (queued ≡ front ++ end_of_stream ∷ [])
 told_last state queued is ends = let own : EndsAs (states.Closed causes.Own) queued = subst (λ s. EndsAs s queued) is ends in (own.0, own.1)
 
-stops : Laws → (r : ValueRun) (deeds : List Deed) → IsHeld r deeds → IsStopped r.past → StopsAfterTheEnd r
-stops laws r deeds held stopped =
+stops : (r : ValueRun) (deeds : List Deed) → IsHeld r deeds → IsStopped r.past → StopsAfterTheEnd r
+stops r deeds held stopped =
     let p = r.past in
     let v = r.value.relay in
-    let once : EndsOnce (below p) = laws.lower_ends value_services None (p.until_bound ++ p.since_bound) in
+    let once : EndsOnce (below p) = ends_once value_services None (p.until_bound ++ p.since_bound) in
     let same : r.value ≡ whole v = ap (λ (spent : Bool). record { relay = v; is_spent = spent }) held.unspent in
     record {
-      closed = λ ended. ended_closed laws v p held.holds ended;
+      closed = λ ended. ended_closed v p held.holds ended;
       last = λ ended. told_last (below p).end.state (below p).past.queued (stopped ended) once.ends;
       stays = λ calls ended.
           subst (λ (value : ValueValue). (below (after_all calls (record { value = value; past = p })).past).past.queued ≡ (below p).past.queued) (sym same)
-          (quiet_from laws calls v p held.holds (ap is_closed (stopped ended)));
+          (quiet_from calls v p held.holds (ap is_closed (stopped ended)));
     }
 
-pub always_stops : Laws → AfterAllCalls StopsAfterTheEnd
-always_stops laws peer calls = stops laws _ _ (always_held laws peer calls) (stopped_from laws calls (new_relay peer) no_past (holds_first peer) (λ ended. absurd cc))
+pub always_stops : AfterAllCalls StopsAfterTheEnd
+always_stops peer calls = stops _ _ (always_held peer calls) (stopped_from calls (new_relay peer) no_past (holds_first peer) (λ ended. absurd cc))

@@ -11,7 +11,8 @@ use Rattle.value_node.specs.Passing.{Lower, Upper}
 use Rattle.value_node.specs.Runs.{Call, Past, UpperCall, below, connects, own_by, passing_by, upper_after, upper_from, upper_on, with_calls}
 use Rattle.value_node.specs.Value.{value_services}
 use Rattle.value_node.specs.declared.relay.Relay.{Relay}
-use Rattle.value_node.proofs.Holding.{Holds, Laws, below_more}
+use Rattle.channel_core.proofs.TheLaws.{closes_only_so, takes_nothing_closed}
+use Rattle.value_node.proofs.Holding.{Holds, below_more}
 use Rattle.value_node.proofs.Pasts.{after_both}
 use Rattle.value_node.proofs.Steps.{end_ran, lower_runs, ran, ran_by, relay_called, upper_runs}
 
@@ -25,19 +26,19 @@ pub record KeepsClosed {T : Type 0} (e : EndValue T) : Type 0 where
 facts_of : {T : Type 0} → (r : Run T) → TakesNothingClosed r → ClosesOnlySo r → KeepsClosed r.end
 facts_of r none so = record { takes_none = none; by_taking = so.by_taking; by_others = so.by_others }
 
-pub lower_facts : Laws → (v : Relay) (p : Past) → Holds v p → KeepsClosed v.lower
-lower_facts laws v p h =
+pub lower_facts : (v : Relay) (p : Past) → Holds v p → KeepsClosed v.lower
+lower_facts v p h =
     let calls = p.until_bound ++ p.since_bound in
-    subst (λ (e : Lower). KeepsClosed e) (sym h.lower) (facts_of (below p) (laws.lower_takes_none value_services None calls) (laws.lower_closes value_services None calls))
+    subst (λ (e : Lower). KeepsClosed e) (sym h.lower) (facts_of (below p) (takes_nothing_closed value_services None calls) (closes_only_so value_services None calls))
 
-upper_by_facts : Laws → (upper : Option Upper) (connection : Option (List UpperCall)) → upper ≡ option_map (λ calls. (upper_after calls).end) connection → IfSome upper KeepsClosed
-upper_by_facts laws upper None same = subst (λ (o : Option Upper). IfSome o KeepsClosed) (sym same) tt
-upper_by_facts laws upper (Some calls) same =
+upper_by_facts : (upper : Option Upper) (connection : Option (List UpperCall)) → upper ≡ option_map (λ calls. (upper_after calls).end) connection → IfSome upper KeepsClosed
+upper_by_facts upper None same = subst (λ (o : Option Upper). IfSome o KeepsClosed) (sym same) tt
+upper_by_facts upper (Some calls) same =
     subst (λ (o : Option Upper). IfSome o KeepsClosed) (sym same)
-    (facts_of (upper_after calls) (laws.upper_takes_none value_services None calls) (laws.upper_closes value_services None calls))
+    (facts_of (upper_after calls) (takes_nothing_closed value_services None calls) (closes_only_so value_services None calls))
 
-pub upper_facts : Laws → (v : Relay) (p : Past) → Holds v p → IfSome v.upper KeepsClosed
-upper_facts laws v p h = upper_by_facts laws v.upper p.connection h.upper
+pub upper_facts : (v : Relay) (p : Past) → Holds v p → IfSome v.upper KeepsClosed
+upper_facts v p h = upper_by_facts v.upper p.connection h.upper
 
 pub upper_is : (upper : Option Upper) (connection : Option (List UpperCall)) → upper ≡ option_map (λ calls. (upper_after calls).end) connection
     → IfSome upper (λ e. e ≡ (upper_after (unwrap_or connection [])).end)

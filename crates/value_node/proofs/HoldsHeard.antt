@@ -24,7 +24,7 @@ use Rattle.value_node.specs.declared.states.Bind.TheVariants.{Unbound, Opening, 
 use Rattle.value_node.specs.declared.states.Side.TheVariants.{Below, Above}
 use Rattle.value_node.proofs.CallAdds.{asked_as}
 use Rattle.value_node.proofs.DeedLists.{all_heard, heard_both, heard_hears}
-use Rattle.value_node.proofs.Holding.{Holds, Laws}
+use Rattle.value_node.proofs.Holding.{Holds}
 use Rattle.value_node.proofs.HoldsEnds.{upper_facts}
 use Rattle.value_node.proofs.HoldsHello.{first_on, free_where, idle_on, turn_or_not}
 use Rattle.value_node.proofs.Taken.{IsFirstAny}
@@ -60,9 +60,9 @@ off_where Opening v p stands is = stands.2
 off_where Bound v p stands is = absurd cc
 off_where Closed v p stands is = absurd cc
 
-pub hears_is : Laws → (v : Relay) (p : Past) → Holds v p → deeds_by (turns Above) v ≡ all_heard (flat_map incoming_of (entries_from (turns Above) v v.upper))
-hears_is laws v p h =
-    let keeps = upper_facts laws v p h in
+pub hears_is : (v : Relay) (p : Past) → Holds v p → deeds_by (turns Above) v ≡ all_heard (flat_map incoming_of (entries_from (turns Above) v v.upper))
+hears_is v p h =
+    let keeps = upper_facts v p h in
     turn_heard v.bind v.upper (λ opening. first_on v.upper (h.waits (off_where v.bind v p h.stands opening)) keeps) (λ unbound. idle_on v.upper keeps (free_where v.bind v p h.stands unbound))
 
 -- ---- the other calls hear nothing
@@ -112,19 +112,19 @@ no_entries connects v other = refl
 no_entries fails v other = refl
 no_entries (gives side) v other = refl
 
-call_hears : Laws → (call : Call) (v : Relay) (p : Past) → Holds v p → heard_in (deeds_by call v) ≡ flat_map incoming_of (entries_from call v v.upper)
-call_hears laws call v p h =
+call_hears : (call : Call) (v : Relay) (p : Past) → Holds v p → heard_in (deeds_by call v) ≡ flat_map incoming_of (entries_from call v v.upper)
+call_hears call v p h =
     elim (turn_or_not call) as (λ _. heard_in (deeds_by call v) ≡ flat_map incoming_of (entries_from call v v.upper)) [
       | inl is ↦ subst (λ c. heard_in (deeds_by c v) ≡ flat_map incoming_of (entries_from c v v.upper)) (sym is)
-          (ap heard_in (hears_is laws v p h) ∙ heard_hears (flat_map incoming_of (entries_from (turns Above) v v.upper)))
+          (ap heard_in (hears_is v p h) ∙ heard_hears (flat_map incoming_of (entries_from (turns Above) v v.upper)))
       | inr other ↦ others_hear call v other ∙ ap (flat_map incoming_of) (sym (no_entries call v other))
     ]
 
-pub messages_kept : Laws → (call : Call) (v after : Relay) (p : Past) (h : Holds v p)
+pub messages_kept : (call : Call) (v after : Relay) (p : Past) (h : Holds v p)
     → heard_in (h.deeds ++ deeds_by call v) ≡ flat_map incoming_of (above (with_calls call v after p)).past.taken
-messages_kept laws call v after p h =
+messages_kept call v after p h =
     let taken_before = (above p).past.taken in
     let entries = entries_from call v v.upper in
     heard_both h.deeds (deeds_by call v) ∙ ap (λ is. is ++ heard_in (deeds_by call v)) h.messages
-    ∙ ap (λ is. flat_map incoming_of taken_before ++ is) (call_hears laws call v p h)
+    ∙ ap (λ is. flat_map incoming_of taken_before ++ is) (call_hears call v p h)
     ∙ sym (flat_map-append incoming_of taken_before entries) ∙ ap (flat_map incoming_of) (sym (above_taken call v after p h.upper))

@@ -30,7 +30,7 @@ use Rattle.value_node.specs.declared.states.Bind.{Bind}
 use Rattle.value_node.specs.declared.states.Bind.TheVariants.{Unbound, Opening, Bound, Closed}
 use Rattle.value_node.specs.declared.states.Side.TheVariants.{Below, Above}
 use Rattle.value_node.specs.declared.states.ValueTurn.TheVariants.{Nothing}
-use Rattle.value_node.proofs.Holding.{Holds, Laws, WaitsOrIsClosed, above_more}
+use Rattle.value_node.proofs.Holding.{Holds, WaitsOrIsClosed, above_more}
 use Rattle.value_node.proofs.HoldsEnds.{KeepsClosed, upper_facts, upper_is}
 use Rattle.value_node.proofs.HoldsWaiting.{only_waits}
 use Rattle.value_node.proofs.Pasts.{taken_in, taken_more}
@@ -197,9 +197,9 @@ turn_or_not connects = inr (λ is. absurd cc)
 turn_or_not fails = inr (λ is. absurd cc)
 turn_or_not (gives side) = inr (λ is. absurd cc)
 
-pub first_call : Laws → (call : Call) (v : Relay) (p : Past) → Holds v p → p.is_bound ≡ false → FirstCall call v (above p).end
-first_call laws call v p h off =
-    let keeps = upper_facts laws v p h in
+pub first_call : (call : Call) (v : Relay) (p : Past) → Holds v p → p.is_bound ≡ false → FirstCall call v (above p).end
+first_call call v p h off =
+    let keeps = upper_facts v p h in
     let bind_off : is_binding v.bind ≡ false = not_binding v.bind v p h.stands off in
     elim (turn_or_not call) as (λ _. FirstCall call v (above p).end) [
       | inl is ↦ subst (λ c. FirstCall c v (above p).end) (sym is)
@@ -219,16 +219,16 @@ or_same : (b x y : Bool) → (b ≡ false → x ≡ y) → (b || x) ≡ (b || y)
 or_same true x y so = refl
 or_same false x y so = so refl
 
-pub heard_kept : Laws → (call : Call) (v : Relay) (p : Past) → Holds v p
+pub heard_kept : (call : Call) (v : Relay) (p : Past) → Holds v p
     → list_any is_greeting (above (with_calls call v (relay_called call v) p)).past.taken ≡ (p.is_bound || is_binding (relay_called call v).bind)
-heard_kept laws call v p h =
+heard_kept call v p h =
     let next = relay_called call v in
     let more = taken_in (upper_by call v) (above p).end in
     ap (λ (r : Run ForwardedValue). list_any is_greeting r.past.taken) (above_more call v next p h.upper)
     ∙ ap (list_any is_greeting) (taken_more (upper_by call v) (above p))
     ∙ list_any-append is_greeting (above p).past.taken more
     ∙ ap (λ b. b || list_any is_greeting more) h.heard
-    ∙ or_same p.is_bound (list_any is_greeting more) (is_binding next.bind) (λ off. (first_call laws call v p h off).greets)
+    ∙ or_same p.is_bound (list_any is_greeting more) (is_binding next.bind) (λ off. (first_call call v p h off).greets)
 
 since_none : (flag : Bool) (since own pass : List LowerCall) → flag ≡ false → since ≡ [] → pass ≡ [] → since ++ (only_if flag own ++ pass) ≡ []
 since_none true since own pass off none nothing = absurd cc
@@ -237,31 +237,31 @@ since_none false since own pass off none nothing = ap (λ calls. calls ++ pass) 
 none_done : (deeds more : List Deed) → deeds ≡ [] → more ≡ [] → deeds ++ more ≡ []
 none_done deeds more none nothing = ap (λ ds. ds ++ more) none ∙ nothing
 
-pub idle_kept : Laws → (call : Call) (v : Relay) (p : Past) (h : Holds v p) → (p.is_bound || is_binding (relay_called call v).bind) ≡ false → h.deeds ++ deeds_by call v ≡ []
-idle_kept laws call v p h off =
+pub idle_kept : (call : Call) (v : Relay) (p : Past) (h : Holds v p) → (p.is_bound || is_binding (relay_called call v).bind) ≡ false → h.deeds ++ deeds_by call v ≡ []
+idle_kept call v p h off =
     let parts = neither p.is_bound (is_binding (relay_called call v).bind) off in
-    none_done h.deeds (deeds_by call v) (h.idle parts.0) ((first_call laws call v p h parts.0).does parts.1)
+    none_done h.deeds (deeds_by call v) (h.idle parts.0) ((first_call call v p h parts.0).does parts.1)
 
-pub fresh_kept : Laws → (call : Call) (v : Relay) (p : Past) → Holds v p → (p.is_bound || is_binding (relay_called call v).bind) ≡ false → (relay_called call v).store ≡ no_store
-fresh_kept laws call v p h off =
+pub fresh_kept : (call : Call) (v : Relay) (p : Past) → Holds v p → (p.is_bound || is_binding (relay_called call v).bind) ≡ false → (relay_called call v).store ≡ no_store
+fresh_kept call v p h off =
     let parts = neither p.is_bound (is_binding (relay_called call v).bind) off in
-    (first_call laws call v p h parts.0).keeps parts.1 ∙ h.fresh parts.0
+    (first_call call v p h parts.0).keeps parts.1 ∙ h.fresh parts.0
 
-pub unbound_kept : Laws → (call : Call) (v : Relay) (p : Past) → Holds v p
+pub unbound_kept : (call : Call) (v : Relay) (p : Past) → Holds v p
     → (p.is_bound || is_binding (relay_called call v).bind) ≡ false → (with_calls call v (relay_called call v) p).since_bound ≡ []
-unbound_kept laws call v p h off =
+unbound_kept call v p h off =
     let parts = neither p.is_bound (is_binding (relay_called call v).bind) off in
-    since_none p.is_bound p.since_bound (own_by call v) (passing_by call v) parts.0 (h.unbound parts.0) ((first_call laws call v p h parts.0).passes parts.1)
+    since_none p.is_bound p.since_bound (own_by call v) (passing_by call v) parts.0 (h.unbound parts.0) ((first_call call v p h parts.0).passes parts.1)
 
-waits_on : Laws → (connection : Option (List UpperCall)) → list_any is_greeting (upper_after (unwrap_or connection [])).past.taken ≡ false
+waits_on : (connection : Option (List UpperCall)) → list_any is_greeting (upper_after (unwrap_or connection [])).past.taken ≡ false
     → IfSome (option_map (λ calls. (upper_after calls).end) connection) (λ e. WaitsOrIsClosed e.state)
-waits_on laws None off = tt
-waits_on laws (Some calls) off = (only_waits laws.upper_takes_none value_services None calls off).waits
+waits_on None off = tt
+waits_on (Some calls) off = (only_waits value_services None calls off).waits
 
 -- of any past
-pub waits_of : Laws → (v : Relay) (p : Past) → v.upper ≡ option_map (λ calls. (upper_after calls).end) p.connection → list_any is_greeting (above p).past.taken ≡ false
+pub waits_of : (v : Relay) (p : Past) → v.upper ≡ option_map (λ calls. (upper_after calls).end) p.connection → list_any is_greeting (above p).past.taken ≡ false
     → IfSome v.upper (λ e. WaitsOrIsClosed e.state)
-waits_of laws v p upper off = subst (λ (o : Option Upper). IfSome o (λ e. WaitsOrIsClosed e.state)) (sym upper) (waits_on laws p.connection off)
+waits_of v p upper off = subst (λ (o : Option Upper). IfSome o (λ e. WaitsOrIsClosed e.state)) (sym upper) (waits_on p.connection off)
 
-pub quiet_of : Laws → (p : Past) → list_any is_greeting (above p).past.taken ≡ false → flat_map incoming_of (above p).past.taken ≡ []
-quiet_of laws p off = (only_waits laws.upper_takes_none value_services None (unwrap_or p.connection []) off).quiet
+pub quiet_of : (p : Past) → list_any is_greeting (above p).past.taken ≡ false → flat_map incoming_of (above p).past.taken ≡ []
+quiet_of p off = (only_waits value_services None (unwrap_or p.connection []) off).quiet

@@ -17,9 +17,10 @@ use Rattle.value_node.specs.declared.relay.Relay.{Relay}
 use Rattle.value_node.specs.declared.states.Bind.{Bind}
 use Rattle.value_node.specs.declared.states.Bind.TheVariants.{Unbound, Opening, Bound, Closed}
 use Rattle.value_node.specs.declared.states.Side.TheVariants.{Below, Above}
+use Rattle.channel_core.proofs.TheLaws.{counts_answers}
 use Rattle.value_node.proofs.CallAdds.{Adds, call_adds, issued_as}
 use Rattle.value_node.proofs.DeedLists.{sent_both}
-use Rattle.value_node.proofs.Holding.{AreAccepted, Holds, Laws, above_accepted, issued_from, issued_length}
+use Rattle.value_node.proofs.Holding.{AreAccepted, Holds, above_accepted, issued_from, issued_length}
 use Rattle.value_node.proofs.Pasts.{accepted_in}
 use Rattle.value_node.proofs.Steps.{relay, relay_called}
 
@@ -142,22 +143,22 @@ still_all call v p h bound = by_flag p.is_bound refl
 -- ---- what is kept
 
 -- the upper end's tokens count, whatever was called of it
-counted_after : Laws → (call : Call) (v next : Relay) (p : Past) → Holds v p → AreCounted ((above p).past.accepted ++ accepted_in (upper_by call v) (above p).end)
-counted_after laws call v next p h =
+counted_after : (call : Call) (v next : Relay) (p : Past) → Holds v p → AreCounted ((above p).past.accepted ++ accepted_in (upper_by call v) (above p).end)
+counted_after call v next p h =
     let q = with_calls call v next p in
-    subst (λ is. AreCounted is) (above_accepted call v next p h.upper) (laws.upper_counts value_services None (unwrap_or q.connection [])).tokens
+    subst (λ is. AreCounted is) (above_accepted call v next p h.upper) (counts_answers value_services None (unwrap_or q.connection [])).tokens
 
-pub accepted_kept : Laws → (call : Call) (v : Relay) (p : Past) (h : Holds v p)
+pub accepted_kept : (call : Call) (v : Relay) (p : Past) (h : Holds v p)
     → AreAccepted (above (with_calls call v (relay_called call v) p)).past.accepted (forwarded_in (h.deeds ++ deeds_by call v)) (relay_called call v).bind
-accepted_kept laws call v p h =
+accepted_kept call v p h =
     let next = relay_called call v in
     rw (above_accepted call v next p h.upper, sent_both h.deeds (deeds_by call v))
     (step_accepted (above p).past.accepted (accepted_in (upper_by call v) (above p).end) (forwarded_in h.deeds) (forwarded_in (deeds_by call v)) v.bind next.bind (above p).end h.accepted
-    (still_all call v p h) (counted_after laws call v next p h) (call_adds call v p h))
+    (still_all call v p h) (counted_after call v next p h) (call_adds call v p h))
 
-pub few_kept : Laws → (call : Call) (v : Relay) (p : Past) → Holds v p → length (above (with_calls call v (relay_called call v) p)).past.accepted ≤ last_token
-few_kept laws call v p h =
+pub few_kept : (call : Call) (v : Relay) (p : Past) → Holds v p → length (above (with_calls call v (relay_called call v) p)).past.accepted ≤ last_token
+few_kept call v p h =
     let next = relay_called call v in
     subst (λ is. length is ≤ last_token) (sym (above_accepted call v next p h.upper))
     (step_few (above p).past.accepted (accepted_in (upper_by call v) (above p).end) (forwarded_in (deeds_by call v)) v.bind next.bind (above p).end h.few
-    (counted_after laws call v next p h) (call_adds call v p h))
+    (counted_after call v next p h) (call_adds call v p h))

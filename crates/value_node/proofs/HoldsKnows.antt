@@ -27,10 +27,10 @@ use Rattle.value_node.specs.declared.states.ValueTurn.TheVariants.{Nothing}
 use Rattle.value_node.proofs.Asking.{asked_bound_is, asked_mark, store_asked}
 use Rattle.value_node.proofs.CallAdds.{asked_as}
 use Rattle.value_node.proofs.Entries.{AreRead, IsTakenSo, always_read, event_read, next_so}
-use Rattle.value_node.proofs.Holding.{Holds, Laws}
+use Rattle.value_node.proofs.Holding.{Holds}
 use Rattle.value_node.proofs.HoldsHello.{stays_unbound, turn_or_not}
 use Rattle.value_node.proofs.HoldsPassed.{rows_now}
-use Rattle.value_node.proofs.Knowing.{Knows, Lessons, command_knows, event_knows, final_knows, hello_knows, knows_answered, knows_nothing, knows_still, progress_knows, used_knows}
+use Rattle.value_node.proofs.Knowing.{Knows, command_knows, event_knows, final_knows, hello_knows, knows_answered, knows_nothing, knows_still, progress_knows, used_knows}
 use Rattle.value_node.proofs.Lists.{all_stands}
 use Rattle.value_node.proofs.Steps.{relay, relay_called}
 use Rattle.value_node.proofs.StoreStays.{connected_store, failed_store, redirect_store}
@@ -134,7 +134,7 @@ abbrev AboveKnows : List Deed → Bind → Option (Taken ForwardedValue) × Uppe
 AboveKnows deeds bind next v =
     (took_any_above next.0 (with_upper next.1 v)).1.bind ≡ Bound → Knows (deeds ++ above_deeds bind next.0) (took_any_above next.0 (with_upper next.1 v)).1.store
 
-module _ (laws : Lessons) (deeds : List Deed) (store : StoreValue) (peer : List ℕ) (lower : Lower) (upper : Option Upper) (redirect : Option (List ℕ)) where
+module _ (deeds : List Deed) (store : StoreValue) (peer : List ℕ) (lower : Lower) (upper : Option Upper) (redirect : Option (List ℕ)) where
   unbound_above : (next : Option (Taken ForwardedValue) × Upper) → AboveKnows deeds Unbound next (relay store peer Unbound lower upper redirect)
   unbound_above (None, e) bound = absurd cc
   unbound_above (Some (taken.Hello incoming), e) bound = absurd cc
@@ -150,7 +150,7 @@ module _ (laws : Lessons) (deeds : List Deed) (store : StoreValue) (peer : List 
   opening_above rows (Some (taken.Hello incoming), e) knows given so bound =
       let v = relay store peer Opening lower (Some e) redirect in
       let kept : Knows deeds (redirect_answered redirect redirect_done v).store = subst (Knows deeds) (sym (redirect_store redirect redirect_done v)) knows in
-      hello_knows laws deeds incoming (redirect_answered redirect redirect_done v).store kept (reading incoming.raw) refl given so
+      hello_knows deeds incoming (redirect_answered redirect redirect_done v).store kept (reading incoming.raw) refl given so
   opening_above rows (Some (taken.Command incoming), e) knows given so bound = absurd cc
   opening_above rows (Some (taken.Event incoming), e) knows given so bound = absurd cc
   opening_above rows (Some (taken.Progress token incoming), e) knows given so bound = absurd cc
@@ -160,30 +160,30 @@ module _ (laws : Lessons) (deeds : List Deed) (store : StoreValue) (peer : List 
   bound_above : (count : ℕ) (rows : List (ℕ × ForwardedValue)) (next : Option (Taken ForwardedValue) × Upper) → Knows deeds store → AllByRecursion (IsIssued 1 count (forwarded_in deeds)) rows
       → GivesAny rows next → IsTakenSo next.0 → AboveKnows deeds Bound next (relay store peer Bound lower upper redirect)
   bound_above count rows (None, e) knows all given so bound = nothing_more deeds store knows
-  bound_above count rows (Some (taken.Hello incoming), e) knows all given so bound = hello_knows laws deeds incoming store knows (reading incoming.raw) refl given so
-  bound_above count rows (Some (taken.Command incoming), e) knows all given so bound = command_knows laws deeds incoming store knows (reading incoming.raw) refl given
+  bound_above count rows (Some (taken.Hello incoming), e) knows all given so bound = hello_knows deeds incoming store knows (reading incoming.raw) refl given so
+  bound_above count rows (Some (taken.Command incoming), e) knows all given so bound = command_knows deeds incoming store knows (reading incoming.raw) refl given
   bound_above count rows (Some (taken.Event incoming), e) knows all given so bound =
-      event_knows laws deeds incoming store knows (reading incoming.raw) refl (event_read (reading incoming.raw) given so.1) so.0
+      event_knows deeds incoming store knows (reading incoming.raw) refl (event_read (reading incoming.raw) given so.1) so.0
   bound_above count rows (Some (taken.Progress token incoming), e) knows all given so bound =
-      progress_knows laws deeds incoming store knows token (reading incoming.raw) refl given.message
+      progress_knows deeds incoming store knows token (reading incoming.raw) refl given.message
   bound_above count rows (Some (taken.Final tag incoming), e) knows all given so bound =
-      final_knows laws deeds incoming store knows given.number tag.command (reading incoming.raw) refl given.message
+      final_knows deeds incoming store knows given.number tag.command (reading incoming.raw) refl given.message
       (all_stands (IsIssued 1 count (forwarded_in deeds)) rows (given.number, tag) given.there all).learned
   bound_above count rows (Some (taken.Closed cause), e) knows all given so bound = absurd cc
 
-turn_knows : Lessons → (deeds : List Deed) (count : ℕ) (store : StoreValue) (peer : List ℕ) (bind : Bind) (lower : Lower) (upper : Option Upper) (redirect : Option (List ℕ))
+turn_knows : (deeds : List Deed) (count : ℕ) (store : StoreValue) (peer : List ℕ) (bind : Bind) (lower : Lower) (upper : Option Upper) (redirect : Option (List ℕ))
     → (bind ≡ Opening → Knows deeds store) → (bind ≡ Bound → Knows deeds store) → IfSome upper (λ e. AllByRecursion (IsIssued 1 count (forwarded_in deeds)) e.pending) → IfSome upper AreRead
     → (relay_called (turns Above) (relay store peer bind lower upper redirect)).bind ≡ Bound → KnowsAfter (turns Above) (relay store peer bind lower upper redirect) deeds
 unfolding turned_above
-turn_knows laws deeds count store peer Unbound lower None redirect opening knows rows read bound = absurd cc
-turn_knows laws deeds count store peer Unbound lower (Some e) redirect opening knows rows read bound = unbound_above laws deeds store peer lower (Some e) redirect (next_taken e) bound
-turn_knows laws deeds count store peer Opening lower None redirect opening knows rows read bound = absurd cc
-turn_knows laws deeds count store peer Opening lower (Some e) redirect opening knows rows read bound =
-    opening_above laws deeds store peer lower (Some e) redirect e.pending (next_taken e) (opening refl) (next_gives e) (next_so e read) bound
-turn_knows laws deeds count store peer Bound lower None redirect opening knows rows read bound = nothing_more deeds store (knows refl)
-turn_knows laws deeds count store peer Bound lower (Some e) redirect opening knows rows read bound =
-    bound_above laws deeds store peer lower (Some e) redirect count e.pending (next_taken e) (knows refl) rows (next_gives e) (next_so e read) bound
-turn_knows laws deeds count store peer Closed lower upper redirect opening knows rows read bound = absurd cc
+turn_knows deeds count store peer Unbound lower None redirect opening knows rows read bound = absurd cc
+turn_knows deeds count store peer Unbound lower (Some e) redirect opening knows rows read bound = unbound_above deeds store peer lower (Some e) redirect (next_taken e) bound
+turn_knows deeds count store peer Opening lower None redirect opening knows rows read bound = absurd cc
+turn_knows deeds count store peer Opening lower (Some e) redirect opening knows rows read bound =
+    opening_above deeds store peer lower (Some e) redirect e.pending (next_taken e) (opening refl) (next_gives e) (next_so e read) bound
+turn_knows deeds count store peer Bound lower None redirect opening knows rows read bound = nothing_more deeds store (knows refl)
+turn_knows deeds count store peer Bound lower (Some e) redirect opening knows rows read bound =
+    bound_above deeds store peer lower (Some e) redirect count e.pending (next_taken e) (knows refl) rows (next_gives e) (next_so e read) bound
+turn_knows deeds count store peer Closed lower upper redirect opening knows rows read bound = absurd cc
 
 -- ---- each call
 
@@ -200,11 +200,11 @@ first_knows Opening v p h stands is =
 first_knows Bound v p h stands is = absurd cc
 first_knows Closed v p h stands is = absurd cc
 
-pub knows_kept : Laws → (call : Call) (v : Relay) (p : Past) (h : Holds v p) → (relay_called call v).bind ≡ Bound → Knows (h.deeds ++ deeds_by call v) (relay_called call v).store
-knows_kept laws call v p h =
+pub knows_kept : (call : Call) (v : Relay) (p : Past) (h : Holds v p) → (relay_called call v).bind ≡ Bound → Knows (h.deeds ++ deeds_by call v) (relay_called call v).store
+knows_kept call v p h =
     elim (turn_or_not call) as (λ _. (relay_called call v).bind ≡ Bound → KnowsAfter call v h.deeds) [
       | inl is ↦ subst (λ c. (relay_called c v).bind ≡ Bound → KnowsAfter c v h.deeds) (sym is)
-          (turn_knows laws.lessons h.deeds (length (above p).past.accepted) v.store v.peer v.bind v.lower v.upper v.redirect (first_knows v.bind v p h h.stands) h.knows
-          (rows_now laws (turns Above) v p h) (upper_read v.upper p.connection h.upper))
+          (turn_knows h.deeds (length (above p).past.accepted) v.store v.peer v.bind v.lower v.upper v.redirect (first_knows v.bind v p h h.stands) h.knows
+          (rows_now (turns Above) v p h) (upper_read v.upper p.connection h.upper))
       | inr other ↦ others_know call h.deeds v other h.knows
     ]

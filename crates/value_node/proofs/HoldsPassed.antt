@@ -23,8 +23,9 @@ use Rattle.value_node.specs.declared.relay.Relay.{Relay}
 use Rattle.value_node.specs.declared.states.Bind.{Bind}
 use Rattle.value_node.specs.declared.states.Bind.TheVariants.{Unbound, Opening, Bound, Closed}
 use Rattle.value_node.specs.declared.states.Side.TheVariants.{Below, Above}
+use Rattle.channel_core.proofs.TheLaws.{counts_answers}
 use Rattle.value_node.proofs.DeedLists.{all_sent, heard_tells, told_both}
-use Rattle.value_node.proofs.Holding.{Holds, IsNamed, Laws, above_accepted}
+use Rattle.value_node.proofs.Holding.{Holds, IsNamed, above_accepted}
 use Rattle.value_node.proofs.HoldsEnds.{lower_facts}
 use Rattle.value_node.proofs.HoldsHeard.{hears_is}
 use Rattle.value_node.proofs.HoldsHello.{not_binding, others_idle, others_pass, turn_or_not}
@@ -60,7 +61,7 @@ passed_flag false until since own pass lower deeds now lower_is unbound idle pas
     ap (λ calls. sent_in (calls ++ pass) (lower_after (until ++ own)).end) none ∙ ap (sent_in pass) last ∙ first refl
     ∙ ap (λ ds. told_from (forwarded_in ds) now) (idle refl) ∙ sym (ap (λ ds. told_from [] (ds ++ now)) (idle refl))
 
-module _ (laws : Laws) (call : Call) (v : Relay) (p : Past) (h : Holds v p) where
+module _ (call : Call) (v : Relay) (p : Past) (h : Holds v p) where
   abbrev sent_count : ℕ
   sent_count = length (above p).past.accepted
 
@@ -68,8 +69,8 @@ module _ (laws : Laws) (call : Call) (v : Relay) (p : Past) (h : Holds v p) wher
   pub end_rows : AllByRecursion (IsIssued 1 sent_count (forwarded_in h.deeds)) (above p).end.pending
   end_rows =
       let IsAsked : Asked → Type 0 = λ c. IsToken c.token in
-      let asked_all : AllByRecursion IsAsked (commands_in h.deeds) = subst (AllByRecursion IsAsked) h.asked (asked_tokens laws.readable (below_since_bound p).past.taken) in
-      pending_rows (IsIssued 1 sent_count (forwarded_in h.deeds)) (above p) (laws.upper_counts value_services None (unwrap_or p.connection []))
+      let asked_all : AllByRecursion IsAsked (commands_in h.deeds) = subst (AllByRecursion IsAsked) h.asked (asked_tokens (below_since_bound p).past.taken) in
+      pending_rows (IsIssued 1 sent_count (forwarded_in h.deeds)) (above p) (counts_answers value_services None (unwrap_or p.connection []))
       (accepted_rows (above p).past.accepted (forwarded_in h.deeds) v.bind h.accepted h.few (all_sent IsAsked h.deeds asked_all))
 
   pub rows_now : IfSome v.upper (λ e. AllByRecursion (IsIssued 1 sent_count (forwarded_in h.deeds)) e.pending)
@@ -91,17 +92,17 @@ module _ (laws : Laws) (call : Call) (v : Relay) (p : Past) (h : Holds v p) wher
 abbrev Tells : Call → Relay → List Asked → Type 0
 Tells call v commands = sent_in (passing_by call v) (ran (own_by call v) v.lower) ≡ told_from commands (deeds_by call v)
 
-turn_tells : Laws → (v : Relay) (p : Past) (h : Holds v p) → Tells (turns Above) v (forwarded_in h.deeds)
-turn_tells laws v p h =
+turn_tells : (v : Relay) (p : Past) (h : Holds v p) → Tells (turns Above) v (forwarded_in h.deeds)
+turn_tells v p h =
     let commands = forwarded_in h.deeds in
     let messages = flat_map incoming_of (entries_from (turns Above) v v.upper) in
-    passing_told laws (turns Above) v p h ∙ sym (heard_tells commands messages) ∙ ap (told_from commands) (sym (hears_is laws v p h))
+    passing_told (turns Above) v p h ∙ sym (heard_tells commands messages) ∙ ap (told_from commands) (sym (hears_is v p h))
 
 -- of one that isn't bound
-first_tells : Laws → (call : Call) (v : Relay) (p : Past) (h : Holds v p) → p.is_bound ≡ false → Tells call v (forwarded_in h.deeds)
-first_tells laws call v p h off =
+first_tells : (call : Call) (v : Relay) (p : Past) (h : Holds v p) → p.is_bound ≡ false → Tells call v (forwarded_in h.deeds)
+first_tells call v p h off =
     elim (turn_or_not call) as (λ _. Tells call v (forwarded_in h.deeds)) [
-      | inl is ↦ subst (λ c. Tells c v (forwarded_in h.deeds)) (sym is) (turn_tells laws v p h)
+      | inl is ↦ subst (λ c. Tells c v (forwarded_in h.deeds)) (sym is) (turn_tells v p h)
       | inr other ↦ ap (λ calls. sent_in calls (ran (own_by call v) v.lower)) (others_pass call v other)
           ∙ ap (told_from (forwarded_in h.deeds)) (sym (others_idle call v other (not_binding v.bind v p h.stands off)))
     ]
@@ -109,10 +110,10 @@ first_tells laws call v p h off =
 abbrev TellsAll : Call → Relay → List Asked → Type 0
 TellsAll call v commands = sent_in (own_by call v) v.lower ++ sent_in (passing_by call v) (ran (own_by call v) v.lower) ≡ told_from commands (deeds_by call v)
 
-below_tells : Laws → (v : Relay) (p : Past) (h : Holds v p) → IsPast v.bind → TellsAll (turns Below) v (forwarded_in h.deeds)
-below_tells laws v p h past =
+below_tells : (v : Relay) (p : Past) (h : Holds v p) → IsPast v.bind → TellsAll (turns Below) v (forwarded_in h.deeds)
+below_tells v p h past =
     append-nil (sent_in (own_by (turns Below) v) v.lower)
-    ∙ below_sends v.store v.peer v.bind v.lower v.upper v.redirect (forwarded_in h.deeds) past (λ bound. (lower_facts laws v p h).by_taking (stands_live v.bind v p h.stands bound))
+    ∙ below_sends v.store v.peer v.bind v.lower v.upper v.redirect (forwarded_in h.deeds) past (λ bound. (lower_facts v p h).by_taking (stands_live v.bind v p h.stands bound))
   where
     stands_live : (bind : Bind) (v : Relay) (p : Past) → StandsWell bind v p → bind ≡ Bound → is_closed v.lower.state ≡ false
     stands_live Unbound v p stands is = absurd cc
@@ -120,30 +121,30 @@ below_tells laws v p h past =
     stands_live Bound v p stands is = stands.0
     stands_live Closed v p stands is = absurd cc
 
-above_tells : Laws → (v : Relay) (p : Past) (h : Holds v p) → IsPast v.bind → TellsAll (turns Above) v (forwarded_in h.deeds)
-above_tells laws v p h past =
-    ap (λ os. os ++ sent_in (passing_by (turns Above) v) (ran (own_by (turns Above) v) v.lower)) (own_silent (turns Above) v (λ is. absurd cc) past) ∙ turn_tells laws v p h
+above_tells : (v : Relay) (p : Past) (h : Holds v p) → IsPast v.bind → TellsAll (turns Above) v (forwarded_in h.deeds)
+above_tells v p h past =
+    ap (λ os. os ++ sent_in (passing_by (turns Above) v) (ran (own_by (turns Above) v) v.lower)) (own_silent (turns Above) v (λ is. absurd cc) past) ∙ turn_tells v p h
 
 -- of one that is bound
-bound_tells : Laws → (call : Call) (v : Relay) (p : Past) (h : Holds v p) → IsPast v.bind → TellsAll call v (forwarded_in h.deeds)
-bound_tells laws (comes Below piece mark) v p h past = refl
-bound_tells laws (comes Above piece mark) v p h past = refl
-bound_tells laws (bytes_end Below) v p h past = refl
-bound_tells laws (bytes_end Above) v p h past = refl
-bound_tells laws (turns Below) v p h past = below_tells laws v p h past
-bound_tells laws (turns Above) v p h past = above_tells laws v p h past
-bound_tells laws connects v p h past = refl
-bound_tells laws fails v p h past = ap (λ os. os ++ []) (own_silent fails v (λ is. absurd cc) past)
-bound_tells laws (gives Below) v p h past = refl
-bound_tells laws (gives Above) v p h past = refl
+bound_tells : (call : Call) (v : Relay) (p : Past) (h : Holds v p) → IsPast v.bind → TellsAll call v (forwarded_in h.deeds)
+bound_tells (comes Below piece mark) v p h past = refl
+bound_tells (comes Above piece mark) v p h past = refl
+bound_tells (bytes_end Below) v p h past = refl
+bound_tells (bytes_end Above) v p h past = refl
+bound_tells (turns Below) v p h past = below_tells v p h past
+bound_tells (turns Above) v p h past = above_tells v p h past
+bound_tells connects v p h past = refl
+bound_tells fails v p h past = ap (λ os. os ++ []) (own_silent fails v (λ is. absurd cc) past)
+bound_tells (gives Below) v p h past = refl
+bound_tells (gives Above) v p h past = refl
 
-pub passed_more : Laws → (call : Call) (v after : Relay) (p : Past) (h : Holds v p)
+pub passed_more : (call : Call) (v after : Relay) (p : Past) (h : Holds v p)
     → sent_in (with_calls call v after p).since_bound (below_until_bound (with_calls call v after p)).end ≡ told_from [] (h.deeds ++ deeds_by call v)
-passed_more laws call v after p h =
+passed_more call v after p h =
     let lower_is : v.lower ≡ ran p.since_bound (lower_after p.until_bound).end =
     h.lower ∙ ap (λ r. r.end) (after_both p.until_bound p.since_bound (lower_after [])) ∙ end_ran p.since_bound (lower_after p.until_bound) in
     passed_flag p.is_bound p.until_bound p.since_bound (own_by call v) (passing_by call v) v.lower h.deeds (deeds_by call v) lower_is h.unbound h.idle h.passed
-    (λ on. bound_tells laws call v p h (stands_past v.bind v p h.stands on)) (first_tells laws call v p h)
+    (λ on. bound_tells call v p h (stands_past v.bind v p h.stands on)) (first_tells call v p h)
 
 -- ---- each progress and each answer that was taken names a command
 
@@ -196,7 +197,7 @@ entries_named : (call : Call) (v : Relay) (count : ℕ) (commands : List Asked) 
 entries_named (turns Above) v count commands rows = turn_named (takes_above v.bind) v.upper count commands rows
 entries_named call v count commands rows = tt
 
-module _ (laws : Laws) (call : Call) (v : Relay) (p : Past) (h : Holds v p) where
+module _ (call : Call) (v : Relay) (p : Past) (h : Holds v p) where
   abbrev Names : Past → Type 0
   Names q = AllByRecursion (IsNamed (length (above q).past.accepted)) (above q).past.taken
 
@@ -211,4 +212,4 @@ module _ (laws : Laws) (call : Call) (v : Relay) (p : Past) (h : Holds v p) wher
       let entries = entries_from call v v.upper in
       subst (AllByRecursion (IsNamed n)) (sym (above_taken call v after p h.upper))
       (all_append (IsNamed n) (above p).past.taken entries (all_then (IsNamed m) (IsNamed n) (named_more m n less) (above p).past.taken h.named)
-      (all_then (IsNamed m) (IsNamed n) (named_more m n less) entries (entries_named call v m (forwarded_in h.deeds) (rows_now laws call v p h))))
+      (all_then (IsNamed m) (IsNamed n) (named_more m n less) entries (entries_named call v m (forwarded_in h.deeds) (rows_now call v p h))))

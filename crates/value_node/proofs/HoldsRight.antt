@@ -31,9 +31,11 @@ use Rattle.value_node.specs.declared.relay.Relay.{Relay}
 use Rattle.value_node.specs.declared.states.Bind.{Bind}
 use Rattle.value_node.specs.declared.states.Bind.TheVariants.{Unbound, Opening, Bound, Closed}
 use Rattle.value_node.specs.declared.states.Side.TheVariants.{Below, Above}
+use Rattle.channel_core.proofs.TheLaws.{counts_answers}
+use Rattle.knowledge.proofs.TheLaws.{others_stay_unanswered}
 use Rattle.value_node.proofs.CallAdds.{asked_as}
 use Rattle.value_node.proofs.DeedLists.{AreRight, IsRight, all_heard, right_both}
-use Rattle.value_node.proofs.Holding.{Holds, IsNamed, Laws, issued_from, issued_length}
+use Rattle.value_node.proofs.Holding.{Holds, IsNamed, issued_from, issued_length}
 use Rattle.value_node.proofs.HoldsEnds.{upper_is}
 use Rattle.value_node.proofs.HoldsPassed.{end_rows}
 use Rattle.value_node.proofs.Lists.{all_stands}
@@ -129,12 +131,12 @@ row_at low (d ∷ sent) (suc place) c is =
 
 -- ---- what holds before a call
 
-module _ (laws : Laws) (v : Relay) (p : Past) (h : Holds v p) where
+module _ (v : Relay) (p : Past) (h : Holds v p) where
   answered_ended : (n : ℕ) → is_answered (above p).past.taken n ≡ is_ended_in n h.deeds
   answered_ended n = entries_end n (length (above p).past.accepted) (above p).past.taken h.named ∙ ap (list_any (ends n)) (sym h.messages)
 
   counts : CountsAnswers (above p)
-  counts = laws.upper_counts value_services None (unwrap_or p.connection [])
+  counts = counts_answers value_services None (unwrap_or p.connection [])
 
   abbrev is_open : ℕ × ForwardedValue → Bool
   is_open row = not (is_answered (above p).past.taken row.0)
@@ -160,7 +162,7 @@ module _ (laws : Laws) (v : Relay) (p : Past) (h : Holds v p) where
   row_open : (row : ℕ × ForwardedValue) → Stands (above p).end.pending row → IsOpenUnder row.0
   row_open row there =
       let count : ℕ = length (above p).past.accepted in
-      let mine = all_stands (IsIssued 1 count (forwarded_in h.deeds)) (above p).end.pending row there (end_rows laws (turns Above) v p h) in
+      let mine = all_stands (IsIssued 1 count (forwarded_in h.deeds)) (above p).end.pending row there (end_rows (turns Above) v p h) in
       let high : row.0 < 1 + count = mine.high in
       let most : count ≤ length (forwarded_in h.deeds) = within in
       let few : row.0 ≤ length (forwarded_in h.deeds) = omega arith in
@@ -259,7 +261,7 @@ module _ (laws : Laws) (v : Relay) (p : Past) (h : Holds v p) where
   answer_storable : (asked : Command) (reply : List ℕ) (flag : Bool) → stores asked ≡ flag → stored_answer asked v.store ≡ Some reply → stores asked ≡ true
   answer_storable asked reply true is found = is
   answer_storable asked reply false is found =
-      let none : None ≡ Some reply = sym (ap (data_of asked) (laws.lessons.unanswered asked (facts_in v.store.known) v.store.blocks is)) ∙ found in absurd cc
+      let none : None ≡ Some reply = sym (ap (data_of asked) (others_stay_unanswered asked (facts_in v.store.known) v.store.blocks is)) ∙ found in absurd cc
 
   stored_right : v.bind ≡ Bound → (c : Asked) (reply : List ℕ) (free : Bool) (asked : Option Command) → is_free_to_answer v.upper ≡ free → command_asked c ≡ asked
       → (if free then answer_to asked v.store else None) ≡ Some reply → IsAnsweredRightly h.deeds c reply v.store.mark

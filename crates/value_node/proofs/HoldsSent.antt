@@ -15,7 +15,8 @@ use Rattle.value_node.specs.Deeds.{Deed, asked_in as commands_in, sent_in as for
 use Rattle.value_node.specs.RelayLaws.{AfterAllDeeds, ForwardsInOrder, accepted_above, held_in, sent_above}
 use Rattle.value_node.specs.Runs.{UpperCall, ValueRun, above, upper_after}
 use Rattle.value_node.specs.Value.{value_services}
-use Rattle.value_node.proofs.Holding.{Laws, issued_from}
+use Rattle.channel_core.proofs.TheLaws.{sends_in_order}
+use Rattle.value_node.proofs.Holding.{issued_from}
 use Rattle.value_node.proofs.HoldsCalled.{IsHeld, always_held}
 
 abbrev outgoing_of : Issued ForwardedValue → Outgoing
@@ -42,20 +43,20 @@ of_commands [] = refl
 of_commands (i ∷ is) = ap (λ os. outgoing_of i ∷ os) (of_commands is)
 
 -- sent and held are the accepted ones
-are_accepted : Laws → (r : ValueRun) (deeds : List Deed) → IsHeld r deeds → accepted_above r ≡ map outgoing_of (above r.past).past.accepted
-are_accepted laws r deeds held =
+are_accepted : (r : ValueRun) (deeds : List Deed) → IsHeld r deeds → accepted_above r ≡ map outgoing_of (above r.past).past.accepted
+are_accepted r deeds held =
     let end = above r.past in
-    let sends : SendsInOrder end = laws.upper_sends value_services None (unwrap_or r.past.connection []) in
+    let sends : SendsInOrder end = sends_in_order value_services None (unwrap_or r.past.connection []) in
     ap₂ (λ os hs. os ++ map (λ (h : Held). h.outgoing) hs) sends.are_sent (held_there r.value.relay.upper r.past.connection held.holds.upper)
     ∙ ap (λ os. os ++ map (λ (h : Held). h.outgoing) end.end.held) (sym (of_commands (sent_of end)))
     ∙ sym (map-append (λ (h : Held). h.outgoing) (map (λ (i : Issued ForwardedValue). i.command) (sent_of end)) end.end.held)
     ∙ sym (ap (map (λ (h : Held). h.outgoing)) sends.are_held)
     ∙ of_commands end.past.accepted
 
-forwards : Laws → (r : ValueRun) (deeds : List Deed) → IsHeld r deeds → ForwardsInOrder r deeds
-forwards laws r deeds held =
+forwards : (r : ValueRun) (deeds : List Deed) → IsHeld r deeds → ForwardsInOrder r deeds
+forwards r deeds held =
     let a = held.holds.accepted in
-    let are : accepted_above r ≡ sent_above 1 a.sent = are_accepted laws r deeds held ∙ ap (map outgoing_of) a.issued ∙ issued_sent 1 a.sent in
+    let are : accepted_above r ≡ sent_above 1 a.sent = are_accepted r deeds held ∙ ap (map outgoing_of) a.issued ∙ issued_sent 1 a.sent in
     let whole : forwarded_in deeds ≡ a.sent ++ a.refused = ap forwarded_in (sym held.does) ∙ a.whole in
     record {
       asked = held.holds.asked ∙ ap commands_in held.does;
@@ -66,5 +67,5 @@ forwards laws r deeds held =
       all = λ bound. are ∙ ap (sent_above 1) (sym (append-nil a.sent) ∙ ap (λ cs. a.sent ++ cs) (sym (a.all bound)) ∙ sym whole);
     }
 
-pub always_forwards : Laws → AfterAllDeeds ForwardsInOrder
-always_forwards laws peer calls = forwards laws _ _ (always_held laws peer calls)
+pub always_forwards : AfterAllDeeds ForwardsInOrder
+always_forwards peer calls = forwards _ _ (always_held peer calls)

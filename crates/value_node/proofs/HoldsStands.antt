@@ -5,8 +5,8 @@ use Rattle.std.specs.Prelude.{IfSome, IsSome, if◌then◌else◌, option_map}
 use Rattle.channel_core.specs.Closing.{closed_for, closed_own, is_closed}
 use Rattle.channel_core.specs.EndValue.{EndValue}
 use Rattle.channel_core.specs.QueueLaws.{may_close}
-use Rattle.channel_core.specs.Runs.{Call as EndCall, called as end_called, commanding, delivering, ending, putting_out, refusal_to, unless_refused}
-use Rattle.channel_core.specs.Sending.{commanded, queued, refusal_of}
+use Rattle.channel_core.specs.Runs.{Call as EndCall, called as end_called, commanding, delivering, ending, putting_out, unless_refused}
+use Rattle.channel_core.specs.Sending.{commanded, queued, refusal_of, refusal_to}
 use Rattle.channel_core.specs.Taking.{closes, next_taken}
 use Rattle.channel_core.specs.declared.sending.SendRefusal.{SendRefusal}
 use Rattle.channel_core.specs.declared.states.Cause.TheVariants as causes
@@ -29,7 +29,7 @@ use Rattle.value_node.specs.declared.states.Bind.TheVariants.{Unbound, Opening, 
 use Rattle.value_node.specs.declared.states.Side.TheVariants.{Below, Above}
 use Rattle.value_node.specs.declared.states.ValueTurn.TheVariants.{Nothing}
 use Rattle.value_node.proofs.Asking.{asked_bound_is, store_asked}
-use Rattle.value_node.proofs.Holding.{Holds, Laws}
+use Rattle.value_node.proofs.Holding.{Holds}
 use Rattle.value_node.proofs.HoldsEnds.{KeepsClosed, lower_facts, upper_facts}
 use Rattle.value_node.proofs.Steps.{relay, relay_called}
 use Rattle.list_laws.proofs.Flags.{or_false, or_true, and_parts}
@@ -274,7 +274,7 @@ call_stands fails v p q low up other stands = failed_stands (awaits v) v p q ref
 call_stands (gives Below) v p q low up other stands = same_stands v.bind v (relay_called (gives Below) v) p q refl refl refl stands
 call_stands (gives Above) v p q low up other stands = same_stands v.bind v (relay_called (gives Above) v) p q refl (others_free putting_out v.upper refl up) refl stands
 
-pub stands_kept : Laws → (call : Call) (v : Relay) (p : Past) → (call ≡ connects → ⊥) → Holds v p
+pub stands_kept : (call : Call) (v : Relay) (p : Past) → (call ≡ connects → ⊥) → Holds v p
     → StandsWell (relay_called call v).bind (relay_called call v) (with_calls call v (relay_called call v) p)
-stands_kept laws call v p other h =
-    call_stands call v p (with_calls call v (relay_called call v) p) (lower_facts laws v p h) (upper_facts laws v p h) other h.stands refl
+stands_kept call v p other h =
+    call_stands call v p (with_calls call v (relay_called call v) p) (lower_facts v p h) (upper_facts v p h) other h.stands refl

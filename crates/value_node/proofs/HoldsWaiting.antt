@@ -19,9 +19,9 @@ use Rattle.channel_core.specs.Level.{is_due, level_of, leveled}
 use Rattle.channel_core.specs.QueueLaws.{TakesNothingClosed}
 use Rattle.channel_core.specs.Receiving.{came_by, counted, delivered, entered, heard, is_over, item_came, stopped_by, with_last}
 use Rattle.channel_core.specs.ReceivingLaws.{incoming_of}
-use Rattle.channel_core.specs.Runs.{Call as EndCall, Run, after_call, after_calls, begun, closing, commanding, delivering, draining, ending, putting_out, refusal_to, sending, taking, unless_refused}
+use Rattle.channel_core.specs.Runs.{Call as EndCall, Run, after_call, after_calls, begun, closing, commanding, delivering, draining, ending, putting_out, sending, taking, unless_refused}
 use Rattle.channel_core.specs.RunLaws.{AfterAllCalls as AfterEndCalls}
-use Rattle.channel_core.specs.Sending.{commanded, made}
+use Rattle.channel_core.specs.Sending.{commanded, made, refusal_to}
 use Rattle.channel_core.specs.Taking.{judged, next_taken, stop_taken, taken_as, taken_from}
 use Rattle.channel_core.specs.Wire.{Said, answers, asks, goes_on, greets, said_in, tells}
 use Rattle.channel_core.specs.declared.held.Arrived.{Arrived}
@@ -32,6 +32,7 @@ use Rattle.channel_core.specs.declared.states.Cause.TheVariants.{Ended, Own, Str
 use Rattle.channel_core.specs.declared.states.EndState.{EndState}
 use Rattle.channel_core.specs.declared.states.EndState.TheVariants.{Closed, Live, Opening, Reopening}
 use Rattle.channel_core.specs.declared.taking.Taken.{Taken}
+use Rattle.channel_core.proofs.TheLaws.{takes_nothing_closed}
 use Rattle.value_node.proofs.Holding.{WaitsOrIsClosed}
 use Rattle.list_laws.proofs.Flags.{neither}
 
@@ -169,5 +170,5 @@ calls_stay : {T : Type 0} → (calls : List (EndCall T)) (r : Run T) → ((more 
 calls_stay [] r none so = so
 calls_stay (call ∷ calls) r none so = calls_stay calls (after_call call r) (λ more. none (call ∷ more)) (call_stays call r (none []) so)
 
-pub only_waits : {T : Type 0} → AfterEndCalls {T = T} TakesNothingClosed → AfterEndCalls {T = T} OnlyWaits
-only_waits law hello mark calls = calls_stay calls (begun (new_end hello mark)) (λ more. law hello mark more) (λ off. record { waits = tt; quiet = refl })
+pub only_waits : {T : Type 0} → AfterEndCalls {T = T} OnlyWaits
+only_waits hello mark calls = calls_stay calls (begun (new_end hello mark)) (λ more. takes_nothing_closed hello mark more) (λ off. record { waits = tt; quiet = refl })

@@ -12,7 +12,7 @@ use Rattle.channel_core.specs.Wire.{Said, answers as answers_said, asks, goes_on
 use Rattle.channel_core.specs.declared.held.Incoming.{Incoming}
 use Rattle.knowledge.specs.Facts.{AreSame, Facts, nothing}
 use Rattle.knowledge.specs.KnowledgeValue.{has_block_byte}
-use Rattle.knowledge.specs.Laws.{AreKnown, BlocksAreLearned, BlocksStaySame, FactsStaySame, OthersStayUnanswered}
+use Rattle.knowledge.specs.Laws.{AreKnown}
 use Rattle.knowledge.specs.Learning.{Message, learn, learned}
 use Rattle.knowledge.specs.Reply.{memory_used, range_in}
 use Rattle.knowledge.proofs.Blocks.{holds}
@@ -24,17 +24,11 @@ use Rattle.value_store.proofs.Learned.{rows_learned}
 use Rattle.value_node.specs.Asked.{Asked}
 use Rattle.value_node.specs.Deeds.{Deed, answers, command_asked, forwards, hears, lessons_in, mark_in, sent_in, sent_under, taught_in}
 use Rattle.value_node.specs.Store.{IsStoreOf, StoreValue, event_heard, final_heard, hello_heard, later_mark, lesson_of, no_store, progress_heard, taught, used_by}
+use Rattle.knowledge.proofs.TheLaws.{blocks_are_learned, blocks_stay_same, facts_stay_same}
 use Rattle.value_node.proofs.DeedLists.{lessons_both, mark_both}
 use Rattle.value_node.proofs.Taken.{IsAnswerTo, IsCommand, IsEvent, IsProgressOf}
 use Rattle.knowledge.proofs.Cache.{learn_all-append}
 use Rattle.knowledge.proofs.Replies.{any_moved}
-
--- the laws of what is known that this stands on
-pub record Lessons : Type 0 where
-  pub facts : FactsStaySame
-  pub blocks : BlocksStaySame
-  pub learned : BlocksAreLearned
-  pub unanswered : OthersStayUnanswered
 
 -- ---- one more message
 
@@ -47,15 +41,15 @@ same_then known other last one two = record {
   statuses = λ id. one.statuses id ∙ two.statuses id;
 }
 
-pub taught_more : Lessons → (messages : List Message) (message : Message) (s : StoreValue) → IsStoreOf messages s → IsStoreOf (messages ++ message ∷ []) (taught message s)
-taught_more laws messages message s is =
+pub taught_more : (messages : List Message) (message : Message) (s : StoreValue) → IsStoreOf messages s → IsStoreOf (messages ++ message ∷ []) (taught message s)
+taught_more messages message s is =
     let before : Facts = learned messages in
     let more : learned (messages ++ message ∷ []) ≡ learn message before = learn_all-append messages message nothing in
     record {
       facts = subst (λ known. AreSame (facts_in (taught message s).known) known) (sym more)
-          (same_then (facts_in (taught message s).known) (learn message (facts_in s.known)) (learn message before) (rows_learned message s.known) (laws.facts message (facts_in s.known) before is.facts));
+          (same_then (facts_in (taught message s).known) (learn message (facts_in s.known)) (learn message before) (rows_learned message s.known) (facts_stay_same message (facts_in s.known) before is.facts));
       bytes = subst (AreKnown (taught message s).blocks) (sym more)
-          (subst (λ blocks. AreKnown blocks (learn message before)) (sym (laws.blocks message (facts_in s.known) before s.blocks is.facts)) (laws.learned message before s.blocks is.bytes));
+          (subst (λ blocks. AreKnown blocks (learn message before)) (sym (blocks_stay_same message (facts_in s.known) before s.blocks is.facts)) (blocks_are_learned message before s.blocks is.bytes));
     }
 
 -- ---- a block that is used
@@ -112,7 +106,7 @@ knows_answered deeds c reply mark s knows = record {
 
 -- ---- a message that is heard
 
-module _ (laws : Lessons) (deeds : List Deed) (incoming : Incoming) (s : StoreValue) (knows : Knows deeds s) where
+module _ (deeds : List Deed) (incoming : Incoming) (s : StoreValue) (knows : Knows deeds s) where
   abbrev later : List Deed
   later = deeds ++ hears incoming ∷ []
 
@@ -124,7 +118,7 @@ module _ (laws : Lessons) (deeds : List Deed) (incoming : Incoming) (s : StoreVa
   knows_taught : (message : Message) (mark : Option ℕ) → taught_in (sent_in deeds) (reading incoming.raw) ≡ message ∷ [] → mark ≡ mark_in later
       → Knows later (record (taught message s) { mark = mark })
   knows_taught message mark is at =
-      let more = taught_more laws (lessons_in deeds) message s knows.known in
+      let more = taught_more (lessons_in deeds) message s knows.known in
       let still : IsStoreOf (lessons_in deeds ++ message ∷ []) (record (taught message s) { mark = mark }) = record { facts = more.facts; bytes = more.bytes } in
       record { known = subst (λ messages. IsStoreOf messages (record (taught message s) { mark = mark })) (sym (lessons_later (message ∷ []) is)) still; marked = at }
 

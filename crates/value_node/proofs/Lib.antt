@@ -42,3 +42,4 @@ pub mod OwnAnswers
 pub mod OwnStays
 pub mod Answering
 pub mod HoldsOwn
+pub mod TheLaws

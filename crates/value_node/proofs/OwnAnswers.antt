@@ -33,7 +33,7 @@ use Rattle.value_node.specs.declared.states.Bind.{Bind}
 use Rattle.value_node.specs.declared.states.Bind.TheVariants.{Unbound, Opening, Bound, Closed}
 use Rattle.value_node.specs.declared.states.Side.TheVariants.{Below, Above}
 use Rattle.value_node.proofs.HoldsEnds.{KeepsClosed}
-use Rattle.value_node.proofs.OwnReplies.{IsReplyTo, Names, reply_is}
+use Rattle.value_node.proofs.OwnReplies.{IsReplyTo, reply_is}
 use Rattle.value_node.proofs.Pasts.{taken_in}
 use Rattle.value_node.proofs.Steps.{relay, relay_called}
 use Rattle.value_node.proofs.TakenBelow.{behind_takes}
@@ -154,40 +154,39 @@ own_answers token service name body mark own.Connect store peer e upper unclosed
 abbrev pub CallAnswers : Call → Relay → List Asked → Type 0
 CallAnswers call v left = Answers left (flat_map asked_by (taken_in (own_by call v) v.lower)) (sent_in (own_by call v) v.lower) (relay_called call v).bind (relay_called call v).redirect
 
-module _ (names : Names) where
-  read_answers : (m : Result MessageValue MessageFault) (mark : Option ℕ) (store : StoreValue) (peer : List ℕ) (lower e : Lower) (upper : Option Upper) → is_closed e.state ≡ false
-      → Answers [] (asked_in mark m ++ []) (sent_in (asked_below m (relay store peer Unbound lower upper None)) e)
-      (asked m mark (relay store peer Unbound e upper None)).1.bind (asked m mark (relay store peer Unbound e upper None)).1.redirect
-  read_answers (Ok (command token service name body)) mark store peer lower e upper unclosed =
-      own_answers token service name body mark (own_reply peer service name body) store peer e upper unclosed (reply_is names peer service name body)
-  read_answers m mark store peer lower e upper unclosed = still [] Unbound None refl (refl, refl)
+read_answers : (m : Result MessageValue MessageFault) (mark : Option ℕ) (store : StoreValue) (peer : List ℕ) (lower e : Lower) (upper : Option Upper) → is_closed e.state ≡ false
+    → Answers [] (asked_in mark m ++ []) (sent_in (asked_below m (relay store peer Unbound lower upper None)) e)
+    (asked m mark (relay store peer Unbound e upper None)).1.bind (asked m mark (relay store peer Unbound e upper None)).1.redirect
+read_answers (Ok (command token service name body)) mark store peer lower e upper unclosed =
+    own_answers token service name body mark (own_reply peer service name body) store peer e upper unclosed (reply_is peer service name body)
+read_answers m mark store peer lower e upper unclosed = still [] Unbound None refl (refl, refl)
 
-  took_answers : (what : Option (Taken Unit)) (store : StoreValue) (peer : List ℕ) (lower e : Lower) (upper : Option Upper) → is_closed e.state ≡ closes what
-      → Answers [] (flat_map asked_by (listed what)) (sent_in (took_below_below what (relay store peer Unbound lower upper None)) e)
-      (took_any_below what (relay store peer Unbound e upper None)).1.bind (took_any_below what (relay store peer Unbound e upper None)).1.redirect
-  took_answers None store peer lower e upper unclosed = still [] Unbound None refl (refl, refl)
-  took_answers (Some (taken.Hello incoming)) store peer lower e upper unclosed = still [] Unbound None refl (refl, refl)
-  took_answers (Some (taken.Command incoming)) store peer lower e upper unclosed = read_answers (reading incoming.raw) incoming.mark store peer lower e upper unclosed
-  took_answers (Some (taken.Event incoming)) store peer lower e upper unclosed = still [] Unbound None refl (refl, refl)
-  took_answers (Some (taken.Progress token incoming)) store peer lower e upper unclosed = still [] Unbound None refl (refl, refl)
-  took_answers (Some (taken.Final tag incoming)) store peer lower e upper unclosed = still [] Unbound None refl (refl, refl)
-  took_answers (Some (taken.Closed cause)) store peer lower e upper unclosed = still [] Closed None refl (refl, refl)
+took_answers : (what : Option (Taken Unit)) (store : StoreValue) (peer : List ℕ) (lower e : Lower) (upper : Option Upper) → is_closed e.state ≡ closes what
+    → Answers [] (flat_map asked_by (listed what)) (sent_in (took_below_below what (relay store peer Unbound lower upper None)) e)
+    (took_any_below what (relay store peer Unbound e upper None)).1.bind (took_any_below what (relay store peer Unbound e upper None)).1.redirect
+took_answers None store peer lower e upper unclosed = still [] Unbound None refl (refl, refl)
+took_answers (Some (taken.Hello incoming)) store peer lower e upper unclosed = still [] Unbound None refl (refl, refl)
+took_answers (Some (taken.Command incoming)) store peer lower e upper unclosed = read_answers (reading incoming.raw) incoming.mark store peer lower e upper unclosed
+took_answers (Some (taken.Event incoming)) store peer lower e upper unclosed = still [] Unbound None refl (refl, refl)
+took_answers (Some (taken.Progress token incoming)) store peer lower e upper unclosed = still [] Unbound None refl (refl, refl)
+took_answers (Some (taken.Final tag incoming)) store peer lower e upper unclosed = still [] Unbound None refl (refl, refl)
+took_answers (Some (taken.Closed cause)) store peer lower e upper unclosed = still [] Closed None refl (refl, refl)
 
-  below_answers : (store : StoreValue) (peer : List ℕ) (bind : Bind) (lower : Lower) (upper : Option Upper) (redirect : Option (List ℕ)) (p : Past) (left : List Asked) → KeepsClosed lower
-      → StandsWell bind (relay store peer bind lower upper redirect) p → p.is_bound ≡ false → IsLeft bind redirect left → CallAnswers (turns Below) (relay store peer bind lower upper redirect) left
-  unfolding turned_below
-  below_answers store peer Unbound lower upper (Some token) p left low stands off is = let clash : ◌≡◌ {A = Option (List ℕ)} (Some token) None = is.1 in absurd cc
-  below_answers store peer Unbound lower upper None p (c ∷ left) low stands off is = let clash : c ∷ left ≡ [] = is.0 in absurd cc
-  below_answers store peer Unbound lower upper None p [] low stands off is =
-      let next = next_taken lower in
-      let v = relay store peer Unbound lower upper None in
-      let all : flat_map asked_by (listed next.0 ++ taken_in (took_below_below next.0 v) next.1) ≡ flat_map asked_by (listed next.0) =
-      ap (λ ts. flat_map asked_by (listed next.0 ++ ts)) (behind_takes next.0 v next.1) ∙ ap (flat_map asked_by) (append-nil (listed next.0)) in
-      subst (λ xs. Answers [] xs (sent_in (took_below_below next.0 v) next.1) (took_any_below next.0 (relay store peer Unbound next.1 upper None)).1.bind (took_any_below next.0 (relay store peer Unbound next.1 upper None)).1.redirect)
-      (sym all) (took_answers next.0 store peer lower next.1 upper (low.by_taking stands.0))
-  below_answers store peer Opening lower upper redirect p left low stands off is = still left Opening redirect refl is
-  below_answers store peer Bound lower upper redirect p left low stands off is = let bound : p.is_bound ≡ true = stands.2 in absurd cc
-  below_answers store peer Closed lower upper redirect p left low stands off is = still left Closed redirect refl is
+below_answers : (store : StoreValue) (peer : List ℕ) (bind : Bind) (lower : Lower) (upper : Option Upper) (redirect : Option (List ℕ)) (p : Past) (left : List Asked) → KeepsClosed lower
+    → StandsWell bind (relay store peer bind lower upper redirect) p → p.is_bound ≡ false → IsLeft bind redirect left → CallAnswers (turns Below) (relay store peer bind lower upper redirect) left
+unfolding turned_below
+below_answers store peer Unbound lower upper (Some token) p left low stands off is = let clash : ◌≡◌ {A = Option (List ℕ)} (Some token) None = is.1 in absurd cc
+below_answers store peer Unbound lower upper None p (c ∷ left) low stands off is = let clash : c ∷ left ≡ [] = is.0 in absurd cc
+below_answers store peer Unbound lower upper None p [] low stands off is =
+    let next = next_taken lower in
+    let v = relay store peer Unbound lower upper None in
+    let all : flat_map asked_by (listed next.0 ++ taken_in (took_below_below next.0 v) next.1) ≡ flat_map asked_by (listed next.0) =
+    ap (λ ts. flat_map asked_by (listed next.0 ++ ts)) (behind_takes next.0 v next.1) ∙ ap (flat_map asked_by) (append-nil (listed next.0)) in
+    subst (λ xs. Answers [] xs (sent_in (took_below_below next.0 v) next.1) (took_any_below next.0 (relay store peer Unbound next.1 upper None)).1.bind (took_any_below next.0 (relay store peer Unbound next.1 upper None)).1.redirect)
+    (sym all) (took_answers next.0 store peer lower next.1 upper (low.by_taking stands.0))
+below_answers store peer Opening lower upper redirect p left low stands off is = still left Opening redirect refl is
+below_answers store peer Bound lower upper redirect p left low stands off is = let bound : p.is_bound ≡ true = stands.2 in absurd cc
+below_answers store peer Closed lower upper redirect p left low stands off is = still left Closed redirect refl is
 
 -- ---- from above, and by a connection that isn't made
 
@@ -250,14 +249,14 @@ connected_still : (flag : Bool) (v : Relay) (left : List Asked) → is_binding v
 connected_still true v left off is = still left v.bind v.redirect off is
 connected_still false v left off is = still left v.bind v.redirect off is
 
-pub call_answers : Names → (call : Call) (v : Relay) (p : Past) (left : List Asked) → KeepsClosed v.lower → StandsWell v.bind v p → p.is_bound ≡ false → IsLeft v.bind v.redirect left → CallAnswers call v left
-call_answers names (comes Below piece mark) v p left low stands off is = still left v.bind v.redirect (unbinding v.bind v p stands off) is
-call_answers names (comes Above piece mark) v p left low stands off is = still left v.bind v.redirect (unbinding v.bind v p stands off) is
-call_answers names (bytes_end Below) v p left low stands off is = still left v.bind v.redirect (unbinding v.bind v p stands off) is
-call_answers names (bytes_end Above) v p left low stands off is = still left v.bind v.redirect (unbinding v.bind v p stands off) is
-call_answers names (turns Below) v p left low stands off is = below_answers names v.store v.peer v.bind v.lower v.upper v.redirect p left low stands off is
-call_answers names (turns Above) v p left low stands off is = above_answers v.store v.peer v.bind v.lower v.upper v.redirect p left stands off is
-call_answers names connects v p left low stands off is = connected_still (awaits v) v left (unbinding v.bind v p stands off) is
-call_answers names fails v p left low stands off is = failed_answers (awaits v) v.store v.peer v.bind v.lower v.upper v.redirect p left refl stands off is
-call_answers names (gives Below) v p left low stands off is = still left v.bind v.redirect (unbinding v.bind v p stands off) is
-call_answers names (gives Above) v p left low stands off is = still left v.bind v.redirect (unbinding v.bind v p stands off) is
+pub call_answers : (call : Call) (v : Relay) (p : Past) (left : List Asked) → KeepsClosed v.lower → StandsWell v.bind v p → p.is_bound ≡ false → IsLeft v.bind v.redirect left → CallAnswers call v left
+call_answers (comes Below piece mark) v p left low stands off is = still left v.bind v.redirect (unbinding v.bind v p stands off) is
+call_answers (comes Above piece mark) v p left low stands off is = still left v.bind v.redirect (unbinding v.bind v p stands off) is
+call_answers (bytes_end Below) v p left low stands off is = still left v.bind v.redirect (unbinding v.bind v p stands off) is
+call_answers (bytes_end Above) v p left low stands off is = still left v.bind v.redirect (unbinding v.bind v p stands off) is
+call_answers (turns Below) v p left low stands off is = below_answers v.store v.peer v.bind v.lower v.upper v.redirect p left low stands off is
+call_answers (turns Above) v p left low stands off is = above_answers v.store v.peer v.bind v.lower v.upper v.redirect p left stands off is
+call_answers connects v p left low stands off is = connected_still (awaits v) v left (unbinding v.bind v p stands off) is
+call_answers fails v p left low stands off is = failed_answers (awaits v) v.store v.peer v.bind v.lower v.upper v.redirect p left refl stands off is
+call_answers (gives Below) v p left low stands off is = still left v.bind v.redirect (unbinding v.bind v p stands off) is
+call_answers (gives Above) v p left low stands off is = still left v.bind v.redirect (unbinding v.bind v p stands off) is

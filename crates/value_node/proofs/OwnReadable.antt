@@ -8,7 +8,6 @@ use Rattle.channel_core.specs.Taking.{next_taken}
 use Rattle.channel_core.specs.declared.sending.SendRefusal.{SendRefusal}
 use Rattle.channel_core.specs.declared.taking.Taken.{Taken}
 use Rattle.channel_core.specs.declared.taking.Taken.TheVariants as taken
-use Rattle.tcf_message.specs.Fault.{IsReadBack}
 use Rattle.tcf_message.specs.Message.{IsToken, IsWellFormed, MessageValue, command, reading}
 use Rattle.tcf_message.specs.declared.message.MessageFault.{MessageFault}
 use Rattle.value_node.specs.ForwardedValue.{ForwardedValue}
@@ -29,11 +28,12 @@ use Rattle.value_node.specs.declared.relay.Relay.{Relay}
 use Rattle.value_node.specs.declared.states.Bind.{Bind}
 use Rattle.value_node.specs.declared.states.Bind.TheVariants.{Unbound, Opening, Bound, Closed}
 use Rattle.value_node.specs.declared.states.Side.TheVariants.{Below, Above}
+use Rattle.tcf_message.proofs.TheLaws.{read_back}
 use Rattle.value_node.proofs.Lists.{all_if}
-use Rattle.value_node.proofs.Sendable.{Sizes, done_fits, failed_fits, reply_sendable}
+use Rattle.value_node.proofs.Sendable.{done_fits, failed_fits, reply_sendable}
 
-pub well_read : IsReadBack → (raw : List ℕ) (m : MessageValue) → reading raw ≡ Ok m → IsWellFormed m
-well_read back raw m is = ((back.0 raw m).0 is).0
+pub well_read : (raw : List ℕ) (m : MessageValue) → reading raw ≡ Ok m → IsWellFormed m
+well_read raw m is = ((read_back.0 raw m).0 is).0
 
 own_reads : (token : List ℕ) (reply : Own) → IsToken token → IsSendable reply → SendsReadable (own_calls token reply)
 own_reads token own.Unknown is fits = ((is, lit≤ tt), tt)
@@ -74,45 +74,44 @@ bound_reads : (reply : Option (List ℕ)) (token service name body : List ℕ) (
 bound_reads None token service name body v is formed = refused_reads v.upper service name body
 bound_reads (Some reply) token service name body v is formed = ((formed, stored_if (is_free_to_answer v.upper) (command_of service name body) v.store reply is), tt)
 
-module _ (back : IsReadBack) (sizes : Sizes) where
-  asked_in_reads : (bind : Bind) (token service name body : List ℕ) (v : Relay) → IsToken token → SendsReadable (asked_below_in bind token service name body v)
-  asked_in_reads Unbound token service name body v is = own_reads token (own_reply v.peer service name body) is (reply_sendable sizes v.peer service name body)
-  asked_in_reads Opening token service name body v is = tt
-  asked_in_reads Bound token service name body v is = bound_reads (stored_for service name body v) token service name body v refl is
-  asked_in_reads Closed token service name body v is = tt
+asked_in_reads : (bind : Bind) (token service name body : List ℕ) (v : Relay) → IsToken token → SendsReadable (asked_below_in bind token service name body v)
+asked_in_reads Unbound token service name body v is = own_reads token (own_reply v.peer service name body) is (reply_sendable v.peer service name body)
+asked_in_reads Opening token service name body v is = tt
+asked_in_reads Bound token service name body v is = bound_reads (stored_for service name body v) token service name body v refl is
+asked_in_reads Closed token service name body v is = tt
 
-  asked_reads : (raw : List ℕ) (m : Result MessageValue MessageFault) (v : Relay) → reading raw ≡ m → SendsReadable (asked_below m v)
-  asked_reads raw (Ok (command token service name body)) v is = asked_in_reads v.bind token service name body v (well_read back raw (command token service name body) is).0.0
-  asked_reads raw m v is = tt
+asked_reads : (raw : List ℕ) (m : Result MessageValue MessageFault) (v : Relay) → reading raw ≡ m → SendsReadable (asked_below m v)
+asked_reads raw (Ok (command token service name body)) v is = asked_in_reads v.bind token service name body v (well_read raw (command token service name body) is).0.0
+asked_reads raw m v is = tt
 
-  below_reads : (what : Option (Taken Unit)) (v : Relay) → SendsReadable (took_below_below what v)
-  below_reads (Some (taken.Command incoming)) v = asked_reads incoming.raw (reading incoming.raw) v refl
-  below_reads (Some (taken.Closed cause)) v = (tt, tt)
-  below_reads what v = tt
+below_reads : (what : Option (Taken Unit)) (v : Relay) → SendsReadable (took_below_below what v)
+below_reads (Some (taken.Command incoming)) v = asked_reads incoming.raw (reading incoming.raw) v refl
+below_reads (Some (taken.Closed cause)) v = (tt, tt)
+below_reads what v = tt
 
-  hello_reads : (bind : Bind) (v : Relay) → IfSome v.redirect IsToken → SendsReadable (before_hello_below bind v)
-  hello_reads Opening v is = answering_reads v.redirect redirect_done is (done_fits sizes)
-  hello_reads bind v is = tt
+hello_reads : (bind : Bind) (v : Relay) → IfSome v.redirect IsToken → SendsReadable (before_hello_below bind v)
+hello_reads Opening v is = answering_reads v.redirect redirect_done is done_fits
+hello_reads bind v is = tt
 
-  ended_reads : (bind : Bind) (v : Relay) → IfSome v.redirect IsToken → SendsReadable (ended_below bind v)
-  ended_reads Opening v is = answering_reads v.redirect redirect_failed is (failed_fits sizes)
-  ended_reads bind v is = tt
+ended_reads : (bind : Bind) (v : Relay) → IfSome v.redirect IsToken → SendsReadable (ended_below bind v)
+ended_reads Opening v is = answering_reads v.redirect redirect_failed is failed_fits
+ended_reads bind v is = tt
 
-  above_reads : (what : Option (Taken ForwardedValue)) (v : Relay) → IfSome v.redirect IsToken → SendsReadable (took_above_below what v)
-  above_reads (Some (taken.Hello incoming)) v is = hello_reads v.bind v is
-  above_reads (Some (taken.Closed cause)) v is = ended_reads v.bind v is
-  above_reads what v is = tt
+above_reads : (what : Option (Taken ForwardedValue)) (v : Relay) → IfSome v.redirect IsToken → SendsReadable (took_above_below what v)
+above_reads (Some (taken.Hello incoming)) v is = hello_reads v.bind v is
+above_reads (Some (taken.Closed cause)) v is = ended_reads v.bind v is
+above_reads what v is = tt
 
-  pub own_by_reads : (call : Call) (v : Relay) → IfSome v.redirect IsToken → SendsReadable (own_by call v)
-  own_by_reads (comes Below piece mark) v is = (tt, tt)
-  own_by_reads (comes Above piece mark) v is = tt
-  own_by_reads (bytes_end Below) v is = (tt, tt)
-  own_by_reads (bytes_end Above) v is = tt
-  own_by_reads (turns Below) v is =
-      all_if SaysReadable (takes_below v.bind v.upper) (taking ∷ took_below_below (next_taken v.lower).0 v) (tt, below_reads (next_taken v.lower).0 v)
-  own_by_reads (turns Above) v is =
-      all_if SaysReadable (takes_above v.bind) (took_above_below (next_above v.upper) v) (above_reads (next_above v.upper) v is)
-  own_by_reads connects v is = tt
-  own_by_reads fails v is = all_if SaysReadable (awaits v) (answering v.redirect redirect_failed) (answering_reads v.redirect redirect_failed is (failed_fits sizes))
-  own_by_reads (gives Below) v is = (tt, tt)
-  own_by_reads (gives Above) v is = tt
+pub own_by_reads : (call : Call) (v : Relay) → IfSome v.redirect IsToken → SendsReadable (own_by call v)
+own_by_reads (comes Below piece mark) v is = (tt, tt)
+own_by_reads (comes Above piece mark) v is = tt
+own_by_reads (bytes_end Below) v is = (tt, tt)
+own_by_reads (bytes_end Above) v is = tt
+own_by_reads (turns Below) v is =
+    all_if SaysReadable (takes_below v.bind v.upper) (taking ∷ took_below_below (next_taken v.lower).0 v) (tt, below_reads (next_taken v.lower).0 v)
+own_by_reads (turns Above) v is =
+    all_if SaysReadable (takes_above v.bind) (took_above_below (next_above v.upper) v) (above_reads (next_above v.upper) v is)
+own_by_reads connects v is = tt
+own_by_reads fails v is = all_if SaysReadable (awaits v) (answering v.redirect redirect_failed) (answering_reads v.redirect redirect_failed is failed_fits)
+own_by_reads (gives Below) v is = (tt, tt)
+own_by_reads (gives Above) v is = tt

@@ -3,11 +3,10 @@ use Rattle.std.proofs.Common.{◌≡◌, ℕ, Bool, true, false, List, Option, S
 use Rattle.std.specs.Prelude.{if◌then◌else◌}
 use Rattle.channel_core.specs.Wire.{is_redirect, locator, redirect_name}
 use Rattle.command_tables.specs.Reading.{IsReading, reading_of}
-use Rattle.command_tables.specs.ReadingLaws.{ReadingsAreLegal}
 use Rattle.command_tables.specs.declared.reading.Reading.{Reading}
 use Rattle.command_tables.specs.declared.reading.Reading.TheVariants.{Known, Unknown as IsUnknown, Bad}
 use Rattle.reply_tables.specs.Written.{answer_data}
-use Rattle.service_names.specs.Commands.{NamesAreExact, name_in, named_as}
+use Rattle.service_names.specs.Commands.{name_in, named_as}
 use Rattle.service_names.specs.declared.commands.CommandName.{CommandName}
 use Rattle.service_names.specs.declared.commands.CommandName.TheVariants as named
 use Rattle.service_names.specs.declared.commands.LocatorCommand.{LocatorCommand}
@@ -19,6 +18,8 @@ use Rattle.tcf_values.specs.declared.command.Command.TheVariants.{Sync, GetPeers
 use Rattle.value_node.specs.Own.{is_peer, own_by as own_of, own_named, own_reply, own_to, unknown_peer}
 use Rattle.value_node.specs.declared.own.Own.{Own}
 use Rattle.value_node.specs.declared.own.Own.TheVariants as own
+use Rattle.command_tables.proofs.TheLaws.{readings_are_legal}
+use Rattle.service_names.proofs.TheLaws.{names_are_exact}
 
 abbrev pub IsReplyTo : List ℕ → List ℕ → Own → Type 0
 IsReplyTo service name own.Unknown = Unit {0}
@@ -36,40 +37,34 @@ reply_if : (service name : List ℕ) (flag : Bool) (one other : Own) → IsReply
 reply_if service name true one other first second = first
 reply_if service name false one other first second = second
 
--- the names of the services' commands are exact, and each is read as a command of its name
-pub record Names : Type 0 where
-  pub exact : NamesAreExact
-  pub legal : ReadingsAreLegal
+located : (service name : List ℕ) (command : LocatorCommand) → name_in service name ≡ Some (named.Locator command) → service ≡ locator
+unfolding locator
+located service name command is = ((names_are_exact service name (named.Locator command)).0 is).0
 
-module _ (names : Names) where
-  located : (service name : List ℕ) (command : LocatorCommand) → name_in service name ≡ Some (named.Locator command) → service ≡ locator
-  unfolding locator
-  located service name command is = ((names.exact service name (named.Locator command)).0 is).0
+redirected : (service name : List ℕ) → name_in service name ≡ Some (named.Locator commands.Redirect) → name ≡ redirect_name
+unfolding redirect_name
+redirected service name is = ((names_are_exact service name (named.Locator commands.Redirect)).0 is).1
 
-  redirected : (service name : List ℕ) → name_in service name ≡ Some (named.Locator commands.Redirect) → name ≡ redirect_name
-  unfolding redirect_name
-  redirected service name is = ((names.exact service name (named.Locator commands.Redirect)).0 is).1
+reply_to : (peer service name : List ℕ) (c : Command) → service ≡ locator → name_in service name ≡ Some (named_as c) → IsReplyTo service name (own_to peer c)
+unfolding own_to
+reply_to peer service name Sync at is = at
+reply_to peer service name GetPeers at is = at
+reply_to peer service name (Redirect id) at is =
+    reply_if service name (is_peer peer id) own.Connect (own.Result (answer_data (Redirect id) (Failed (report_of unknown_peer))))
+    (redirect_is service name at (redirected service name is)) at
+reply_to peer service name c at is = tt
 
-  reply_to : (peer service name : List ℕ) (c : Command) → service ≡ locator → name_in service name ≡ Some (named_as c) → IsReplyTo service name (own_to peer c)
-  unfolding own_to
-  reply_to peer service name Sync at is = at
-  reply_to peer service name GetPeers at is = at
-  reply_to peer service name (Redirect id) at is =
-      reply_if service name (is_peer peer id) own.Connect (own.Result (answer_data (Redirect id) (Failed (report_of unknown_peer))))
-      (redirect_is service name at (redirected service name is)) at
-  reply_to peer service name c at is = tt
+reply_by : (peer service name : List ℕ) (command : CommandName) (reading : Reading) → service ≡ locator → IsReading service name reading → IsReplyTo service name (own_of peer command reading)
+unfolding own_of
+reply_by peer service name command (Known c) at read = reply_to peer service name c at read.0
+reply_by peer service name command IsUnknown at read = tt
+reply_by peer service name command (Bad index code) at read = at
 
-  reply_by : (peer service name : List ℕ) (command : CommandName) (reading : Reading) → service ≡ locator → IsReading service name reading → IsReplyTo service name (own_of peer command reading)
-  unfolding own_of
-  reply_by peer service name command (Known c) at read = reply_to peer service name c at read.0
-  reply_by peer service name command IsUnknown at read = tt
-  reply_by peer service name command (Bad index code) at read = at
+reply_named : (peer service name : List ℕ) (command : Option CommandName) (reading : Reading) → name_in service name ≡ command → IsReading service name reading
+    → IsReplyTo service name (own_named peer command reading)
+reply_named peer service name (Some (named.Locator command)) reading is read = reply_by peer service name (named.Locator command) reading (located service name command is) read
+reply_named peer service name command reading is read = tt
 
-  reply_named : (peer service name : List ℕ) (command : Option CommandName) (reading : Reading) → name_in service name ≡ command → IsReading service name reading
-      → IsReplyTo service name (own_named peer command reading)
-  reply_named peer service name (Some (named.Locator command)) reading is read = reply_by peer service name (named.Locator command) reading (located service name command is) read
-  reply_named peer service name command reading is read = tt
-
-  pub reply_is : (peer service name body : List ℕ) → IsReplyTo service name (own_reply peer service name body)
-  unfolding own_reply
-  reply_is peer service name body = reply_named peer service name (name_in service name) (reading_of service name body) refl (names.legal service name body)
+pub reply_is : (peer service name body : List ℕ) → IsReplyTo service name (own_reply peer service name body)
+unfolding own_reply
+reply_is peer service name body = reply_named peer service name (name_in service name) (reading_of service name body) refl (readings_are_legal service name body)

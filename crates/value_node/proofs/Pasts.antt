@@ -4,32 +4,21 @@ use Rattle.std.proofs.lemmas.List.{append-nil, append_assoc}
 use Rattle.channel_core.specs.EndValue.{EndValue}
 use Rattle.channel_core.specs.Laws.{listed}
 use Rattle.channel_core.specs.QueueLaws.{sent_by, sent_in}
-use Rattle.channel_core.specs.Runs.{Call as EndCall, Issued, Run, after_call, after_calls, called as end_called, closing, commanding, delivering, draining, ending, issued, putting_out, refusal_to, sending, taking, unless_refused}
+use Rattle.channel_core.specs.Runs.{Call as EndCall, Issued, Run, after_call, after_calls, called as end_called, closing, commanding, delivering, draining, ending, issued, putting_out, sending, taking, unless_refused}
 use Rattle.channel_core.specs.Taking.{next_taken}
 use Rattle.channel_core.specs.declared.taking.Taken.{Taken}
 use Rattle.value_node.proofs.Steps.{ran}
+use Rattle.channel_core.specs.Sending.{refusal_to}
 
 -- ---- what one call takes, and what it accepts
 
 abbrev pub taken_by : {T : Type 0} → EndCall T → EndValue T → List (Taken T)
-taken_by (delivering piece mark) e = []
-taken_by ending e = []
 taken_by taking e = listed (next_taken e).0
-taken_by (commanding service name body tag mark) e = []
-taken_by (sending message mark) e = []
-taken_by putting_out e = []
-taken_by closing e = []
-taken_by draining e = []
+taken_by _ e = []
 
 abbrev pub accepted_by : {T : Type 0} → EndCall T → EndValue T → List (Issued T)
-accepted_by (delivering piece mark) e = []
-accepted_by ending e = []
-accepted_by taking e = []
 accepted_by (commanding service name body tag mark) e = unless_refused (refusal_to service name body e) [] (issued service name body tag mark e ∷ [])
-accepted_by (sending message mark) e = []
-accepted_by putting_out e = []
-accepted_by closing e = []
-accepted_by draining e = []
+accepted_by _ e = []
 
 -- ---- and what a list of them does
 

@@ -8,7 +8,6 @@ use Rattle.channel_core.specs.RunLaws.{CountsAnswers, is_answered, row_of}
 use Rattle.channel_core.specs.Sending.{last_token}
 use Rattle.channel_core.specs.declared.taking.Taken.{Taken}
 use Rattle.channel_core.specs.declared.taking.Taken.TheVariants as taken
-use Rattle.tcf_message.specs.Fault.{IsReadBack}
 use Rattle.tcf_message.specs.Message.{IsToken, MessageValue, command, reading}
 use Rattle.tcf_message.specs.declared.message.MessageFault.{MessageFault}
 use Rattle.tcf_values.specs.declared.command.Command.{Command}
@@ -76,18 +75,17 @@ issued_rows first (c ∷ sent) rest few tokens =
 
 -- ---- the tokens of what was asked
 
-module _ (back : IsReadBack) where
-  asked_in_token : (raw : List ℕ) (mark : Option ℕ) (m : Result MessageValue MessageFault) → reading raw ≡ m → AllByRecursion (λ c. IsToken c.token) (asked_in mark m)
-  asked_in_token raw mark (Ok (command token service name body)) is = ((well_read back raw (command token service name body) is).0.0, tt)
-  asked_in_token raw mark m is = tt
+asked_in_token : (raw : List ℕ) (mark : Option ℕ) (m : Result MessageValue MessageFault) → reading raw ≡ m → AllByRecursion (λ c. IsToken c.token) (asked_in mark m)
+asked_in_token raw mark (Ok (command token service name body)) is = ((well_read raw (command token service name body) is).0.0, tt)
+asked_in_token raw mark m is = tt
 
-  asked_by_token : (what : Taken Unit) → AllByRecursion (λ c. IsToken c.token) (asked_by what)
-  asked_by_token (taken.Command incoming) = asked_in_token incoming.raw incoming.mark (reading incoming.raw) refl
-  asked_by_token what = tt
+asked_by_token : (what : Taken Unit) → AllByRecursion (λ c. IsToken c.token) (asked_by what)
+asked_by_token (taken.Command incoming) = asked_in_token incoming.raw incoming.mark (reading incoming.raw) refl
+asked_by_token what = tt
 
-  pub asked_tokens : (entries : List (Taken Unit)) → AllByRecursion (λ c. IsToken c.token) (flat_map asked_by entries)
-  asked_tokens [] = tt
-  asked_tokens (what ∷ entries) = all_append (λ c. IsToken c.token) (asked_by what) (flat_map asked_by entries) (asked_by_token what) (asked_tokens entries)
+pub asked_tokens : (entries : List (Taken Unit)) → AllByRecursion (λ c. IsToken c.token) (flat_map asked_by entries)
+asked_tokens [] = tt
+asked_tokens (what ∷ entries) = all_append (λ c. IsToken c.token) (asked_by what) (flat_map asked_by entries) (asked_by_token what) (asked_tokens entries)
 
 -- those that were accepted, where these are forwarded
 pub accepted_rows : (accepted : List (Issued ForwardedValue)) (asked : List Asked) (bind : Bind) → AreAccepted accepted asked bind → length accepted ≤ last_token

@@ -21,14 +21,8 @@ use Rattle.value_node.proofs.Holding.{Holds, above_more}
 use Rattle.value_node.proofs.Lists.{all_if}
 
 abbrev drains : {T : Type 0} → EndCall T → Bool
-drains (delivering piece mark) = false
-drains ending = false
-drains taking = false
-drains (commanding service name body tag mark) = false
-drains (sending message mark) = false
-drains putting_out = false
-drains closing = false
 drains draining = true
+drains _ = false
 
 once_drained : (call : UpperCall) (r : Run ForwardedValue) → drains call ≡ false → (after_call call r).past.drained ≡ r.past.drained
 once_drained (delivering piece mark) r off = refl

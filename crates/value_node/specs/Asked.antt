@@ -1,3 +1,4 @@
+-- A command that a peer asks.
 use Rattle.std.specs.Prelude.{ℕ, List, Option}
 
 -- a command as it was taken

@@ -1,3 +1,4 @@
+-- A forwarded command as contracts see it.
 use Rattle.std.specs.Prelude.{ℕ, List, Option}
 use Rattle.tcf_values.specs.declared.command.Command.{Command}
 

@@ -1,7 +1,7 @@
 -- What a value-add promises, over any calls and whatever bytes come: it relays.
 use Rattle.std.specs.Prelude.{ℕ, ◌≡◌, ◌≤◌, ◌+◌, Bool, true, false, if◌then◌else◌, List, [], ◌∷◌, ◌++◌, bytes_eq, decimal, filter, length, map, slice_get, Option, Some, None, option_map, IsSome, IfSome, Result, Ok}
 use Rattle.std.specs.List.{AllByRecursion, flat_map, list_any}
-use Rattle.channel_core.specs.Arrivals.{IsFront}
+use Rattle.list_laws.specs.Fronts.{IsFront}
 use Rattle.channel_core.specs.Closing.{is_closed}
 use Rattle.channel_core.specs.Greeting.{is_greeting}
 use Rattle.channel_core.specs.QueueLaws.{is_message}
@@ -71,11 +71,7 @@ asked_in mark _ = []
 
 abbrev pub asked_by : {T : Type 0} → Taken T → List Asked
 asked_by (taken.Command incoming) = asked_in incoming.mark (reading incoming.raw)
-asked_by (taken.Hello incoming) = []
-asked_by (taken.Event incoming) = []
-asked_by (taken.Progress token incoming) = []
-asked_by (taken.Final tag incoming) = []
-asked_by (taken.Closed cause) = []
+asked_by _ = []
 
 -- those that were taken from below since it was bound
 abbrev pub asked_since : Past → List Asked
@@ -155,12 +151,8 @@ pub record PassesAllOn (r : ValueRun) (deeds : List Deed) : Type 0 where
 -- ---- 3. after the end from above
 
 abbrev pub is_ending : {T : Type 0} → Taken T → Bool
-is_ending (taken.Hello incoming) = false
-is_ending (taken.Command incoming) = false
-is_ending (taken.Event incoming) = false
-is_ending (taken.Progress token incoming) = false
-is_ending (taken.Final tag incoming) = false
 is_ending (taken.Closed cause) = true
+is_ending _ = false
 
 -- that was taken of the upper end of a bound value-add
 abbrev pub HasEnded : Past → Type 0

@@ -1,3 +1,4 @@
+-- The node of a value-add as contracts see it.
 use Rattle.std.specs.Prelude.{Bool, refl}
 use Rattle.std.specs.Coded.{Coded, code_by, coded×, coded_bool}
 use Rattle.value_node.specs.declared.relay.Relay.{Relay}

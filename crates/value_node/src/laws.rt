@@ -2,8 +2,6 @@
 ghost use Rattle.value_node.specs.OwnLaws.{AnswersItself, AsksNothingBelow, ConnectsWhenAsked};
 ghost use Rattle.value_node.specs.RelayLaws.{AfterAllCalls, AfterAllDeeds, AnswersRightly, EndsAreRuns, ForwardsInOrder, KnowsWhatItHeard, PassesAllOn, StopsAfterTheEnd};
 
-use crate::forwarded::Forwarded;
-
 /// The laws of what a value-add relays.
 ///
 /// `runs`: its calls are runs of its ends. Each end is what the calls that it got make of a new one, the lower since the
@@ -24,21 +22,7 @@ pub fn a_value_add_relays()
     ensures forwards { AfterAllDeeds ForwardsInOrder }
     ensures passes { AfterAllDeeds PassesAllOn }
     ensures stops { AfterAllCalls StopsAfterTheEnd }
-{
-    channel_core::a_closed_end_takes_nothing::<()>();
-    channel_core::a_closed_end_takes_nothing::<Forwarded>();
-    channel_core::an_end_closes_only_so::<()>();
-    channel_core::an_end_closes_only_so::<Forwarded>();
-    channel_core::a_closed_end_stays_closed::<()>();
-    channel_core::only_what_is_sent_is_queued::<()>();
-    channel_core::commands_are_sent_in_order::<Forwarded>();
-    channel_core::each_answer_is_that_of_a_sent_command::<Forwarded>();
-    tcf_message::read_back();
-    reply_tables::what_is_small_fits();
-    knowledge::the_same_learn_the_same();
-    knowledge::blocks_are_learned();
-    knowledge::others_stay_unanswered();
-}
+{}
 
 /// The laws of what a value-add answers from what it heard.
 ///
@@ -49,21 +33,7 @@ pub fn a_value_add_relays()
 pub fn a_value_add_answers_from_what_it_heard()
     ensures rightly { AfterAllDeeds AnswersRightly }
     ensures knows { AfterAllDeeds KnowsWhatItHeard }
-{
-    channel_core::a_closed_end_takes_nothing::<()>();
-    channel_core::a_closed_end_takes_nothing::<Forwarded>();
-    channel_core::an_end_closes_only_so::<()>();
-    channel_core::an_end_closes_only_so::<Forwarded>();
-    channel_core::a_closed_end_stays_closed::<()>();
-    channel_core::only_what_is_sent_is_queued::<()>();
-    channel_core::commands_are_sent_in_order::<Forwarded>();
-    channel_core::each_answer_is_that_of_a_sent_command::<Forwarded>();
-    tcf_message::read_back();
-    reply_tables::what_is_small_fits();
-    knowledge::the_same_learn_the_same();
-    knowledge::blocks_are_learned();
-    knowledge::others_stay_unanswered();
-}
+{}
 
 /// The laws of what a value-add says itself, and when it connects.
 ///
@@ -78,20 +48,4 @@ pub fn a_value_add_answers_itself()
     ensures answers { AfterAllCalls AnswersItself }
     ensures connects { AfterAllCalls ConnectsWhenAsked }
     ensures asks_nothing { AfterAllCalls AsksNothingBelow }
-{
-    channel_core::a_closed_end_takes_nothing::<()>();
-    channel_core::a_closed_end_takes_nothing::<Forwarded>();
-    channel_core::an_end_closes_only_so::<()>();
-    channel_core::an_end_closes_only_so::<Forwarded>();
-    channel_core::a_closed_end_stays_closed::<()>();
-    channel_core::only_what_is_sent_is_queued::<()>();
-    channel_core::commands_are_sent_in_order::<Forwarded>();
-    channel_core::each_answer_is_that_of_a_sent_command::<Forwarded>();
-    tcf_message::read_back();
-    reply_tables::what_is_small_fits();
-    knowledge::the_same_learn_the_same();
-    knowledge::blocks_are_learned();
-    knowledge::others_stay_unanswered();
-    service_names::names_are_exact();
-    command_tables::readings_are_legal();
-}
+{}

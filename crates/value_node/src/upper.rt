@@ -4,7 +4,7 @@ ghost use Rattle.channel_core.specs.Beginning.{new_end, tag_of};
 ghost use Rattle.channel_core.specs.Closing.{closed_own};
 ghost use Rattle.channel_core.specs.EndValue.{unless_spent};
 ghost use Rattle.channel_core.specs.Receiving.{delivered, ended, waiting_in};
-ghost use Rattle.channel_core.specs.Sending.{commanded, queued, refusal_of};
+ghost use Rattle.channel_core.specs.Sending.{commanded, queued, refusal_to};
 ghost use Rattle.channel_core.specs.Taking.{next_taken};
 ghost use Rattle.tcf_message.specs.Message.{HasNoZero, IsWellFormed, most_body, not_known};
 ghost use Rattle.value_node.specs.Barriers.{is_barred, is_barrier_done};
@@ -128,8 +128,8 @@ impl Upper {
         requires service { HasNoZero service.now }
         requires name { HasNoZero name.now }
         ensures sent { OnOk result (self.new ≡ commanded service.now name.now body.now forwarded mark self.old) }
-        ensures free { OnOk result (refusal_of (length service.now + length name.now + length body.now) self.old ≡ None) }
-        ensures due { IfErr result (λ why. why ≢ SendRefusal.NoMemory → refusal_of (length service.now + length name.now + length body.now) self.old ≡ Some why) }
+        ensures free { OnOk result (refusal_to service.now name.now body.now self.old ≡ None) }
+        ensures due { IfErr result (λ why. why ≢ SendRefusal.NoMemory → refusal_to service.now name.now body.now self.old ≡ Some why) }
         ensures kept { IfErr result (λ why. why ≢ SendRefusal.NoMemory → self.new ≡ self.old) }
         ensures usable { OnOk result (self.new.is_spent ≡ false) }
     {

@@ -2,7 +2,7 @@
 use Rattle.std.proofs.Common.{◌≡◌, ℕ, suc, ◌+◌, ◌-◌, ◌<◌, ◌≤◌, Bool, true, false, List, [], ◌∷◌, ◌++◌, Option, Some, None, refl, sym, ap, ◌∙◌, subst, arith}
 use Rattle.std.specs.Prelude.{Err, IfOk, Ok, if◌then◌else◌}
 use Rattle.tcf_wires.specs.Event.{faults_after, unused_after_connect}
-use Rattle.tcf_wires.specs.Told.{noted}
+use Rattle.tcf_wires.specs.Told.{WiresSeen, noted}
 use Rattle.tcf_wires.specs.declared.call.WireCall.{WireCall}
 use Rattle.tcf_wires.specs.declared.call.WireCall.TheVariants.{Connected}
 use Rattle.tcf_wires.specs.declared.event.WireRefusal.{WireRefusal}
@@ -42,23 +42,23 @@ connects peer channel n old olds fits =
     goes_answered n (channel + 1) (Ok channel) (λ answer. answered answer old) (done (connected_on channel old)) olds (left_for old.above (begun channel olds)) [] fits
     (leaves_goes old.above peer (channel + 1) (connected_on channel old) (begun channel olds))
 
-pub connected_so : (peer : List ℕ) (channel n later : ℕ) (old new : Add) (olds news : Rows) (t t1 : Option (List WireCall)) (f f1 : ℕ) → n ≤ channel
-    → t1 ≡ noted {A = ℕ} (Ok channel) (Connected peer (Ok channel)) t → later ≡ unused_after_connect (Ok channel) n → f1 ≡ faults_after {A = ℕ} (Ok channel) f
+pub connected_so : (peer : List ℕ) (channel n later : ℕ) (old new : Add) (olds news : Rows) (seen seen1 : WiresSeen) → n ≤ channel
+    → seen1.told ≡ noted {A = ℕ} (Ok channel) (Connected peer (Ok channel)) seen.told → later ≡ unused_after_connect (Ok channel) n → seen1.faults ≡ faults_after {A = ℕ} (Ok channel) seen.faults
     → new ≡ connected_on channel old → news ≡ left_for old.above (begun channel olds)
-    → Makes (Goes peer n later (question old) (done new) olds news) t t1 f f1
-connected_so peer channel n later old new olds news t t1 f f1 fits tells numbers counts is rows =
+    → Makes (Goes peer n later (question old) (done new) olds news) seen seen1
+connected_so peer channel n later old new olds news seen seen1 fits tells numbers counts is rows =
     rw (is, rows, numbers)
-    (makes_one (Goes peer n (channel + 1) (question old) (done (connected_on channel old)) olds (left_for old.above (begun channel olds))) (Connected peer (Ok channel)) t t1 f f1
+    (makes_one (Goes peer n (channel + 1) (question old) (done (connected_on channel old)) olds (left_for old.above (begun channel olds))) (Connected peer (Ok channel)) seen seen1
     (connects peer channel n old olds fits) tells counts)
 
-pub failed_so : (refusal : WireRefusal) (peer : List ℕ) (n later : ℕ) (old new : Add) (olds : Rows) (t t1 : Option (List WireCall)) (f f1 : ℕ) → refusal ≡ Failed
-    → t1 ≡ noted {A = ℕ} (Err refusal) (Connected peer (Err refusal)) t → later ≡ unused_after_connect (Err refusal) n → f1 ≡ faults_after {A = ℕ} (Err refusal) f
+pub failed_so : (refusal : WireRefusal) (peer : List ℕ) (n later : ℕ) (old new : Add) (olds : Rows) (seen seen1 : WiresSeen) → refusal ≡ Failed
+    → seen1.told ≡ noted {A = ℕ} (Err refusal) (Connected peer (Err refusal)) seen.told → later ≡ unused_after_connect (Err refusal) n → seen1.faults ≡ faults_after {A = ℕ} (Err refusal) seen.faults
     → new ≡ with_node (connect_failed old.node) old
-    → Makes (Goes peer n later (question old) (done new) olds olds) t t1 f f1
-failed_so NoMemory peer n later old new olds t t1 f f1 failed tells numbers counts is = absurd cc
-failed_so Failed peer n later old new olds t t1 f f1 failed tells numbers counts is =
+    → Makes (Goes peer n later (question old) (done new) olds olds) seen seen1
+failed_so NoMemory peer n later old new olds seen seen1 failed tells numbers counts is = absurd cc
+failed_so Failed peer n later old new olds seen seen1 failed tells numbers counts is =
     rw (is, numbers)
-    (makes_one (Goes peer n n (question old) (done (with_node (connect_failed old.node) old)) olds olds) (Connected peer (Err Failed)) t t1 f f1
+    (makes_one (Goes peer n n (question old) (done (with_node (connect_failed old.node) old)) olds olds) (Connected peer (Err Failed)) seen seen1
     (goes_answered n n (Err Failed) (λ answer. answered answer old) (done (with_node (connect_failed old.node) old)) olds olds [] tt (here n (done (with_node (connect_failed old.node) old)) olds))
     tells counts)
 
@@ -73,22 +73,22 @@ breaks_answered peer answer n old olds fits =
           (here (unused_after_connect answer n) (answered answer old) (begun_by answer olds));
     }
 
-pub breaks_connected : (peer : List ℕ) (channel n : ℕ) (old : Add) (olds : Rows) (t t1 : Option (List WireCall)) (f f1 : ℕ) → n ≤ channel
-    → t1 ≡ noted {A = ℕ} (Ok channel) (Connected peer (Ok channel)) t → f1 ≡ faults_after {A = ℕ} (Ok channel) f → Makes (BreaksOff peer n (question old) olds) t t1 f f1
-breaks_connected peer channel n old olds t t1 f f1 fits tells counts =
-    makes_one (BreaksOff peer n (question old) olds) (Connected peer (Ok channel)) t t1 f f1 (breaks_answered peer (Ok channel) n old olds fits) tells counts
+pub breaks_connected : (peer : List ℕ) (channel n : ℕ) (old : Add) (olds : Rows) (seen seen1 : WiresSeen) → n ≤ channel
+    → seen1.told ≡ noted {A = ℕ} (Ok channel) (Connected peer (Ok channel)) seen.told → seen1.faults ≡ faults_after {A = ℕ} (Ok channel) seen.faults → Makes (BreaksOff peer n (question old) olds) seen seen1
+breaks_connected peer channel n old olds seen seen1 fits tells counts =
+    makes_one (BreaksOff peer n (question old) olds) (Connected peer (Ok channel)) seen seen1 (breaks_answered peer (Ok channel) n old olds fits) tells counts
 
-pub breaks_failed : (refusal : WireRefusal) (peer : List ℕ) (n : ℕ) (old : Add) (olds : Rows) (t t1 : Option (List WireCall)) (f f1 : ℕ) → refusal ≡ Failed
-    → t1 ≡ noted {A = ℕ} (Err refusal) (Connected peer (Err refusal)) t → f1 ≡ faults_after {A = ℕ} (Err refusal) f → Makes (BreaksOff peer n (question old) olds) t t1 f f1
-breaks_failed NoMemory peer n old olds t t1 f f1 failed tells counts = absurd cc
-breaks_failed Failed peer n old olds t t1 f f1 failed tells counts =
-    makes_one (BreaksOff peer n (question old) olds) (Connected peer (Err Failed)) t t1 f f1 (breaks_answered peer (Err Failed) n old olds tt) tells counts
+pub breaks_failed : (refusal : WireRefusal) (peer : List ℕ) (n : ℕ) (old : Add) (olds : Rows) (seen seen1 : WiresSeen) → refusal ≡ Failed
+    → seen1.told ≡ noted {A = ℕ} (Err refusal) (Connected peer (Err refusal)) seen.told → seen1.faults ≡ faults_after {A = ℕ} (Err refusal) seen.faults → Makes (BreaksOff peer n (question old) olds) seen seen1
+breaks_failed NoMemory peer n old olds seen seen1 failed tells counts = absurd cc
+breaks_failed Failed peer n old olds seen seen1 failed tells counts =
+    makes_one (BreaksOff peer n (question old) olds) (Connected peer (Err Failed)) seen seen1 (breaks_answered peer (Err Failed) n old olds tt) tells counts
 
-pub breaks_unasked : (refusal : WireRefusal) (peer : List ℕ) (n : ℕ) (old : Add) (olds : Rows) (t t1 : Option (List WireCall)) (f f1 : ℕ)
-    → t1 ≡ noted {A = ℕ} (Err refusal) (Connected peer (Err refusal)) t → f1 ≡ faults_after {A = ℕ} (Err refusal) f → Makes (BreaksOff peer n (question old) olds) t t1 f f1
-breaks_unasked Failed peer n old olds t t1 f f1 tells counts = breaks_failed Failed peer n old olds t t1 f f1 refl tells counts
-breaks_unasked NoMemory peer n old olds t t1 f f1 tells counts =
-    makes_nothing (BreaksOff peer n (question old) olds) t t1 f f1 (breaks_at_once peer n (question old) olds) tells counts
+pub breaks_unasked : (refusal : WireRefusal) (peer : List ℕ) (n : ℕ) (old : Add) (olds : Rows) (seen seen1 : WiresSeen)
+    → seen1.told ≡ noted {A = ℕ} (Err refusal) (Connected peer (Err refusal)) seen.told → seen1.faults ≡ faults_after {A = ℕ} (Err refusal) seen.faults → Makes (BreaksOff peer n (question old) olds) seen seen1
+breaks_unasked Failed peer n old olds seen seen1 tells counts = breaks_failed Failed peer n old olds seen seen1 refl tells counts
+breaks_unasked NoMemory peer n old olds seen seen1 tells counts =
+    makes_nothing (BreaksOff peer n (question old) olds) seen seen1 (breaks_at_once peer n (question old) olds) tells counts
 
 -- ---- a turn
 
@@ -96,40 +96,40 @@ turned_so : (peer : List ℕ) (n : ℕ) (turn : ValueTurn) (v : ValueValue) (old
     → (follows : Add → Process Add) → after_turn (one_taken old.node) old follows ≡ after_turn (turn, v) old follows
 turned_so peer n turn v old olds is follows = ap (λ (x : ValueTurn × ValueValue). after_turn x old follows) (sym is)
 
-pub nothing_taken : (peer : List ℕ) (n : ℕ) (turn : ValueTurn) (v : ValueValue) (old : Add) (olds : Rows) (t : Option (List WireCall)) (f : ℕ) → turn ≡ Nothing
-    → (turn, v) ≡ one_taken old.node → Makes (GoesBehind peer n n old (with_node v old) false olds olds) t t f f
-nothing_taken peer n turn v old olds t f nothing is =
-    makes_none (GoesBehind peer n n old (with_node v old) false olds olds) t f
+pub nothing_taken : (peer : List ℕ) (n : ℕ) (turn : ValueTurn) (v : ValueValue) (old : Add) (olds : Rows) (seen : WiresSeen) → turn ≡ Nothing
+    → (turn, v) ≡ one_taken old.node → Makes (GoesBehind peer n n old (with_node v old) false olds olds) seen seen
+nothing_taken peer n turn v old olds seen nothing is =
+    makes_none (GoesBehind peer n n old (with_node v old) false olds olds) seen
     (λ follows.
     subst (λ (p : Process Add). Goes peer n n p (done (with_node v old)) olds olds [])
     (sym (turned_so peer n turn v old olds is follows ∙ ap (λ (x : ValueTurn). after_turn (x, v) old follows) nothing)) (here n (done (with_node v old)) olds))
 
-pub one_took : (peer : List ℕ) (n : ℕ) (turn : ValueTurn) (v : ValueValue) (old : Add) (olds : Rows) (t : Option (List WireCall)) (f : ℕ) → turn ≡ Took
-    → (turn, v) ≡ one_taken old.node → Makes (GoesBehind peer n n old (with_node v old) true olds olds) t t f f
-one_took peer n turn v old olds t f took is =
-    makes_none (GoesBehind peer n n old (with_node v old) true olds olds) t f
+pub one_took : (peer : List ℕ) (n : ℕ) (turn : ValueTurn) (v : ValueValue) (old : Add) (olds : Rows) (seen : WiresSeen) → turn ≡ Took
+    → (turn, v) ≡ one_taken old.node → Makes (GoesBehind peer n n old (with_node v old) true olds olds) seen seen
+one_took peer n turn v old olds seen took is =
+    makes_none (GoesBehind peer n n old (with_node v old) true olds olds) seen
     (λ follows.
     subst (λ (p : Process Add). Goes peer n n p (follows (with_node v old)) olds olds [])
     (sym (turned_so peer n turn v old olds is follows ∙ ap (λ (x : ValueTurn). after_turn (x, v) old follows) took)) (here n (follows (with_node v old)) olds))
 
-pub one_connected : (peer : List ℕ) (n later : ℕ) (turn : ValueTurn) (v : ValueValue) (old new : Add) (olds news : Rows) (t t1 : Option (List WireCall)) (f f1 : ℕ) → turn ≡ Connect
-    → (turn, v) ≡ one_taken old.node → Makes (Goes peer n later (question (with_node v old)) (done new) olds news) t t1 f f1
-    → Makes (GoesBehind peer n later old new true olds news) t t1 f f1
-one_connected peer n later turn v old new olds news t t1 f f1 connect is =
-    makes_so (Goes peer n later (question (with_node v old)) (done new) olds news) (GoesBehind peer n later old new true olds news) t t1 f f1
+pub one_connected : (peer : List ℕ) (n later : ℕ) (turn : ValueTurn) (v : ValueValue) (old new : Add) (olds news : Rows) (seen seen1 : WiresSeen) → turn ≡ Connect
+    → (turn, v) ≡ one_taken old.node → Makes (Goes peer n later (question (with_node v old)) (done new) olds news) seen seen1
+    → Makes (GoesBehind peer n later old new true olds news) seen seen1
+one_connected peer n later turn v old new olds news seen seen1 connect is =
+    makes_so (Goes peer n later (question (with_node v old)) (done new) olds news) (GoesBehind peer n later old new true olds news) seen seen1
     (λ calls goes follows.
     subst (λ (p : Process Add). Goes peer n later p (follows new) olds news calls)
     (sym (turned_so peer n turn v old olds is follows ∙ ap (λ (x : ValueTurn). after_turn (x, v) old follows) connect))
     (goes_bound peer n later (question (with_node v old)) (done new) follows olds news calls goes))
 
-pub not_taken : (peer : List ℕ) (n : ℕ) (old : Add) (olds : Rows) (t : Option (List WireCall)) (f : ℕ) → Makes (BreaksOffBehind peer n old olds) t t f f
-not_taken peer n old olds t f =
-    makes_none (BreaksOffBehind peer n old olds) t f (λ follows. breaks_at_once peer n (after_turn (one_taken old.node) old follows) olds)
+pub not_taken : (peer : List ℕ) (n : ℕ) (old : Add) (olds : Rows) (seen : WiresSeen) → Makes (BreaksOffBehind peer n old olds) seen seen
+not_taken peer n old olds seen =
+    makes_none (BreaksOffBehind peer n old olds) seen (λ follows. breaks_at_once peer n (after_turn (one_taken old.node) old follows) olds)
 
-pub not_connected : (peer : List ℕ) (n : ℕ) (turn : ValueTurn) (v : ValueValue) (old : Add) (olds : Rows) (t t1 : Option (List WireCall)) (f f1 : ℕ) → turn ≡ Connect
-    → (turn, v) ≡ one_taken old.node → Makes (BreaksOff peer n (question (with_node v old)) olds) t t1 f f1 → Makes (BreaksOffBehind peer n old olds) t t1 f f1
-not_connected peer n turn v old olds t t1 f f1 connect is =
-    makes_so (BreaksOff peer n (question (with_node v old)) olds) (BreaksOffBehind peer n old olds) t t1 f f1
+pub not_connected : (peer : List ℕ) (n : ℕ) (turn : ValueTurn) (v : ValueValue) (old : Add) (olds : Rows) (seen seen1 : WiresSeen) → turn ≡ Connect
+    → (turn, v) ≡ one_taken old.node → Makes (BreaksOff peer n (question (with_node v old)) olds) seen seen1 → Makes (BreaksOffBehind peer n old olds) seen seen1
+not_connected peer n turn v old olds seen seen1 connect is =
+    makes_so (BreaksOff peer n (question (with_node v old)) olds) (BreaksOffBehind peer n old olds) seen seen1
     (λ calls b follows.
     subst (λ (p : Process Add). BreaksOff peer n p olds calls)
     (sym (turned_so peer n turn v old olds is follows ∙ ap (λ (x : ValueTurn). after_turn (x, v) old follows) connect))
@@ -137,9 +137,9 @@ not_connected peer n turn v old olds t t1 f f1 connect is =
 
 -- ---- turns, one after the other
 
-pub take_begins : (peer : List ℕ) (n count : ℕ) (a : Add) (rows : Rows) (t : Option (List WireCall)) (f : ℕ) → Makes (Goes peer n n (taken count a) (taken (count - 0) a) rows rows) t t f f
-take_begins peer n count a rows t f =
-    makes_none (Goes peer n n (taken count a) (taken (count - 0) a) rows rows) t f
+pub take_begins : (peer : List ℕ) (n count : ℕ) (a : Add) (rows : Rows) (seen : WiresSeen) → Makes (Goes peer n n (taken count a) (taken (count - 0) a) rows rows) seen seen
+take_begins peer n count a rows seen =
+    makes_none (Goes peer n n (taken count a) (taken (count - 0) a) rows rows) seen
     (let same : count ≡ count - 0 = omega arith in subst (λ (m : ℕ). Goes peer n n (taken count a) (taken m a) rows rows []) same (here n (taken count a) rows))
 
 -- the next turn, and none where something that waits can be given
@@ -158,48 +158,48 @@ turn_behind peer n m k count counter first old new gives is_taken olds mids news
     (subst (λ (p : Process Add). Goes peer m k p (if is_taken then taken (count - (counter + 1)) new else done new) mids news more) (sym (turn_next count counter gives false old less is full))
     (turn (λ next. taken (count - (counter + 1)) next)))
 
-pub take_next : (peer : List ℕ) (n m k count counter : ℕ) (first old new : Add) (gives is_taken : Bool) (olds mids news : Rows) (t t1 t2 : Option (List WireCall)) (f f1 f2 : ℕ)
+pub take_next : (peer : List ℕ) (n m k count counter : ℕ) (first old new : Add) (gives is_taken : Bool) (olds mids news : Rows) (seen seen1 seen2 : WiresSeen)
     → counter < count → gives ≡ can_give old → gives ≡ false → is_taken ≡ true
-    → Makes (Goes peer n m (taken count first) (taken (count - counter) old) olds mids) t t1 f f1 → Makes (GoesBehind peer m k old new is_taken mids news) t1 t2 f1 f2
-    → Makes (Goes peer n k (taken count first) (taken (count - (counter + 1)) new) olds news) t t2 f f2
-take_next peer n m k count counter first old new gives is_taken olds mids news t t1 t2 f f1 f2 less is full holds =
+    → Makes (Goes peer n m (taken count first) (taken (count - counter) old) olds mids) seen seen1 → Makes (GoesBehind peer m k old new is_taken mids news) seen1 seen2
+    → Makes (Goes peer n k (taken count first) (taken (count - (counter + 1)) new) olds news) seen seen2
+take_next peer n m k count counter first old new gives is_taken olds mids news seen seen1 seen2 less is full holds =
     makes_both (Goes peer n m (taken count first) (taken (count - counter) old) olds mids) (GoesBehind peer m k old new is_taken mids news)
-    (Goes peer n k (taken count first) (taken (count - (counter + 1)) new) olds news) t t1 t2 f f1 f2
+    (Goes peer n k (taken count first) (taken (count - (counter + 1)) new) olds news) seen seen1 seen2
     (λ calls more goes turn.
     subst (λ (b : Bool). Goes peer n k (taken count first) (if b then taken (count - (counter + 1)) new else done new) olds news (calls ++ more)) holds
     (turn_behind peer n m k count counter first old new gives is_taken olds mids news calls more less is full goes turn))
 
-pub take_stops : (peer : List ℕ) (n m k count counter : ℕ) (first old new : Add) (gives is_taken : Bool) (olds mids news : Rows) (t t1 t2 : Option (List WireCall)) (f f1 f2 : ℕ)
+pub take_stops : (peer : List ℕ) (n m k count counter : ℕ) (first old new : Add) (gives is_taken : Bool) (olds mids news : Rows) (seen seen1 seen2 : WiresSeen)
     → counter < count → gives ≡ can_give old → gives ≡ false → is_taken ≡ false
-    → Makes (Goes peer n m (taken count first) (taken (count - counter) old) olds mids) t t1 f f1 → Makes (GoesBehind peer m k old new is_taken mids news) t1 t2 f1 f2
-    → Makes (Goes peer n k (taken count first) (done new) olds news) t t2 f f2
-take_stops peer n m k count counter first old new gives is_taken olds mids news t t1 t2 f f1 f2 less is full stays =
+    → Makes (Goes peer n m (taken count first) (taken (count - counter) old) olds mids) seen seen1 → Makes (GoesBehind peer m k old new is_taken mids news) seen1 seen2
+    → Makes (Goes peer n k (taken count first) (done new) olds news) seen seen2
+take_stops peer n m k count counter first old new gives is_taken olds mids news seen seen1 seen2 less is full stays =
     makes_both (Goes peer n m (taken count first) (taken (count - counter) old) olds mids) (GoesBehind peer m k old new is_taken mids news)
-    (Goes peer n k (taken count first) (done new) olds news) t t1 t2 f f1 f2
+    (Goes peer n k (taken count first) (done new) olds news) seen seen1 seen2
     (λ calls more goes turn.
     subst (λ (b : Bool). Goes peer n k (taken count first) (if b then taken (count - (counter + 1)) new else done new) olds news (calls ++ more)) stays
     (turn_behind peer n m k count counter first old new gives is_taken olds mids news calls more less is full goes turn))
 
 -- something that waits can be given
-pub take_waits : (peer : List ℕ) (n m count counter : ℕ) (first now : Add) (gives : Bool) (olds news : Rows) (t t1 : Option (List WireCall)) (f f1 : ℕ)
+pub take_waits : (peer : List ℕ) (n m count counter : ℕ) (first now : Add) (gives : Bool) (olds news : Rows) (seen seen1 : WiresSeen)
     → counter < count → gives ≡ can_give now → gives ≡ true
-    → Makes (Goes peer n m (taken count first) (taken (count - counter) now) olds news) t t1 f f1 → Makes (Goes peer n m (taken count first) (done now) olds news) t t1 f f1
-take_waits peer n m count counter first now gives olds news t t1 f f1 less is so =
-    makes_so (Goes peer n m (taken count first) (taken (count - counter) now) olds news) (Goes peer n m (taken count first) (done now) olds news) t t1 f f1
+    → Makes (Goes peer n m (taken count first) (taken (count - counter) now) olds news) seen seen1 → Makes (Goes peer n m (taken count first) (done now) olds news) seen seen1
+take_waits peer n m count counter first now gives olds news seen seen1 less is so =
+    makes_so (Goes peer n m (taken count first) (taken (count - counter) now) olds news) (Goes peer n m (taken count first) (done now) olds news) seen seen1
     (λ calls goes. subst (λ (p : Process Add). Goes peer n m (taken count first) p olds news calls) (turn_next count counter gives true now less is so) goes)
 
-pub take_ends : (peer : List ℕ) (n m count counter : ℕ) (first now : Add) (olds news : Rows) (t t1 : Option (List WireCall)) (f f1 : ℕ) → count ≤ counter
-    → Makes (Goes peer n m (taken count first) (taken (count - counter) now) olds news) t t1 f f1 → Makes (Goes peer n m (taken count first) (done now) olds news) t t1 f f1
-take_ends peer n m count counter first now olds news t t1 f f1 past =
-    makes_so (Goes peer n m (taken count first) (taken (count - counter) now) olds news) (Goes peer n m (taken count first) (done now) olds news) t t1 f f1
+pub take_ends : (peer : List ℕ) (n m count counter : ℕ) (first now : Add) (olds news : Rows) (seen seen1 : WiresSeen) → count ≤ counter
+    → Makes (Goes peer n m (taken count first) (taken (count - counter) now) olds news) seen seen1 → Makes (Goes peer n m (taken count first) (done now) olds news) seen seen1
+take_ends peer n m count counter first now olds news seen seen1 past =
+    makes_so (Goes peer n m (taken count first) (taken (count - counter) now) olds news) (Goes peer n m (taken count first) (done now) olds news) seen seen1
     (λ calls goes. let none : count - counter ≡ 0 = omega (arith, past) in subst (λ (x : ℕ). Goes peer n m (taken count first) (taken x now) olds news calls) none goes)
 
-pub take_breaks : (peer : List ℕ) (n m count counter : ℕ) (first old : Add) (gives : Bool) (olds mids : Rows) (t t1 t2 : Option (List WireCall)) (f f1 f2 : ℕ)
+pub take_breaks : (peer : List ℕ) (n m count counter : ℕ) (first old : Add) (gives : Bool) (olds mids : Rows) (seen seen1 seen2 : WiresSeen)
     → counter < count → gives ≡ can_give old → gives ≡ false
-    → Makes (Goes peer n m (taken count first) (taken (count - counter) old) olds mids) t t1 f f1 → Makes (BreaksOffBehind peer m old mids) t1 t2 f1 f2
-    → Makes (BreaksOff peer n (taken count first) olds) t t2 f f2
-take_breaks peer n m count counter first old gives olds mids t t1 t2 f f1 f2 less is full =
-    makes_both (Goes peer n m (taken count first) (taken (count - counter) old) olds mids) (BreaksOffBehind peer m old mids) (BreaksOff peer n (taken count first) olds) t t1 t2 f f1 f2
+    → Makes (Goes peer n m (taken count first) (taken (count - counter) old) olds mids) seen seen1 → Makes (BreaksOffBehind peer m old mids) seen1 seen2
+    → Makes (BreaksOff peer n (taken count first) olds) seen seen2
+take_breaks peer n m count counter first old gives olds mids seen seen1 seen2 less is full =
+    makes_both (Goes peer n m (taken count first) (taken (count - counter) old) olds mids) (BreaksOffBehind peer m old mids) (BreaksOff peer n (taken count first) olds) seen seen1 seen2
     (λ calls more goes breaks.
     breaks_then peer n m (taken count first) (taken (count - counter) old) olds mids calls more goes
     (subst (λ (p : Process Add). BreaksOff peer m p mids more) (sym (turn_next count counter gives false old less is full)) (breaks (λ next. taken (count - (counter + 1)) next))))

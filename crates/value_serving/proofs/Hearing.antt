@@ -1,6 +1,6 @@
 -- What comes goes to its value-add, and what that has to send is queued.
 use Rattle.std.proofs.Common.{◌≡◌, ℕ, ◌≤◌, Bool, true, false, List, [], ◌∷◌, ◌++◌, length, Option, Some, None, sym, subst, ◌<◌, ◌⊎◌, inl, inr, lt-ltb, le-ltb}
-use Rattle.tcf_wires.specs.declared.call.WireCall.{WireCall}
+use Rattle.tcf_wires.specs.Told.{WiresSeen}
 use Rattle.tcf_wires.specs.declared.event.WireEvent.{WireEvent}
 use Rattle.tcf_wires.specs.declared.event.WireEvent.TheVariants as events
 use Rattle.serving_wires.proofs.Making.{makes_none}
@@ -27,30 +27,30 @@ Adds = List (Row Add)
 
 -- ---- messages are taken, from above and then from below
 
-pub makes_room : (peer : List ℕ) (n m k above below : ℕ) (a b next : Add) (olds mids news : Rows) (t t1 t2 : Option (List WireCall)) (f f1 f2 : ℕ)
-    → above ≡ waiting_on Above a → below ≡ waiting_on Below a → Makes (Goes peer n m (taken above a) (done b) olds mids) t t1 f f1
-    → Makes (Goes peer m k (taken below b) (done next) mids news) t1 t2 f1 f2 → Makes (Goes peer n k (room_made a) (done next) olds news) t t2 f f2
+pub makes_room : (peer : List ℕ) (n m k above below : ℕ) (a b next : Add) (olds mids news : Rows) (seen seen1 seen2 : WiresSeen)
+    → above ≡ waiting_on Above a → below ≡ waiting_on Below a → Makes (Goes peer n m (taken above a) (done b) olds mids) seen seen1
+    → Makes (Goes peer m k (taken below b) (done next) mids news) seen1 seen2 → Makes (Goes peer n k (room_made a) (done next) olds news) seen seen2
 unfolding room_made
-makes_room peer n m k above below a b next olds mids news t t1 t2 f f1 f2 first then one two =
-    made_both peer n m k (taken (waiting_on Above a) a) b (λ last. taken (waiting_on Below a) last) (done next) olds mids news t t1 t2 f f1 f2
-    (subst (λ (x : ℕ). Makes (Goes peer n m (taken x a) (done b) olds mids) t t1 f f1) first one)
-    (subst (λ (x : ℕ). Makes (Goes peer m k (taken x b) (done next) mids news) t1 t2 f1 f2) then two)
+makes_room peer n m k above below a b next olds mids news seen seen1 seen2 first then one two =
+    made_both peer n m k (taken (waiting_on Above a) a) b (λ last. taken (waiting_on Below a) last) (done next) olds mids news seen seen1 seen2
+    (subst (λ (x : ℕ). Makes (Goes peer n m (taken x a) (done b) olds mids) seen seen1) first one)
+    (subst (λ (x : ℕ). Makes (Goes peer m k (taken x b) (done next) mids news) seen1 seen2) then two)
 
-pub room_broken_first : (peer : List ℕ) (n above : ℕ) (a : Add) (olds : Rows) (t t1 : Option (List WireCall)) (f f1 : ℕ)
-    → above ≡ waiting_on Above a → Makes (BreaksOff peer n (taken above a) olds) t t1 f f1 → Makes (BreaksOff peer n (room_made a) olds) t t1 f f1
+pub room_broken_first : (peer : List ℕ) (n above : ℕ) (a : Add) (olds : Rows) (seen seen1 : WiresSeen)
+    → above ≡ waiting_on Above a → Makes (BreaksOff peer n (taken above a) olds) seen seen1 → Makes (BreaksOff peer n (room_made a) olds) seen seen1
 unfolding room_made
-room_broken_first peer n above a olds t t1 f f1 first one =
-    broken_bound peer n (taken (waiting_on Above a) a) (λ last. taken (waiting_on Below a) last) olds t t1 f f1
-    (subst (λ (x : ℕ). Makes (BreaksOff peer n (taken x a) olds) t t1 f f1) first one)
+room_broken_first peer n above a olds seen seen1 first one =
+    broken_bound peer n (taken (waiting_on Above a) a) (λ last. taken (waiting_on Below a) last) olds seen seen1
+    (subst (λ (x : ℕ). Makes (BreaksOff peer n (taken x a) olds) seen seen1) first one)
 
-pub room_broken : (peer : List ℕ) (n m above below : ℕ) (a b : Add) (olds mids : Rows) (t t1 t2 : Option (List WireCall)) (f f1 f2 : ℕ)
-    → above ≡ waiting_on Above a → below ≡ waiting_on Below a → Makes (Goes peer n m (taken above a) (done b) olds mids) t t1 f f1
-    → Makes (BreaksOff peer m (taken below b) mids) t1 t2 f1 f2 → Makes (BreaksOff peer n (room_made a) olds) t t2 f f2
+pub room_broken : (peer : List ℕ) (n m above below : ℕ) (a b : Add) (olds mids : Rows) (seen seen1 seen2 : WiresSeen)
+    → above ≡ waiting_on Above a → below ≡ waiting_on Below a → Makes (Goes peer n m (taken above a) (done b) olds mids) seen seen1
+    → Makes (BreaksOff peer m (taken below b) mids) seen1 seen2 → Makes (BreaksOff peer n (room_made a) olds) seen seen2
 unfolding room_made
-room_broken peer n m above below a b olds mids t t1 t2 f f1 f2 first then one two =
-    broken_both peer n m (taken (waiting_on Above a) a) b (λ last. taken (waiting_on Below a) last) olds mids t t1 t2 f f1 f2
-    (subst (λ (x : ℕ). Makes (Goes peer n m (taken x a) (done b) olds mids) t t1 f f1) first one)
-    (subst (λ (x : ℕ). Makes (BreaksOff peer m (taken x b) mids) t1 t2 f1 f2) then two)
+room_broken peer n m above below a b olds mids seen seen1 seen2 first then one two =
+    broken_both peer n m (taken (waiting_on Above a) a) b (λ last. taken (waiting_on Below a) last) olds mids seen seen1 seen2
+    (subst (λ (x : ℕ). Makes (Goes peer n m (taken x a) (done b) olds mids) seen seen1) first one)
+    (subst (λ (x : ℕ). Makes (BreaksOff peer m (taken x b) mids) seen1 seen2) then two)
 
 -- ---- what a side has to send is queued
 
@@ -92,74 +92,74 @@ gathers_both peer n channel mid last a next olds mids news above first rows then
 
 -- ---- something comes on a side
 
-pub hears : (peer : List ℕ) (n m : ℕ) (side : Side) (what : Came) (a waiting b next : Add) (olds mids news : Rows) (t t1 : Option (List WireCall)) (f f1 : ℕ)
-    → waiting ≡ waits side what a → Makes (Goes peer n m (passed_on waiting) (done b) olds mids) t t1 f f1 → Goes peer m m (gathered b) (done next) mids news []
-    → Makes (Goes peer n m (heard side what a) (done next) olds news) t t1 f f1
+pub hears : (peer : List ℕ) (n m : ℕ) (side : Side) (what : Came) (a waiting b next : Add) (olds mids news : Rows) (seen seen1 : WiresSeen)
+    → waiting ≡ waits side what a → Makes (Goes peer n m (passed_on waiting) (done b) olds mids) seen seen1 → Goes peer m m (gathered b) (done next) mids news []
+    → Makes (Goes peer n m (heard side what a) (done next) olds news) seen seen1
 unfolding heard
-hears peer n m side what a waiting b next olds mids news t t1 f f1 is one two =
-    made_behind peer n m (passed_on (waits side what a)) b gathered (done next) olds mids news t t1 f f1
-    (subst (λ (x : Add). Makes (Goes peer n m (passed_on x) (done b) olds mids) t t1 f f1) is one) two
+hears peer n m side what a waiting b next olds mids news seen seen1 is one two =
+    made_behind peer n m (passed_on (waits side what a)) b gathered (done next) olds mids news seen seen1
+    (subst (λ (x : Add). Makes (Goes peer n m (passed_on x) (done b) olds mids) seen seen1) is one) two
 
-pub hears_in_part : (peer : List ℕ) (n : ℕ) (side : Side) (what : Came) (a waiting : Add) (olds : Rows) (t t1 : Option (List WireCall)) (f f1 : ℕ)
-    → waiting ≡ waits side what a → Makes (BreaksOff peer n (passed_on waiting) olds) t t1 f f1 → Makes (BreaksOff peer n (heard side what a) olds) t t1 f f1
+pub hears_in_part : (peer : List ℕ) (n : ℕ) (side : Side) (what : Came) (a waiting : Add) (olds : Rows) (seen seen1 : WiresSeen)
+    → waiting ≡ waits side what a → Makes (BreaksOff peer n (passed_on waiting) olds) seen seen1 → Makes (BreaksOff peer n (heard side what a) olds) seen seen1
 unfolding heard
-hears_in_part peer n side what a waiting olds t t1 f f1 is one =
-    broken_bound peer n (passed_on (waits side what a)) gathered olds t t1 f f1
-    (subst (λ (x : Add). Makes (BreaksOff peer n (passed_on x) olds) t t1 f f1) is one)
+hears_in_part peer n side what a waiting olds seen seen1 is one =
+    broken_bound peer n (passed_on (waits side what a)) gathered olds seen seen1
+    (subst (λ (x : Add). Makes (BreaksOff peer n (passed_on x) olds) seen seen1) is one)
 
-pub hears_not_gathered : (peer : List ℕ) (n m : ℕ) (side : Side) (what : Came) (a waiting b : Add) (olds mids : Rows) (t t1 : Option (List WireCall)) (f f1 : ℕ)
-    → waiting ≡ waits side what a → Makes (Goes peer n m (passed_on waiting) (done b) olds mids) t t1 f f1 → Makes (BreaksOff peer n (heard side what a) olds) t t1 f f1
+pub hears_not_gathered : (peer : List ℕ) (n m : ℕ) (side : Side) (what : Came) (a waiting b : Add) (olds mids : Rows) (seen seen1 : WiresSeen)
+    → waiting ≡ waits side what a → Makes (Goes peer n m (passed_on waiting) (done b) olds mids) seen seen1 → Makes (BreaksOff peer n (heard side what a) olds) seen seen1
 unfolding heard
-hears_not_gathered peer n m side what a waiting b olds mids t t1 f f1 is one =
-    broken_bound_behind peer n m (passed_on (waits side what a)) b gathered olds mids t t1 f f1
-    (subst (λ (x : Add). Makes (Goes peer n m (passed_on x) (done b) olds mids) t t1 f f1) is one)
+hears_not_gathered peer n m side what a waiting b olds mids seen seen1 is one =
+    broken_bound_behind peer n m (passed_on (waits side what a)) b gathered olds mids seen seen1
+    (subst (λ (x : Add). Makes (Goes peer n m (passed_on x) (done b) olds mids) seen seen1) is one)
 
 -- ---- of the value-add at a place
 
-pub heard_there : (peer : List ℕ) (n m place : ℕ) (side : Side) (what : Came) (a next : Add) (adds news_adds : Adds) (olds news : Rows) (t t1 : Option (List WireCall)) (f f1 : ℕ)
-    → item_at place adds ≡ Some a → news_adds ≡ with_item_at place next adds → Makes (Goes peer n m (heard side what a) (done next) olds news) t t1 f f1
-    → Makes (Goes peer n m (heard_at place side what adds) (done news_adds) olds news) t t1 f f1
+pub heard_there : (peer : List ℕ) (n m place : ℕ) (side : Side) (what : Came) (a next : Add) (adds news_adds : Adds) (olds news : Rows) (seen seen1 : WiresSeen)
+    → item_at place adds ≡ Some a → news_adds ≡ with_item_at place next adds → Makes (Goes peer n m (heard side what a) (done next) olds news) seen seen1
+    → Makes (Goes peer n m (heard_at place side what adds) (done news_adds) olds news) seen seen1
 unfolding heard_at
-heard_there peer n m place side what a next adds news_adds olds news t t1 f f1 is written one =
+heard_there peer n m place side what a next adds news_adds olds news seen seen1 is written one =
     rw (is, written)
-    (made_behind peer n m (heard side what a) next (λ last. done (with_item_at place last adds)) (done (with_item_at place next adds)) olds news news t t1 f f1 one
+    (made_behind peer n m (heard side what a) next (λ last. done (with_item_at place last adds)) (done (with_item_at place next adds)) olds news news seen seen1 one
     (here m (done (with_item_at place next adds)) news))
 
-pub heard_there_in_part : (peer : List ℕ) (n place : ℕ) (side : Side) (what : Came) (a : Add) (adds : Adds) (olds : Rows) (t t1 : Option (List WireCall)) (f f1 : ℕ)
-    → item_at place adds ≡ Some a → Makes (BreaksOff peer n (heard side what a) olds) t t1 f f1 → Makes (BreaksOff peer n (heard_at place side what adds) olds) t t1 f f1
+pub heard_there_in_part : (peer : List ℕ) (n place : ℕ) (side : Side) (what : Came) (a : Add) (adds : Adds) (olds : Rows) (seen seen1 : WiresSeen)
+    → item_at place adds ≡ Some a → Makes (BreaksOff peer n (heard side what a) olds) seen seen1 → Makes (BreaksOff peer n (heard_at place side what adds) olds) seen seen1
 unfolding heard_at
-heard_there_in_part peer n place side what a adds olds t t1 f f1 is one =
-    rw is (broken_bound peer n (heard side what a) (λ last. done (with_item_at place last adds)) olds t t1 f f1 one)
+heard_there_in_part peer n place side what a adds olds seen seen1 is one =
+    rw is (broken_bound peer n (heard side what a) (λ last. done (with_item_at place last adds)) olds seen seen1 one)
 
-pub heard_nowhere : (peer : List ℕ) (n place : ℕ) (side : Side) (what : Came) (adds : Adds) (olds : Rows) (t : Option (List WireCall)) (f : ℕ) → item_at place adds ≡ None
-    → Makes (Goes peer n n (heard_at place side what adds) (done adds) olds olds) t t f f
+pub heard_nowhere : (peer : List ℕ) (n place : ℕ) (side : Side) (what : Came) (adds : Adds) (olds : Rows) (seen : WiresSeen) → item_at place adds ≡ None
+    → Makes (Goes peer n n (heard_at place side what adds) (done adds) olds olds) seen seen
 unfolding heard_at
-heard_nowhere peer n place side what adds olds t f is = rw is (makes_none (Goes peer n n (done adds) (done adds) olds olds) t f (here n (done adds) olds))
+heard_nowhere peer n place side what adds olds seen is = rw is (makes_none (Goes peer n n (done adds) (done adds) olds olds) seen (here n (done adds) olds))
 
 -- ---- on a channel
 
-pub heard_so : (peer to : List ℕ) (n m channel place : ℕ) (side : Side) (what : Came) (adds mid last : Adds) (olds news : Rows) (t t1 : Option (List WireCall)) (f f1 : ℕ)
+pub heard_so : (peer to : List ℕ) (n m channel place : ℕ) (side : Side) (what : Came) (adds mid last : Adds) (olds news : Rows) (seen seen1 : WiresSeen)
     → to ≡ peer → wire_of channel adds ≡ Some (place, side) → last ≡ kept_unless (is_over_at place mid) place mid
-    → Makes (Goes to n m (heard_at place side what adds) (done mid) olds news) t t1 f f1 → Makes (Goes peer n m (heard_on channel what adds) (done last) olds news) t t1 f f1
+    → Makes (Goes to n m (heard_at place side what adds) (done mid) olds news) seen seen1 → Makes (Goes peer n m (heard_on channel what adds) (done last) olds news) seen seen1
 unfolding heard_on
-heard_so peer to n m channel place side what adds mid last olds news t t1 f f1 same is kept one =
+heard_so peer to n m channel place side what adds mid last olds news seen seen1 same is kept one =
     rw (is, kept)
-    (made_behind peer n m (heard_at place side what adds) mid (unless_over place) (unless_over place mid) olds news news t t1 f f1
-    (subst (λ (p : List ℕ). Makes (Goes p n m (heard_at place side what adds) (done mid) olds news) t t1 f f1) same one) (here m (unless_over place mid) news))
+    (made_behind peer n m (heard_at place side what adds) mid (unless_over place) (unless_over place mid) olds news news seen seen1
+    (subst (λ (p : List ℕ). Makes (Goes p n m (heard_at place side what adds) (done mid) olds news) seen seen1) same one) (here m (unless_over place mid) news))
 
-pub heard_in_part : (peer to : List ℕ) (n channel place : ℕ) (side : Side) (what : Came) (adds : Adds) (olds : Rows) (t t1 : Option (List WireCall)) (f f1 : ℕ)
-    → to ≡ peer → wire_of channel adds ≡ Some (place, side) → Makes (BreaksOff to n (heard_at place side what adds) olds) t t1 f f1
-    → Makes (BreaksOff peer n (heard_on channel what adds) olds) t t1 f f1
+pub heard_in_part : (peer to : List ℕ) (n channel place : ℕ) (side : Side) (what : Came) (adds : Adds) (olds : Rows) (seen seen1 : WiresSeen)
+    → to ≡ peer → wire_of channel adds ≡ Some (place, side) → Makes (BreaksOff to n (heard_at place side what adds) olds) seen seen1
+    → Makes (BreaksOff peer n (heard_on channel what adds) olds) seen seen1
 unfolding heard_on
-heard_in_part peer to n channel place side what adds olds t t1 f f1 same is one =
+heard_in_part peer to n channel place side what adds olds seen seen1 same is one =
     rw is
-    (broken_bound peer n (heard_at place side what adds) (unless_over place) olds t t1 f f1
-    (subst (λ (p : List ℕ). Makes (BreaksOff p n (heard_at place side what adds) olds) t t1 f f1) same one))
+    (broken_bound peer n (heard_at place side what adds) (unless_over place) olds seen seen1
+    (subst (λ (p : List ℕ). Makes (BreaksOff p n (heard_at place side what adds) olds) seen seen1) same one))
 
-pub heard_of_none : (peer : List ℕ) (n channel : ℕ) (what : Came) (adds : Adds) (olds : Rows) (t : Option (List WireCall)) (f : ℕ) → wire_of channel adds ≡ None
-    → Makes (Goes peer n n (heard_on channel what adds) (done adds) olds olds) t t f f
+pub heard_of_none : (peer : List ℕ) (n channel : ℕ) (what : Came) (adds : Adds) (olds : Rows) (seen : WiresSeen) → wire_of channel adds ≡ None
+    → Makes (Goes peer n n (heard_on channel what adds) (done adds) olds olds) seen seen
 unfolding heard_on
-heard_of_none peer n channel what adds olds t f is = rw is (makes_none (Goes peer n n (done adds) (done adds) olds olds) t f (here n (done adds) olds))
+heard_of_none peer n channel what adds olds seen is = rw is (makes_none (Goes peer n n (done adds) (done adds) olds olds) seen (here n (done adds) olds))
 
 -- ---- a connection came
 
@@ -185,8 +185,8 @@ sends_away peer n channel adds first olds mids news full begins queued last =
 
 -- ---- nothing came, or nothing more is to come
 
-pub idles : (peer : List ℕ) (n : ℕ) (event : WireEvent) (adds : Adds) (rows : Rows) (t : Option (List WireCall)) (f : ℕ) → (event ≡ events.Idle) ⊎ (event ≡ events.Stop)
-    → Makes (Goes peer n n (handled peer event adds) (done adds) (opened_by event rows) rows) t t f f
+pub idles : (peer : List ℕ) (n : ℕ) (event : WireEvent) (adds : Adds) (rows : Rows) (seen : WiresSeen) → (event ≡ events.Idle) ⊎ (event ≡ events.Stop)
+    → Makes (Goes peer n n (handled peer event adds) (done adds) (opened_by event rows) rows) seen seen
 unfolding handled
-idles peer n event adds rows t f (inl is) = rw is (stays_here peer n (done adds) rows t f)
-idles peer n event adds rows t f (inr is) = rw is (stays_here peer n (done adds) rows t f)
+idles peer n event adds rows seen (inl is) = rw is (stays_here peer n (done adds) rows seen)
+idles peer n event adds rows seen (inr is) = rw is (stays_here peer n (done adds) rows seen)

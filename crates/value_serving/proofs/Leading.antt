@@ -1,5 +1,6 @@
 -- A process goes on part by part.
-use Rattle.std.proofs.Common.{ℕ, List, [], ◌++◌, Option}
+use Rattle.std.proofs.Common.{ℕ, List, [], ◌++◌}
+use Rattle.tcf_wires.specs.Told.{WiresSeen}
 use Rattle.serving_wires.proofs.Making.{makes_both, makes_none, makes_so}
 use Rattle.serving_wires.specs.Calls.{Makes}
 use Rattle.serving_wires.specs.OutboxValue.{OutboxValue}
@@ -52,57 +53,57 @@ breaks_both peer n m p a later olds mids first rest one b =
 
 -- ---- so do the calls of the wires
 
-pub made_then : {A : Type 0} → (peer : List ℕ) (n m k : ℕ) (p q r : Process A) (olds mids news : Rows) (t t1 t2 : Option (List WireCall)) (f f1 f2 : ℕ)
-    → Makes (Goes peer n m p q olds mids) t t1 f f1 → Makes (Goes peer m k q r mids news) t1 t2 f1 f2 → Makes (Goes peer n k p r olds news) t t2 f f2
-made_then peer n m k p q r olds mids news t t1 t2 f f1 f2 =
-    makes_both (Goes peer n m p q olds mids) (Goes peer m k q r mids news) (Goes peer n k p r olds news) t t1 t2 f f1 f2
+pub made_then : {A : Type 0} → (peer : List ℕ) (n m k : ℕ) (p q r : Process A) (olds mids news : Rows) (seen seen1 seen2 : WiresSeen)
+    → Makes (Goes peer n m p q olds mids) seen seen1 → Makes (Goes peer m k q r mids news) seen1 seen2 → Makes (Goes peer n k p r olds news) seen seen2
+made_then peer n m k p q r olds mids news seen seen1 seen2 =
+    makes_both (Goes peer n m p q olds mids) (Goes peer m k q r mids news) (Goes peer n k p r olds news) seen seen1 seen2
     (λ first rest one two. goes_then peer n m k p q r olds mids news first rest one two)
 
 pub made_both : {A : Type 0} → {B : Type 0} → (peer : List ℕ) (n m k : ℕ) (p : Process A) (a : A) (later : A → Process B) (r : Process B) (olds mids news : Rows)
-    (t t1 t2 : Option (List WireCall)) (f f1 f2 : ℕ)
-    → Makes (Goes peer n m p (done a) olds mids) t t1 f f1 → Makes (Goes peer m k (later a) r mids news) t1 t2 f1 f2 → Makes (Goes peer n k (and_then p later) r olds news) t t2 f f2
-made_both peer n m k p a later r olds mids news t t1 t2 f f1 f2 =
-    makes_both (Goes peer n m p (done a) olds mids) (Goes peer m k (later a) r mids news) (Goes peer n k (and_then p later) r olds news) t t1 t2 f f1 f2
+    (seen seen1 seen2 : WiresSeen)
+    → Makes (Goes peer n m p (done a) olds mids) seen seen1 → Makes (Goes peer m k (later a) r mids news) seen1 seen2 → Makes (Goes peer n k (and_then p later) r olds news) seen seen2
+made_both peer n m k p a later r olds mids news seen seen1 seen2 =
+    makes_both (Goes peer n m p (done a) olds mids) (Goes peer m k (later a) r mids news) (Goes peer n k (and_then p later) r olds news) seen seen1 seen2
     (λ first rest one two. goes_both peer n m k p a later r olds mids news first rest one two)
 
 pub made_behind : {A : Type 0} → {B : Type 0} → (peer : List ℕ) (n m : ℕ) (p : Process A) (a : A) (later : A → Process B) (r : Process B) (olds mids news : Rows)
-    (t t1 : Option (List WireCall)) (f f1 : ℕ)
-    → Makes (Goes peer n m p (done a) olds mids) t t1 f f1 → Goes peer m m (later a) r mids news [] → Makes (Goes peer n m (and_then p later) r olds news) t t1 f f1
-made_behind peer n m p a later r olds mids news t t1 f f1 one two =
-    made_both peer n m m p a later r olds mids news t t1 t1 f f1 f1 one (makes_none (Goes peer m m (later a) r mids news) t1 f1 two)
+    (seen seen1 : WiresSeen)
+    → Makes (Goes peer n m p (done a) olds mids) seen seen1 → Goes peer m m (later a) r mids news [] → Makes (Goes peer n m (and_then p later) r olds news) seen seen1
+made_behind peer n m p a later r olds mids news seen seen1 one two =
+    made_both peer n m m p a later r olds mids news seen seen1 seen1 one (makes_none (Goes peer m m (later a) r mids news) seen1 two)
 
-pub broken_at_once : {A : Type 0} → (peer : List ℕ) (n : ℕ) (p : Process A) (olds : Rows) (t : Option (List WireCall)) (f : ℕ) → Makes (BreaksOff peer n p olds) t t f f
-broken_at_once peer n p olds t f = makes_none (BreaksOff peer n p olds) t f (breaks_at_once peer n p olds)
+pub broken_at_once : {A : Type 0} → (peer : List ℕ) (n : ℕ) (p : Process A) (olds : Rows) (seen : WiresSeen) → Makes (BreaksOff peer n p olds) seen seen
+broken_at_once peer n p olds seen = makes_none (BreaksOff peer n p olds) seen (breaks_at_once peer n p olds)
 
-pub broken_bound : {A : Type 0} → {B : Type 0} → (peer : List ℕ) (n : ℕ) (p : Process A) (later : A → Process B) (olds : Rows) (t t1 : Option (List WireCall)) (f f1 : ℕ)
-    → Makes (BreaksOff peer n p olds) t t1 f f1 → Makes (BreaksOff peer n (and_then p later) olds) t t1 f f1
-broken_bound peer n p later olds t t1 f f1 =
-    makes_so (BreaksOff peer n p olds) (BreaksOff peer n (and_then p later) olds) t t1 f f1 (λ calls b. breaks_bound peer n p later olds calls b)
+pub broken_bound : {A : Type 0} → {B : Type 0} → (peer : List ℕ) (n : ℕ) (p : Process A) (later : A → Process B) (olds : Rows) (seen seen1 : WiresSeen)
+    → Makes (BreaksOff peer n p olds) seen seen1 → Makes (BreaksOff peer n (and_then p later) olds) seen seen1
+broken_bound peer n p later olds seen seen1 =
+    makes_so (BreaksOff peer n p olds) (BreaksOff peer n (and_then p later) olds) seen seen1 (λ calls b. breaks_bound peer n p later olds calls b)
 
-pub broken_then : {A : Type 0} → (peer : List ℕ) (n m : ℕ) (p q : Process A) (olds mids : Rows) (t t1 t2 : Option (List WireCall)) (f f1 f2 : ℕ)
-    → Makes (Goes peer n m p q olds mids) t t1 f f1 → Makes (BreaksOff peer m q mids) t1 t2 f1 f2 → Makes (BreaksOff peer n p olds) t t2 f f2
-broken_then peer n m p q olds mids t t1 t2 f f1 f2 =
-    makes_both (Goes peer n m p q olds mids) (BreaksOff peer m q mids) (BreaksOff peer n p olds) t t1 t2 f f1 f2
+pub broken_then : {A : Type 0} → (peer : List ℕ) (n m : ℕ) (p q : Process A) (olds mids : Rows) (seen seen1 seen2 : WiresSeen)
+    → Makes (Goes peer n m p q olds mids) seen seen1 → Makes (BreaksOff peer m q mids) seen1 seen2 → Makes (BreaksOff peer n p olds) seen seen2
+broken_then peer n m p q olds mids seen seen1 seen2 =
+    makes_both (Goes peer n m p q olds mids) (BreaksOff peer m q mids) (BreaksOff peer n p olds) seen seen1 seen2
     (λ first rest one two. breaks_then peer n m p q olds mids first rest one two)
 
 pub broken_both : {A : Type 0} → {B : Type 0} → (peer : List ℕ) (n m : ℕ) (p : Process A) (a : A) (later : A → Process B) (olds mids : Rows)
-    (t t1 t2 : Option (List WireCall)) (f f1 f2 : ℕ)
-    → Makes (Goes peer n m p (done a) olds mids) t t1 f f1 → Makes (BreaksOff peer m (later a) mids) t1 t2 f1 f2 → Makes (BreaksOff peer n (and_then p later) olds) t t2 f f2
-broken_both peer n m p a later olds mids t t1 t2 f f1 f2 =
-    makes_both (Goes peer n m p (done a) olds mids) (BreaksOff peer m (later a) mids) (BreaksOff peer n (and_then p later) olds) t t1 t2 f f1 f2
+    (seen seen1 seen2 : WiresSeen)
+    → Makes (Goes peer n m p (done a) olds mids) seen seen1 → Makes (BreaksOff peer m (later a) mids) seen1 seen2 → Makes (BreaksOff peer n (and_then p later) olds) seen seen2
+broken_both peer n m p a later olds mids seen seen1 seen2 =
+    makes_both (Goes peer n m p (done a) olds mids) (BreaksOff peer m (later a) mids) (BreaksOff peer n (and_then p later) olds) seen seen1 seen2
     (λ first rest one two. breaks_both peer n m p a later olds mids first rest one two)
 
 -- done in part, and then memory was wanting
-pub broken_behind : {A : Type 0} → (peer : List ℕ) (n m : ℕ) (p q : Process A) (olds mids : Rows) (t t1 : Option (List WireCall)) (f f1 : ℕ)
-    → Makes (Goes peer n m p q olds mids) t t1 f f1 → Makes (BreaksOff peer n p olds) t t1 f f1
-broken_behind peer n m p q olds mids t t1 f f1 =
-    makes_so (Goes peer n m p q olds mids) (BreaksOff peer n p olds) t t1 f f1 (λ calls goes. record { later = m; to = q; news = mids; goes = goes })
+pub broken_behind : {A : Type 0} → (peer : List ℕ) (n m : ℕ) (p q : Process A) (olds mids : Rows) (seen seen1 : WiresSeen)
+    → Makes (Goes peer n m p q olds mids) seen seen1 → Makes (BreaksOff peer n p olds) seen seen1
+broken_behind peer n m p q olds mids seen seen1 =
+    makes_so (Goes peer n m p q olds mids) (BreaksOff peer n p olds) seen seen1 (λ calls goes. record { later = m; to = q; news = mids; goes = goes })
 
-pub broken_bound_behind : {A : Type 0} → {B : Type 0} → (peer : List ℕ) (n m : ℕ) (p : Process A) (a : A) (later : A → Process B) (olds mids : Rows) (t t1 : Option (List WireCall)) (f f1 : ℕ)
-    → Makes (Goes peer n m p (done a) olds mids) t t1 f f1 → Makes (BreaksOff peer n (and_then p later) olds) t t1 f f1
-broken_bound_behind peer n m p a later olds mids t t1 f f1 =
-    makes_so (Goes peer n m p (done a) olds mids) (BreaksOff peer n (and_then p later) olds) t t1 f f1
+pub broken_bound_behind : {A : Type 0} → {B : Type 0} → (peer : List ℕ) (n m : ℕ) (p : Process A) (a : A) (later : A → Process B) (olds mids : Rows) (seen seen1 : WiresSeen)
+    → Makes (Goes peer n m p (done a) olds mids) seen seen1 → Makes (BreaksOff peer n (and_then p later) olds) seen seen1
+broken_bound_behind peer n m p a later olds mids seen seen1 =
+    makes_so (Goes peer n m p (done a) olds mids) (BreaksOff peer n (and_then p later) olds) seen seen1
     (λ calls goes. record { later = m; to = later a; news = mids; goes = goes_bound peer n m p (done a) later olds mids calls goes })
 
-pub stays_here : {A : Type 0} → (peer : List ℕ) (n : ℕ) (p : Process A) (rows : Rows) (t : Option (List WireCall)) (f : ℕ) → Makes (Goes peer n n p p rows rows) t t f f
-stays_here peer n p rows t f = makes_none (Goes peer n n p p rows rows) t f (here n p rows)
+pub stays_here : {A : Type 0} → (peer : List ℕ) (n : ℕ) (p : Process A) (rows : Rows) (seen : WiresSeen) → Makes (Goes peer n n p p rows rows) seen seen
+stays_here peer n p rows seen = makes_none (Goes peer n n p p rows rows) seen (here n p rows)

@@ -2,6 +2,7 @@
 use Rattle.std.proofs.Common.{◌≡◌, ℕ, zero, suc, ◌+◌, ◌<◌, ◌≤◌, Bool, true, false, List, [], ◌∷◌, length, nat_lt, Option, Some, None, refl, sym, ap, ◌∙◌, subst, arith}
 use Rattle.std.specs.Prelude.{Err, Ok, if◌then◌else◌}
 use Rattle.std.proofs.lemmas.Option.{none-some}
+use Rattle.tcf_wires.specs.Told.{WiresSeen}
 use Rattle.tcf_wires.specs.declared.call.WireCall.{WireCall}
 use Rattle.serving_wires.proofs.Making.{makes_both, makes_none, makes_so}
 use Rattle.serving_wires.specs.Calls.{Makes}
@@ -124,24 +125,24 @@ within_goes peer n m most p q olds news calls (told u l order p2 q2 os ns cs goe
 within_goes peer n m most p q olds news calls (goes_answered u l answer next q2 os ns cs fits goes) within =
     within_goes peer _ m most (next answer) q _ news cs goes (within answer)
 
-pub taken_within : (peer : List ℕ) (n m : ℕ) (a next : Add) (olds news : Rows) (t t1 : Option (List WireCall)) (f f1 : ℕ)
-    → Makes (Goes peer n m (room_made a) (done next) olds news) t t1 f f1 → count_of next ≤ count_of a
-taken_within peer n m a next olds news t t1 f f1 made = within_goes peer n m (count_of a) (room_made a) (done next) olds news made.calls made.fits (within_room a)
+pub taken_within : (peer : List ℕ) (n m : ℕ) (a next : Add) (olds news : Rows) (seen seen1 : WiresSeen)
+    → Makes (Goes peer n m (room_made a) (done next) olds news) seen seen1 → count_of next ≤ count_of a
+taken_within peer n m a next olds news seen seen1 made = within_goes peer n m (count_of a) (room_made a) (done next) olds news made.calls made.fits (within_room a)
 
 -- ---- as the code goes on
 
-pub record PassesTo (peer : List ℕ) (n m : ℕ) (first now : Add) (olds news : Rows) (t t1 : Option (List WireCall)) (f f1 : ℕ) : Type 0 where
+pub record PassesTo (peer : List ℕ) (n m : ℕ) (first now : Add) (olds news : Rows) (seen seen1 : WiresSeen) : Type 0 where
   pub rounds : ℕ
   pub enough : count_of now ≤ rounds
-  pub goes : Makes (Goes peer n m (passed_on first) (given_so_many rounds now) olds news) t t1 f f1
+  pub goes : Makes (Goes peer n m (passed_on first) (given_so_many rounds now) olds news) seen seen1
 
-pub pass_begins : (peer : List ℕ) (n : ℕ) (a : Add) (rows : Rows) (t : Option (List WireCall)) (f : ℕ) → PassesTo peer n n a a rows rows t t f f
+pub pass_begins : (peer : List ℕ) (n : ℕ) (a : Add) (rows : Rows) (seen : WiresSeen) → PassesTo peer n n a a rows rows seen seen
 unfolding passed_on
-pass_begins peer n a rows t f =
+pass_begins peer n a rows seen =
     record {
       rounds = count_of a;
       enough = omega arith;
-      goes = makes_none (Goes peer n n (passed_on a) (given_so_many (count_of a) a) rows rows) t f (here n (passed_on a) rows);
+      goes = makes_none (Goes peer n n (passed_on a) (given_so_many (count_of a) a) rows rows) seen (here n (passed_on a) rows);
     }
 
 -- one round more
@@ -162,16 +163,16 @@ next_round zero now given flag is so enough = absurd (let less = fewer_wait flag
 next_round (suc rounds) now given flag is so enough =
     record { rest = rounds; fewer = (let less = fewer_wait flag now given is so in omega (arith, less, enough)); is = one_round rounds now given flag is so }
 
-pub pass_next : (peer : List ℕ) (n m k : ℕ) (first now given next : Add) (flag : Bool) (olds mids news : Rows) (t t1 t2 : Option (List WireCall)) (f f1 f2 : ℕ)
-    → (flag, given) ≡ next_given now → flag ≡ true → PassesTo peer n m first now olds mids t t1 f f1
-    → Makes (Goes peer m k (room_made given) (done next) mids news) t1 t2 f1 f2 → PassesTo peer n k first next olds news t t2 f f2
-pass_next peer n m k first now given next flag olds mids news t t1 t2 f f1 f2 is so passes made =
+pub pass_next : (peer : List ℕ) (n m k : ℕ) (first now given next : Add) (flag : Bool) (olds mids news : Rows) (seen seen1 seen2 : WiresSeen)
+    → (flag, given) ≡ next_given now → flag ≡ true → PassesTo peer n m first now olds mids seen seen1
+    → Makes (Goes peer m k (room_made given) (done next) mids news) seen1 seen2 → PassesTo peer n k first next olds news seen seen2
+pass_next peer n m k first now given next flag olds mids news seen seen1 seen2 is so passes made =
     let r = next_round passes.rounds now given flag is so passes.enough in
     record {
       rounds = r.rest;
-      enough = (let less = taken_within peer m k given next mids news t1 t2 f1 f2 made in omega (arith, less, r.fewer));
+      enough = (let less = taken_within peer m k given next mids news seen1 seen2 made in omega (arith, less, r.fewer));
       goes = makes_both (Goes peer n m (passed_on first) (given_so_many passes.rounds now) olds mids) (Goes peer m k (room_made given) (done next) mids news)
-          (Goes peer n k (passed_on first) (given_so_many r.rest next) olds news) t t1 t2 f f1 f2
+          (Goes peer n k (passed_on first) (given_so_many r.rest next) olds news) seen seen1 seen2
           (λ calls more one two.
           goes_then peer n m k (passed_on first) (given_so_many passes.rounds now) (given_so_many r.rest next) olds mids news calls more one
           (subst (λ (p : Process Add). Goes peer m k p (given_so_many r.rest next) mids news more) (sym r.is)
@@ -179,21 +180,21 @@ pass_next peer n m k first now given next flag olds mids news t t1 t2 f f1 f2 is
           passes.goes made;
     }
 
-pub pass_breaks : (peer : List ℕ) (n m : ℕ) (first now given : Add) (flag : Bool) (olds mids : Rows) (t t1 t2 : Option (List WireCall)) (f f1 f2 : ℕ)
-    → (flag, given) ≡ next_given now → flag ≡ true → PassesTo peer n m first now olds mids t t1 f f1
-    → Makes (BreaksOff peer m (room_made given) mids) t1 t2 f1 f2 → Makes (BreaksOff peer n (passed_on first) olds) t t2 f f2
-pass_breaks peer n m first now given flag olds mids t t1 t2 f f1 f2 is so passes =
+pub pass_breaks : (peer : List ℕ) (n m : ℕ) (first now given : Add) (flag : Bool) (olds mids : Rows) (seen seen1 seen2 : WiresSeen)
+    → (flag, given) ≡ next_given now → flag ≡ true → PassesTo peer n m first now olds mids seen seen1
+    → Makes (BreaksOff peer m (room_made given) mids) seen1 seen2 → Makes (BreaksOff peer n (passed_on first) olds) seen seen2
+pass_breaks peer n m first now given flag olds mids seen seen1 seen2 is so passes =
     let r = next_round passes.rounds now given flag is so passes.enough in
-    makes_both (Goes peer n m (passed_on first) (given_so_many passes.rounds now) olds mids) (BreaksOff peer m (room_made given) mids) (BreaksOff peer n (passed_on first) olds) t t1 t2 f f1 f2
+    makes_both (Goes peer n m (passed_on first) (given_so_many passes.rounds now) olds mids) (BreaksOff peer m (room_made given) mids) (BreaksOff peer n (passed_on first) olds) seen seen1 seen2
     (λ calls more one two.
     breaks_then peer n m (passed_on first) (given_so_many passes.rounds now) olds mids calls more one
     (subst (λ (p : Process Add). BreaksOff peer m p mids more) (sym r.is) (breaks_bound peer m (room_made given) (λ last. given_so_many r.rest last) mids more two)))
     passes.goes
 
-pub pass_not_given : (peer : List ℕ) (n m : ℕ) (first now : Add) (olds mids : Rows) (t t1 : Option (List WireCall)) (f f1 : ℕ) → PassesTo peer n m first now olds mids t t1 f f1
-    → Makes (BreaksOff peer n (passed_on first) olds) t t1 f f1
-pass_not_given peer n m first now olds mids t t1 f f1 passes =
-    makes_so (Goes peer n m (passed_on first) (given_so_many passes.rounds now) olds mids) (BreaksOff peer n (passed_on first) olds) t t1 f f1
+pub pass_not_given : (peer : List ℕ) (n m : ℕ) (first now : Add) (olds mids : Rows) (seen seen1 : WiresSeen) → PassesTo peer n m first now olds mids seen seen1
+    → Makes (BreaksOff peer n (passed_on first) olds) seen seen1
+pass_not_given peer n m first now olds mids seen seen1 passes =
+    makes_so (Goes peer n m (passed_on first) (given_so_many passes.rounds now) olds mids) (BreaksOff peer n (passed_on first) olds) seen seen1
     (λ calls goes. record { later = m; to = given_so_many passes.rounds now; news = mids; goes = goes }) passes.goes
 
 last_round : (rounds : ℕ) (now given : Add) (flag : Bool) → (flag, given) ≡ next_given now → flag ≡ false → count_of now ≤ rounds → given_so_many rounds now ≡ done given
@@ -203,8 +204,8 @@ last_round zero now given flag is so enough =
 last_round (suc rounds) now given flag is so enough =
     ap (λ (x : Bool × Add). after_giving x (λ next. round_of rounds next)) (sym is) ∙ ap (λ (b : Bool). after_giving (b, given) (λ next. round_of rounds next)) so
 
-pub pass_ends : (peer : List ℕ) (n m : ℕ) (first now given : Add) (flag : Bool) (olds news : Rows) (t t1 : Option (List WireCall)) (f f1 : ℕ)
-    → (flag, given) ≡ next_given now → flag ≡ false → PassesTo peer n m first now olds news t t1 f f1 → Makes (Goes peer n m (passed_on first) (done given) olds news) t t1 f f1
-pass_ends peer n m first now given flag olds news t t1 f f1 is so passes =
-    makes_so (Goes peer n m (passed_on first) (given_so_many passes.rounds now) olds news) (Goes peer n m (passed_on first) (done given) olds news) t t1 f f1
+pub pass_ends : (peer : List ℕ) (n m : ℕ) (first now given : Add) (flag : Bool) (olds news : Rows) (seen seen1 : WiresSeen)
+    → (flag, given) ≡ next_given now → flag ≡ false → PassesTo peer n m first now olds news seen seen1 → Makes (Goes peer n m (passed_on first) (done given) olds news) seen seen1
+pass_ends peer n m first now given flag olds news seen seen1 is so passes =
+    makes_so (Goes peer n m (passed_on first) (given_so_many passes.rounds now) olds news) (Goes peer n m (passed_on first) (done given) olds news) seen seen1
     (λ calls goes. subst (λ (p : Process Add). Goes peer n m (passed_on first) p olds news calls) (last_round passes.rounds now given flag is so passes.enough) goes) passes.goes

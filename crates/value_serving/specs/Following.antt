@@ -1,8 +1,10 @@
 -- How far a process has come by the calls of the wires, and what the outboxes are then.
 use Rattle.std.specs.Prelude.{ℕ, ◌≤◌, Bool, if◌then◌else◌, List, [], ◌∷◌, IfOk}
+use Rattle.serving_wires.specs.Calls.{Makes}
 use Rattle.serving_wires.specs.OutboxValue.{OutboxValue}
 use Rattle.serving_wires.specs.Row.{Row}
 use Rattle.tcf_wires.specs.Event.{unused_after_connect}
+use Rattle.tcf_wires.specs.Told.{WiresSeen}
 use Rattle.tcf_wires.specs.declared.call.WireCall.{WireCall}
 use Rattle.tcf_wires.specs.declared.call.WireCall.TheVariants.{Connected}
 use Rattle.value_serving.specs.Adds.{one_taken}
@@ -37,3 +39,24 @@ GoesBehind peer unused later old new is_taken olds news calls = (follows : Add �
 
 abbrev pub BreaksOffBehind : List ℕ → ℕ → Add → List (Row OutboxValue) → List WireCall → Type 0
 BreaksOffBehind peer unused old olds calls = (follows : Add → Process Add) → BreaksOff peer unused (after_turn (one_taken old.node) old follows) olds calls
+
+-- ---- by what is seen of the wires, before it and after it
+
+-- by some calls it is done, with what came of it
+abbrev pub Does : {A : Type 0} → List ℕ → Process A → A → List (Row OutboxValue) → List (Row OutboxValue) → ℕ → ℕ → WiresSeen → WiresSeen → Type 0
+Does peer p a olds news unused later before after = Makes (Goes peer unused later p (done a) olds news) before after
+
+-- with no call at all, whatever numbers were given
+abbrev pub DoesAlone : {A : Type 0} → List ℕ → Process A → A → List (Row OutboxValue) → List (Row OutboxValue) → Type 0
+DoesAlone peer p a olds news = (unused : ℕ) → Goes peer unused unused p (done a) olds news []
+
+-- a part of it was, and then memory was wanting
+abbrev pub DoesPart : {A : Type 0} → List ℕ → Process A → List (Row OutboxValue) → ℕ → WiresSeen → WiresSeen → Type 0
+DoesPart peer p olds unused before after = Makes (BreaksOff peer unused p olds) before after
+
+-- the same of a turn
+abbrev pub TakesOne : List ℕ → Add → Add → Bool → List (Row OutboxValue) → List (Row OutboxValue) → ℕ → ℕ → WiresSeen → WiresSeen → Type 0
+TakesOne peer old new is_taken olds news unused later before after = Makes (GoesBehind peer unused later old new is_taken olds news) before after
+
+abbrev pub TakesPart : List ℕ → Add → List (Row OutboxValue) → ℕ → WiresSeen → WiresSeen → Type 0
+TakesPart peer old olds unused before after = Makes (BreaksOffBehind peer unused old olds) before after

@@ -26,6 +26,10 @@ abbrev pub answered : Answer → Add → Process Add
 answered (Ok channel) a = leaving a.above (done (connected_on channel a))
 answered (Err refusal) a = done (with_node (connect_failed a.node) a)
 
+-- a connection is asked for
+abbrev pub connecting : Add → Process Add
+connecting a = asks (λ answer. answered answer a)
+
 -- ---- messages are taken
 
 abbrev pub after_turn : ValueTurn × ValueValue → Add → (Add → Process Add) → Process Add

@@ -7,6 +7,9 @@ use Rattle.tcf_wires.specs.declared.event.WireEvent.{WireEvent}
 use Rattle.tcf_wires.specs.declared.event.WireEvent.TheVariants as events
 use Rattle.std.specs.Prelude.{Ok, Err}
 use Rattle.serving_wires.specs.Changes.{changed_on}
+use Rattle.value_node.specs.ValueValue.{ValueValue}
+use Rattle.value_node.specs.declared.states.Side.{Side}
+use Rattle.value_serving.specs.Adds.{bytes_for, is_over}
 use Rattle.value_serving.specs.Order.{Order, channel_of, closes, leaves, queues}
 use Rattle.value_serving.specs.Process.{Answer}
 
@@ -45,3 +48,7 @@ left_for (Some earlier) rows = ordered (leaves earlier) rows
 abbrev pub closed_if : Bool → ℕ → List (Row OutboxValue) → List (Row OutboxValue)
 closed_if true channel rows = ordered (closes channel) rows
 closed_if false channel rows = rows
+
+-- what a side has to send is queued, and behind the last of it nothing more will be
+abbrev pub with_sent : Side → ℕ → ValueValue → List (Row OutboxValue) → List (Row OutboxValue)
+with_sent side channel node rows = closed_if (is_over side node.relay.bind) channel (ordered (queues channel (bytes_for side node)) rows)

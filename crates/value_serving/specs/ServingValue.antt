@@ -1,3 +1,4 @@
+-- Value-adds that are served, with their wires, as contracts see them.
 use Rattle.std.specs.Prelude.{ℕ, List, refl}
 use Rattle.std.specs.Coded.{Coded, code_by, coded×, coded_list, coded_ℕ}
 use Rattle.serving_wires.specs.OutboxValue.{OutboxValue}

@@ -3,19 +3,41 @@ use Rattle.std.specs.Prelude.{ℕ, ◌≡◌, Bool, IsTrue, List, [], ◌∷◌,
 use Rattle.serving_wires.specs.Row.{Row}
 use Rattle.serving_wires.specs.OutboxValue.{OutboxValue}
 use Rattle.tcf_wires.specs.Event.{can_come, unused_after_next}
+use Rattle.tcf_wires.specs.Told.{WiresSeen}
 use Rattle.tcf_wires.specs.declared.call.WireCall.{WireCall}
 use Rattle.tcf_wires.specs.declared.call.WireCall.TheVariants.{Gave}
 use Rattle.tcf_wires.specs.declared.event.WireEvent.{WireEvent}
 use Rattle.tcf_wires.specs.declared.event.WireRefusal.{WireRefusal}
 use Rattle.tcf_wires.specs.declared.event.WireRefusal.TheVariants.{Failed, NoMemory}
 use Rattle.serving_wires.specs.Flushing.{FlushesKept, GivesUpAll, its_own}
-use Rattle.value_serving.specs.Following.{BreaksOff, Goes}
+use Rattle.value_serving.specs.Following.{BreaksOff, Does, DoesAlone, DoesPart, Goes}
 use Rattle.value_serving.specs.Process.{done}
-use Rattle.value_serving.specs.Sending.{opened_by}
+use Rattle.value_serving.specs.Sending.{begun, opened_by}
 use Rattle.serving_wires.specs.Serving.{is_stop}
-use Rattle.value_serving.specs.Serving.{handled}
+use Rattle.serving_wires.specs.declared.intake.Came.{Came}
+use Rattle.value_serving.specs.Serving.{handled, heard_on, opened}
 use Rattle.value_serving.specs.ServingValue.{ServingValue}
 use Rattle.value_serving.specs.declared.add.Add.{Add}
+
+-- the value-adds do with an event what they do, or a part of it
+abbrev pub Heeds : WireEvent → ServingValue → ServingValue → ℕ → ℕ → WiresSeen → WiresSeen → Type 0
+Heeds event old new unused later before after =
+    Does old.peer (handled old.peer event old.adds) new.adds (opened_by event old.sending) new.sending unused later before after
+
+abbrev pub HeedsPart : WireEvent → ServingValue → ℕ → WiresSeen → WiresSeen → Type 0
+HeedsPart event old unused before after = DoesPart old.peer (handled old.peer event old.adds) (opened_by event old.sending) unused before after
+
+-- the same of what came on a channel
+abbrev pub HeedsOn : ℕ → Came → ServingValue → ServingValue → ℕ → ℕ → WiresSeen → WiresSeen → Type 0
+HeedsOn channel came old new unused later before after =
+    Does old.peer (heard_on channel came old.adds) new.adds old.sending new.sending unused later before after
+
+abbrev pub HeedsPartOn : ℕ → Came → ServingValue → ℕ → WiresSeen → WiresSeen → Type 0
+HeedsPartOn channel came old unused before after = DoesPart old.peer (heard_on channel came old.adds) old.sending unused before after
+
+-- and of a connection that came, for which no call is made
+abbrev pub HeedsOpening : ℕ → ServingValue → ServingValue → Type 0
+HeedsOpening channel old new = DoesAlone old.peer (opened old.peer channel old.adds) new.adds (begun channel old.sending) new.sending
 
 -- An event comes, the value-adds do with it what they do, with the connects that they ask for, and what is queued is put; the
 -- answer is whether it was Stop.

@@ -1,12 +1,9 @@
 //! What came for a value-add passes through it, and a connection is made where it asks for one.
-ghost use Rattle.std.specs.Prelude.{◌≡◌, IfOk, OnErr, OnOk, Some, [], if◌then◌else◌};
-ghost use Rattle.serving_wires.specs.Calls.{Makes};
-ghost use Rattle.value_serving.specs.Adds.{emptied, is_over, bytes_for};
-ghost use Rattle.value_serving.specs.Following.{BreaksOff, BreaksOffBehind, Goes, GoesBehind};
-ghost use Rattle.value_serving.specs.Passing.{room_made, answered, connected_on, gathered, heard, passed_on, taken};
-ghost use Rattle.value_serving.specs.Process.{asks, done};
-ghost use Rattle.value_serving.specs.Sending.{begun, closed_if, left_for, ordered};
-ghost use Rattle.value_serving.specs.Order.{queues};
+ghost use Rattle.std.specs.Prelude.{◌≡◌, IfOk, OnErr, OnOk};
+ghost use Rattle.value_serving.specs.Adds.{emptied};
+ghost use Rattle.value_serving.specs.Following.{Does, DoesAlone, DoesPart, TakesOne, TakesPart};
+ghost use Rattle.value_serving.specs.Passing.{connected_on, connecting, gathered, heard, passed_on, room_made, taken};
+ghost use Rattle.value_serving.specs.Sending.{begun, left_for, with_sent};
 
 use crate::add::{Add, is_over, take_one, take_out};
 use crate::sending::Sending;
@@ -26,8 +23,10 @@ pub(crate) fn hear<W: Wires>(
     wires: &mut W,
     peer: &str,
 ) -> Result<(), AllocError>
-    ensures ok { OnOk result (Makes (Goes peer.now (W.unused wires.old) (W.unused wires.new) (heard side came add.old) (done add.new) sending.old sending.new) (W.told wires.old) (W.told wires.new) (W.faults wires.old) (W.faults wires.new)) }
-    ensures err { OnErr result (Makes (BreaksOff peer.now (W.unused wires.old) (heard side came add.old) sending.old) (W.told wires.old) (W.told wires.new) (W.faults wires.old) (W.faults wires.new)) }
+    ensures ok { OnOk result (Does peer.now (heard side came add.old) add.new sending.old sending.new
+        (W.unused wires.old) (W.unused wires.new) (W.seen wires.old) (W.seen wires.new)) }
+    ensures err { OnErr result (DoesPart peer.now (heard side came add.old) sending.old
+        (W.unused wires.old) (W.seen wires.old) (W.seen wires.new)) }
 {
     add.wait(side, came)?;
     pass_on(alloc, add, sending, wires, peer)?;
@@ -42,8 +41,10 @@ fn pass_on<W: Wires>(
     wires: &mut W,
     peer: &str,
 ) -> Result<(), AllocError>
-    ensures ok { OnOk result (Makes (Goes peer.now (W.unused wires.old) (W.unused wires.new) (passed_on add.old) (done add.new) sending.old sending.new) (W.told wires.old) (W.told wires.new) (W.faults wires.old) (W.faults wires.new)) }
-    ensures err { OnErr result (Makes (BreaksOff peer.now (W.unused wires.old) (passed_on add.old) sending.old) (W.told wires.old) (W.told wires.new) (W.faults wires.old) (W.faults wires.new)) }
+    ensures ok { OnOk result (Does peer.now (passed_on add.old) add.new sending.old sending.new
+        (W.unused wires.old) (W.unused wires.new) (W.seen wires.old) (W.seen wires.new)) }
+    ensures err { OnErr result (DoesPart peer.now (passed_on add.old) sending.old
+        (W.unused wires.old) (W.seen wires.old) (W.seen wires.new)) }
 {
     while add.give_next()? {
         make_room(alloc, add, sending, wires, peer)?;
@@ -59,8 +60,10 @@ fn make_room<W: Wires>(
     wires: &mut W,
     peer: &str,
 ) -> Result<(), AllocError>
-    ensures ok { OnOk result (Makes (Goes peer.now (W.unused wires.old) (W.unused wires.new) (room_made add.old) (done add.new) sending.old sending.new) (W.told wires.old) (W.told wires.new) (W.faults wires.old) (W.faults wires.new)) }
-    ensures err { OnErr result (Makes (BreaksOff peer.now (W.unused wires.old) (room_made add.old) sending.old) (W.told wires.old) (W.told wires.new) (W.faults wires.old) (W.faults wires.new)) }
+    ensures ok { OnOk result (Does peer.now (room_made add.old) add.new sending.old sending.new
+        (W.unused wires.old) (W.unused wires.new) (W.seen wires.old) (W.seen wires.new)) }
+    ensures err { OnErr result (DoesPart peer.now (room_made add.old) sending.old
+        (W.unused wires.old) (W.seen wires.old) (W.seen wires.new)) }
 {
     let below = add.node.waiting(Side::Below);
     let above = add.node.waiting(Side::Above);
@@ -77,8 +80,10 @@ fn take<W: Wires>(
     peer: &str,
     count: usize,
 ) -> Result<(), AllocError>
-    ensures ok { OnOk result (Makes (Goes peer.now (W.unused wires.old) (W.unused wires.new) (taken count add.old) (done add.new) sending.old sending.new) (W.told wires.old) (W.told wires.new) (W.faults wires.old) (W.faults wires.new)) }
-    ensures err { OnErr result (Makes (BreaksOff peer.now (W.unused wires.old) (taken count add.old) sending.old) (W.told wires.old) (W.told wires.new) (W.faults wires.old) (W.faults wires.new)) }
+    ensures ok { OnOk result (Does peer.now (taken count add.old) add.new sending.old sending.new
+        (W.unused wires.old) (W.unused wires.new) (W.seen wires.old) (W.seen wires.new)) }
+    ensures err { OnErr result (DoesPart peer.now (taken count add.old) sending.old
+        (W.unused wires.old) (W.seen wires.old) (W.seen wires.new)) }
 {
     for _ in 0..count {
         if add.can_give() {
@@ -101,8 +106,10 @@ fn turn<W: Wires>(
     wires: &mut W,
     peer: &str,
 ) -> Result<bool, AllocError>
-    ensures ok { IfOk result (λ is_taken. Makes (GoesBehind peer.now (W.unused wires.old) (W.unused wires.new) add.old add.new is_taken sending.old sending.new) (W.told wires.old) (W.told wires.new) (W.faults wires.old) (W.faults wires.new)) }
-    ensures err { OnErr result (Makes (BreaksOffBehind peer.now (W.unused wires.old) add.old sending.old) (W.told wires.old) (W.told wires.new) (W.faults wires.old) (W.faults wires.new)) }
+    ensures ok { IfOk result (λ is_taken. TakesOne peer.now add.old add.new is_taken sending.old sending.new
+        (W.unused wires.old) (W.unused wires.new) (W.seen wires.old) (W.seen wires.new)) }
+    ensures err { OnErr result (TakesPart peer.now add.old sending.old
+        (W.unused wires.old) (W.seen wires.old) (W.seen wires.new)) }
 {
     match take_one(&mut add.node)? {
         ValueTurn::Nothing => Ok(false),
@@ -122,8 +129,10 @@ fn connect<W: Wires>(
     wires: &mut W,
     peer: &str,
 ) -> Result<(), AllocError>
-    ensures ok { OnOk result (Makes (Goes peer.now (W.unused wires.old) (W.unused wires.new) (asks (λ answer. answered answer add.old)) (done add.new) sending.old sending.new) (W.told wires.old) (W.told wires.new) (W.faults wires.old) (W.faults wires.new)) }
-    ensures err { OnErr result (Makes (BreaksOff peer.now (W.unused wires.old) (asks (λ answer. answered answer add.old)) sending.old) (W.told wires.old) (W.told wires.new) (W.faults wires.old) (W.faults wires.new)) }
+    ensures ok { OnOk result (Does peer.now (connecting add.old) add.new sending.old sending.new
+        (W.unused wires.old) (W.unused wires.new) (W.seen wires.old) (W.seen wires.new)) }
+    ensures err { OnErr result (DoesPart peer.now (connecting add.old) sending.old
+        (W.unused wires.old) (W.seen wires.old) (W.seen wires.new)) }
 {
     match wires.connect(peer) {
         Ok(channel) => begin_above(alloc, add, sending, channel),
@@ -154,7 +163,7 @@ fn begin_above(
 
 /// Queues what the value-add has to send. Behind a side on which nothing more is said nothing more will be queued.
 pub(crate) fn gather(alloc: Global, add: &mut Add, sending: &mut Sending) -> Result<(), AllocError>
-    ensures { OnOk result ((peer : _) (unused : _) → Goes peer unused unused (gathered add.old) (done add.new) sending.old sending.new []) }
+    ensures { OnOk result ((peer : _) → DoesAlone peer (gathered add.old) add.new sending.old sending.new) }
 {
     send(alloc, &mut add.node, Side::Below, add.below, sending)?;
     match add.above {
@@ -172,7 +181,7 @@ fn send(
     sending: &mut Sending,
 ) -> Result<(), AllocError>
     ensures node { OnOk result (node.new ≡ emptied side node.old) }
-    ensures sending { OnOk result (sending.new ≡ closed_if (is_over side node.old.relay.bind) channel (ordered (queues channel (bytes_for side node.old)) sending.old)) }
+    ensures sending { OnOk result (sending.new ≡ with_sent side channel node.old sending.old) }
 {
     let is_last = is_over(node.bind(), side);
     let bytes = take_out(alloc, node, side)?;

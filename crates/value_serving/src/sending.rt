@@ -81,8 +81,10 @@ impl Sending {
 
     /// Puts what is queued, wire by wire in the order of their channels, and shuts and forgets those that are done with.
     pub fn flush<W: Wires>(&mut self, wires: &mut W) -> Result<(), AllocError>
-        ensures ok { OnOk result (Makes (FlushesKept its_own self.old self.new) (W.told wires.old) (W.told wires.new) (W.faults wires.old) (W.faults wires.new)) }
-        ensures err { OnErr result (Makes (GivesUpAll its_own self.old) (W.told wires.old) (W.told wires.new) (W.faults wires.old) (W.faults wires.new)) }
+        ensures ok { OnOk result (Makes (FlushesKept its_own self.old self.new)
+            (W.seen wires.old) (W.seen wires.new)) }
+        ensures err { OnErr result (Makes (GivesUpAll its_own self.old)
+            (W.seen wires.old) (W.seen wires.new)) }
         ensures numbers { W.unused wires.new ≡ W.unused wires.old }
     {
         flush_rows(&mut self.outboxes, wires)

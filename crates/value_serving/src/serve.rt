@@ -30,8 +30,9 @@ pub fn serve_value<W: Wires>(
     peer: &str,
     turns: u32,
 ) -> ServeEnd
-    ensures serves { Makes (ServesValueAdds peer.now address.now turns result) (W.told wires.old) (W.told wires.new) (W.faults wires.old) (W.faults wires.new) }
-    ensures fault { result ≡ ServeEnd.WireFault → Rose (W.faults wires.old) (W.faults wires.new) }
+    ensures serves { Makes (ServesValueAdds peer.now address.now turns result)
+        (W.seen wires.old) (W.seen wires.new) }
+    ensures fault { result ≡ ServeEnd.WireFault → Rose (W.seen wires.old).faults (W.seen wires.new).faults }
 {
     end_of(try_serve(alloc, wires, address, peer, turns))
 }
@@ -43,8 +44,9 @@ fn try_serve<W: Wires>(
     peer: &str,
     turns: u32,
 ) -> Result<ServeEnd, WireRefusal>
-    ensures serves { Makes (ServesValueAdds peer.now address.now turns (end_of result)) (W.told wires.old) (W.told wires.new) (W.faults wires.old) (W.faults wires.new) }
-    ensures fault { end_of result ≡ ServeEnd.WireFault → Rose (W.faults wires.old) (W.faults wires.new) }
+    ensures serves { Makes (ServesValueAdds peer.now address.now turns (end_of result))
+        (W.seen wires.old) (W.seen wires.new) }
+    ensures fault { end_of result ≡ ServeEnd.WireFault → Rose (W.seen wires.old).faults (W.seen wires.new).faults }
 {
     each_wire_is_carried();
     let mut serving = Serving::new(alloc, peer)?;
@@ -60,7 +62,8 @@ fn try_serve<W: Wires>(
 
 /// Takes an event and puts what is queued then. Answers whether it was `Stop`.
 fn take_turn<W: Wires>(serving: &mut Serving, wires: &mut W) -> Result<bool, WireRefusal>
-    ensures turn { Makes (TakesTurn serving.old serving.new (W.unused wires.old) (W.unused wires.new) result) (W.told wires.old) (W.told wires.new) (W.faults wires.old) (W.faults wires.new) }
+    ensures turn { Makes (TakesTurn serving.old serving.new (W.unused wires.old) (W.unused wires.new) result)
+        (W.seen wires.old) (W.seen wires.new) }
 {
     let event = wires.next()?;
     let is_last = is_stop(&event);

@@ -1,11 +1,10 @@
 //! The value-adds that are served, with their wires, and what each event makes of them.
-ghost use Rattle.std.specs.Prelude.{◌≡◌, [], IfOk, OnErr, OnOk};
+ghost use Rattle.std.specs.Prelude.{◌≡◌, IfOk, OnErr, OnOk};
 ghost use Rattle.serving_wires.specs.Calls.{Makes};
 ghost use Rattle.serving_wires.specs.Flushing.{FlushesKept, GivesUpAll, its_own};
-ghost use Rattle.value_serving.specs.Following.{BreaksOff, Goes};
-ghost use Rattle.value_serving.specs.Process.{done};
-ghost use Rattle.value_serving.specs.Sending.{opened_by, begun};
-ghost use Rattle.value_serving.specs.Serving.{above_of, handled, heard_at, heard_on, kept_unless, new_serving, opened, is_above_at, is_over_at, wire_of};
+ghost use Rattle.value_serving.specs.Following.{Does, DoesPart};
+ghost use Rattle.value_serving.specs.Serving.{above_of, heard_at, kept_unless, new_serving, is_above_at, is_over_at, wire_of};
+ghost use Rattle.value_serving.specs.Turn.{Heeds, HeedsOn, HeedsOpening, HeedsPart, HeedsPartOn};
 
 use crate::add::{Add, is_over, new_add};
 use crate::passing::{gather, hear};
@@ -58,8 +57,9 @@ impl Serving {
     #[tactic(auto, unfolding(crate::specs::Serving::handled))]
     pub fn heed<W: Wires>(&mut self, event: WireEvent, wires: &mut W) -> Result<(), AllocError>
         ensures peer { OnOk result (self.new.peer ≡ self.old.peer) }
-        ensures ok { OnOk result (Makes (Goes self.old.peer (W.unused wires.old) (W.unused wires.new) (handled self.old.peer event self.old.adds) (done self.new.adds) (opened_by event self.old.sending) self.new.sending) (W.told wires.old) (W.told wires.new) (W.faults wires.old) (W.faults wires.new)) }
-        ensures err { OnErr result (Makes (BreaksOff self.old.peer (W.unused wires.old) (handled self.old.peer event self.old.adds) (opened_by event self.old.sending)) (W.told wires.old) (W.told wires.new) (W.faults wires.old) (W.faults wires.new)) }
+        ensures ok { OnOk result (Heeds event self.old self.new
+            (W.unused wires.old) (W.unused wires.new) (W.seen wires.old) (W.seen wires.new)) }
+        ensures err { OnErr result (HeedsPart event self.old (W.unused wires.old) (W.seen wires.old) (W.seen wires.new)) }
     {
         match event {
             WireEvent::Opened(channel) => self.open(channel),
@@ -74,7 +74,7 @@ impl Serving {
     /// A connection came. While 64 value-adds are there it is sent the end of the stream alone.
     fn open(&mut self, channel: u64) -> Result<(), AllocError>
         ensures peer { OnOk result (self.new.peer ≡ self.old.peer) }
-        ensures ok { OnOk result ((unused : _) → Goes self.old.peer unused unused (opened self.old.peer channel self.old.adds) (done self.new.adds) (begun channel self.old.sending) self.new.sending []) }
+        ensures ok { OnOk result (HeedsOpening channel self.old self.new) }
     {
         self.sending.begin(channel)?;
         if self.adds.len() >= MOST {
@@ -90,8 +90,9 @@ impl Serving {
     /// Something came on a channel. On one of no value-add it is dropped.
     fn hear<W: Wires>(&mut self, channel: u64, came: Came, wires: &mut W) -> Result<(), AllocError>
         ensures peer { OnOk result (self.new.peer ≡ self.old.peer) }
-        ensures ok { OnOk result (Makes (Goes self.old.peer (W.unused wires.old) (W.unused wires.new) (heard_on channel came self.old.adds) (done self.new.adds) self.old.sending self.new.sending) (W.told wires.old) (W.told wires.new) (W.faults wires.old) (W.faults wires.new)) }
-        ensures err { OnErr result (Makes (BreaksOff self.old.peer (W.unused wires.old) (heard_on channel came self.old.adds) self.old.sending) (W.told wires.old) (W.told wires.new) (W.faults wires.old) (W.faults wires.new)) }
+        ensures ok { OnOk result (HeedsOn channel came self.old self.new
+            (W.unused wires.old) (W.unused wires.new) (W.seen wires.old) (W.seen wires.new)) }
+        ensures err { OnErr result (HeedsPartOn channel came self.old (W.unused wires.old) (W.seen wires.old) (W.seen wires.new)) }
     {
         if let Some((place, side)) = wire_of(&self.adds, channel) {
             hear_at(
@@ -113,8 +114,10 @@ impl Serving {
     pub fn flush<W: Wires>(&mut self, wires: &mut W) -> Result<(), AllocError>
         ensures peer { OnOk result (self.new.peer ≡ self.old.peer) }
         ensures adds { OnOk result (self.new.adds ≡ self.old.adds) }
-        ensures ok { OnOk result (Makes (FlushesKept its_own self.old.sending self.new.sending) (W.told wires.old) (W.told wires.new) (W.faults wires.old) (W.faults wires.new)) }
-        ensures err { OnErr result (Makes (GivesUpAll its_own self.old.sending) (W.told wires.old) (W.told wires.new) (W.faults wires.old) (W.faults wires.new)) }
+        ensures ok { OnOk result (Makes (FlushesKept its_own self.old.sending self.new.sending)
+            (W.seen wires.old) (W.seen wires.new)) }
+        ensures err { OnErr result (Makes (GivesUpAll its_own self.old.sending)
+            (W.seen wires.old) (W.seen wires.new)) }
         ensures numbers { W.unused wires.new ≡ W.unused wires.old }
     {
         self.sending.flush(wires)
@@ -132,8 +135,10 @@ fn hear_at<W: Wires>(
     wires: &mut W,
     peer: &str,
 ) -> Result<(), AllocError>
-    ensures ok { OnOk result (Makes (Goes peer.now (W.unused wires.old) (W.unused wires.new) (heard_at place side came adds.old) (done adds.new) sending.old sending.new) (W.told wires.old) (W.told wires.new) (W.faults wires.old) (W.faults wires.new)) }
-    ensures err { OnErr result (Makes (BreaksOff peer.now (W.unused wires.old) (heard_at place side came adds.old) sending.old) (W.told wires.old) (W.told wires.new) (W.faults wires.old) (W.faults wires.new)) }
+    ensures ok { OnOk result (Does peer.now (heard_at place side came adds.old) adds.new sending.old sending.new
+        (W.unused wires.old) (W.unused wires.new) (W.seen wires.old) (W.seen wires.new)) }
+    ensures err { OnErr result (DoesPart peer.now (heard_at place side came adds.old) sending.old
+        (W.unused wires.old) (W.seen wires.old) (W.seen wires.new)) }
 {
     match adds.get_mut(place) {
         Some(add) => hear(alloc, add, side, came, sending, wires, peer),

@@ -6,7 +6,6 @@ use Rattle.block_store.specs.declared.block.Block.{Block}
 use Rattle.cache_learning.specs.Within.{AreWithin}
 use Rattle.knowledge.specs.Facts.{Facts}
 use Rattle.knowledge.specs.KnowledgeValue.{KnowledgeValue, facts_of}
-use Rattle.knowledge.specs.Laws.{RangesStaySame, RepliesStaySame}
 use Rattle.knowledge.specs.Reply.{answer_known, memory_used, reply, context_state_reply, memory_reply, parts_bytes, range_asked, register_known, suspended_reply, thread_reply, word_reply}
 use Rattle.knowledge.specs.declared.state.StateFact.{StateFact}
 use Rattle.knowledge.specs.declared.state.StateFact.TheVariants as state
@@ -21,6 +20,7 @@ use Rattle.tcf_values.specs.declared.values.RunState.TheVariants as run
 use Rattle.value_store.specs.Learning.{data_of, stored_answer, used_for}
 use Rattle.value_store.specs.Rows.{facts_in, rows_of}
 use Rattle.value_store.specs.StoreValue.{StoreValue}
+use Rattle.knowledge.proofs.TheLaws.{ranges_stay_same, replies_stay_same}
 use Rattle.value_store.proofs.Cached.{cache_same}
 use Rattle.value_store.proofs.Learned.{store_of}
 
@@ -82,17 +82,17 @@ pub within_used : (asked : Command) (before now : KnowledgeValue) (found : Optio
 within_used asked before now found is within =
     subst (λ (value : KnowledgeValue). AreWithin (facts_of value)) (sym (ap (λ p. p.1) is)) (record { contexts = within.contexts; properties = within.properties; statuses = within.statuses })
 
-pub used_store : RangesStaySame → (asked : Command) (before now : KnowledgeValue) (found : Option Answer) (mark : Option ℕ) (s : StoreValue) → store_of before mark ≡ s → (found, now) ≡ reply asked before
+pub used_store : (asked : Command) (before now : KnowledgeValue) (found : Option Answer) (mark : Option ℕ) (s : StoreValue) → store_of before mark ≡ s → (found, now) ≡ reply asked before
     → store_of now mark ≡ used_for asked s
-used_store stay asked before now found mark s same is =
+used_store asked before now found mark s same is =
     ap (λ (value : KnowledgeValue). store_of value mark) (ap (λ p. p.1) is)
-    ∙ ap (λ range. record (store_of before mark) { blocks = memory_used range before.blocks }) (stay asked (facts_of before) (facts_in (rows_of before)) (cache_same before))
+    ∙ ap (λ range. record (store_of before mark) { blocks = memory_used range before.blocks }) (ranges_stay_same asked (facts_of before) (facts_in (rows_of before)) (cache_same before))
     ∙ ap (used_for asked) same
 
-pub found_is : RepliesStaySame → (asked : Command) (before now : KnowledgeValue) (found : Option Answer) (mark : Option ℕ) (s : StoreValue) → store_of before mark ≡ s → (found, now) ≡ reply asked before
+pub found_is : (asked : Command) (before now : KnowledgeValue) (found : Option Answer) (mark : Option ℕ) (s : StoreValue) → store_of before mark ≡ s → (found, now) ≡ reply asked before
     → data_of asked found ≡ stored_answer asked s
-found_is stay asked before now found mark s same is =
-    ap (data_of asked) (ap (λ p. p.0) is ∙ stay asked (facts_of before) (facts_in (rows_of before)) before.blocks (cache_same before)) ∙ ap (stored_answer asked) same
+found_is asked before now found mark s same is =
+    ap (data_of asked) (ap (λ p. p.0) is ∙ replies_stay_same asked (facts_of before) (facts_in (rows_of before)) before.blocks (cache_same before)) ∙ ap (stored_answer asked) same
 
 pub known_answer : (asked : Command) (before now : KnowledgeValue) (answer : Answer) → (Some answer, now) ≡ reply asked before → AreWithin (facts_of before) → IsAnswerTo asked answer
 known_answer asked before now answer is within = answer_fits_row asked (facts_of before) before.blocks answer within (sym (ap (λ p. p.0) is))

@@ -7,11 +7,11 @@ use Rattle.block_store.specs.declared.block.Block.{Block}
 use Rattle.cache_learning.specs.Kept.{Learns}
 use Rattle.knowledge.specs.Facts.{AreSame, Facts}
 use Rattle.knowledge.specs.KnowledgeValue.{KnowledgeValue, facts_of}
-use Rattle.knowledge.specs.Laws.{BlocksStaySame, FactsStaySame}
 use Rattle.knowledge.specs.Learning.{Message, changes_of, learn, other_taken}
 use Rattle.value_store.specs.Learning.{taught}
 use Rattle.value_store.specs.Rows.{Rows, context_key, facts_in, keys_after, learned_rows, properties_key, register_key, register_under, rows_of, state_key, state_under, status_key}
 use Rattle.value_store.specs.StoreValue.{StoreValue}
+use Rattle.knowledge.proofs.TheLaws.{blocks_stay_same, facts_stay_same}
 use Rattle.value_store.proofs.Cached.{cache_same, context_at, properties_at, register_at, state_at, status_at}
 use Rattle.value_store.proofs.Changing.{all_properties_none, contexts_none, registers_none, states_none, statuses_none}
 use Rattle.value_store.proofs.Keyed.{get_at, is_among, not_left, not_right, nothing_under, same_keyed}
@@ -106,23 +106,23 @@ one_store : (known more : Rows) (blocks rest : List Block) (mark : Option ℕ) �
     → ◌≡◌ {A = StoreValue} (record { known = known; blocks = blocks; mark = mark }) (record { known = more; blocks = rest; mark = mark })
 one_store known more blocks rest mark same alike = λ i. record { known = same i; blocks = alike i; mark = mark }
 
-pub taught_is : FactsStaySame → BlocksStaySame → (message : Message) (before now : KnowledgeValue) (mark : Option ℕ) → Learns message before now
+pub taught_is : (message : Message) (before now : KnowledgeValue) (mark : Option ℕ) → Learns message before now
     → store_of now mark ≡ taught message (store_of before mark)
-taught_is facts_stay blocks_stay message before now mark learns =
+taught_is message before now mark learns =
     let own : AreSame (facts_of before) (facts_in (rows_of before)) = cache_same before in
     one_store _ _ _ _ mark
-    (rows_same message (rows_of before) now (same_then learns.facts (facts_stay message (facts_of before) (facts_in (rows_of before)) own)))
-    (learns.blocks ∙ blocks_stay message (facts_of before) (facts_in (rows_of before)) before.blocks own)
+    (rows_same message (rows_of before) now (same_then learns.facts (facts_stay_same message (facts_of before) (facts_in (rows_of before)) own)))
+    (learns.blocks ∙ blocks_stay_same message (facts_of before) (facts_in (rows_of before)) before.blocks own)
 
 -- what teaches nothing
 pub taught_nothing : (cache : KnowledgeValue) (mark : Option ℕ) → store_of cache mark ≡ taught other_taken (store_of cache mark)
 taught_nothing cache mark = one_store _ _ _ _ mark (rows_same other_taken (rows_of cache) cache (cache_same cache)) refl
 
 -- where it is learned
-pub heard_is : FactsStaySame → BlocksStaySame → {T E : Type 0} (result : Result T E) (message : Message) (before now : KnowledgeValue) (mark : Option ℕ) (s : StoreValue)
+pub heard_is : {T E : Type 0} (result : Result T E) (message : Message) (before now : KnowledgeValue) (mark : Option ℕ) (s : StoreValue)
     → store_of before mark ≡ s → OnOk result (Learns message before now) → OnOk result (store_of now mark ≡ taught message s)
-heard_is facts_stay blocks_stay (Ok value) message before now mark s same learns = taught_is facts_stay blocks_stay message before now mark learns ∙ ap (taught message) same
-heard_is facts_stay blocks_stay (Err error) message before now mark s same learns = tt
+heard_is (Ok value) message before now mark s same learns = taught_is message before now mark learns ∙ ap (taught message) same
+heard_is (Err error) message before now mark s same learns = tt
 
 pub heard_nothing : (cache : KnowledgeValue) (mark : Option ℕ) (s : StoreValue) → store_of cache mark ≡ s → s ≡ taught other_taken s
 heard_nothing cache mark s same = sym same ∙ taught_nothing cache mark ∙ ap (taught other_taken) same

@@ -4,3 +4,4 @@ pub mod Changing
 pub mod Learned
 pub mod Answered
 pub mod Lessons
+pub mod TheLaws

@@ -1,18 +1,11 @@
 //! The laws of what the answers of a store teach, and of whose registers are known.
 ghost use Rattle.value_store.specs.Laws.{LearnedHaveStates, PartsAreGrounded, StatesStay, StoredAnswersTeachNothingNew};
 
-use knowledge::{the_same_answer_the_same, what_is_read_is_known};
-use reply_tables::what_is_written_is_read;
-
 /// The law that whoever learns an answer which a store gives of what it knows learns nothing but what the messages of
 /// that store teach, where it knows nothing else before.
 pub fn a_stored_answer_teaches_nothing_new()
     ensures { StoredAnswersTeachNothingNew }
-{
-    what_is_read_is_known();
-    the_same_answer_the_same();
-    what_is_written_is_read();
-}
+{}
 
 /// The law that registers are learned of no thread but those of which it is known whether they run. So a part of what is
 /// grounded is grounded too.

@@ -2,7 +2,6 @@
 use Rattle.std.proofs.Common.{◌≡◌, ℕ, zero, suc, ◌+◌, ◌<◌, ◌≤◌, ◌==◌, Bool, true, false, cond, nat_lt, nat_le, List, [], ◌∷◌, ◌++◌, length, take, map, Option, Some, None, refl, sym, ap, ◌∙◌, arith, ltb-false}
 use Rattle.std.specs.Prelude.{decimal, ◌^◌}
 use Rattle.std.specs.List.{AllByRecursion, range_with_len}
-use Rattle.tcf_message.specs.Fault.{IsDecimalToken}
 use Rattle.tcf_message.specs.Message.{HasNoZero, IsWellFormed, MessageValue, command, most_body}
 use Rattle.channel_core.specs.Arrivals.{Spoken}
 use Rattle.channel_core.specs.Closing.{is_closed}
@@ -19,6 +18,7 @@ use Rattle.chain_through.specs.Calling.{all_asking}
 use Rattle.chain_through.proofs.Spelling.{AreSpelled}
 use Rattle.chain_told.specs.Told.{numbered}
 use Rattle.list_laws.proofs.AllLists.{all_append}
+use Rattle.tcf_message.proofs.TheLaws.{decimal_token}
 
 abbrev pub command_of : Accepted → MessageValue
 command_of c = command (decimal c.number) c.service c.name c.body
@@ -91,13 +91,13 @@ counted_taken token zero commands counted = tt
 counted_taken token (suc n) [] counted = tt
 counted_taken token (suc n) (c ∷ commands) counted = (counted.0, counted_taken (token + 1) n commands counted.1)
 
-pub written : IsDecimalToken → (token : ℕ) (commands : List Accepted) → AllByRecursion IsNamed commands → AreCounted token commands → token + length commands ≤ 2 ^ 64 → AreWritten commands
-written decimals token [] each counted few = tt
-written decimals token (c ∷ commands) each counted few =
+pub written : (token : ℕ) (commands : List Accepted) → AllByRecursion IsNamed commands → AreCounted token commands → token + length commands ≤ 2 ^ 64 → AreWritten commands
+written token [] each counted few = tt
+written token (c ∷ commands) each counted few =
     let number = counted.0 in
     let small : c.number < 2 ^ 64 = omega arith in
     let rest : (token + 1) + length commands ≤ 2 ^ 64 = omega arith in
-    (((decimals c.number small, each.0.service, each.0.name), each.0.size), written decimals (token + 1) commands each.1 counted.1 rest)
+    (((decimal_token c.number small, each.0.service, each.0.name), each.0.size), written (token + 1) commands each.1 counted.1 rest)
 
 -- ---- So they stand under their numbers
 

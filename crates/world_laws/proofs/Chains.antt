@@ -5,16 +5,18 @@ use Rattle.agent_node.specs.AgentLaws.{AgentFollowsHistory, FollowsHistory, aske
 use Rattle.agent_node.specs.Runs.{AgentRun, Past, run_of}
 use Rattle.node_answers.specs.AgentAnswering.{ServesAll}
 use Rattle.chain_told.specs.Sent.{read_as}
-use Rattle.chain_told.proofs.Agents.Lists.{all_map}
+use Rattle.list_laws.proofs.AllLists.{all_map_then}
+use Rattle.list_laws.specs.Fronts.{IsFront}
+use Rattle.list_laws.proofs.Fronts.{front_none, front_same}
 use Rattle.chain_heard.specs.Heard.{Heard, HeardAll, HeardNoTarget, asked_as}
 use Rattle.chain_route.specs.Carrying.{Carries, End, end_of, value_of}
 use Rattle.chain_route.specs.Runs.{RouteRun}
 use Rattle.chain_through.specs.Calling.{Calls, entering}
-use Rattle.chain_through.specs.Through.{AllTold, AreBound, KnowsTruth, Through, top_end}
+use Rattle.chain_through.specs.Through.{AllTold, KnowsTruth, Through, top_end}
 use Rattle.chain_world.proofs.Pasts.{at_all}
 use Rattle.chain_world.specs.ChainValue.{ChainValue}
 use Rattle.chain_world.specs.Standing.{ChainStands, Talks, TalksOn, past_at, unmarked}
-use Rattle.channel_core.specs.Arrivals.{IsFront, Spoken, arrived, bytes_of}
+use Rattle.channel_core.specs.Arrivals.{Spoken, arrived, bytes_of}
 use Rattle.channel_core.specs.ReceivingLaws.{SendsReadable}
 use Rattle.channel_core.specs.Wire.{end_of_stream}
 use Rattle.channel_core.specs.declared.held.Outgoing.{Outgoing}
@@ -29,8 +31,8 @@ use Rattle.value_node.specs.Asked.{Asked}
 use Rattle.value_node.specs.OwnMessages.{BeginsWithHello}
 use Rattle.chain_through.proofs.Ways.{are_bound}
 use Rattle.world_laws.specs.EndLaws.{ClosesRightly}
+use Rattle.chain_through.proofs.TheLaws.{all_comes_through}
 use Rattle.world_laws.proofs.Earlier.{all_silent}
-use Rattle.world_laws.proofs.LowerLaws.{Laws}
 use Rattle.world_laws.proofs.Quiet.{ComesQuietly, comes_quietly, takes_quietly}
 use Rattle.world_laws.proofs.Sending.{client_calls, sent_commands}
 use Rattle.world_laws.proofs.Serving.{AgentSpeaks, IsAskedFirst, asked_first, asked_top, begins, executed_front, last_hop, speaks, speaks_nothing, told_formed, told_gave, told_on, told_to, unended}
@@ -38,7 +40,7 @@ use Rattle.world_laws.proofs.Sides.{past_on, way, way_carries}
 use Rattle.world_laws.proofs.Silent.{at_number, unopened_silent}
 use Rattle.world_laws.proofs.Unstuck.{AllTook}
 use Rattle.world_laws.proofs.Hearing.{asked_few, bound_heard, target_all, target_heard, unbound_heard}
-use Rattle.chain_route.proofs.Bytes.{front_none, front_same}
+use Rattle.chain_route.specs.Taking.{AreBound}
 
 -- ---- What is heard
 
@@ -56,16 +58,16 @@ pub record HearsNone (history : List Input) (chain : ChainValue) (p : ClientPast
 
 -- ---- The chain at this moment
 
-module _ (laws : Laws) (images : List Image) (r : AgentRun) (follows : AgentFollowsHistory images r) (serves : AllByRecursion ServesAll r.channels) (plans : List Plan) (at adds : ℕ)
+module _ (images : List Image) (r : AgentRun) (follows : AgentFollowsHistory images r) (serves : AllByRecursion ServesAll r.channels) (plans : List Plan) (at adds : ℕ)
     (chain : ChainValue) (s : ChainStands plans r.channels at adds chain) where
   abbrev run : RouteRun
-  run = way laws r.channels plans at adds chain s
+  run = way r.channels plans at adds chain s
 
   abbrev hears_past : ClientPast
   hears_past = client_past_of s.calls no_past
 
   abbrev carries : Carries s.ways run
-  carries = way_carries laws r.channels plans at adds chain s
+  carries = way_carries r.channels plans at adds chain s
 
   abbrev pub lower : End
   lower = end_of run.past.client
@@ -74,19 +76,19 @@ module _ (laws : Laws) (images : List Image) (r : AgentRun) (follows : AgentFoll
   agent = end_of run.past.agent
 
   abbrev pub commands : List Asked
-  commands = map asked_as (sent_commands laws s.calls s.names)
+  commands = map asked_as (sent_commands s.calls s.names)
 
   quiet_came : (said : List Spoken) (top : List Outgoing) → AgentSpeaks images r.history said agent.gave top → ComesQuietly (arrived (end_calls s.calls new_client))
-  quiet_came said top speaking = subst ComesQuietly s.got (comes_quietly laws lower agent run.route.hops carries.made said carries.hops speaking.says speaking.quiet)
+  quiet_came said top speaking = subst ComesQuietly s.got (comes_quietly lower agent run.route.hops carries.made said carries.hops speaking.says speaking.quiet)
 
   pub way_calls : (said : List Spoken) (top : List Outgoing) → AgentSpeaks images r.history said agent.gave top → Calls commands lower.gave
   way_calls said top speaking =
-      subst (Calls commands) (sym s.gave) (client_calls laws s.calls s.names (takes_quietly laws s.calls (quiet_came said top speaking)))
+      subst (Calls commands) (sym s.gave) (client_calls s.calls s.names (takes_quietly s.calls (quiet_came said top speaking)))
 
   pub way_through : (said : List Spoken) (speaking : AgentSpeaks images r.history said agent.gave (top_end lower carries.made).gave)
       → Through images r.history commands lower (way_calls said (top_end lower carries.made).gave speaking) carries.made said
   way_through said speaking =
-      laws.through images r.history follows.legal lower agent run.route.hops carries.made commands said carries.hops (way_calls said (top_end lower carries.made).gave speaking) (asked_few laws s.calls s.names) speaking.says
+      all_comes_through images r.history follows.legal lower agent run.route.hops carries.made commands said carries.hops (way_calls said (top_end lower carries.made).gave speaking) (asked_few s.calls s.names) speaking.says
       speaking.quiet speaking.marked speaking.rightly
 
   -- it heard nothing of the target where the agent said nothing
@@ -96,10 +98,10 @@ module _ (laws : Laws) (images : List Image) (r : AgentRun) (follows : AgentFoll
       by_bound : AreBound carries.made ⊎ (AreBound carries.made → ⊥) → HeardNoTarget hears_past
       by_bound (inl bound) =
           let t = way_through [] speaking in
-          bound_heard laws s.calls s.names images r.history lower [] (way_calls [] (top_end lower carries.made).gave speaking) carries.made t s.got (t.bound bound) refl
+          bound_heard s.calls s.names images r.history lower [] (way_calls [] (top_end lower carries.made).gave speaking) carries.made t s.got (t.bound bound) refl
       by_bound (inr unbound) =
           let t = way_through [] speaking in
-          unbound_heard laws s.calls s.names images r.history lower [] (way_calls [] (top_end lower carries.made).gave speaking) carries.made t s.got (t.unbound unbound)
+          unbound_heard s.calls s.names images r.history lower [] (way_calls [] (top_end lower carries.made).gave speaking) carries.made t s.got (t.unbound unbound)
 
   abbrev Hears : Type 0
   Hears = HearsTarget images r.history chain hears_past (AllTook s.calls run carries.made) ⊎ HearsNone r.history chain hears_past
@@ -138,14 +140,14 @@ module _ (laws : Laws) (images : List Image) (r : AgentRun) (follows : AgentFoll
     carried = (last_hop lower run.route.hops carries.made agent carries.hops (carries.reached reached)).1.up_front
 
     pub speaking : AgentSpeaks images r.history (told_to images r.history past) agent.gave top
-    speaking = speaks laws images r.history past follows.legal past_follows past_readable top run.past.agent gave carried front
+    speaking = speaks images r.history past follows.legal past_follows past_readable top run.past.agent gave carried front
 
     pub begins_here : BeginsWithHello (told_to images r.history past)
-    begins_here = begins laws images r.history past follows.legal past_follows past_readable
+    begins_here = begins images r.history past follows.legal past_follows past_readable
 
     pub unended_here : ClosesRightly (run_of past).end.state → speaking.says.is_ended ≡ true → ⊥
     unfolding speaking
-    unended_here right is = unended laws images r.history past follows.legal past_follows past_readable top run.past.agent gave carried front right is
+    unended_here right is = unended images r.history past follows.legal past_follows past_readable top run.past.agent gave carried front right is
 
     abbrev calls_are : Calls commands lower.gave
     calls_are = way_calls (told_to images r.history past) top speaking
@@ -154,7 +156,7 @@ module _ (laws : Laws) (images : List Image) (r : AgentRun) (follows : AgentFoll
     through = way_through (told_to images r.history past) speaking
 
     asks : IsAskedFirst 1 (asked (run_of past)) through.top
-    asks = asked_top (asked (run_of past)) through.top (length (entering through.goes_up.spoken) - 1) (asked_first laws past through.top top run.past.agent through.goes_up carried front)
+    asks = asked_top (asked (run_of past)) through.top (length (entering through.goes_up.spoken) - 1) (asked_first past through.top top run.past.agent through.goes_up carried front)
 
     past_given : (run_of past).end.queued ≡ []
     past_given =
@@ -170,18 +172,18 @@ module _ (laws : Laws) (images : List Image) (r : AgentRun) (follows : AgentFoll
           k = past.number;
           position = past.position;
           channel = is ∙ ap Some (sym number_is);
-          heard = target_heard laws s.calls s.names images r.history lower (told_to images r.history past) calls_are carries.made through s.got (through.bound bound) past follows.legal past_follows past_readable asks refl;
+          heard = target_heard s.calls s.names images r.history lower (told_to images r.history past) calls_are carries.made through s.got (through.bound bound) past follows.legal past_follows past_readable asks refl;
           all = λ took.
               let said = told_to images r.history past in
-              let both = took reached bound said (told_formed laws images r.history past follows.legal past_follows past_readable) (told_gave laws images r.history past follows.legal past_follows past_readable agent.gave gave past_given) in
-              target_all laws s.calls s.names images r.history lower said calls_are carries.made through s.got (through.bound bound) past follows.legal past_follows past_readable asks refl both.0 both.1;
+              let both = took reached bound said (told_formed images r.history past follows.legal past_follows past_readable) (told_gave images r.history past follows.legal past_follows past_readable agent.gave gave past_given) in
+              target_all s.calls s.names images r.history lower said calls_are carries.made through s.got (through.bound bound) past follows.legal past_follows past_readable asks refl both.0 both.1;
         })
         by_bound (inr unbound) =
             let u = through.unbound unbound in
-            let top_read = executed_front laws images r.history past follows.legal past_follows past_readable through.top asks in
+            let top_read = executed_front images r.history past follows.legal past_follows past_readable through.top asks in
             let still : executed_on past.number r.history ≡ [] = front_none (executed_on past.number r.history) (front_same (executed_on past.number r.history) (map read_as through.top) [] (ap (map read_as) u.silent) top_read) in
             inr (record {
-              heard = unbound_heard laws s.calls s.names images r.history lower (told_to images r.history past) calls_are carries.made through s.got u;
+              heard = unbound_heard s.calls s.names images r.history lower (told_to images r.history past) calls_are carries.made through s.got u;
               silent = λ j other. let same : Some k ≡ Some j = sym is ∙ other in let one : k ≡ j = cc in ap (λ n. executed_on n r.history) (sym one ∙ sym number_is) ∙ still;
             })
 
@@ -226,7 +228,7 @@ module _ (laws : Laws) (images : List Image) (r : AgentRun) (follows : AgentFoll
   pub adds_know : AllByRecursion (KnowsTruth images r.history) chain.route.adds
   adds_know =
       subst (AllByRecursion (KnowsTruth images r.history)) (sym (ap (λ route. route.adds) s.way ∙ carries.adds))
-      (all_map (KnowsTruth images r.history) (λ m. KnowsTruth images r.history (value_of m)) value_of carries.made (λ m known. known) (way_through said agent_speaks).adds)
+      (all_map_then (KnowsTruth images r.history) (λ m. KnowsTruth images r.history (value_of m)) value_of carries.made (λ m known. known) (way_through said agent_speaks).adds)
 
   pub earlier_silent : AllByRecursion (λ k. executed_on k r.history ≡ []) chain.earlier
-  earlier_silent = all_silent laws images r follows run.past carries.earlier chain.earlier s.talked
+  earlier_silent = all_silent images r follows run.past carries.earlier chain.earlier s.talked

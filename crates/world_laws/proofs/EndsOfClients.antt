@@ -3,7 +3,8 @@ use Rattle.std.proofs.Common.{◌≡◌, ℕ, ◌+◌, ◌||◌, Bool, true, fal
 use Rattle.std.specs.List.{AllByRecursion, list_any}
 use Rattle.std.specs.Prelude.{option_to_list}
 use Rattle.std.proofs.lemmas.List.Folds.{list_any-append}
-use Rattle.channel_core.specs.Arrivals.{IsFront}
+use Rattle.list_laws.specs.Fronts.{IsFront}
+use Rattle.list_laws.proofs.Fronts.{front_all, front_each, front_then}
 use Rattle.channel_core.specs.Closing.{closed_own, is_closed}
 use Rattle.channel_core.specs.EndValue.{EndValue}
 use Rattle.channel_core.specs.Runs.{Call as EndCall, Unheld, closing, draining, sending}
@@ -32,9 +33,7 @@ use Rattle.tcf_text.specs.declared.log.LogLine.{LogLine}
 use Rattle.tcf_text.specs.declared.log.LogLine.TheVariants as lines
 use Rattle.tcf_text.specs.declared.log.RefusedWhy.{RefusedWhy}
 use Rattle.tcf_text.specs.declared.log.RefusedWhy.TheVariants as refused
-use Rattle.world_laws.proofs.Lists.{front_all}
 use Rattle.list_laws.proofs.AllLists.{all_right as all_back, all_append}
-use Rattle.chain_route.proofs.Bytes.{front_each, front_then}
 
 -- ---- The calls of the end that only some calls of the client make
 

@@ -28,9 +28,13 @@ use Rattle.tcf_text.specs.Once.{Once}
 use Rattle.value_node.specs.ValueValue.{ValueValue}
 use Rattle.world_laws.specs.HopLaws.{ChainHopsStand, HopsStandAfterEverySchedule}
 use Rattle.world_laws.specs.WorldLaws.{AreCoherent, AreFresh, ChainIsCoherent, ChainIsFaithful, ChainLacksNothing, CoherentAfterEverySchedule, FaithfulAfterEverySchedule, FreshAfterEverySchedule, IsFaithful, IsTrueAt, KnowsTarget, NothingIsStuck, NothingStuckAfterEverySchedule}
+use Rattle.agent_node.proofs.TheLaws.{agent_has_no_strangers, agent_tells_the_truth}
+use Rattle.chain_heard.proofs.TheLaws.{heard_among_is_ordered, heard_is_coherent, heard_is_fresh, no_target_is_coherent, no_target_is_fresh, no_target_is_ordered}
+use Rattle.chain_world.proofs.TheLaws.{world_stands}
+use Rattle.client_node.proofs.TheLaws.{answered_once, log_tells_past, shows_what_is_kept}
+use Rattle.node_answers.proofs.TheLaws.{agent_serves_all}
 use Rattle.world_laws.proofs.Chains.{HearsNone, HearsTarget, adds_know, chain_hears, earlier_silent}
 use Rattle.world_laws.proofs.Hops.{chain_hops}
-use Rattle.world_laws.proofs.LowerLaws.{Laws}
 use Rattle.world_laws.proofs.Numbering.{each_found}
 use Rattle.world_laws.proofs.Sides.{way, way_carries}
 use Rattle.world_laws.proofs.Unstuck.{AllTook, all_answered, all_took, chain_lacks, channels_lack}
@@ -45,33 +49,33 @@ module _ (images : List Image) (history : List Input) (typed : AreTyped images) 
   knows_target : (value : ValueValue) → KnowsTruth images history value → KnowsTarget images history value
   knows_target value knows bound = true_at value.relay.store.mark (kept_in value.relay.store) (knows bound)
 
-module _ (laws : Laws) (images : List Image) (r : AgentRun) (follows : AgentFollowsHistory images r) (serves : AllByRecursion ServesAll r.channels) where
+module _ (images : List Image) (r : AgentRun) (follows : AgentFollowsHistory images r) (serves : AllByRecursion ServesAll r.channels) where
   module _ (plans : List Plan) (at adds : ℕ) (chain : ChainValue) (s : ChainStands plans r.channels at adds chain) where
     abbrev past_is : ClientPast
     past_is = past_of s.calls no_past
 
     once : Once false chain.client.log
-    once = subst (λ c. Once false c.log) (sym s.client) (laws.once s.calls)
+    once = subst (λ c. Once false c.log) (sym s.client) (answered_once s.calls)
 
     tells : TellsPast chain.client past_is
-    tells = subst (λ c. TellsPast c past_is) (sym s.client) (laws.tells s.calls)
+    tells = subst (λ c. TellsPast c past_is) (sym s.client) (log_tells_past s.calls)
 
     shown : Each ShowsKept chain.client.log
-    shown = subst (λ c. Each ShowsKept c.log) (sym s.client) (laws.shown s.calls)
+    shown = subst (λ c. Each ShowsKept c.log) (sym s.client) (shows_what_is_kept s.calls)
 
     abbrev Took : Type 0
-    Took = let run = way laws r.channels plans at adds chain s in AllTook s.calls run (way_carries laws r.channels plans at adds chain s).made
+    Took = let run = way r.channels plans at adds chain s in AllTook s.calls run (way_carries r.channels plans at adds chain s).made
 
     abbrev Hears : Type 0
     Hears = HearsTarget images r.history chain past_is Took ⊎ HearsNone r.history chain past_is
 
     hears : Hears
-    hears = chain_hears laws images r follows serves plans at adds chain s
+    hears = chain_hears images r follows serves plans at adds chain s
 
     -- the channels that the chain had, but for this one, execute nothing
     others : (P : ℕ → Type 0) → ((k : ℕ) → executed_on k r.history ≡ [] → P k) → ((k : ℕ) → chain.channel ≡ Some k → P k) → AllByRecursion P (channels_of chain)
     others P silent current =
-        all_append P chain.earlier (option_to_list chain.channel) (all_weaker (λ k. executed_on k r.history ≡ []) P chain.earlier silent (earlier_silent laws images r follows serves plans at adds chain s))
+        all_append P chain.earlier (option_to_list chain.channel) (all_weaker (λ k. executed_on k r.history ≡ []) P chain.earlier silent (earlier_silent images r follows serves plans at adds chain s))
         (by_channel chain.channel current)
       where
         by_channel : (channel : Option ℕ) → ((k : ℕ) → channel ≡ Some k → P k) → AllByRecursion P (option_to_list channel)
@@ -86,11 +90,11 @@ module _ (laws : Laws) (images : List Image) (r : AgentRun) (follows : AgentFoll
             let P : ℕ → Type 0 = λ j. (j ≡ h.k → ⊥) → executed_on j r.history ≡ [] in
             let all : AllByRecursion P (channels_of chain) =
             others P (λ j none apart. none) (λ j is apart. let same : Some j ≡ Some h.k = sym is ∙ h.channel in let one : j ≡ h.k = cc in absurd (apart one)) in
-            laws.among images r.history h.k h.position chain.client past_is (channels_of chain) (is_quiet chain r.agent) tells once h.heard (λ j there apart. all_in P (channels_of chain) j all there apart)
-            (λ quiet none. h.all (all_took laws images r follows serves plans at adds chain s quiet none))
+            heard_among_is_ordered images r.history h.k h.position chain.client past_is (channels_of chain) (is_quiet chain r.agent) tells once h.heard (λ j there apart. all_in P (channels_of chain) j all there apart)
+            (λ quiet none. h.all (all_took images r follows serves plans at adds chain s quiet none))
         by_heard (inr h) =
             let P : ℕ → Type 0 = λ j. executed_on j r.history ≡ [] in
-            laws.no_target images r.history chain.client past_is (channels_of chain) (is_quiet chain r.agent) tells once h.heard (λ j there. all_in P (channels_of chain) j (others P (λ k none. none) h.silent) there)
+            no_target_is_ordered images r.history chain.client past_is (channels_of chain) (is_quiet chain r.agent) tells once h.heard (λ j there. all_in P (channels_of chain) j (others P (λ k none. none) h.silent) there)
 
     once_each : Once (is_quiet chain r.agent) chain.client.log
     once_each = record {
@@ -99,34 +103,34 @@ module _ (laws : Laws) (images : List Image) (r : AgentRun) (follows : AgentFoll
       nothing_after = once.nothing_after;
       closed_in_order = once.closed_in_order;
       closed_then_end = once.closed_then_end;
-      all_when_quiet = λ quiet. all_answered laws images r follows serves plans at adds chain s quiet once;
+      all_when_quiet = λ quiet. all_answered images r follows serves plans at adds chain s quiet once;
     }
 
     chain_faithful : ChainIsFaithful images r.history r.agent chain
     chain_faithful = record { once = once_each; ordered = chain_ordered }
 
     chain_unstuck : is_quiet chain r.agent ≡ true → ChainLacksNothing chain
-    chain_unstuck quiet = chain_lacks laws images r follows serves plans at adds chain s quiet
+    chain_unstuck quiet = chain_lacks images r follows serves plans at adds chain s quiet
 
     client_coherent : AreTyped images → IsCoherent chain.client.log images r.history
     client_coherent typed = by_heard hears
       where
         by_heard : Hears → IsCoherent chain.client.log images r.history
-        by_heard (inl h) = laws.heard_true images r.history h.k h.position chain.client past_is typed tells once shown h.heard
-        by_heard (inr h) = laws.no_target_true images r.history chain.client past_is tells once shown h.heard
+        by_heard (inl h) = heard_is_coherent images r.history h.k h.position chain.client past_is typed tells once shown h.heard
+        by_heard (inr h) = no_target_is_coherent images r.history chain.client past_is tells once shown h.heard
 
     chain_coherent : AreTyped images → ChainIsCoherent images r.history chain
     chain_coherent typed = record {
       client = client_coherent typed;
-      adds = all_weaker (KnowsTruth images r.history) (KnowsTarget images r.history) chain.route.adds (knows_target images r.history typed) (adds_know laws images r follows serves plans at adds chain s);
+      adds = all_weaker (KnowsTruth images r.history) (KnowsTarget images r.history) chain.route.adds (knows_target images r.history typed) (adds_know images r follows serves plans at adds chain s);
     }
 
     chain_fresh : AreTyped images → Fresh chain.client.log images r.history
     chain_fresh typed = by_heard hears
       where
         by_heard : Hears → Fresh chain.client.log images r.history
-        by_heard (inl h) = laws.heard_fresh images r.history h.k h.position chain.client past_is typed tells once h.heard
-        by_heard (inr h) = laws.no_target_fresh images r.history chain.client past_is tells once h.heard
+        by_heard (inl h) = heard_is_fresh images r.history h.k h.position chain.client past_is typed tells once h.heard
+        by_heard (inr h) = no_target_is_fresh images r.history chain.client past_is tells once h.heard
 
 -- ---- All chains
 
@@ -138,15 +142,15 @@ module _ (r : AgentRun) where
   all_of P plans so at (n ∷ adds) [] all = absurd all
   all_of P plans so at (n ∷ adds) (chain ∷ chains) all = (so at n chain all.0, all_of P plans so (suc at) adds chains all.1)
 
-module _ (laws : Laws) (images : List Image) (adds : List ℕ) (plans : List Plan) (w : WorldValue) (s : Stands plans images adds w) where
+module _ (images : List Image) (adds : List ℕ) (plans : List Plan) (w : WorldValue) (s : Stands plans images adds w) where
   abbrev agent_run : AgentRun
   agent_run = agent_after s.calls (agent_begun images)
 
   follows : AgentFollowsHistory images agent_run
-  follows = laws.truth images s.calls
+  follows = agent_tells_the_truth images s.calls
 
   serves : AllByRecursion ServesAll agent_run.channels
-  serves = laws.serves images s.calls
+  serves = agent_serves_all images s.calls
 
   world_faithful : IsFaithful images w
   world_faithful =
@@ -154,46 +158,46 @@ module _ (laws : Laws) (images : List Image) (adds : List ℕ) (plans : List Pla
       (subst (λ h. IsFaithful images (record w { history = h; agent = agent_run.agent })) s.history
       (record {
         legal = follows.legal;
-        chains = all_of agent_run (ChainIsFaithful images agent_run.history agent_run.agent) plans (chain_faithful laws images agent_run follows serves plans) 0 adds w.chains s.chains;
+        chains = all_of agent_run (ChainIsFaithful images agent_run.history agent_run.agent) plans (chain_faithful images agent_run follows serves plans) 0 adds w.chains s.chains;
       }))
 
   world_unstuck : NothingIsStuck w
   world_unstuck =
       subst (λ a. NothingIsStuck (record w { agent = a })) s.agent
       (record {
-        chains = all_of agent_run (λ chain. is_quiet chain agent_run.agent ≡ true → ChainLacksNothing chain) plans (chain_unstuck laws images agent_run follows serves plans) 0 adds w.chains s.chains;
-        agent = channels_lack laws images agent_run follows serves (laws.strangers images s.calls) agent_run.agent.channels (each_found laws.truth laws.strangers images s.calls);
+        chains = all_of agent_run (λ chain. is_quiet chain agent_run.agent ≡ true → ChainLacksNothing chain) plans (chain_unstuck images agent_run follows serves plans) 0 adds w.chains s.chains;
+        agent = channels_lack images agent_run follows serves (agent_has_no_strangers images s.calls) agent_run.agent.channels (each_found images s.calls);
       })
 
   world_hops : AllByRecursion (ChainHopsStand images w.history w.agent) w.chains
   world_hops =
       subst (λ a. AllByRecursion (ChainHopsStand images w.history a) w.chains) s.agent
       (subst (λ h. AllByRecursion (ChainHopsStand images h agent_run.agent) w.chains) s.history
-      (all_of agent_run (ChainHopsStand images agent_run.history agent_run.agent) plans (chain_hops laws images agent_run follows serves plans) 0 adds w.chains s.chains))
+      (all_of agent_run (ChainHopsStand images agent_run.history agent_run.agent) plans (chain_hops images agent_run follows serves plans) 0 adds w.chains s.chains))
 
   world_coherent : AreTyped images → AreCoherent images w
   world_coherent typed =
       subst (λ h. AreCoherent images (record w { history = h })) s.history
       (all_of agent_run (ChainIsCoherent images agent_run.history) plans
-      (λ at n chain stands. chain_coherent laws images agent_run follows serves plans at n chain stands typed) 0 adds w.chains s.chains)
+      (λ at n chain stands. chain_coherent images agent_run follows serves plans at n chain stands typed) 0 adds w.chains s.chains)
 
   world_fresh : AreTyped images → AreFresh images w
   world_fresh typed =
       subst (λ h. AreFresh images (record w { history = h })) s.history
       (all_of agent_run (λ chain. Fresh chain.client.log images agent_run.history) plans
-      (λ at n chain stands. chain_fresh laws images agent_run follows serves plans at n chain stands typed) 0 adds w.chains s.chains)
+      (λ at n chain stands. chain_fresh images agent_run follows serves plans at n chain stands typed) 0 adds w.chains s.chains)
 
-pub faithful : Laws → FaithfulAfterEverySchedule
-faithful laws images adds plans playable = world_faithful laws images adds plans (run plans (new_world images adds)) (laws.stands images adds plans playable)
+pub faithful : FaithfulAfterEverySchedule
+faithful images adds plans playable = world_faithful images adds plans (run plans (new_world images adds)) (world_stands images adds plans playable)
 
-pub coherent : Laws → CoherentAfterEverySchedule
-coherent laws images adds plans typed playable = world_coherent laws images adds plans (run plans (new_world images adds)) (laws.stands images adds plans playable) typed
+pub coherent : CoherentAfterEverySchedule
+coherent images adds plans typed playable = world_coherent images adds plans (run plans (new_world images adds)) (world_stands images adds plans playable) typed
 
-pub unstuck : Laws → NothingStuckAfterEverySchedule
-unstuck laws images adds plans playable = world_unstuck laws images adds plans (run plans (new_world images adds)) (laws.stands images adds plans playable)
+pub unstuck : NothingStuckAfterEverySchedule
+unstuck images adds plans playable = world_unstuck images adds plans (run plans (new_world images adds)) (world_stands images adds plans playable)
 
-pub hops_stand : Laws → HopsStandAfterEverySchedule
-hops_stand laws images adds plans playable = world_hops laws images adds plans (run plans (new_world images adds)) (laws.stands images adds plans playable)
+pub hops_stand : HopsStandAfterEverySchedule
+hops_stand images adds plans playable = world_hops images adds plans (run plans (new_world images adds)) (world_stands images adds plans playable)
 
-pub fresh : Laws → FreshAfterEverySchedule
-fresh laws images adds plans typed playable = world_fresh laws images adds plans (run plans (new_world images adds)) (laws.stands images adds plans playable) typed
+pub fresh : FreshAfterEverySchedule
+fresh images adds plans typed playable = world_fresh images adds plans (run plans (new_world images adds)) (world_stands images adds plans playable) typed

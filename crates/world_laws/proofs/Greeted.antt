@@ -4,7 +4,7 @@ use Rattle.std.specs.Prelude.{decimal, ◌^◌}
 use Rattle.std.specs.List.{AllByRecursion, filter, flat_map, list_any}
 use Rattle.std.proofs.lemmas.List.{map-append}
 use Rattle.std.proofs.lemmas.List.Concat.{flat_map-append}
-use Rattle.channel_core.specs.Arrivals.{AreSpoken, Spoken}
+use Rattle.channel_core.specs.Arrivals.{AreSpoken, Spoken, comes_as}
 use Rattle.channel_core.specs.Greeting.{is_greeting}
 use Rattle.channel_core.specs.ReceivingLaws.{incoming_of}
 use Rattle.channel_core.specs.RunLaws.{is_command, sent_of}
@@ -17,7 +17,8 @@ use Rattle.channel_laws.specs.Redirects.{IsReleased}
 use Rattle.client_node.specs.Client.{client_services, new_client}
 use Rattle.client_node.specs.Ends.{HasNames, client_end, end_calls, issued_as}
 use Rattle.client_node.specs.Runs.{Call as ClientCall, no_past, past_of}
-use Rattle.target_hub.specs.Ordered.{IsPrefixOf}
+use Rattle.list_laws.specs.Fronts.{IsFront}
+use Rattle.list_laws.proofs.Fronts.{front_each, front_none}
 use Rattle.tcf_message.specs.Message.{IsWellFormed, final}
 use Rattle.tcf_text.specs.Lines.{Accepted}
 use Rattle.chain_heard.specs.Heard.{asked_as, heard_in, incoming, messages_of}
@@ -26,17 +27,16 @@ use Rattle.value_node.specs.Asked.{Asked}
 use Rattle.value_node.specs.Own.{redirect_done}
 use Rattle.value_node.specs.OwnLaws.{IsBoundBy}
 use Rattle.value_node.specs.OwnMessages.{IsOwn, OwnStep, a_hello, a_result, an_unknown}
-use Rattle.chain_told.specs.TellsOn.{comes_as}
 use Rattle.chain_through.proofs.OwnTold.{own_parts}
+use Rattle.channel_core.proofs.TheLaws.{sends_in_order, waits_for_hello}
+use Rattle.channel_laws.proofs.TheLaws.{holds_behind_redirects}
 use Rattle.world_laws.proofs.Accepted.{AreCounted, counted_front, numbered_counted}
-use Rattle.world_laws.proofs.LowerLaws.{Laws}
 use Rattle.world_laws.proofs.Lists.{Split, no_more, split_mapped}
 use Rattle.world_laws.proofs.Own.{AnswersNot, last_unanswered, said_as}
 use Rattle.world_laws.proofs.Replying.{incoming_same}
 use Rattle.world_laws.proofs.Sending.{heard_is, sent_commands, sent_counted, sent_issued}
 use Rattle.list_laws.proofs.AllLists.{all_right as all_back}
 use Rattle.list_laws.proofs.Lists.{none_before as first_nothing, none_mapped}
-use Rattle.chain_route.proofs.Bytes.{front_each}
 
 -- without value-adds nothing is answered; else the last that one answered is the redirect that bound the way
 abbrev pub BindsBy : List Asked → List Spoken → Type 0
@@ -52,10 +52,6 @@ no_greeting (taken.Event i ∷ what) none = let some : i ∷ flat_map incoming_o
 no_greeting (taken.Progress number i ∷ what) none = let some : i ∷ flat_map incoming_of what ≡ [] = none in absurd cc
 no_greeting (taken.Final number i ∷ what) none = let some : i ∷ flat_map incoming_of what ≡ [] = none in absurd cc
 no_greeting (taken.Closed cause ∷ what) none = no_greeting what none
-
-prefix_none : {A : Type 0} → (xs : List A) → IsPrefixOf xs [] → xs ≡ []
-prefix_none [] p = refl
-prefix_none (x ∷ xs) p = let whole : x ∷ (xs ++ p.0) ≡ [] = p.1 in absurd cc
 
 behind_none : {A : Type 0} → (xs ys : List A) → xs ≡ [] → [] ≡ xs ++ ys → ys ≡ []
 behind_none xs ys none is = sym (is ∙ ap (λ l. l ++ ys) none)
@@ -100,23 +96,23 @@ counted_last : (token : ℕ) (front : List Accepted) (x : Accepted) → AreCount
 counted_last token [] x counted = let here = counted.0 in omega arith
 counted_last token (c ∷ front) x counted = let rest = counted_last (token + 1) front x counted.1 in omega arith
 
-module _ (laws : Laws) (calls : List ClientCall) (names : AllByRecursion HasNames calls) where
+module _ (calls : List ClientCall) (names : AllByRecursion HasNames calls) where
   abbrev run_is : Run ℕ
   run_is = client_end calls
 
   abbrev sent_are : List Accepted
-  sent_are = sent_commands laws calls names
+  sent_are = sent_commands calls names
 
   -- where it took nothing it sent nothing
   none_sent : flat_map incoming_of run_is.past.taken ≡ [] → sent_are ≡ []
   none_sent took =
-      let queued : filter is_command run_is.past.queued ≡ [] = laws.waits client_services None (end_calls calls new_client) (no_greeting run_is.past.taken took) in
-      let sent : sent_of run_is ≡ [] = none_mapped (λ i. i.command.outgoing) (sent_of run_is) (sym (laws.sends client_services None (end_calls calls new_client)).are_sent ∙ queued) in
-      none_mapped issued_as sent_are (sym (sent_issued laws calls names) ∙ sent)
+      let queued : filter is_command run_is.past.queued ≡ [] = waits_for_hello client_services None (end_calls calls new_client) (no_greeting run_is.past.taken took) in
+      let sent : sent_of run_is ≡ [] = none_mapped (λ i. i.command.outgoing) (sent_of run_is) (sym (sends_in_order client_services None (end_calls calls new_client)).are_sent ∙ queued) in
+      none_mapped issued_as sent_are (sym (sent_issued calls names) ∙ sent)
 
   -- ---- A command behind the redirect is sent only where a Hello was taken behind its answer
 
-  module _ (own : List Spoken) (own_formed : AreSpoken own) (heard : IsPrefixOf (heard_in (past_of calls no_past)) (map incoming (messages_of own))) where
+  module _ (own : List Spoken) (own_formed : AreSpoken own) (heard : IsFront (heard_in (past_of calls no_past)) (map incoming (messages_of own))) where
     -- the messages end with the answer to this command
     abbrev EndsWith : List Spoken → Asked → Type 0
     EndsWith before redirect = own ≡ before ++ (record { message = final redirect.token redirect_done; mark = None }) ∷ []
@@ -132,23 +128,23 @@ module _ (laws : Laws) (calls : List ClientCall) (names : AllByRecursion HasName
         let formed_last : AreSpoken (last ∷ []) = all_back (λ s. IsWellFormed s.message) before (last ∷ []) formed in
         let some : 1 ≤ length parts.0 = let takes = final_takes parts.0 parts.2.1.0 redirect.token redirect_done parts.2.1.1 in omega arith in
         let unanswered : AllByRecursion (AnswersNot x.number) before =
-        last_unanswered laws.back 1 x.number (front ++ x ∷ []) before parts.0 counted (counted_last 1 front x counted) small formed_before some parts.1 in
+        last_unanswered 1 x.number (front ++ x ∷ []) before parts.0 counted (counted_last 1 front x counted) small formed_before some parts.1 in
         let issued : sent_of run_is ≡ map issued_as front ++ issued_as x ∷ issued_as y ∷ map issued_as back =
-        sent_issued laws calls names ∙ ap (map issued_as) (sent ∙ append_assoc front (x ∷ []) (y ∷ back)) ∙ map-append issued_as front (x ∷ y ∷ back) in
+        sent_issued calls names ∙ ap (map issued_as) (sent ∙ append_assoc front (x ∷ []) (y ∷ back)) ∙ map-append issued_as front (x ∷ y ∷ back) in
         let released : IsReleased x.number run_is.past.taken =
-        laws.redirects client_services None (end_calls calls new_client) (map issued_as front) (map issued_as back) (issued_as x) (issued_as y) issued (ap (λ a. is_redirect a.service a.name) named ∙ asks) in
+        holds_behind_redirects client_services None (end_calls calls new_client) (map issued_as front) (map issued_as back) (issued_as x) (issued_as y) issued (ap (λ a. is_redirect a.service a.name) named ∙ asks) in
         let first : List Incoming = flat_map incoming_of released.earlier in
         let second : List Incoming = flat_map incoming_of released.later in
         let took : heard_in (past_of calls no_past) ≡ first ++ released.incoming ∷ second =
-        heard_is laws calls names ∙ ap (flat_map incoming_of) released.split ∙ flat_map-append incoming_of released.earlier (taken.Final released.tag released.incoming ∷ released.later) in
+        heard_is calls names ∙ ap (flat_map incoming_of) released.split ∙ flat_map-append incoming_of released.earlier (taken.Final released.tag released.incoming ∷ released.later) in
         let all : first ++ released.incoming ∷ (second ++ heard.0) ≡ map comes_as before ++ comes_as last ∷ [] =
-        sym (append_assoc first (released.incoming ∷ second) heard.0) ∙ ap (λ l. l ++ heard.0) (sym took) ∙ heard.1 ∙ sym (incoming_same own)
+        sym (append_assoc first (released.incoming ∷ second) heard.0) ∙ ap (λ l. l ++ heard.0) (sym took) ∙ sym heard.1 ∙ sym (incoming_same own)
         ∙ ap (map comes_as) ends ∙ map-append comes_as before (last ∷ []) in
         let at : IsLast released.incoming (comes_as last) (second ++ heard.0) =
         last_is x.number released.done first released.incoming (second ++ heard.0) (map comes_as before) (comes_as last) released.answer (no_answers x.number before unanswered) all in
         let none : second ≡ [] = first_nothing second heard.0 at.none in
         let said : answers (decimal x.number) released.done ≡ answers redirect.token (is_done redirect_done) =
-        sym released.answer ∙ ap (λ i. said_in i.raw) at.same ∙ said_as laws.back (final redirect.token redirect_done) formed_last.0 in
+        sym released.answer ∙ ap (λ i. said_in i.raw) at.same ∙ said_as (final redirect.token redirect_done) formed_last.0 in
         let flag : released.done ≡ is_done redirect_done = cc in
         let greets : list_any is_greeting released.later ≡ true = released.greeted (flag ∙ done_so) in
         let greets_not : list_any is_greeting released.later ≡ false = no_greeting released.later none in
@@ -160,7 +156,7 @@ module _ (laws : Laws) (calls : List ClientCall) (names : AllByRecursion HasName
     bound_none answered [] split is_own b few = refl
     bound_none answered (next ∷ later) split is_own b few =
         let s : Split asked_as sent_are answered (next ∷ later) = split_mapped asked_as sent_are answered (next ∷ later) split in
-        let counted : AreCounted 1 s.front = counted_front 1 s.front s.back (subst (AreCounted 1) s.whole (sent_counted laws calls names)) in
+        let counted : AreCounted 1 s.front = counted_front 1 s.front s.back (subst (AreCounted 1) s.whole (sent_counted calls names)) in
         let same : numbered 1 answered ≡ map asked_as s.front = ap (numbered 1) (sym s.first) ∙ numbered_counted 1 s.front counted in
         let t : Split asked_as s.front b.earlier (b.redirect ∷ []) = split_mapped asked_as s.front b.earlier (b.redirect ∷ []) (sym same ∙ b.commands_are) in
         by_lists s.front s.back t.front t.back s.whole t.whole t.second s.second counted (subst (λ cs. IsOwn cs own []) same is_own)
@@ -181,7 +177,7 @@ module _ (laws : Laws) (calls : List ClientCall) (names : AllByRecursion HasName
 
     pub none_later : (answered later : List Asked) → map asked_as sent_are ≡ answered ++ later → IsOwn (numbered 1 answered) own [] → BindsBy answered own → length sent_are < 2 ^ 64 → later ≡ []
     none_later answered later split is_own (inl alone) few =
-        let nothing : heard_in (past_of calls no_past) ≡ [] = prefix_none (heard_in (past_of calls no_past)) (subst (λ o. IsPrefixOf (heard_in (past_of calls no_past)) (map incoming (messages_of o))) alone.1 heard) in
-        let sent : sent_are ≡ [] = none_sent (sym (heard_is laws calls names) ∙ nothing) in
+        let nothing : heard_in (past_of calls no_past) ≡ [] = front_none (heard_in (past_of calls no_past)) (subst (λ o. IsFront (heard_in (past_of calls no_past)) (map incoming (messages_of o))) alone.1 heard) in
+        let sent : sent_are ≡ [] = none_sent (sym (heard_is calls names) ∙ nothing) in
         behind_none answered later alone.0 (sym (ap (map asked_as) sent) ∙ split)
     none_later answered later split is_own (inr b) few = bound_none answered later split is_own b few

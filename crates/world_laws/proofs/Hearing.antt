@@ -10,15 +10,16 @@ use Rattle.chain_told.specs.Sent.{owed_by, read_as}
 use Rattle.chain_heard.specs.Heard.{AreReadable, Heard, HeardAll, HeardNoTarget, asked_as, heard_in, incoming, messages_of, through_of}
 use Rattle.chain_route.specs.Carrying.{End, Made}
 use Rattle.chain_through.specs.Calling.{Calls, entering, given_of}
-use Rattle.chain_through.specs.Through.{AllTakeAll, Content, IsBoundThrough, IsMarked, IsUnboundThrough, TakesAll, TakesAllOf, Through, content, is_storable_content}
-use Rattle.chain_through.proofs.Fronts.{IsMapped, front_mapped, front_whole}
+use Rattle.chain_through.specs.Through.{Content, IsBoundThrough, IsMarked, IsUnboundThrough, Through, content, is_storable_content}
+use Rattle.list_laws.proofs.Fronts.{IsMapped, front_mapped, front_whole, front_filter, front_left, left_front, front_each, front_flat, front_length, front_map, front_more, front_none, front_same, front_then}
+use Rattle.list_laws.specs.Fronts.{IsFront, IsSubsequenceOf}
 use Rattle.chain_through.proofs.OwnTold.{none_from, own_unmarked}
 use Rattle.chain_through.proofs.Queues.{entering_formed}
 use Rattle.chain_through.proofs.ToldLists.{AreFound, all_found, told_front, told_more}
-use Rattle.chain_told.specs.TellsOn.{comes_as}
+use Rattle.chain_route.specs.Taking.{AllTakeAll, TakesAll, TakesAllOf}
 use Rattle.chain_told.specs.Told.{AreToldRightly, ComesAt, IsOwed, IsToldRightly, is_stored, mark_of, numbered, owed_at, owed_in}
 use Rattle.chain_told.proofs.Numbered.{numbered_append}
-use Rattle.channel_core.specs.Arrivals.{AreSpoken, IsFront, Spoken, arrived, bytes_of, queue_of}
+use Rattle.channel_core.specs.Arrivals.{AreSpoken, Spoken, arrived, bytes_of, queue_of, comes_as}
 use Rattle.channel_core.specs.ReceivingLaws.{SendsReadable}
 use Rattle.channel_core.specs.Wire.{said_by}
 use Rattle.client_node.specs.Client.{new_client}
@@ -29,7 +30,6 @@ use Rattle.command_tables.specs.declared.reading.Reading.TheVariants as readings
 use Rattle.command_tables.specs.Reading.{reading_of}
 use Rattle.target_contexts.specs.declared.process.Image.{Image}
 use Rattle.target_hub.specs.History.{IsLegal}
-use Rattle.target_hub.specs.Ordered.{IsPrefixOf, IsSubsequenceOf}
 use Rattle.target_hub.specs.Received.{read}
 use Rattle.target_hub.specs.Sent.{ReadCommand, executed_on, is_through}
 use Rattle.target_hub.specs.declared.input.Input.{Input}
@@ -40,27 +40,27 @@ use Rattle.value_node.specs.Barriers.{command_in}
 use Rattle.value_node.specs.OwnLaws.{IsBoundBy}
 use Rattle.value_node.specs.OwnMessages.{IsOwn}
 use Rattle.chain_through.proofs.Ways.{takes_all}
+use Rattle.chain_heard.proofs.TheLaws.{commands_are_few}
+use Rattle.tcf_message.proofs.TheLaws.{read_back}
 use Rattle.world_laws.proofs.Accepted.{AreCounted, counted_front, numbered_counted}
 use Rattle.world_laws.proofs.Greeted.{BindsBy, none_later}
-use Rattle.world_laws.proofs.LowerLaws.{Laws}
-use Rattle.world_laws.proofs.Lists.{Split, front_filter, front_left, left_front, prefix_of, split_mapped, without_few, without_filter, without_left}
+use Rattle.world_laws.proofs.Lists.{Split, split_mapped, without_few, without_filter, without_left}
 use Rattle.world_laws.proofs.Own.{own_more}
 use Rattle.world_laws.proofs.Replying.{incoming_same}
 use Rattle.world_laws.proofs.Sending.{all_counted, heard_is, hears, sent_commands, sent_count, sent_counted}
 use Rattle.world_laws.proofs.Serving.{IsAskedFirst, content_read, contents_read, executed_front, owed_more, owed_right, told_to}
 use Rattle.chain_told.proofs.Doing.{IsReadable}
-use Rattle.chain_route.proofs.Bytes.{front_each, front_flat, front_length, front_map, front_more, front_none, front_same, front_then}
 use Rattle.list_laws.proofs.Lists.{none_before as first_nothing, none_behind}
 
 -- ---- What is heard can be read
 
-own_read : Laws → (own : List Spoken) → AreSpoken own → AreReadable (messages_of own)
-own_read laws [] each = tt
-own_read laws (s ∷ own) each = (laws.back.1 s.message each.0, own_read laws own each.1)
+own_read : (own : List Spoken) → AreSpoken own → AreReadable (messages_of own)
+own_read [] each = tt
+own_read (s ∷ own) each = (read_back.1 s.message each.0, own_read own each.1)
 
-heard_read : Laws → (heard : List Spoken) → AreSpoken heard → AllByRecursion IsReadable heard
-heard_read laws [] each = tt
-heard_read laws (s ∷ heard) each = (laws.back.1 s.message each.0, heard_read laws heard each.1)
+heard_read : (heard : List Spoken) → AreSpoken heard → AllByRecursion IsReadable heard
+heard_read [] each = tt
+heard_read (s ∷ heard) each = (read_back.1 s.message each.0, heard_read heard each.1)
 
 pub empty_by : {A : Type 0} → (xs : List A) → length xs ≤ 0 → xs ≡ []
 empty_by [] less = refl
@@ -133,15 +133,15 @@ module _ (images : List Image) (history : List Input) (commands : List Asked) (h
 
 -- ---- A client
 
-module _ (laws : Laws) (calls : List ClientCall) (names : AllByRecursion HasNames calls) where
+module _ (calls : List ClientCall) (names : AllByRecursion HasNames calls) where
   abbrev client_past : ClientPast
   client_past = client_past_of calls no_past
 
   abbrev sent_are : List Accepted
-  sent_are = sent_commands laws calls names
+  sent_are = sent_commands calls names
 
   abbrev held_are : List Accepted
-  held_are = drop (sent_count laws calls names) client_past.commands
+  held_are = drop (sent_count calls names) client_past.commands
 
   abbrev asked_are : List Asked
   asked_are = map asked_as client_past.commands
@@ -153,21 +153,21 @@ module _ (laws : Laws) (calls : List ClientCall) (names : AllByRecursion HasName
   keeps = map asked_as held_are
 
   whole_commands : client_past.commands ≡ sent_are ++ held_are
-  whole_commands = sym (take-append-drop (sent_count laws calls names) client_past.commands)
+  whole_commands = sym (take-append-drop (sent_count calls names) client_past.commands)
 
   whole_asked : asked_are ≡ gave_up ++ keeps
   whole_asked = ap (map asked_as) whole_commands ∙ map-append asked_as sent_are held_are
 
   sent_numbered : numbered 1 gave_up ≡ gave_up
-  sent_numbered = numbered_counted 1 sent_are (sent_counted laws calls names)
+  sent_numbered = numbered_counted 1 sent_are (sent_counted calls names)
 
   all_numbered : numbered 1 asked_are ≡ asked_are
-  all_numbered = numbered_counted 1 client_past.commands (all_counted laws calls names)
+  all_numbered = numbered_counted 1 client_past.commands (all_counted calls names)
 
   pub sent_few : length sent_are < 2 ^ 64
   sent_few =
       let all : length client_past.commands ≡ length sent_are + length held_are = ap length whole_commands ∙ length-append sent_are held_are in
-      let few : length client_past.commands < 2 ^ 64 = laws.few calls in omega arith
+      let few : length client_past.commands < 2 ^ 64 = commands_are_few calls in omega arith
 
   pub asked_few : length gave_up < 2 ^ 64
   asked_few = let same : length gave_up ≡ length sent_are = length-map sent_are asked_as in let few = sent_few in omega arith
@@ -175,7 +175,7 @@ module _ (laws : Laws) (calls : List ClientCall) (names : AllByRecursion HasName
   all_few : length asked_are < 10 ^ 64
   all_few =
       let same : length asked_are ≡ length client_past.commands = length-map client_past.commands asked_as in
-      let few : length client_past.commands < 2 ^ 64 = laws.few calls in omega arith
+      let few : length client_past.commands < 2 ^ 64 = commands_are_few calls in omega arith
 
   -- ---- On a way on which all value-adds are bound, or one isn't
 
@@ -185,15 +185,15 @@ module _ (laws : Laws) (calls : List ClientCall) (names : AllByRecursion HasName
     heard_down : IsMapped comes_as (entering t.down) (heard_in client_past)
     heard_down =
         let comes : IsFront (arrived (end_calls calls new_client)) (bytes_of (queue_of t.down t.is_ended)) = subst (λ bytes. IsFront bytes (bytes_of (queue_of t.down t.is_ended))) came t.comes_down in
-        front_mapped comes_as (entering t.down) (heard_in client_past) (hears laws calls names t.down t.is_ended t.formed comes)
+        front_mapped comes_as (entering t.down) (heard_in client_past) (hears calls names t.down t.is_ended t.formed comes)
 
     abbrev heard_are : List Spoken
     heard_are = heard_down.origin
 
-    as_own : IsFront heard_are t.own → IsPrefixOf (heard_in client_past) (map incoming (messages_of t.own))
+    as_own : IsFront heard_are t.own → IsFront (heard_in client_past) (map incoming (messages_of t.own))
     as_own front =
         let p : IsFront (map comes_as heard_are) (map comes_as t.own) = front_map comes_as heard_are t.own front in
-        (p.0, ap (λ l. l ++ p.0) heard_down.are ∙ sym p.1 ∙ incoming_same t.own)
+        (p.0, sym (ap (λ l. l ++ p.0) heard_down.are ∙ sym p.1 ∙ incoming_same t.own))
 
     heard_formed : AreSpoken heard_are
     heard_formed = front_each (λ s. IsWellFormed s.message) heard_are (entering t.down) heard_down.front (entering_formed t.down t.formed)
@@ -205,8 +205,8 @@ module _ (laws : Laws) (calls : List ClientCall) (names : AllByRecursion HasName
       is_own = is_own;
       begins = t.begins;
       told = as_own (front_then heard_are (entering t.down) t.own heard_down.front front);
-      readable = own_read laws t.own t.own_formed;
-      few = laws.few calls;
+      readable = own_read t.own t.own_formed;
+      few = commands_are_few calls;
     }
 
     -- a value-add isn't bound
@@ -260,7 +260,7 @@ module _ (laws : Laws) (calls : List ClientCall) (names : AllByRecursion HasName
       parts = split_mapped asked_as sent_are b.answered b.later b.split
 
       answered_counted : AreCounted 1 parts.front
-      answered_counted = counted_front 1 parts.front parts.back (subst (AreCounted 1) parts.whole (sent_counted laws calls names))
+      answered_counted = counted_front 1 parts.front parts.back (subst (AreCounted 1) parts.whole (sent_counted calls names))
 
       answered_numbered : numbered 1 b.answered ≡ map asked_as parts.front
       answered_numbered = ap (numbered 1) (sym parts.first) ∙ numbered_counted 1 parts.front answered_counted
@@ -307,7 +307,7 @@ module _ (laws : Laws) (calls : List ClientCall) (names : AllByRecursion HasName
 
         executes : IsFront executed top_read
         executes =
-            front_same executed (map read_as t.top) top_read (contents_read t.top) (executed_front laws images history past legal follows readable t.top a)
+            front_same executed (map read_as t.top) top_read (contents_read t.top) (executed_front images history past legal follows readable t.top a)
 
         -- the commands of which the others go up, as they are read
         later_read : map content_read (map content b.later) ≡ map read parts.back
@@ -334,26 +334,25 @@ module _ (laws : Laws) (calls : List ClientCall) (names : AllByRecursion HasName
             (front_left executed top_read asked_read executes (without_left content_read is_storable_content (map content t.top) b.goes_up.asked b.goes_up.sent))
             asked_front
 
-        goes : IsPrefixOf (through_of executed) (through_of (map read later_are))
+        goes : IsFront (through_of executed) (through_of (map read later_are))
         goes =
             let one : IsFront (through_of executed) (through_of top_read) = front_filter goes_through executed top_read executes in
             let same : through_of top_read ≡ through_of asked_read = without_filter content_read is_storable_content goes_through storable_not (map content t.top) b.goes_up.asked b.goes_up.sent in
             let two : IsFront (through_of asked_read) (through_of (map read later_are)) = front_filter goes_through asked_read (map read later_are) asked_front in
-            prefix_of (through_of executed) (through_of (map read later_are))
-            (front_then (through_of executed) (through_of asked_read) (through_of (map read later_are)) (front_same (through_of executed) (through_of top_read) (through_of asked_read) same one) two)
+            front_then (through_of executed) (through_of asked_read) (through_of (map read later_are)) (front_same (through_of executed) (through_of top_read) (through_of asked_read) same one) two
 
         owed : IsFront (owed_in asked_are heard_are) (owed_by images past.number history)
         owed =
             let heard : IsFront (owed_in asked_are heard_are) (owed_in asked_are (entering t.down)) = front_flat (λ (s : Spoken). owed_at asked_are s.message s.mark) heard_are (entering t.down) heard_down.front in
             let top : IsFront (owed_in asked_are (entering t.down)) (owed_in (numbered 1 t.top) said) = subst (λ l. IsFront l (owed_in (numbered 1 t.top) said)) (sym down_owed) b.owed in
             let owes : owed_in (numbered 1 t.top) said ≡ owed_by images past.number history =
-            ap (owed_in (numbered 1 t.top)) said_is ∙ owed_right laws images history past legal follows readable t.top a top_few in
+            ap (owed_in (numbered 1 t.top)) said_is ∙ owed_right images history past legal follows readable t.top a top_few in
             front_then (owed_in asked_are heard_are) (owed_in asked_are (entering t.down)) (owed_by images past.number history) heard
             (front_same (owed_in asked_are (entering t.down)) (owed_in (numbered 1 t.top) said) (owed_by images past.number history) owes top)
 
         greeted_first : IsFront heard_are t.own → executed ≡ []
         greeted_first heard =
-            let none : b.later ≡ [] = none_later laws calls names t.own t.own_formed (as_own heard) b.answered b.later b.split b.is_own binds sent_few in
+            let none : b.later ≡ [] = none_later calls names t.own t.own_formed (as_own heard) b.answered b.later b.split b.is_own binds sent_few in
             let asked_none : b.goes_up.asked ≡ [] = front_none b.goes_up.asked (front_same b.goes_up.asked (map content b.later) [] (ap (map content) none) b.goes_up.front) in
             let fewer : length (map content t.top) ≤ length b.goes_up.asked = without_few is_storable_content (map content t.top) b.goes_up.asked b.goes_up.sent in
             let top_none : map content t.top ≡ [] = empty_by (map content t.top) (subst (λ l. length (map content t.top) ≤ length l) asked_none fewer) in
@@ -371,7 +370,7 @@ module _ (laws : Laws) (calls : List ClientCall) (names : AllByRecursion HasName
           opened = follows.opened;
           heard = heard_are;
           are = heard_down.are;
-          readable = heard_read laws heard_are heard_formed;
+          readable = heard_read heard_are heard_formed;
           parts = record {
             target = b.comes_down.target;
             marked = b.comes_down.marked;
@@ -382,7 +381,7 @@ module _ (laws : Laws) (calls : List ClientCall) (names : AllByRecursion HasName
           asked = is_asked;
           through = goes;
           greeted_first = greeted_first;
-          few = laws.few calls;
+          few = commands_are_few calls;
         }
 
         -- where each end on the way took all that was said above it, it heard all that the history owes
@@ -391,6 +390,6 @@ module _ (laws : Laws) (calls : List ClientCall) (names : AllByRecursion HasName
         target_all takes all =
             let took : TakesAll (client_end calls) (entering t.down) = takes_all (client_end calls) made said (entering t.down) (entering_formed t.down t.formed) t.says_all takes in
             let whole : heard_are ≡ entering t.down =
-            front_whole comes_as heard_are (entering t.down) heard_down.front (sym heard_down.are ∙ heard_is laws calls names ∙ took) in
+            front_whole comes_as heard_are (entering t.down) heard_down.front (sym heard_down.are ∙ heard_is calls names ∙ took) in
             ap (owed_in asked_are) whole ∙ down_owed ∙ b.all_owed all ∙ ap (owed_in (numbered 1 t.top)) said_is
-            ∙ owed_right laws images history past legal follows readable t.top a top_few
+            ∙ owed_right images history past legal follows readable t.top a top_few

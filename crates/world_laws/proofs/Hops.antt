@@ -25,8 +25,8 @@ use Rattle.target_contexts.specs.declared.process.Image.{Image}
 use Rattle.target_hub.specs.History.{was_opened}
 use Rattle.tcf_schedules.specs.Plan.{Plan}
 use Rattle.world_laws.specs.HopLaws.{ChainHopsStand, IsSaidOn, side_of_channel}
+use Rattle.chain_quiet.proofs.TheLaws.{each_hop_stands}
 use Rattle.world_laws.proofs.Chains.{all_told}
-use Rattle.world_laws.proofs.LowerLaws.{Laws}
 use Rattle.world_laws.proofs.Serving.{told_on, told_queued}
 use Rattle.world_laws.proofs.Sides.{adds_are, agent_channel, agent_is, client_end_is, client_is, client_readable, client_side, hops_carry, past_on, way, way_carries}
 use Rattle.world_laws.proofs.Silent.{at_number}
@@ -35,11 +35,11 @@ all_give : (made : List Made) → AllByRecursion GivesAll (map value_of made) �
 all_give [] each = tt
 all_give (m ∷ made) each = (each.0, all_give made each.1)
 
-module _ (laws : Laws) (images : List Image) (r : AgentRun) (follows : AgentFollowsHistory images r) (serves : AllByRecursion ServesAll r.channels) (plans : List Plan) (at adds : ℕ) (chain : ChainValue)
+module _ (images : List Image) (r : AgentRun) (follows : AgentFollowsHistory images r) (serves : AllByRecursion ServesAll r.channels) (plans : List Plan) (at adds : ℕ) (chain : ChainValue)
     (s : ChainStands plans r.channels at adds chain) where
   -- the ends of the way
   abbrev client : Side ℕ
-  client = client_side laws r.channels plans at adds chain s
+  client = client_side r.channels plans at adds chain s
 
   abbrev past : Option Past
   past = past_on chain.channel r.channels
@@ -48,13 +48,13 @@ module _ (laws : Laws) (images : List Image) (r : AgentRun) (follows : AgentFoll
   agent = option_map side_of_channel past
 
   abbrev made : List Made
-  made = (way_carries laws r.channels plans at adds chain s).made
+  made = (way_carries r.channels plans at adds chain s).made
 
   abbrev hops : List Hop
-  hops = (way laws r.channels plans at adds chain s).route.hops
+  hops = (way r.channels plans at adds chain s).route.hops
 
   abbrev talk : Talk
-  talk = (way laws r.channels plans at adds chain s).past.agent
+  talk = (way r.channels plans at adds chain s).past.agent
 
   abbrev said : List Spoken
   said = told_on images r.history past
@@ -66,16 +66,16 @@ module _ (laws : Laws) (images : List Image) (r : AgentRun) (follows : AgentFoll
 
   is_way : is_some chain.client.channel ≡ true → IsWay client hops made agent talk
   is_way some =
-      let run = way laws r.channels plans at adds chain s in
-      let carries = way_carries laws r.channels plans at adds chain s in
+      let run = way r.channels plans at adds chain s in
+      let carries = way_carries r.channels plans at adds chain s in
       record {
-        sends = client_readable laws r.channels plans at adds chain s;
-        given = λ live. given_by chain.client.channel some s.given (client_end_is laws r.channels plans at adds chain s);
+        sends = client_readable r.channels plans at adds chain s;
+        given = λ live. given_by chain.client.channel some s.given (client_end_is r.channels plans at adds chain s);
         adds = all_give made (subst (AllByRecursion GivesAll) carries.adds carries.given);
-        carries = hops_carry laws r.channels plans at adds chain s;
+        carries = hops_carry r.channels plans at adds chain s;
         connected = connected_to_last made run.route run.past.is_reached carries.connected carries.unreached;
-        channel = agent_channel laws r.channels plans at adds chain s serves;
-        served = agent_is laws r.channels plans at adds chain s serves;
+        channel = agent_channel r.channels plans at adds chain s serves;
+        served = agent_is r.channels plans at adds chain s serves;
       }
 
   -- the channel on the agent, where it was opened
@@ -112,18 +112,18 @@ module _ (laws : Laws) (images : List Image) (r : AgentRun) (follows : AgentFoll
       by_channel (Some k) = by_past k (past_at k r.channels) refl
 
   told_so : AllTold images r.history (end_of_side client) made said
-  told_so = subst (λ lower. AllTold images r.history lower made said) (client_is laws r.channels plans at adds chain s) (all_told laws images r follows serves plans at adds chain s)
+  told_so = subst (λ lower. AllTold images r.history lower made said) (client_is r.channels plans at adds chain s) (all_told images r follows serves plans at adds chain s)
 
   pub chain_hops : ChainHopsStand images r.history r.agent chain
   chain_hops = record {
     calls = s.calls;
     client = s.client;
     made = made;
-    adds = adds_are laws r.channels plans at adds chain s;
+    adds = adds_are r.channels plans at adds chain s;
     past = past;
     channel = channel_is;
     refused = refused_is;
-    hops = λ some. subst (λ route. HopsStand client route.hops made agent) (sym s.way) (laws.hops client hops made agent talk (is_way some));
+    hops = λ some. subst (λ route. HopsStand client route.hops made agent) (sym s.way) (each_hop_stands client hops made agent talk (is_way some));
     said = said;
     says = says_so;
     told = told_so;

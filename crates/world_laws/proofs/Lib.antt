@@ -1,4 +1,3 @@
-pub mod LowerLaws
 pub mod Lists
 pub mod Spoken
 pub mod Accepted
@@ -30,3 +29,4 @@ pub mod EndsOfAdds
 pub mod EndsOfAgents
 pub mod Ends
 pub mod Playable
+pub mod TheLaws

@@ -1,50 +1,14 @@
--- Fronts of lists, what is left of them, and lists that are seen through a function.
-use Rattle.std.proofs.Common.{◌≡◌, ◌≤◌, inl, inr, ⊎_elim, Bool, true, false, cond, List, [], ◌∷◌, ◌++◌, length, map, refl, sym, ap, ◌∙◌, arith, append-nil}
+-- What is left of lists, and lists that are seen through a function.
+use Rattle.std.proofs.Common.{◌≡◌, ◌≤◌, inl, inr, ⊎_elim, Bool, true, false, cond, List, [], ◌∷◌, ◌++◌, length, map, refl, sym, ap, ◌∙◌, arith}
 use Rattle.std.specs.List.{filter}
-use Rattle.std.proofs.lemmas.List.Elements.{filter-append}
-use Rattle.channel_core.specs.Arrivals.{IsFront}
+use Rattle.list_laws.specs.Fronts.{IsSubsequenceOf}
 use Rattle.chain_told.specs.TellsOn.{IsWithoutSome}
-use Rattle.target_hub.specs.Ordered.{IsPrefixOf, IsSubsequenceOf}
-
--- ---- Fronts
-
-pub front_all : {A : Type 0} → (xs : List A) → IsFront xs xs
-front_all xs = ([], sym (append-nil xs))
-
-pub prefix_of : {A : Type 0} → (xs ys : List A) → IsFront xs ys → IsPrefixOf xs ys
-prefix_of xs ys p = (p.0, sym p.1)
-
-pub front_filter : {A : Type 0} → (q : A → Bool) (xs ys : List A) → IsFront xs ys → IsFront (filter q xs) (filter q ys)
-front_filter q xs ys p = (filter q p.0, ap (filter q) p.1 ∙ filter-append q xs p.0)
 
 -- ---- One list after the other
 
 pub no_more : {A : Type 0} → (xs : List A) (x : A) (ys : List A) → xs ++ x ∷ ys ≡ [] → ⊥
 no_more [] x ys is = absurd cc
 no_more (y ∷ xs) x ys is = absurd cc
-
--- ---- What is left of a list
-
--- a front of what is left, and what is left of a front
-pub front_left : {A : Type 0} → (xs ys zs : List A) → IsFront xs ys → IsSubsequenceOf ys zs → IsSubsequenceOf xs zs
-front_left [] ys zs p left = tt
-front_left (x ∷ xs) [] zs p left = let whole : [] ≡ x ∷ (xs ++ p.0) = p.1 in absurd cc
-front_left (x ∷ xs) (y ∷ ys) [] p left = absurd left
-front_left (x ∷ xs) (y ∷ ys) (z ∷ zs) p left =
-    let whole : y ∷ ys ≡ x ∷ (xs ++ p.0) = p.1 in
-    let one : x ≡ y = cc in
-    let tails : ys ≡ xs ++ p.0 = cc in
-    ⊎_elim (λ both. inl (one ∙ both.0, front_left xs ys zs (p.0, tails) both.1)) (λ other. inr (front_left (x ∷ xs) (y ∷ ys) zs p other)) left
-
-pub left_front : {A : Type 0} → (xs ys zs : List A) → IsSubsequenceOf xs ys → IsFront ys zs → IsSubsequenceOf xs zs
-left_front [] ys zs left p = tt
-left_front (x ∷ xs) [] zs left p = absurd left
-left_front (x ∷ xs) (y ∷ ys) [] left p = let whole : [] ≡ y ∷ (ys ++ p.0) = p.1 in absurd cc
-left_front (x ∷ xs) (y ∷ ys) (z ∷ zs) left p =
-    let whole : z ∷ zs ≡ y ∷ (ys ++ p.0) = p.1 in
-    let one : y ≡ z = cc in
-    let tails : zs ≡ ys ++ p.0 = cc in
-    ⊎_elim (λ both. inl (both.0 ∙ one, left_front xs ys zs both.1 (p.0, tails))) (λ other. inr (left_front (x ∷ xs) ys zs other (p.0, tails))) left
 
 -- ---- A list without some elements of a kind, seen through a function
 

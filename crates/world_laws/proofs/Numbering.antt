@@ -6,12 +6,11 @@ use Rattle.std.proofs.lemmas.Bool.{eqb-false, or_parts}
 use Rattle.std.proofs.lemmas.List.{map-append}
 use Rattle.std.proofs.lemmas.List.Folds.{list_any-append}
 use Rattle.agent_node.specs.Agent.{after_giving, after_input, answered_to, asked, begun, delivered, done_by, ended, executed, executed_read, going_leaves, going_tells, gone, heard, instruction_leaves, instruction_tells, is_full, is_refused, left_by, opened, read_as, ticked, ticked_by, took, took_any, turned, turned_at, turned_on, with_target}
-use Rattle.agent_node.specs.AgentLaws.{AgentFollowsHistory, AgentTellsTheTruth}
+use Rattle.agent_node.specs.AgentLaws.{AgentFollowsHistory}
 use Rattle.agent_node.specs.AgentValue.{AgentValue}
 use Rattle.agent_node.specs.Channels.{End, answer_queued, changed, changed_at, channel_end, end_in, event_queued, is_kept, new_channel, place_of, put_at, told_all, with_end}
 use Rattle.agent_node.specs.Runs.{AgentRun, Call, after_all, after_call, bytes_end, called, comes, gives, input_if, no_calls, opens, ticks, turns}
 use Rattle.agent_node.proofs.Places.{found, place_found, channel_number}
-use Rattle.agent_node.specs.Strangers.{NoStrangersAfterAnyCalls}
 use Rattle.agent_node.specs.declared.agent.Turned.{Turned}
 use Rattle.agent_node.specs.declared.agent.Turned.TheVariants.{Nothing}
 use Rattle.agent_node.specs.declared.channel.Channel.{Channel}
@@ -27,6 +26,7 @@ use Rattle.tcf_values.specs.declared.event.EventData.{EventData}
 use Rattle.tcf_values.specs.declared.ids.ContextId.{ContextId}
 use Rattle.chain_world.proofs.Agents.{Reached, reached_more}
 use Rattle.list_laws.proofs.Lists.{map_map}
+use Rattle.agent_node.proofs.TheLaws.{agent_has_no_strangers, agent_tells_the_truth}
 
 abbrev numbers : List Channel → List ℕ
 numbers cs = map channel_number cs
@@ -202,15 +202,15 @@ opened_apart k a new apart = by_flag (is_refused k a) new
 
 -- ---- Over any calls
 
-module _ (truth : AgentTellsTheTruth) (strangers : NoStrangersAfterAnyCalls) (images : List Image) where
+module _ (images : List Image) where
   is_new : (k : ℕ) (r : AgentRun) → Reached images r → (opened k r.agent).0 ≡ true → has k (of_agent r.agent) ≡ false
   is_new k r reached did =
-      let follows : AgentFollowsHistory images r = subst (AgentFollowsHistory images) reached.is (truth images reached.calls) in
+      let follows : AgentFollowsHistory images r = subst (AgentFollowsHistory images) reached.is (agent_tells_the_truth images reached.calls) in
       let next : Reached images (after_call (opens k) r) = reached_more images r (opens k ∷ []) reached in
-      let later : AgentFollowsHistory images (after_call (opens k) r) = subst (AgentFollowsHistory images) next.is (truth images next.calls) in
+      let later : AgentFollowsHistory images (after_call (opens k) r) = subst (AgentFollowsHistory images) next.is (agent_tells_the_truth images next.calls) in
       let unopened : was_opened k r.history ≡ false = later.legal r.history (Opened k) [] (ap (λ (b : Bool). r.history ++ input_if b (Opened k)) did) in
       let none : list_any (λ past. past.number == k) r.channels ≡ false = sym (follows.opened k) ∙ unopened in
-      let stranger : channel_end k r.agent.channels ≡ None = subst (λ (x : AgentRun). list_any (λ past. past.number == k) x.channels ≡ false → channel_end k x.agent.channels ≡ None) reached.is (strangers images reached.calls k) none in
+      let stranger : channel_end k r.agent.channels ≡ None = subst (λ (x : AgentRun). list_any (λ past. past.number == k) x.channels ≡ false → channel_end k x.agent.channels ≡ None) reached.is (agent_has_no_strangers images reached.calls k) none in
       none_has k r.agent.channels (sym (end_found k r.agent.channels) ∙ stranger)
 
   call_apart : (call : Call) (r : AgentRun) → Reached images r → AreApart (of_agent r.agent) → AreApart (of_agent (called call r.agent))

@@ -10,13 +10,14 @@ use Rattle.hex.proofs.HexLemmas.{decode_of-ok}
 use Rattle.target_truth.specs.Typed.{AreTyped}
 use Rattle.tcf_schedules.specs.Line.{LineHead, chain, image}
 use Rattle.tcf_schedules.specs.Plan.{IsSingle as IsSingleStep, IsStep, Plan, cached, close, cut, deliver, opens, rounds, send, tick, times, turn}
-use Rattle.tcf_schedules.specs.Schedule.{ReadsWhatIsSaid, ReadsWithin, ScheduleValue, images_in, schedule_of}
+use Rattle.tcf_schedules.specs.Schedule.{ScheduleValue, images_in, schedule_of}
 use Rattle.tcf_schedules.specs.Words.{bytes_of, bytes_or_none, dash_word}
 use Rattle.tcf_schedules.specs.declared.schedule.ChainHead.{ChainHead}
 use Rattle.tcf_schedules.specs.declared.schedule.NamedImage.{NamedImage}
-use Rattle.world_laws.specs.EndLaws.{EndsRightlyAfterEverySchedule}
 use Rattle.world_laws.specs.Playing.{CoherentOfEveryFile, EndsOfEveryFile, FreshOfEveryFile, HoldsOfEveryFile, ReadIsPlayable, UnstuckOfEveryFile}
-use Rattle.world_laws.specs.WorldLaws.{CoherentAfterEverySchedule, FaithfulAfterEverySchedule, FreshAfterEverySchedule, NothingStuckAfterEverySchedule}
+use Rattle.tcf_schedules.proofs.TheLaws.{reads_what_is_said, reads_within}
+use Rattle.world_laws.proofs.Ends.{ends_rightly}
+use Rattle.world_laws.proofs.Faithful.{coherent, faithful, fresh, unstuck}
 
 -- ---- The steps
 
@@ -48,8 +49,8 @@ steps : (chains : List ChainHead) (plans : List Plan) → AllByRecursion (IsStep
 steps chains [] ok = tt
 steps chains (plan ∷ plans) ok = (step chains plan ok.0, steps chains plans ok.1)
 
-pub read_playable : ReadsWithin → ReadIsPlayable
-read_playable within file s said = steps s.chains s.plans (within file s said).0
+pub read_playable : ReadIsPlayable
+read_playable file s said = steps s.chains s.plans (reads_within file s said).0
 
 -- ---- The images: their bytes are below 256
 
@@ -75,22 +76,22 @@ heads_typed (chain name adds ∷ heads) = heads_typed heads
 
 -- ---- A file
 
-pub file_faithful : FaithfulAfterEverySchedule → ReadIsPlayable → HoldsOfEveryFile
-file_faithful law playable file s read = law (images_of s.images) (adds_of s.chains) s.plans (playable file s read)
+pub file_faithful : HoldsOfEveryFile
+file_faithful file s read = faithful (images_of s.images) (adds_of s.chains) s.plans (read_playable file s read)
 
-pub file_ends : EndsRightlyAfterEverySchedule → ReadIsPlayable → EndsOfEveryFile
-file_ends law playable file s read = law (images_of s.images) (adds_of s.chains) s.plans (playable file s read)
+pub file_ends : EndsOfEveryFile
+file_ends file s read = ends_rightly (images_of s.images) (adds_of s.chains) s.plans (read_playable file s read)
 
-file_typed : ReadsWhatIsSaid → (file : List ℕ) (s : ScheduleValue) → schedule_of file ≡ Ok s → AreTyped (images_of s.images)
-file_typed said file s read =
-    let accepts = (said file s).0 read in
+file_typed : (file : List ℕ) (s : ScheduleValue) → schedule_of file ≡ Ok s → AreTyped (images_of s.images)
+file_typed file s read =
+    let accepts = (reads_what_is_said file s).0 read in
     subst (λ (images : List NamedImage). AreTyped (images_of images)) (sym accepts.images) (heads_typed accepts.heads)
 
-pub file_coherent : CoherentAfterEverySchedule → ReadsWhatIsSaid → ReadIsPlayable → CoherentOfEveryFile
-file_coherent law said playable file s read = law (images_of s.images) (adds_of s.chains) s.plans (file_typed said file s read) (playable file s read)
+pub file_coherent : CoherentOfEveryFile
+file_coherent file s read = coherent (images_of s.images) (adds_of s.chains) s.plans (file_typed file s read) (read_playable file s read)
 
-pub file_fresh : FreshAfterEverySchedule → ReadsWhatIsSaid → ReadIsPlayable → FreshOfEveryFile
-file_fresh law said playable file s read = law (images_of s.images) (adds_of s.chains) s.plans (file_typed said file s read) (playable file s read)
+pub file_fresh : FreshOfEveryFile
+file_fresh file s read = fresh (images_of s.images) (adds_of s.chains) s.plans (file_typed file s read) (read_playable file s read)
 
-pub file_unstuck : NothingStuckAfterEverySchedule → ReadIsPlayable → UnstuckOfEveryFile
-file_unstuck law playable file s read = law (images_of s.images) (adds_of s.chains) s.plans (playable file s read)
+pub file_unstuck : UnstuckOfEveryFile
+file_unstuck file s read = unstuck (images_of s.images) (adds_of s.chains) s.plans (read_playable file s read)

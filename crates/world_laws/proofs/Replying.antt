@@ -4,12 +4,11 @@ use Rattle.std.specs.List.{AllByRecursion}
 use Rattle.tcf_message.specs.Message.{MessageValue}
 use Rattle.agent_node.specs.AgentLaws.{later_tokens, messages_told}
 use Rattle.node_answers.proofs.Agents.Spoken.{spoken_of}
-use Rattle.channel_core.specs.Arrivals.{Spoken}
+use Rattle.channel_core.specs.Arrivals.{Spoken, comes_as}
 use Rattle.chain_heard.specs.Heard.{incoming, messages_of}
 use Rattle.chain_through.specs.Calling.{AskNothing}
 use Rattle.chain_through.specs.Through.{IsMarked}
 use Rattle.chain_through.proofs.Spelling.{AreSpelled, IsSpelled}
-use Rattle.chain_told.specs.TellsOn.{comes_as}
 use Rattle.target_hub.specs.Sent.{Told, event_at, final_at, hello_at, progress_at, unknown_at}
 
 pub incoming_same : (spoken : List Spoken) → map comes_as spoken ≡ map incoming (messages_of spoken)

@@ -2,7 +2,7 @@
 use Rattle.std.proofs.Common.{◌≡◌, ℕ, ◌+◌, ◌-◌, ◌<◌, ◌≤◌, ◌==◌, ◌||◌, Bool, true, false, not, cond, List, [], ◌∷◌, ◌++◌, length, take, map, Option, None, refl, sym, ap, ◌∙◌, arith, append-nil, eqb-true}
 use Rattle.std.specs.Prelude.{◌^◌}
 use Rattle.std.specs.List.{AllByRecursion, filter, flat_map}
-use Rattle.channel_core.specs.Arrivals.{AreSpoken, IsFront, Spoken, arrived, bytes_of, messages_in, queue_of}
+use Rattle.channel_core.specs.Arrivals.{AreSpoken, Spoken, arrived, bytes_of, messages_in, queue_of}
 use Rattle.channel_core.specs.Beginning.{new_end}
 use Rattle.channel_core.specs.EndValue.{EndValue}
 use Rattle.channel_core.specs.QueueLaws.{is_message, is_plain, sent_in}
@@ -26,10 +26,13 @@ use Rattle.chain_through.proofs.Spelling.{said_so, same_said}
 use Rattle.chain_through.proofs.Taking.{received_front}
 use Rattle.chain_route.proofs.Bytes.{take_mapped}
 use Rattle.chain_through.proofs.Above.{queued_more}
+use Rattle.chain_heard.proofs.TheLaws.{commands_are_few}
+use Rattle.channel_core.proofs.TheLaws.{queues_in_order, queues_readable, queues_what_is_sent, receives_in_order, sends_in_order}
+use Rattle.client_node.proofs.TheLaws.{clients_end_is_a_run, log_tells_past}
 use Rattle.world_laws.proofs.Accepted.{AreCounted, AreWritten, all_named, are_counted, asking_counted, command_of, counted_taken, speaking, spoken_spelled, written}
-use Rattle.world_laws.proofs.LowerLaws.{Laws}
 use Rattle.list_laws.proofs.Lists.{map_map}
 use Rattle.list_laws.proofs.AllLists.{all_take as all_taken}
+use Rattle.list_laws.specs.Fronts.{IsFront}
 
 pub client_hello : IsWellFormed (event locator hello client_services)
 unfolding locator hello client_services
@@ -108,7 +111,7 @@ commands_alone (o ∷ queue) none = by_flags (is_flow o) (is_end o) (is_command 
 pub none_behind : (o : Outgoing) (queue : List Outgoing) → o ∷ queue ≡ o ∷ [] → queue ≡ []
 none_behind o queue is = cc
 
-module _ (laws : Laws) (calls : List ClientCall) (names : AllByRecursion HasNames calls) where
+module _ (calls : List ClientCall) (names : AllByRecursion HasNames calls) where
   abbrev run_is : Run ℕ
   run_is = client_end calls
 
@@ -116,10 +119,10 @@ module _ (laws : Laws) (calls : List ClientCall) (names : AllByRecursion HasName
   past_is = past_of calls no_past
 
   is_run : EndIsRun calls
-  is_run = laws.ends calls
+  is_run = clients_end_is_a_run calls
 
   pub client_can : CanBeRead run_is
-  client_can = laws.readable client_services None (end_calls calls new_client) client_hello (all_readable (end_calls calls new_client) is_run.sendings)
+  client_can = queues_readable client_services None (end_calls calls new_client) client_hello (all_readable (end_calls calls new_client) is_run.sendings)
 
   -- ---- The commands that it sent
 
@@ -130,16 +133,16 @@ module _ (laws : Laws) (calls : List ClientCall) (names : AllByRecursion HasName
   sent_commands = take sent_count past_is.commands
 
   pub all_counted : AreCounted 1 past_is.commands
-  all_counted = are_counted 1 past_is.commands (laws.tells calls).counted
+  all_counted = are_counted 1 past_is.commands (log_tells_past calls).counted
 
   pub sent_counted : AreCounted 1 sent_commands
   sent_counted = counted_taken 1 sent_count past_is.commands all_counted
 
   pub all_written : AreWritten past_is.commands
   all_written =
-      let few : length past_is.commands < 2 ^ 64 = laws.few calls in
+      let few : length past_is.commands < 2 ^ 64 = commands_are_few calls in
       let room : 1 + length past_is.commands ≤ 2 ^ 64 = omega arith in
-      written laws.decimals 1 past_is.commands (all_named calls no_past names tt) all_counted room
+      written 1 past_is.commands (all_named calls no_past names tt) all_counted room
 
   pub sent_written : AreWritten sent_commands
   sent_written = all_taken (λ c. IsWellFormed (command_of c)) sent_count past_is.commands all_written
@@ -149,7 +152,7 @@ module _ (laws : Laws) (calls : List ClientCall) (names : AllByRecursion HasName
 
   commands_queued : filter is_command run_is.past.queued ≡ map said_so (map speaking sent_commands)
   commands_queued =
-      (laws.sends client_services None (end_calls calls new_client)).are_sent
+      (sends_in_order client_services None (end_calls calls new_client)).are_sent
       ∙ ap (map (λ i. i.command.outgoing)) sent_issued
       ∙ map_map (λ i. i.command.outgoing) issued_as sent_commands
       ∙ sym (map_map said_so speaking sent_commands)
@@ -160,7 +163,7 @@ module _ (laws : Laws) (calls : List ClientCall) (names : AllByRecursion HasName
     hello_alone : filter is_plain run_is.past.queued ≡ said (event locator hello client_services) None ∷ []
     hello_alone =
         let nothing : flat_map sent_by (end_calls calls new_client) ≡ [] = is_run.answers ∙ ap (flat_map answers_to) is_run.taken ∙ no_answers run_is.past.taken quiet in
-        laws.sent_plain client_services None (end_calls calls new_client) ∙ ap (λ os. said (event locator hello client_services) None ∷ os) (none_sent (end_calls calls new_client) (new_end client_services None) nothing)
+        queues_what_is_sent client_services None (end_calls calls new_client) ∙ ap (λ os. said (event locator hello client_services) None ∷ os) (none_sent (end_calls calls new_client) (new_end client_services None) nothing)
 
     messages_queued : filter is_message run_is.past.queued ≡ map said_so (greeting client_services ∷ map speaking sent_commands)
     messages_queued =
@@ -179,7 +182,7 @@ module _ (laws : Laws) (calls : List ClientCall) (names : AllByRecursion HasName
 
     pub client_calls : Calls (map asked_as sent_commands) (given_out calls new_client)
     client_calls =
-        let order : run_is.past.given ++ run_is.end.queued ≡ run_is.past.queued = laws.order client_services None (end_calls calls new_client) in
+        let order : run_is.past.given ++ run_is.end.queued ≡ run_is.past.queued = queues_in_order client_services None (end_calls calls new_client) in
         record {
           spoken = client_can.spoken;
           is_ended = client_can.is_ended;
@@ -197,7 +200,7 @@ module _ (laws : Laws) (calls : List ClientCall) (names : AllByRecursion HasName
   taken_front : (spoken : List Spoken) (is_ended : Bool) → AreSpoken spoken → IsFront (arrived (end_calls calls new_client)) (bytes_of (queue_of spoken is_ended))
       → IsFront (flat_map incoming_of run_is.past.taken) (messages_in spoken)
   taken_front spoken is_ended formed front =
-      received_front run_is (messages_in spoken) (laws.receives client_services None (end_calls calls new_client) spoken is_ended formed front).front
+      received_front run_is (messages_in spoken) (receives_in_order client_services None (end_calls calls new_client) spoken is_ended formed front).front
 
   pub hears : (spoken : List Spoken) (is_ended : Bool) → AreSpoken spoken → IsFront (arrived (end_calls calls new_client)) (bytes_of (queue_of spoken is_ended)) → IsFront (heard_in past_is) (messages_in spoken)
   hears spoken is_ended formed front = let t = taken_front spoken is_ended formed front in (t.0, t.1 ∙ ap (λ xs. xs ++ t.0) (sym heard_is))

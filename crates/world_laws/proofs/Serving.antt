@@ -11,7 +11,8 @@ use Rattle.chain_told.specs.Sent.{owed_by, read_as, said_to}
 use Rattle.chain_route.specs.Carrying.{AllCarry, End, HopCarries, Made, end_above, past_of}
 use Rattle.chain_route.specs.Runs.{Talk}
 use Rattle.chain_route.specs.declared.hop.Hop.{Hop}
-use Rattle.chain_route.proofs.Bytes.{take_front, front_length, front_map, front_same, front_then}
+use Rattle.list_laws.proofs.Fronts.{front_take, front_length, front_map, front_same, front_then}
+use Rattle.list_laws.specs.Fronts.{IsFront}
 use Rattle.chain_through.specs.Calling.{AskNothing, Calls, Says, all_asking, asking, entering, given_of, greeting}
 use Rattle.chain_through.specs.Through.{Content, IsMarked, content, top_end}
 use Rattle.chain_through.proofs.Found.{found_more}
@@ -21,7 +22,7 @@ use Rattle.chain_through.proofs.ToldLists.{AreFound, IsFound, all_found, told_mo
 use Rattle.chain_told.specs.Told.{AreToldRightly, is_any_storable, numbered, owed_at, owed_in, without_token}
 use Rattle.chain_told.proofs.Numbered.{numbered_append}
 use Rattle.chain_world.specs.Standing.{unmarked}
-use Rattle.channel_core.specs.Arrivals.{AreSpoken, IsFront, Spoken, arrived, bytes_of, queue_of}
+use Rattle.channel_core.specs.Arrivals.{AreSpoken, Spoken, arrived, bytes_of, queue_of}
 use Rattle.channel_core.specs.QueueLaws.{is_message}
 use Rattle.channel_core.specs.ReceivingLaws.{CanBeRead, SendsReadable}
 use Rattle.channel_core.specs.Runs.{Run}
@@ -34,7 +35,6 @@ use Rattle.channel_core.specs.declared.states.EndState.TheVariants.{Closed, Live
 use Rattle.command_tables.specs.Reading.{reading_of}
 use Rattle.target_contexts.specs.declared.process.Image.{Image}
 use Rattle.target_hub.specs.History.{IsLegal}
-use Rattle.target_hub.specs.Ordered.{IsPrefixOf}
 use Rattle.target_hub.specs.Sent.{ReadCommand, agent_services, executed_on, sent}
 use Rattle.target_hub.specs.declared.input.Input.{Input}
 use Rattle.tcf_message.specs.Message.{MessageValue, command, event, final, flow, not_known, progress}
@@ -42,12 +42,14 @@ use Rattle.value_node.specs.Asked.{Asked}
 use Rattle.value_node.specs.OwnMessages.{BeginsWithHello}
 use Rattle.chain_through.proofs.Through.{take_few}
 use Rattle.world_laws.specs.EndLaws.{ClosesRightly}
-use Rattle.world_laws.proofs.LowerLaws.{Laws}
+use Rattle.chain_told.proofs.TheLaws.{target_tells_rightly, target_tells_what_is_owed}
+use Rattle.channel_core.proofs.TheLaws.{ends_once, queues_in_order, queues_readable}
 use Rattle.world_laws.proofs.Lists.{no_more}
 use Rattle.world_laws.proofs.Replying.{spoken_spelled, told_marked, told_quiet}
 use Rattle.world_laws.proofs.Sending.{hello_first}
 use Rattle.world_laws.proofs.Spoken.{front_bytes, front_unmarked}
 use Rattle.world_laws.proofs.Taking.{asked_front, asking_named, asks_of, named, tokens_named}
+use Rattle.world_laws.proofs.Telling.{history_spelled}
 
 -- ---- The last hop
 
@@ -142,19 +144,19 @@ front_named token (a ∷ asked_are) (c ∷ commands) p =
     let rest = front_named (token + 1) asked_are commands (p.0, tails) in
     record { first = c ∷ rest.first; front = (rest.front.0, ap (λ cs. c ∷ cs) rest.front.1); are = ap (λ x. x ∷ asked_are) one ∙ ap (λ xs. named_is ∷ xs) rest.are }
 
-pub asked_first : Laws → (past : Past) (commands : List Asked) (top : List Outgoing) (talk : Talk) (up : Calls commands top) → IsFront (bytes_of talk.got) (bytes_of top) → IsFront (arrived past.calls) (unmarked talk.got)
+pub asked_first : (past : Past) (commands : List Asked) (top : List Outgoing) (talk : Talk) (up : Calls commands top) → IsFront (bytes_of talk.got) (bytes_of top) → IsFront (arrived past.calls) (unmarked talk.got)
     → IsAskedFirst 1 (asked (run_of past)) (given_of commands up.spoken)
-asked_first laws past commands top talk up carried came =
+asked_first past commands top talk up carried came =
     let queue = queue_of up.spoken up.is_ended in
     let bytes : IsFront (bytes_of talk.got) (bytes_of queue) = front_then (bytes_of talk.got) (bytes_of top) (bytes_of queue) carried (front_bytes top queue up.front) in
     let got : IsFront (arrived past.calls) (unmarked queue) = front_then (arrived past.calls) (unmarked talk.got) (unmarked queue) came (front_unmarked talk.got queue bytes) in
-    let asks : IsFront (asked (run_of past)) (asks_of (entering up.spoken)) = asked_front laws past up.spoken up.is_ended up.formed got in
+    let asks : IsFront (asked (run_of past)) (asks_of (entering up.spoken)) = asked_front past up.spoken up.is_ended up.formed got in
     front_named 1 (asked (run_of past)) (given_of commands up.spoken)
     (front_same (asked (run_of past)) (asks_of (entering up.spoken)) (named 1 (given_of commands up.spoken)) (asks_given (entering up.spoken) up.services commands up.says) asks)
 
 -- and so of all commands
 pub asked_top : (asked_are : List AgentAsked) (commands : List Asked) (count : ℕ) → IsAskedFirst 1 asked_are (take count commands) → IsAskedFirst 1 asked_are commands
-asked_top asked_are commands count a = record { first = a.first; front = front_then a.first (take count commands) commands a.front (take_front count commands); are = a.are }
+asked_top asked_are commands count a = record { first = a.first; front = front_then a.first (take count commands) commands a.front (front_take count commands); are = a.are }
 
 -- ---- More commands leave what is owed to everybody as it is
 
@@ -212,7 +214,7 @@ begins_said [] first services rest formed spelled is same = tt
 begins_said (s ∷ spoken) first services rest formed spelled is same =
     let here : said_so s ≡ said_so first = cc in (services, ap (λ x. x.message) (one_said s first formed.0 spelled here) ∙ is)
 
-module _ (laws : Laws) (images : List Image) (history : List Input) (past : Past) (legal : IsLegal images history) (follows : FollowsHistory images history past) (readable : SendsReadable past.calls) where
+module _ (images : List Image) (history : List Input) (past : Past) (legal : IsLegal images history) (follows : FollowsHistory images history past) (readable : SendsReadable past.calls) where
   abbrev end_run : Run Unit
   end_run = run_of past
 
@@ -221,10 +223,10 @@ module _ (laws : Laws) (images : List Image) (history : List Input) (past : Past
 
   told_spelled : AreSpelled told_is
   told_spelled =
-      spoken_spelled (messages_told (tokens (asked end_run)) (sent images past.number history)) (laws.told images history past.number (tokens (asked end_run)) legal (tokens_named laws.back end_run))
+      spoken_spelled (messages_told (tokens (asked end_run)) (sent images past.number history)) (history_spelled images history past.number (tokens (asked end_run)) legal (tokens_named end_run))
 
   end_can : CanBeRead end_run
-  end_can = laws.plain_readable agent_services (Some past.position) past.calls agent_hello readable
+  end_can = queues_readable agent_services (Some past.position) past.calls agent_hello readable
 
   says_so : entering end_can.spoken ≡ told_is
   says_so =
@@ -237,13 +239,13 @@ module _ (laws : Laws) (images : List Image) (history : List Input) (past : Past
 
   pub told_gave : (gave : List Outgoing) → gave ≡ end_run.past.given → end_run.end.queued ≡ [] → filter is_message gave ≡ map said_so told_is
   told_gave gave is none =
-      let order : end_run.past.given ++ end_run.end.queued ≡ end_run.past.queued = laws.plain_order agent_services (Some past.position) past.calls in
+      let order : end_run.past.given ++ end_run.end.queued ≡ end_run.past.queued = queues_in_order agent_services (Some past.position) past.calls in
       let all : end_run.past.given ≡ end_run.past.queued = sym (append-nil end_run.past.given) ∙ ap (λ os. end_run.past.given ++ os) (sym none) ∙ order in
       ap (filter is_message) (is ∙ all) ∙ told_queued images history past follows
 
   end_says : (gave : List Outgoing) → gave ≡ end_run.past.given → Says told_is gave
   end_says gave is =
-      let order : end_run.past.given ++ end_run.end.queued ≡ end_run.past.queued = laws.plain_order agent_services (Some past.position) past.calls in
+      let order : end_run.past.given ++ end_run.end.queued ≡ end_run.past.queued = queues_in_order agent_services (Some past.position) past.calls in
       record {
         spoken = end_can.spoken;
         is_ended = end_can.is_ended;
@@ -282,11 +284,11 @@ module _ (laws : Laws) (images : List Image) (history : List Input) (past : Past
       few_first : length a.first < 10 ^ 64
       few_first = let less = front_length a.first commands a.front in omega arith
 
-      prefix : IsPrefixOf (executed_on past.number history) (map read_as a.first)
-      prefix = ([], append-nil (executed_on past.number history) ∙ executes)
+      prefix : IsFront (executed_on past.number history) (map read_as a.first)
+      prefix = ([], sym (append-nil (executed_on past.number history) ∙ executes))
 
       first_right : AreToldRightly images history (numbered 1 a.first) told_is
-      first_right = subst (AreToldRightly images history (numbered 1 a.first)) (sym said_is) (laws.right images history past.number a.first legal few_first prefix)
+      first_right = subst (AreToldRightly images history (numbered 1 a.first)) (sym said_is) (target_tells_rightly images history past.number a.first legal few_first prefix)
 
       pub told_right : AreToldRightly images history (numbered 1 commands) told_is
       told_right =
@@ -298,7 +300,7 @@ module _ (laws : Laws) (images : List Image) (history : List Input) (past : Past
       owed_right =
           ap (λ cs. owed_in (numbered 1 cs) told_is) a.front.1 ∙ ap (λ cs. owed_in cs told_is) (numbered_append 1 a.first a.front.0)
           ∙ owed_more (numbered 1 a.first) (numbered (1 + length a.first) a.front.0) told_is (all_found images history (numbered 1 a.first) told_is first_right)
-          ∙ ap (owed_in (numbered 1 a.first)) said_is ∙ laws.owed images history past.number a.first legal few_first prefix
+          ∙ ap (owed_in (numbered 1 a.first)) said_is ∙ target_tells_what_is_owed images history past.number a.first legal few_first prefix
 
   pub speaks : (top : List Outgoing) (talk : Talk) → talk.gave ≡ end_run.past.given → IsFront (bytes_of talk.got) (bytes_of top) → IsFront (arrived past.calls) (unmarked talk.got) → AgentSpeaks images history told_is talk.gave top
   speaks top talk gave carried came = record {
@@ -307,7 +309,7 @@ module _ (laws : Laws) (images : List Image) (history : List Input) (past : Past
     marked = told_marked (tokens (asked end_run)) (sent images past.number history);
     rightly = λ commands few up.
         let less : length (given_of commands up.spoken) ≤ length commands = take_few (length (entering up.spoken) - 1) commands in
-        told_right (given_of commands up.spoken) (asked_first laws past commands top talk up carried came) (omega arith);
+        told_right (given_of commands up.spoken) (asked_first past commands top talk up carried came) (omega arith);
   }
 
   -- it doesn't end its stream, where its end closes rightly
@@ -315,4 +317,4 @@ module _ (laws : Laws) (images : List Image) (history : List Input) (past : Past
       → ClosesRightly end_run.end.state → (speaks top talk gave carried came).says.is_ended ≡ true → ⊥
   unfolding end_can speaks end_says
   unended top talk gave carried came right is =
-      not_ended end_run.end.state end_run.past.queued end_can.spoken (end_can.queue ∙ ap (queue_of end_can.spoken) is) right (laws.plain_once agent_services (Some past.position) past.calls).ends
+      not_ended end_run.end.state end_run.past.queued end_can.spoken (end_can.queue ∙ ap (queue_of end_can.spoken) is) right (ends_once agent_services (Some past.position) past.calls).ends

@@ -19,7 +19,8 @@ use Rattle.client_node.specs.Client.{new_client}
 use Rattle.client_node.specs.Ends.{IsEndAfter, end_calls}
 use Rattle.tcf_schedules.specs.Plan.{Plan}
 use Rattle.world_laws.specs.HopLaws.{side_of_channel, side_of_client}
-use Rattle.world_laws.proofs.LowerLaws.{Laws}
+use Rattle.chain_route.proofs.TheLaws.{each_hop_carries}
+use Rattle.client_node.proofs.TheLaws.{clients_end_is_a_run}
 use Rattle.world_laws.proofs.Sending.{all_readable, client_hello}
 
 -- ---- The agent's end
@@ -62,12 +63,12 @@ agent_by pasts serves (Some k) p live talks unreached is = by_past (past_at k pa
 
 -- ---- The chain at this moment
 
-module _ (laws : Laws) (pasts : List Past) (plans : List Plan) (at adds : ℕ) (chain : ChainValue) (s : ChainStands plans pasts at adds chain) where
+module _ (pasts : List Past) (plans : List Plan) (at adds : ℕ) (chain : ChainValue) (s : ChainStands plans pasts at adds chain) where
   abbrev pub way : RouteRun
   way = way_after s.ways (way_begun adds)
 
   abbrev pub way_carries : Carries s.ways way
-  way_carries = laws.carries adds s.ways
+  way_carries = each_hop_carries adds s.ways
 
   -- the client's end, by its calls
   abbrev pub client_side : Side ℕ
@@ -76,16 +77,16 @@ module _ (laws : Laws) (pasts : List Past) (plans : List Plan) (at adds : ℕ) (
   pub client_is : end_of way.past.client ≡ end_of_side client_side
   client_is =
       let talk = way.past.client in
-      let gave : talk.gave ≡ (run_of client_side).past.given = s.gave ∙ (laws.ends s.calls).given in
+      let gave : talk.gave ≡ (run_of client_side).past.given = s.gave ∙ (clients_end_is_a_run s.calls).given in
       ap (λ (outs : List Outgoing). record { gave = outs; came = bytes_of talk.got; is_lost = talk.is_lost }) gave
       ∙ ap (λ (bytes : List Marked). record { gave = (run_of client_side).past.given; came = bytes; is_lost = talk.is_lost }) s.got
       ∙ ap (λ (lost : Bool). record { gave = (run_of client_side).past.given; came = arrived (end_calls s.calls new_client); is_lost = lost }) s.lost
 
   pub client_readable : IsReadable client_side
-  client_readable = record { formed = client_hello; readable = all_readable (end_calls s.calls new_client) (laws.ends s.calls).sendings }
+  client_readable = record { formed = client_hello; readable = all_readable (end_calls s.calls new_client) (clients_end_is_a_run s.calls).sendings }
 
   pub client_end_is : IsEndAfter chain.client.channel (end_calls s.calls new_client)
-  client_end_is = subst (λ c. IsEndAfter c.channel (end_calls s.calls new_client)) (sym s.client) (laws.ends s.calls).end
+  client_end_is = subst (λ c. IsEndAfter c.channel (end_calls s.calls new_client)) (sym s.client) (clients_end_is_a_run s.calls).end
 
   pub adds_are : chain.route.adds ≡ map value_of way_carries.made
   adds_are = ap (λ route. route.adds) s.way ∙ way_carries.adds

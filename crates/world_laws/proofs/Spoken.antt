@@ -1,13 +1,14 @@
 -- Messages without their marks.
 use Rattle.std.proofs.Common.{◌≡◌, ℕ, Bool, true, false, cond, List, [], ◌∷◌, ◌++◌, map, Option, None, refl, sym, ap, ◌∙◌}
 use Rattle.std.proofs.lemmas.List.{map-append}
-use Rattle.channel_core.specs.Arrivals.{AreSpoken, IsFront, Marked, Spoken, bytes_of, enters, marked, queue_of}
+use Rattle.channel_core.specs.Arrivals.{AreSpoken, Marked, Spoken, bytes_of, enters, marked, queue_of}
 use Rattle.channel_core.specs.Wire.{said}
 use Rattle.channel_core.specs.declared.held.Outgoing.{Outgoing}
 use Rattle.chain_through.specs.Calling.{entering}
 use Rattle.chain_world.specs.Standing.{unmarked}
 use Rattle.list_laws.proofs.Lists.{map_map}
-use Rattle.chain_route.proofs.Bytes.{front_flat}
+use Rattle.list_laws.specs.Fronts.{IsFront}
+use Rattle.list_laws.proofs.Fronts.{front_flat}
 
 -- ---- Without marks
 

@@ -3,10 +3,9 @@ use Rattle.std.proofs.Common.{◌≡◌, ℕ, ◌+◌, Bool, false, List, [], �
 use Rattle.std.specs.Prelude.{decimal}
 use Rattle.std.specs.List.{AllByRecursion, flat_map}
 use Rattle.std.proofs.lemmas.List.{map-append}
-use Rattle.tcf_message.specs.Fault.{IsReadBack}
 use Rattle.tcf_message.specs.Message.{IsToken, MessageValue, command, event, final, flow, not_known, progress, reading}
 use Rattle.tcf_message.specs.declared.message.MessageFault.{MessageFault}
-use Rattle.channel_core.specs.Arrivals.{AreSpoken, IsFront, Spoken, arrived, bytes_of, queue_of}
+use Rattle.channel_core.specs.Arrivals.{AreSpoken, Spoken, arrived, bytes_of, queue_of}
 use Rattle.channel_core.specs.Beginning.{new_end}
 use Rattle.channel_core.specs.ReceivingLaws.{incoming_of}
 use Rattle.channel_core.specs.Runs.{Run, begun}
@@ -21,9 +20,10 @@ use Rattle.chain_through.proofs.Taking.{IsWritten, all_written, asked_of, calls_
 use Rattle.chain_world.specs.Standing.{unmarked}
 use Rattle.value_node.specs.Asked.{Asked}
 use Rattle.value_node.specs.RelayLaws.{asked_by, asked_in}
-use Rattle.world_laws.proofs.LowerLaws.{Laws}
+use Rattle.channel_core.proofs.TheLaws.{receives_in_order}
 use Rattle.world_laws.proofs.Spoken.{bare, bare_bytes, bare_spoken, entering_bare}
-use Rattle.chain_route.proofs.Bytes.{front_flat, front_map, front_same}
+use Rattle.list_laws.specs.Fronts.{IsFront}
+use Rattle.list_laws.proofs.Fronts.{front_flat, front_map, front_same}
 
 -- ---- Commands without their marks
 
@@ -78,15 +78,15 @@ quiet_none (s ∷ spoken) each = ap (λ xs. xs ++ asks_of spoken) (quiet_one s.m
 
 -- ---- It is what came
 
-pub asked_front : Laws → (past : Past) (spoken : List Spoken) (is_ended : Bool) → AreSpoken spoken → IsFront (arrived past.calls) (unmarked (queue_of spoken is_ended)) → IsFront (asked (run_of past)) (asks_of (entering spoken))
-asked_front laws past spoken is_ended formed came =
+pub asked_front : (past : Past) (spoken : List Spoken) (is_ended : Bool) → AreSpoken spoken → IsFront (arrived past.calls) (unmarked (queue_of spoken is_ended)) → IsFront (asked (run_of past)) (asks_of (entering spoken))
+asked_front past spoken is_ended formed came =
     let r = run_of past in
     let entries = r.past.taken in
     let said = entering (map bare spoken) in
     let bytes = bytes_of (queue_of (map bare spoken) is_ended) in
     let got : IsFront (arrived past.calls) bytes = front_same (arrived past.calls) (unmarked (queue_of spoken is_ended)) bytes (bare_bytes spoken is_ended) came in
     let formed_bare : AreSpoken (map bare spoken) = bare_spoken spoken formed in
-    let rec = laws.plain_receives agent_services (Some past.position) past.calls (map bare spoken) is_ended formed_bare got in
+    let rec = receives_in_order agent_services (Some past.position) past.calls (map bare spoken) is_ended formed_bare got in
     let messages : IsFront (flat_map incoming_of entries) (map come_as said) = received_front r (map come_as said) rec.front in
     let fits : flat_map asked_by entries ≡ commands_in (flat_map incoming_of entries) = calls_fit past.calls (begun (new_end agent_services (Some past.position))) refl in
     let commands : IsFront (commands_in (flat_map incoming_of entries)) (commands_in (map come_as said)) =
@@ -94,7 +94,7 @@ asked_front laws past spoken is_ended formed came =
     let plain = front_map plain_as (commands_in (flat_map incoming_of entries)) (commands_in (map come_as said)) commands in
     let asked_are : asked r ≡ map plain_as (commands_in (flat_map incoming_of entries)) = entries_plain entries ∙ ap (map plain_as) fits in
     let says : map plain_as (commands_in (map come_as said)) ≡ asks_of (entering spoken) =
-    ap (map plain_as) (commands_read laws.back said (entering_formed (map bare spoken) formed_bare) ∙ ap asked_of (entering_bare spoken)) ∙ bare_asks (entering spoken) in
+    ap (map plain_as) (commands_read said (entering_formed (map bare spoken) formed_bare) ∙ ap asked_of (entering_bare spoken)) ∙ bare_asks (entering spoken) in
     (plain.0, sym says ∙ plain.1 ∙ ap (λ xs. xs ++ plain.0) (sym asked_are))
 
 -- ---- The tokens of commands that were read are tokens
@@ -103,9 +103,9 @@ tokens_of : (commands : List Asked) → AllByRecursion IsWritten commands → Al
 tokens_of [] each = tt
 tokens_of (c ∷ commands) each = (each.0.0.0, tokens_of commands each.1)
 
-pub tokens_named : IsReadBack → (r : Run Unit) → AllByRecursion IsToken (map (λ c. c.token) (asked r))
-tokens_named back r =
-    subst (λ cs. AllByRecursion IsToken (map (λ c. c.token) cs)) (sym (entries_plain r.past.taken)) (tokens_of (flat_map asked_by r.past.taken) (all_written back r.past.taken))
+pub tokens_named : (r : Run Unit) → AllByRecursion IsToken (map (λ c. c.token) (asked r))
+tokens_named r =
+    subst (λ cs. AllByRecursion IsToken (map (λ c. c.token) cs)) (sym (entries_plain r.past.taken)) (tokens_of (flat_map asked_by r.past.taken) (all_written r.past.taken))
 
 -- ---- Commands as they are sent, under the tokens from this one on
 

@@ -2,7 +2,7 @@
 use Rattle.std.proofs.Common.{ℕ, List, [], ◌∷◌, refl}
 use Rattle.std.specs.List.{AllByRecursion}
 use Rattle.agent_node.specs.AgentLaws.{first_token, later_tokens, messages_told}
-use Rattle.node_answers.proofs.Agents.Telling.{Come, TargetLaws, all_come, open_after}
+use Rattle.node_answers.proofs.Agents.Telling.{Come, all_come, open_after}
 use Rattle.chain_through.proofs.Spelling.{IsSpelled}
 use Rattle.target_contexts.specs.declared.process.Image.{Image}
 use Rattle.target_hub.specs.History.{IsLegal}
@@ -29,6 +29,6 @@ spelled names asked (final_at position through body ∷ told) tokens come =
 spelled names asked (unknown_at position through ∷ told) tokens come =
     (first_named names tokens, spelled (later_tokens names) (open_after (unknown_at position through) asked) told (others_named names tokens) come.1)
 
-pub told_spelled : TargetLaws → (images : List Image) (history : List Input) (k : ℕ) (names : List (List ℕ)) → IsLegal images history → AllByRecursion IsToken names
+pub history_spelled : (images : List Image) (history : List Input) (k : ℕ) (names : List (List ℕ)) → IsLegal images history → AllByRecursion IsToken names
     → AllByRecursion (λ m. IsSpelled m.0) (messages_told names (sent images k history))
-told_spelled laws images history k names legal tokens = spelled names (executed_on k history) (sent images k history) tokens (all_come laws images history k legal)
+history_spelled images history k names legal tokens = spelled names (executed_on k history) (sent images k history) tokens (all_come images history k legal)

@@ -12,13 +12,13 @@ use Rattle.chain_route.specs.Carrying.{Carries, GivesAll, Made, past_of, value_o
 use Rattle.chain_route.specs.Passing.{queue_of}
 use Rattle.chain_route.specs.RouteValue.{RouteValue}
 use Rattle.chain_route.specs.Runs.{RouteRun}
-use Rattle.chain_through.specs.Through.{AllTakeAll, AreBound, TakesAllOf, all_said}
+use Rattle.chain_route.specs.Taking.{AllTakeAll, AreBound, TakesAllOf}
 use Rattle.chain_world.proofs.Agents.{none_any}
 use Rattle.chain_world.proofs.Pasts.{at_all}
 use Rattle.chain_world.specs.Chain.{is_quiet}
 use Rattle.chain_world.specs.ChainValue.{ChainValue}
 use Rattle.chain_world.specs.Standing.{ChainStands, past_at}
-use Rattle.channel_core.specs.Arrivals.{AreSpoken, Spoken}
+use Rattle.channel_core.specs.Arrivals.{AreSpoken, Spoken, all_said}
 use Rattle.channel_core.specs.Closing.{is_closed}
 use Rattle.channel_core.specs.EndValue.{EndValue}
 use Rattle.channel_core.specs.QueueLaws.{is_message}
@@ -37,9 +37,12 @@ use Rattle.value_node.specs.Runs.{UpperCall, after_all as add_after, below, no_c
 use Rattle.value_node.specs.Value.{awaits, value_services}
 use Rattle.node_answers.specs.Lacking.{is_closed_on}
 use Rattle.world_laws.specs.WorldLaws.{AddLacksNothing, ChainLacksNothing, LacksNothing}
+use Rattle.chain_quiet.proofs.TheLaws.{still_ways_are_unstuck}
+use Rattle.channel_laws.proofs.TheLaws.{asks_nothing_waits_for_nothing}
+use Rattle.node_answers.proofs.TheLaws.{answered_where_none_pends, ends_where_closed}
+use Rattle.value_node.proofs.TheLaws.{asks_nothing_below, ends_are_runs}
 use Rattle.world_laws.proofs.Ended.{answered_at_end}
 use Rattle.world_laws.proofs.Joined.{joined_where_reached}
-use Rattle.world_laws.proofs.LowerLaws.{Laws}
 use Rattle.world_laws.proofs.Served.{channel_served}
 use Rattle.world_laws.proofs.Sides.{adds_are, agent_is, client_end_is, client_readable, client_side, hops_carry, way, way_carries}
 use Rattle.world_laws.proofs.Silent.{at_number}
@@ -71,72 +74,71 @@ upper_lacks (Some calls) upper is free =
     let lacks : LacksNothing (upper_after calls).end = record { pending = λ opened. (free opened).pending; held = λ opened. (free opened).held } in
     subst (λ o. IfSome o LacksNothing) (sym is) lacks
 
-module _ (laws : Laws) where
-  add_runs : (m : Made) → EndsAreRuns (add_after m.calls (add_begun m.peer))
-  add_runs m = laws.adds m.peer m.calls
+add_runs : (m : Made) → EndsAreRuns (add_after m.calls (add_begun m.peer))
+add_runs m = ends_are_runs m.peer m.calls
 
-  add_still : (m : Made) → AddTookAll (value_of m) → GivesAll (value_of m) → awaits (value_of m).relay ≡ false → AddIsStill m
-  add_still m taken gives none =
-      let runs = add_runs m in
-      record {
-        lower = record {
-          queued = ap (λ e. e.queued) (sym runs.lower) ∙ gives.below;
-          inbox = ap (λ e. e.inbox) (sym runs.lower) ∙ taken.lower.inbox;
-          stop = ap (λ e. e.stop) (sym runs.lower) ∙ taken.lower.stop;
-        };
-        upper = upper_still (past_of m).connection (value_of m).relay.upper runs.upper taken.upper gives.above;
-        awaits_none = none;
-      }
+add_still : (m : Made) → AddTookAll (value_of m) → GivesAll (value_of m) → awaits (value_of m).relay ≡ false → AddIsStill m
+add_still m taken gives none =
+    let runs = add_runs m in
+    record {
+      lower = record {
+        queued = ap (λ e. e.queued) (sym runs.lower) ∙ gives.below;
+        inbox = ap (λ e. e.inbox) (sym runs.lower) ∙ taken.lower.inbox;
+        stop = ap (λ e. e.stop) (sym runs.lower) ∙ taken.lower.stop;
+      };
+      upper = upper_still (past_of m).connection (value_of m).relay.upper runs.upper taken.upper gives.above;
+      awaits_none = none;
+    }
 
-  adds_still : (made : List Made) → AllByRecursion AddTookAll (map value_of made) → AllByRecursion GivesAll (map value_of made) → AllByRecursion (λ v. awaits v.relay ≡ false) (map value_of made) → AllByRecursion AddIsStill made
-  adds_still [] taken gives none = tt
-  adds_still (m ∷ made) taken gives none = (add_still m taken.0 gives.0 none.0, adds_still made taken.1 gives.1 none.1)
+adds_still : (made : List Made) → AllByRecursion AddTookAll (map value_of made) → AllByRecursion GivesAll (map value_of made) → AllByRecursion (λ v. awaits v.relay ≡ false) (map value_of made) → AllByRecursion AddIsStill made
+adds_still [] taken gives none = tt
+adds_still (m ∷ made) taken gives none = (add_still m taken.0 gives.0 none.0, adds_still made taken.1 gives.1 none.1)
 
-  add_lacks : (m : Made) → IsFreeAbove m → AddLacksNothing (value_of m)
-  add_lacks m free =
-      let runs = add_runs m in
-      let waits : WaitsForNothing (below (past_of m)) = laws.waits_for_nothing value_services None ((past_of m).until_bound ++ (past_of m).since_bound) (laws.asks_nothing m.peer m.calls) in
-      record {
-        lower = record { pending = λ opened. ap (λ e. e.pending) runs.lower ∙ waits.pending; held = λ opened. ap (λ e. e.held) runs.lower ∙ waits.held };
-        upper = upper_lacks (past_of m).connection (value_of m).relay.upper runs.upper free;
-      }
+add_lacks : (m : Made) → IsFreeAbove m → AddLacksNothing (value_of m)
+add_lacks m free =
+    let runs = add_runs m in
+    let waits : WaitsForNothing (below (past_of m)) = asks_nothing_waits_for_nothing value_services None ((past_of m).until_bound ++ (past_of m).since_bound) (asks_nothing_below m.peer m.calls) in
+    record {
+      lower = record { pending = λ opened. ap (λ e. e.pending) runs.lower ∙ waits.pending; held = λ opened. ap (λ e. e.held) runs.lower ∙ waits.held };
+      upper = upper_lacks (past_of m).connection (value_of m).relay.upper runs.upper free;
+    }
 
-  adds_lack : (made : List Made) → AllByRecursion IsFreeAbove made → AllByRecursion AddLacksNothing (map value_of made)
-  adds_lack [] free = tt
-  adds_lack (m ∷ made) free = (add_lacks m free.0, adds_lack made free.1)
+adds_lack : (made : List Made) → AllByRecursion IsFreeAbove made → AllByRecursion AddLacksNothing (map value_of made)
+adds_lack [] free = tt
+adds_lack (m ∷ made) free = (add_lacks m free.0, adds_lack made free.1)
 
 -- ---- The chain at this moment
 
-module _ (laws : Laws) (images : List Image) (r : AgentRun) (follows : AgentFollowsHistory images r) (serves : AllByRecursion ServesAll r.channels) (plans : List Plan) (at adds : ℕ) (chain : ChainValue)
+module _ (images : List Image) (r : AgentRun) (follows : AgentFollowsHistory images r) (serves : AllByRecursion ServesAll r.channels) (plans : List Plan) (at adds : ℕ) (chain : ChainValue)
     (s : ChainStands plans r.channels at adds chain) (quiet : is_quiet chain r.agent ≡ true) where
   abbrev run : RouteRun
-  run = way laws r.channels plans at adds chain s
+  run = way r.channels plans at adds chain s
 
   abbrev carries : Carries s.ways run
-  carries = way_carries laws r.channels plans at adds chain s
+  carries = way_carries r.channels plans at adds chain s
 
   abbrev client : Side ℕ
-  client = client_side laws r.channels plans at adds chain s
+  client = client_side r.channels plans at adds chain s
 
   still : ChainIsStill chain r.agent
   still = chain_still chain r.agent quiet
 
   made_still : AllByRecursion AddIsStill carries.made
   made_still =
-      adds_still laws carries.made (subst (AllByRecursion AddTookAll) (adds_are laws r.channels plans at adds chain s) still.adds) (subst (AllByRecursion GivesAll) carries.adds carries.given)
+      adds_still carries.made (subst (AllByRecursion AddTookAll) (adds_are r.channels plans at adds chain s) still.adds) (subst (AllByRecursion GivesAll) carries.adds carries.given)
       (subst (AllByRecursion (λ v. awaits v.relay ≡ false)) carries.adds (carries.none_awaits s.settled))
 
   way_still : IsWayStill client run.route.hops carries.made run.past.agent
   way_still = record {
-    sends = client_readable laws r.channels plans at adds chain s;
+    sends = client_readable r.channels plans at adds chain s;
     hops_are = subst (λ (route : RouteValue). AllByRecursion HopIsStill route.hops) s.way still.hops;
     adds = made_still;
-    carries = hops_carry laws r.channels plans at adds chain s;
-    served = λ live. channel_served images r follows chain.channel run.past.agent still.last (agent_is laws r.channels plans at adds chain s serves live);
+    carries = hops_carry r.channels plans at adds chain s;
+    served = λ live. channel_served images r follows chain.channel run.past.agent still.last (agent_is r.channels plans at adds chain s serves live);
   }
 
   pub unstuck_way : IsUnstuck client carries.made run.past.agent
-  unstuck_way = laws.unstuck client run.route.hops carries.made run.past.agent way_still
+  unstuck_way = still_ways_are_unstuck client run.route.hops carries.made run.past.agent way_still
 
   -- ---- The client
 
@@ -146,7 +148,7 @@ module _ (laws : Laws) (images : List Image) (r : AgentRun) (follows : AgentFoll
       (is, record { queued = ap (λ x. x.queued) (sym is) ∙ given; inbox = ap (λ x. x.inbox) (sym is) ∙ waits.inbox; stop = ap (λ x. x.stop) (sym is) ∙ waits.stop })
 
   client_stands : IfSome chain.client.channel (λ e. (e ≡ (run_of client).end) × IsStill (run_of client))
-  client_stands = by_end chain.client.channel s.given still.client (client_end_is laws r.channels plans at adds chain s)
+  client_stands = by_end chain.client.channel s.given still.client (client_end_is r.channels plans at adds chain s)
 
   lacks_by : (channel : Option (EndValue ℕ)) → IfSome channel (λ e. (e ≡ (run_of client).end) × IsStill (run_of client)) → IfSome channel LacksNothing
   lacks_by None stands = tt
@@ -160,7 +162,7 @@ module _ (laws : Laws) (images : List Image) (r : AgentRun) (follows : AgentFoll
   pub chain_lacks : ChainLacksNothing chain
   chain_lacks = record {
     client = client_lacks;
-    adds = subst (AllByRecursion AddLacksNothing) (sym (adds_are laws r.channels plans at adds chain s)) (adds_lack laws carries.made unstuck_way.adds);
+    adds = subst (AllByRecursion AddLacksNothing) (sym (adds_are r.channels plans at adds chain s)) (adds_lack carries.made unstuck_way.adds);
   }
 
   -- each command that it accepted has its answer
@@ -168,12 +170,12 @@ module _ (laws : Laws) (images : List Image) (r : AgentRun) (follows : AgentFoll
   all_answered once = by_channel chain.client.channel client_lacks refl
     where
       none_pends : pending_on chain.client.channel ≡ 0 → AllAnswered chain.client.log
-      none_pends = subst (λ c. pending_on c.channel ≡ 0 → AllAnswered c.log) (sym s.client) (laws.answered s.calls)
+      none_pends = subst (λ c. pending_on c.channel ≡ 0 → AllAnswered c.log) (sym s.client) (answered_where_none_pends s.calls)
 
       by_flag : (e : EndValue ℕ) (flag : Bool) → is_closed e.state ≡ flag → LacksNothing e → chain.client.channel ≡ Some e → AllAnswered chain.client.log
       by_flag e true closed lacks is =
           let c = chain.client in
-          let ended : list_any is_end c.log ≡ is_closed_on c.channel = subst (λ x. list_any is_end x.log ≡ is_closed_on x.channel) (sym s.client) (laws.ended s.calls) in
+          let ended : list_any is_end c.log ≡ is_closed_on c.channel = subst (λ x. list_any is_end x.log ≡ is_closed_on x.channel) (sym s.client) (ends_where_closed s.calls) in
           answered_at_end c.log once.all_at_end once.nothing_after (ended ∙ ap is_closed_on is ∙ closed)
       by_flag e false opened lacks is = none_pends (ap pending_on is ∙ ap length (lacks.pending opened))
 
@@ -190,13 +192,13 @@ module _ (laws : Laws) (images : List Image) (r : AgentRun) (follows : AgentFoll
   pub all_took : list_any is_end chain.client.log ≡ false → AllTook s.calls run carries.made
   all_took none reached bound said formed gave =
       let some : is_some chain.client.channel ≡ true = s.opened ∙ joined_where_reached adds s.ways reached in
-      let ended : list_any is_end chain.client.log ≡ is_closed_on chain.client.channel = subst (λ c. list_any is_end c.log ≡ is_closed_on c.channel) (sym s.client) (laws.ended s.calls) in
+      let ended : list_any is_end chain.client.log ≡ is_closed_on chain.client.channel = subst (λ c. list_any is_end c.log ≡ is_closed_on c.channel) (sym s.client) (ends_where_closed s.calls) in
       let open_now = by_log chain.client.channel some (sym ended ∙ none) client_stands in
       unstuck_way.all_taken open_now.0 open_now.1 bound said formed gave
 
 -- ---- The agent's channels
 
-module _ (laws : Laws) (images : List Image) (r : AgentRun) (follows : AgentFollowsHistory images r) (serves : AllByRecursion ServesAll r.channels) (strangers : HasNoStranger r) where
+module _ (images : List Image) (r : AgentRun) (follows : AgentFollowsHistory images r) (serves : AllByRecursion ServesAll r.channels) (strangers : HasNoStranger r) where
   channel_lacks : (c : Channel) → channel_end c.number r.agent.channels ≡ Some c.end → LacksNothing c.end
   channel_lacks c is = by_past (past_at c.number r.channels) refl
     where
@@ -207,7 +209,7 @@ module _ (laws : Laws) (images : List Image) (r : AgentRun) (follows : AgentFoll
           let here : IsEndOf (channel_end past.number r.agent.channels) past = at_all (λ p. IsEndOf (channel_end p.number r.agent.channels) p) c.number r.channels past follows.ends some in
           let end : c.end ≡ (run_of_past past).end = subst (λ o. IsEndOf o past) (ap (λ n. channel_end n r.agent.channels) number ∙ is) here in
           let all : ServesAll past = at_all ServesAll c.number r.channels past serves some in
-          let waits : WaitsForNothing (run_of_past past) = laws.waits_for_nothing agent_services (Some past.position) past.calls all.asks_nothing in
+          let waits : WaitsForNothing (run_of_past past) = asks_nothing_waits_for_nothing agent_services (Some past.position) past.calls all.asks_nothing in
           record { pending = λ opened. ap (λ e. e.pending) end ∙ waits.pending; held = λ opened. ap (λ e. e.held) end ∙ waits.held }
 
   pub channels_lack : (cs : List Channel) → AllByRecursion (λ c. channel_end c.number r.agent.channels ≡ Some c.end) cs → AllByRecursion (λ c. LacksNothing c.end) cs

@@ -8,10 +8,10 @@ use Rattle.agent_node.specs.Runs.{Past, run_of}
 use Rattle.chain_quiet.specs.Hops.{HopsStand}
 use Rattle.chain_quiet.specs.Stuck.{end_of_side}
 use Rattle.chain_route.specs.Carrying.{Made, value_of}
-use Rattle.chain_through.specs.Through.{AllTold, all_said}
+use Rattle.chain_through.specs.Through.{AllTold}
 use Rattle.chain_world.specs.ChainValue.{ChainValue}
 use Rattle.chain_world.specs.World.{IsPlayable, new_world, run}
-use Rattle.channel_core.specs.Arrivals.{Spoken}
+use Rattle.channel_core.specs.Arrivals.{Spoken, all_said}
 use Rattle.channel_core.specs.QueueLaws.{is_message}
 use Rattle.channel_laws.specs.Meeting.{Side}
 use Rattle.client_node.specs.Client.{client_services, new_client}

@@ -15,7 +15,9 @@ use Rattle.chain_route.proofs.Unheard.{value_hello}
 use Rattle.value_node.specs.Passing.{Upper}
 use Rattle.value_node.specs.RelayLaws.{EndsAreRuns}
 use Rattle.value_node.specs.Runs.{UpperCall, after_all, below, no_calls, upper_after}
-use Rattle.chain_quiet.proofs.Hops.Facts.{EndLaws, NodeLaws}
+use Rattle.channel_laws.proofs.TheLaws.{live_hops_stand, what_comes_is_numbered}
+use Rattle.node_answers.proofs.TheLaws.{answers_what_it_can}
+use Rattle.value_node.proofs.TheLaws.{ends_are_runs}
 
 -- ---- Its upper end
 
@@ -24,15 +26,15 @@ given_by : (connection : Option (List UpperCall)) (upper : Option Upper) → upp
 given_by None upper is given connected = absurd (true≢false (sym connected))
 given_by (Some calls) upper is given connected = sym (ap queue_of is) ∙ given
 
-pub above_given : NodeLaws → (m : Made) → GivesAll (value_of m) → IsSome (past_of m).connection → (run_of (side_above m)).end.queued ≡ []
-above_given nodes m gives connected = given_by (past_of m).connection (value_of m).relay.upper (nodes.runs m.peer m.calls).upper gives.above connected
+pub above_given : (m : Made) → GivesAll (value_of m) → IsSome (past_of m).connection → (run_of (side_above m)).end.queued ≡ []
+above_given m gives connected = given_by (past_of m).connection (value_of m).relay.upper (ends_are_runs m.peer m.calls).upper gives.above connected
 
 -- ---- The two ends of the hop
 
-module _ {T : Type 0} (laws : EndLaws T) (nodes : NodeLaws) (s : Side T) (hop : Hop) (m : Made) (sends : IsReadable s) (gives : GivesAll (value_of m))
+module _ {T : Type 0} (s : Side T) (hop : Hop) (m : Made) (sends : IsReadable s) (gives : GivesAll (value_of m))
     (carries : HopCarries hop (end_of_side s) (end_below (past_of m))) (given : (run_of s).end.queued ≡ []) (live : hop.is_live ≡ true) where
   facts : EndsAreRuns (after_all m.calls (no_calls m.peer))
-  facts = nodes.runs m.peer m.calls
+  facts = ends_are_runs m.peer m.calls
 
   lasting : IsLasting s
   lasting = record { formed = sends.formed; readable = sends.readable; lasting = (carries.lasting live).0 }
@@ -47,10 +49,10 @@ module _ {T : Type 0} (laws : EndLaws T) (nodes : NodeLaws) (s : Side T) (hop : 
   rises = record { given = given; front = carries.up_front; gave = λ opens. carries.up live }
 
   numbered : TakesNumbered (below (past_of m))
-  numbered = laws.numbered true (side_below m) s sends.formed sends.readable carries.up_front
+  numbered = what_comes_is_numbered true (side_below m) s sends.formed sends.readable carries.up_front
 
   pub add_hop : HopOfAdd hop s m
   add_hop = record {
-    stands = laws.stand true true s (side_below m) (bytes_of hop.down) (bytes_of hop.up) lasting others_last falls rises;
-    leaves = λ opened. nodes.leaves m.peer m.calls (ap (λ e. is_closed e.state) facts.lower ∙ opened) numbered;
+    stands = live_hops_stand true true s (side_below m) (bytes_of hop.down) (bytes_of hop.up) lasting others_last falls rises;
+    leaves = λ opened. answers_what_it_can m.peer m.calls (ap (λ e. is_closed e.state) facts.lower ∙ opened) numbered;
   }

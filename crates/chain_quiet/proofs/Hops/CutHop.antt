@@ -2,36 +2,40 @@
 use Rattle.std.proofs.Common.{◌≡◌, false, true, Bool, List, [], Option, None, Some, ◌⊎◌, inl, inr, sym, ap, ◌∙◌}
 use Rattle.std.specs.Prelude.{IfSome}
 use Rattle.std.specs.List.{list_any}
-use Rattle.channel_core.specs.Arrivals.{AreSpoken, IsFront, Spoken, arrived, bytes_of, queue_of}
+use Rattle.channel_core.specs.Arrivals.{AreSpoken, Spoken, arrived, bytes_of, queue_of}
 use Rattle.channel_core.specs.ReceivingLaws.{CanBeRead}
 use Rattle.channel_laws.specs.Faults.{is_ending}
 use Rattle.channel_laws.specs.Meeting.{Side, as_comes, run_of}
 use Rattle.channel_laws.proofs.Rest.Meeting.{formed_as, queue_as, said_as}
 use Rattle.chain_quiet.specs.Hops.{HopIsLost, IsLost, TakesFront}
 use Rattle.chain_quiet.specs.Stuck.{IsChannel, IsReadable, end_of_side, side_below, unmarked}
+use Rattle.channel_core.proofs.TheLaws.{queues_readable}
+use Rattle.channel_laws.proofs.TheLaws.{over_at_its_end}
+use Rattle.value_node.proofs.TheLaws.{ends_are_runs}
 use Rattle.chain_quiet.proofs.Rest.Marks.{unmarked_same}
 use Rattle.chain_route.specs.Carrying.{HopCarries, IsUnused, Made, end_below, end_of, past_of}
 use Rattle.chain_route.specs.Runs.{Talk}
 use Rattle.chain_route.specs.declared.hop.Hop.{Hop}
 use Rattle.chain_route.proofs.Unheard.{value_hello}
-use Rattle.chain_quiet.proofs.Hops.Facts.{EndLaws, NodeLaws, OneEndLaws, gave_front, took_front}
+use Rattle.chain_quiet.proofs.Hops.Facts.{gave_front, took_front}
 use Rattle.chain_quiet.proofs.Hops.Marks.{front_unmarked}
-use Rattle.chain_route.proofs.Bytes.{front_none, front_same, front_then}
+use Rattle.list_laws.specs.Fronts.{IsFront}
+use Rattle.list_laws.proofs.Fronts.{front_none, front_same, front_then}
 
 -- ---- Its ends
 
-takes_front : {T U : Type 0} → OneEndLaws T → OneEndLaws U → (is_marked : Bool) (s : Side T) (other : Side U) → IsReadable other
+takes_front : {T U : Type 0} → (is_marked : Bool) (s : Side T) (other : Side U) → IsReadable other
     → IsFront (arrived s.calls) (bytes_of (as_comes is_marked (run_of other).past.queued)) → TakesFront is_marked s other
-takes_front laws others is_marked s other sends came = record {
+takes_front is_marked s other sends came = record {
   spoken = comes;
   is_ended = q.is_ended;
   formed = formed;
   queued = queued;
-  front = took_front laws s comes q.is_ended formed (front_same (arrived s.calls) (bytes_of (as_comes is_marked (run_of other).past.queued)) (bytes_of (queue_of comes q.is_ended)) (ap bytes_of queued) came);
+  front = took_front s comes q.is_ended formed (front_same (arrived s.calls) (bytes_of (as_comes is_marked (run_of other).past.queued)) (bytes_of (queue_of comes q.is_ended)) (ap bytes_of queued) came);
 }
   where
     q : CanBeRead (run_of other)
-    q = others.readable other.hello other.mark other.calls sends.formed sends.readable
+    q = queues_readable other.hello other.mark other.calls sends.formed sends.readable
 
     comes : List Spoken
     comes = said_as is_marked q.spoken
@@ -43,29 +47,29 @@ takes_front laws others is_marked s other sends came = record {
     queued = ap (as_comes is_marked) q.queue ∙ queue_as is_marked q.spoken q.is_ended
 
 -- where bytes came with their marks
-takes_marked : {T U : Type 0} → OneEndLaws T → OneEndLaws U → (s : Side T) (other : Side U) → IsReadable other → IsFront (arrived s.calls) (bytes_of (run_of other).past.given) → TakesFront true s other
-takes_marked laws others s other sends came =
+takes_marked : {T U : Type 0} → (s : Side T) (other : Side U) → IsReadable other → IsFront (arrived s.calls) (bytes_of (run_of other).past.given) → TakesFront true s other
+takes_marked s other sends came =
     let r = run_of other in
-    takes_front laws others true s other sends (front_then (arrived s.calls) (bytes_of r.past.given) (bytes_of r.past.queued) came (gave_front others other))
+    takes_front true s other sends (front_then (arrived s.calls) (bytes_of r.past.given) (bytes_of r.past.queued) came (gave_front other))
 
 -- an end whose bytes have ended is over
-is_lost_of : {T : Type 0} → OneEndLaws T → (s : Side T) → IsUnused (end_of_side s) ⊎ (list_any is_ending s.calls ≡ true) → IsLost s
-is_lost_of laws s (inl unused) = inl unused
-is_lost_of laws s (inr ended) = inr (laws.ends s.hello s.mark s.calls ended)
+is_lost_of : {T : Type 0} → (s : Side T) → IsUnused (end_of_side s) ⊎ (list_any is_ending s.calls ≡ true) → IsLost s
+is_lost_of s (inl unused) = inl unused
+is_lost_of s (inr ended) = inr (over_at_its_end s.hello s.mark s.calls ended)
 
 -- ---- To a value-add
 
-pub cut_to_add : {T : Type 0} → EndLaws T → NodeLaws → (s : Side T) (hop : Hop) (m : Made) → IsReadable s → HopCarries hop (end_of_side s) (end_below (past_of m)) → hop.is_live ≡ false → HopIsLost true s (side_below m)
-cut_to_add laws nodes s hop m sends carries dead = record {
-  first = takes_marked laws.alone nodes.alone s (side_below m) record { formed = value_hello; readable = (nodes.runs m.peer m.calls).below_readable } carries.down_front;
-  second = takes_marked nodes.alone laws.alone (side_below m) s sends carries.up_front;
-  lost_below = is_lost_of laws.alone s (carries.lost dead);
-  lost_above = is_lost_of nodes.alone (side_below m) (carries.lost_above dead);
+pub cut_to_add : {T : Type 0} → (s : Side T) (hop : Hop) (m : Made) → IsReadable s → HopCarries hop (end_of_side s) (end_below (past_of m)) → hop.is_live ≡ false → HopIsLost true s (side_below m)
+cut_to_add s hop m sends carries dead = record {
+  first = takes_marked s (side_below m) record { formed = value_hello; readable = (ends_are_runs m.peer m.calls).below_readable } carries.down_front;
+  second = takes_marked (side_below m) s sends carries.up_front;
+  lost_below = is_lost_of s (carries.lost dead);
+  lost_above = is_lost_of (side_below m) (carries.lost_above dead);
 }
 
 -- ---- To the agent
 
-module _ {T : Type 0} (laws : EndLaws T) (nodes : NodeLaws) (s : Side T) (hop : Hop) (talk : Talk) (sends : IsReadable s) (carries : HopCarries hop (end_of_side s) (end_of talk)) (dead : hop.is_live ≡ false) where
+module _ {T : Type 0} (s : Side T) (hop : Hop) (talk : Talk) (sends : IsReadable s) (carries : HopCarries hop (end_of_side s) (end_of talk)) (dead : hop.is_live ≡ false) where
   module _ (a : Side Unit) (channel : IsChannel a talk) where
     down : IsFront (arrived s.calls) (bytes_of (run_of a).past.given)
     down = front_same (arrived s.calls) (bytes_of talk.gave) (bytes_of (run_of a).past.given) (ap bytes_of channel.gave) carries.down_front
@@ -75,7 +79,7 @@ module _ {T : Type 0} (laws : EndLaws T) (nodes : NodeLaws) (s : Side T) (hop : 
     up =
         let r = run_of s in
         front_then (arrived a.calls) (unmarked talk.got) (unmarked r.past.queued) channel.front
-        (front_unmarked talk.got r.past.queued (front_then (bytes_of talk.got) (bytes_of r.past.given) (bytes_of r.past.queued) carries.up_front (gave_front laws.alone s)))
+        (front_unmarked talk.got r.past.queued (front_then (bytes_of talk.got) (bytes_of r.past.given) (bytes_of r.past.queued) carries.up_front (gave_front s)))
 
     lost : IsUnused (end_of talk) ⊎ (talk.is_lost ≡ true) → IsUnused (end_of_side a) ⊎ (list_any is_ending a.calls ≡ true)
     lost (inl unused) = inl (
@@ -86,10 +90,10 @@ module _ {T : Type 0} (laws : EndLaws T) (nodes : NodeLaws) (s : Side T) (hop : 
 
     lost_hop : HopIsLost false s a
     lost_hop = record {
-      first = takes_marked laws.alone nodes.alone s a channel.sends down;
-      second = takes_front nodes.alone laws.alone false a s sends up;
-      lost_below = is_lost_of laws.alone s (carries.lost dead);
-      lost_above = is_lost_of nodes.alone a (lost (carries.lost_above dead));
+      first = takes_marked s a channel.sends down;
+      second = takes_front false a s sends up;
+      lost_below = is_lost_of s (carries.lost dead);
+      lost_above = is_lost_of a (lost (carries.lost_above dead));
     }
 
   pub cut_to_agent : (agent : Option (Side Unit)) → IfSome agent (λ a. IsChannel a talk) → IfSome agent (HopIsLost false s)

@@ -5,7 +5,6 @@ use Rattle.channel_core.specs.Arrivals.{Marked, arrived, bytes_of}
 use Rattle.channel_core.specs.Receiving.{is_over}
 use Rattle.channel_core.specs.ReceivingLaws.{incoming_of}
 use Rattle.channel_core.specs.Wire.{end_of_stream}
-use Rattle.channel_core.specs.declared.held.Outgoing.{Outgoing}
 use Rattle.channel_laws.specs.Hop.{Carries}
 use Rattle.channel_laws.specs.Meeting.{IsLasting, Side, run_of}
 use Rattle.channel_laws.specs.Numbering.{TakesNumbered}
@@ -14,11 +13,12 @@ use Rattle.chain_quiet.specs.Stuck.{IsChannel, IsReadable, end_of_side, unmarked
 use Rattle.chain_route.specs.Carrying.{HopCarries, end_of}
 use Rattle.chain_route.specs.Runs.{Talk}
 use Rattle.chain_route.specs.declared.hop.Hop.{Hop}
-use Rattle.chain_quiet.proofs.Hops.Facts.{EndLaws, took_front}
+use Rattle.channel_laws.proofs.TheLaws.{hears_the_end, live_hops_stand, what_comes_is_numbered}
+use Rattle.chain_quiet.proofs.Hops.Facts.{took_front}
 use Rattle.chain_quiet.proofs.Hops.Marks.{unmarked_parts}
-use Rattle.chain_route.proofs.Bytes.{front_none}
+use Rattle.list_laws.proofs.Fronts.{front_none}
 
-module _ {T : Type 0} (laws : EndLaws T) (s : Side T) (hop : Hop) (talk : Talk) (sends : IsReadable s) (carries : HopCarries hop (end_of_side s) (end_of talk))
+module _ {T : Type 0} (s : Side T) (hop : Hop) (talk : Talk) (sends : IsReadable s) (carries : HopCarries hop (end_of_side s) (end_of talk))
     (given : (run_of s).end.queued ≡ []) (live : hop.is_live ≡ true) where
   lasting : IsLasting s
   lasting = record { formed = sends.formed; readable = sends.readable; lasting = (carries.lasting live).0 }
@@ -49,10 +49,10 @@ module _ {T : Type 0} (laws : EndLaws T) (s : Side T) (hop : Hop) (talk : Talk) 
     }
 
     numbered : TakesNumbered (run_of a)
-    numbered = laws.numbered false a s sends.formed sends.readable rises.front
+    numbered = what_comes_is_numbered false a s sends.formed sends.readable rises.front
 
     agent_hop : HopOfAgent hop s a
-    agent_hop = record { stands = laws.stand true false s a (bytes_of hop.down) (unmarked hop.up) lasting agent_lasts falls rises; answers = channel.answers numbered }
+    agent_hop = record { stands = live_hops_stand true false s a (bytes_of hop.down) (unmarked hop.up) lasting agent_lasts falls rises; answers = channel.answers numbered }
 
   -- all that comes of a channel that was refused is the end of the stream
   module _ (refused : talk.gave ≡ end_of_stream ∷ []) where
@@ -62,13 +62,13 @@ module _ {T : Type 0} (laws : EndLaws T) (s : Side T) (hop : Hop) (talk : Talk) 
     closes_by : (down : List Marked) → bytes_of hop.down ≡ down → (is_over (run_of s).end ≡ true) ⊎ (bytes_of hop.down ≡ [] → ⊥)
     closes_by [] is =
         let all : bytes_of (end_of_stream ∷ []) ≡ arrived s.calls ++ [] = comes ∙ ap (λ bytes. arrived s.calls ++ bytes) is in
-        inl (laws.hears s.hello s.mark s.calls [] true tt ([], all) refl (sym (append-nil (arrived s.calls)) ∙ sym all))
+        inl (hears_the_end s.hello s.mark s.calls [] true tt ([], all) refl (sym (append-nil (arrived s.calls)) ∙ sym all))
     closes_by (byte ∷ down) is = inr (λ none. let one : [] ≡ byte ∷ down = sym none ∙ is in absurd cc)
 
     refused_hop : HopRefused hop s
     refused_hop = record {
       gave = comes;
-      silent = front_none (flat_map incoming_of (run_of s).past.taken) (took_front laws.alone s [] true tt (bytes_of hop.down, comes));
+      silent = front_none (flat_map incoming_of (run_of s).past.taken) (took_front s [] true tt (bytes_of hop.down, comes));
       closes = closes_by (bytes_of hop.down) refl;
     }
 

@@ -2,10 +2,11 @@
 use Rattle.std.proofs.Common.{◌≡◌, List, [], ◌∷◌, ◌++◌, map, None, refl, sym, ap, ◌∙◌}
 use Rattle.std.proofs.lemmas.List.{map-append}
 use Rattle.std.proofs.lemmas.List.Concat.{flat_map-append}
-use Rattle.channel_core.specs.Arrivals.{IsFront, Marked, bytes_of, marked}
+use Rattle.channel_core.specs.Arrivals.{Marked, bytes_of, marked}
 use Rattle.channel_core.specs.declared.held.Outgoing.{Outgoing}
 use Rattle.chain_quiet.specs.Stuck.{unmarked}
 use Rattle.chain_quiet.proofs.Rest.Marks.{unmarked_same}
+use Rattle.list_laws.specs.Fronts.{IsFront}
 
 pub bytes_more : (outs more : List Outgoing) → bytes_of (outs ++ more) ≡ bytes_of outs ++ bytes_of more
 bytes_more outs more = flat_map-append (λ o. marked o.bytes o.mark) outs more

@@ -11,19 +11,21 @@ use Rattle.chain_route.specs.Runs.{Talk}
 use Rattle.chain_route.specs.declared.hop.Hop.{Hop}
 use Rattle.chain_route.proofs.Unheard.{readable_by, value_hello}
 use Rattle.value_node.specs.Passing.{Upper}
-use Rattle.value_node.specs.RelayLaws.{AfterAllCalls, EndsAreRuns, StandsWell}
+use Rattle.value_node.specs.RelayLaws.{EndsAreRuns, StandsWell}
 use Rattle.value_node.specs.Runs.{UpperCall, above, after_all, below, no_calls, upper_after}
 use Rattle.value_node.specs.Value.{is_free, is_opening}
 use Rattle.value_node.specs.declared.states.Bind.{Bind}
 use Rattle.value_node.specs.declared.states.Bind.TheVariants.{Unbound, Opening, Bound, Closed}
-use Rattle.chain_quiet.proofs.Rest.Facts.{EndLaws, NodeLaws, live_above}
+use Rattle.node_answers.proofs.TheLaws.{answers_bound, answers_unbound}
+use Rattle.value_node.proofs.TheLaws.{ends_are_runs}
+use Rattle.chain_quiet.proofs.Rest.Facts.{live_above}
 use Rattle.chain_quiet.proofs.Rest.Meeting.{Meet, meet_at_rest, meet_free}
 use Rattle.chain_quiet.proofs.Rest.Resting.{Rests}
 
 -- ---- Its upper end
 
-pub above_readable : AfterAllCalls EndsAreRuns → (m : Made) → IsReadable (side_above m)
-above_readable runs m = record { formed = value_hello; readable = readable_by (past_of m).connection (runs m.peer m.calls).above_readable }
+pub above_readable : (m : Made) → IsReadable (side_above m)
+above_readable m = record { formed = value_hello; readable = readable_by (past_of m).connection (ends_are_runs m.peer m.calls).above_readable }
 
 -- one that isn't free to connect is open
 abbrev IsOpenAbove : List UpperCall → Type 0
@@ -45,13 +47,13 @@ free_above m add free opened = free_by (past_of m).connection add.upper free ope
 
 -- ---- The two ends of the hop
 
-module _ {T : Type 0} (laws : EndLaws T) (nodes : NodeLaws) (s : Side T) (hop : Hop) (m : Made) (sends : IsReadable s) (hop_is : HopIsStill hop) (add : AddIsStill m)
+module _ {T : Type 0} (s : Side T) (hop : Hop) (m : Made) (sends : IsReadable s) (hop_is : HopIsStill hop) (add : AddIsStill m)
     (carries : HopCarries hop (end_of_side s) (end_below (past_of m))) (still : IsStill (run_of s)) (opened : is_closed (run_of s).end.state ≡ false) where
   live : hop.is_live ≡ true
-  live = live_above laws s hop (end_below (past_of m)) carries still opened
+  live = live_above s hop (end_below (past_of m)) carries still opened
 
   facts : EndsAreRuns (after_all m.calls (no_calls m.peer))
-  facts = nodes.runs m.peer m.calls
+  facts = ends_are_runs m.peer m.calls
 
   down : arrived s.calls ≡ bytes_of (below (past_of m)).past.given
   down = sym (carries.down live ∙ ap (λ outs. arrived s.calls ++ bytes_of outs) hop_is.down ∙ append-nil (arrived s.calls))
@@ -68,7 +70,7 @@ module _ {T : Type 0} (laws : EndLaws T) (nodes : NodeLaws) (s : Side T) (hop : 
   }
 
   pub rest_together : RestTogether true true s (side_below m)
-  rest_together = meet_at_rest laws true s (side_below m) meets
+  rest_together = meet_at_rest true s (side_below m) meets
 
   lower_open : is_closed (value_of m).relay.lower.state ≡ false
   lower_open = ap (λ e. is_closed e.state) facts.lower ∙ sym rest_together.closed ∙ opened
@@ -94,26 +96,26 @@ module _ {T : Type 0} (laws : EndLaws T) (nodes : NodeLaws) (s : Side T) (hop : 
   answers_all made talk rests numbered = by_bind (value_of m).relay.bind refl
     where
       by_bind : (bind : Bind) → (value_of m).relay.bind ≡ bind → (spoken : List Spoken) × AnswersAll (below (past_of m)) spoken
-      by_bind Unbound is = nodes.unbound m.peer m.calls is numbered
+      by_bind Unbound is = answers_unbound m.peer m.calls is numbered
       by_bind Opening is =
           let up = open_above (sym (ap (λ bind. is_opening bind && is_free (value_of m).relay.upper) is) ∙ add.awaits_none) in
           let one : true ≡ false = sym (rests.greeted up.0 up.1) ∙ facts.heard ∙ (stands_as Opening is).2 in
           absurd cc
-      by_bind Bound is = let up = open_above (stands_as Bound is).1 in nodes.bound m.peer m.calls is (rests.unstuck.free up.0 up.1) numbered
+      by_bind Bound is = let up = open_above (stands_as Bound is).1 in answers_bound m.peer m.calls is (rests.unstuck.free up.0 up.1) numbered
       by_bind Closed is = let one : true ≡ false = sym (stands_as Closed is).0 ∙ lower_open in absurd cc
 
-pub add_rests : {T : Type 0} → EndLaws T → NodeLaws → (s : Side T) (hop : Hop) (m : Made) (made : List Made) (talk : Talk) → IsReadable s → HopIsStill hop → AddIsStill m
+pub add_rests : {T : Type 0} → (s : Side T) (hop : Hop) (m : Made) (made : List Made) (talk : Talk) → IsReadable s → HopIsStill hop → AddIsStill m
     → HopCarries hop (end_of_side s) (end_below (past_of m)) → Rests (side_above m) made talk → Rests s (m ∷ made) talk
-add_rests laws nodes s hop m made talk sends hop_is add carries rests =
+add_rests s hop m made talk sends hop_is add carries rests =
     record {
       unstuck = record {
         adds = (free_above m add rests.unstuck.free, rests.unstuck.adds);
         free = λ still opened.
-            meet_free laws true s (side_below m) (meets laws nodes s hop m sends hop_is add carries still opened)
-            (answers_all laws nodes s hop m sends hop_is add carries still opened made talk rests) opened;
+            meet_free true s (side_below m) (meets s hop m sends hop_is add carries still opened)
+            (answers_all s hop m sends hop_is add carries still opened made talk rests) opened;
         all_taken = λ still opened bound said formed is.
-            let up = bound_above laws nodes s hop m sends hop_is add carries still opened bound.0 in
-            (((rest_together laws nodes s hop m sends hop_is add carries still opened).first opened).taken, rests.unstuck.all_taken up.0 up.1 bound.1 said formed is);
+            let up = bound_above s hop m sends hop_is add carries still opened bound.0 in
+            (((rest_together s hop m sends hop_is add carries still opened).first opened).taken, rests.unstuck.all_taken up.0 up.1 bound.1 said formed is);
       };
-      greeted = λ still opened. ((rest_together laws nodes s hop m sends hop_is add carries still opened).first opened).greeted;
+      greeted = λ still opened. ((rest_together s hop m sends hop_is add carries still opened).first opened).greeted;
     }

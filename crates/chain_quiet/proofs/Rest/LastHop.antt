@@ -1,6 +1,6 @@
 -- The hop to the agent.
 use Rattle.std.proofs.Common.{◌≡◌, true, false, List, [], ◌∷◌, ◌++◌, filter, inl, inr, refl, sym, ap, ◌∙◌, append-nil}
-use Rattle.channel_core.specs.Arrivals.{AreSpoken, Spoken, arrived, bytes_of}
+use Rattle.channel_core.specs.Arrivals.{AreSpoken, Spoken, arrived, bytes_of, all_said}
 use Rattle.channel_core.specs.Closing.{is_closed}
 use Rattle.channel_core.specs.QueueLaws.{is_message}
 use Rattle.channel_core.specs.Wire.{end_of_stream}
@@ -9,16 +9,17 @@ use Rattle.chain_quiet.specs.Stuck.{HopIsStill, IsReadable, IsServed, IsServedOr
 use Rattle.chain_route.specs.Carrying.{HopCarries, end_of}
 use Rattle.chain_route.specs.Runs.{Talk}
 use Rattle.chain_route.specs.declared.hop.Hop.{Hop}
-use Rattle.chain_through.specs.Through.{TakesAll, all_said}
-use Rattle.chain_quiet.proofs.Rest.Facts.{EndLaws, NodeLaws, all_given, live_above, not_over}
+use Rattle.chain_route.specs.Taking.{TakesAll}
+use Rattle.channel_laws.proofs.TheLaws.{hears_the_end}
+use Rattle.chain_quiet.proofs.Rest.Facts.{all_given, live_above, not_over}
 use Rattle.chain_quiet.proofs.Rest.Marks.{unmarked_same}
 use Rattle.chain_quiet.proofs.Rest.Meeting.{Meet, meet_at_rest, meet_free}
 use Rattle.chain_quiet.proofs.Rest.Resting.{Rests}
 
-module _ {T : Type 0} (laws : EndLaws T) (nodes : NodeLaws) (s : Side T) (hop : Hop) (talk : Talk) (sends : IsReadable s) (hop_is : HopIsStill hop) (carries : HopCarries hop (end_of_side s) (end_of talk))
+module _ {T : Type 0} (s : Side T) (hop : Hop) (talk : Talk) (sends : IsReadable s) (hop_is : HopIsStill hop) (carries : HopCarries hop (end_of_side s) (end_of talk))
     (still : IsStill (run_of s)) (opened : is_closed (run_of s).end.state ≡ false) where
   live : hop.is_live ≡ true
-  live = live_above laws s hop (end_of talk) carries still opened
+  live = live_above s hop (end_of talk) carries still opened
 
   down : bytes_of talk.gave ≡ arrived s.calls
   down = carries.down live ∙ ap (λ outs. arrived s.calls ++ bytes_of outs) hop_is.down ∙ append-nil (arrived s.calls)
@@ -33,7 +34,7 @@ module _ {T : Type 0} (laws : EndLaws T) (nodes : NodeLaws) (s : Side T) (hop : 
   not_refused : talk.gave ≡ end_of_stream ∷ [] → ⊥
   not_refused refused =
       let came : arrived s.calls ≡ bytes_of (end_of_stream ∷ []) = sym down ∙ ap bytes_of refused in
-      not_over (run_of s) still opened (laws.hears s.hello s.mark s.calls [] true tt ([], sym came ∙ sym (append-nil (arrived s.calls))) refl came)
+      not_over (run_of s) still opened (hears_the_end s.hello s.mark s.calls [] true tt ([], sym came ∙ sym (append-nil (arrived s.calls))) refl came)
 
   module _ (a : Side Unit) (served : IsServed a talk) where
     agent_lasts : IsLasting a
@@ -64,8 +65,8 @@ module _ {T : Type 0} (laws : EndLaws T) (nodes : NodeLaws) (s : Side T) (hop : 
 
     pub takes_all : (said : List Spoken) → AreSpoken said → filter is_message talk.gave ≡ all_said said → TakesAll (run_of s) said
     takes_all said formed is =
-        ((meet_at_rest laws false s a meets).first opened).taken said formed
-        (ap (filter is_message) (sym (all_given nodes.in_order a served.still) ∙ sym served.channel.gave) ∙ is)
+        ((meet_at_rest false s a meets).first opened).taken said formed
+        (ap (filter is_message) (sym (all_given a served.still) ∙ sym served.channel.gave) ∙ is)
 
   pub served_of : (hop.is_live ≡ true → IsServedOrRefused talk) → (a : Side Unit) × IsServed a talk
   served_of of = by_cases (of live)
@@ -74,21 +75,21 @@ module _ {T : Type 0} (laws : EndLaws T) (nodes : NodeLaws) (s : Side T) (hop : 
       by_cases (inl served) = served
       by_cases (inr refused) = absurd (not_refused refused)
 
-pub last_rests : {T : Type 0} → EndLaws T → NodeLaws → (s : Side T) (hop : Hop) (talk : Talk) → IsReadable s → HopIsStill hop → HopCarries hop (end_of_side s) (end_of talk)
+pub last_rests : {T : Type 0} → (s : Side T) (hop : Hop) (talk : Talk) → IsReadable s → HopIsStill hop → HopCarries hop (end_of_side s) (end_of talk)
     → (hop.is_live ≡ true → IsServedOrRefused talk) → Rests s [] talk
-last_rests laws nodes s hop talk sends hop_is carries of =
-    let served = λ (still : IsStill (run_of s)) (opened : is_closed (run_of s).end.state ≡ false). served_of laws nodes s hop talk sends hop_is carries still opened of in
+last_rests s hop talk sends hop_is carries of =
+    let served = λ (still : IsStill (run_of s)) (opened : is_closed (run_of s).end.state ≡ false). served_of s hop talk sends hop_is carries still opened of in
     record {
       unstuck = record {
         adds = tt;
         free = λ still opened.
             let a = served still opened in
-            meet_free laws false s a.0 (meets laws nodes s hop talk sends hop_is carries still opened a.0 a.1) a.1.channel.answers opened;
+            meet_free false s a.0 (meets s hop talk sends hop_is carries still opened a.0 a.1) a.1.channel.answers opened;
         all_taken = λ still opened bound said formed is.
             let a = served still opened in
-            (takes_all laws nodes s hop talk sends hop_is carries still opened a.0 a.1 said formed is, tt);
+            (takes_all s hop talk sends hop_is carries still opened a.0 a.1 said formed is, tt);
       };
       greeted = λ still opened.
           let a = served still opened in
-          ((meet_at_rest laws false s a.0 (meets laws nodes s hop talk sends hop_is carries still opened a.0 a.1)).first opened).greeted;
+          ((meet_at_rest false s a.0 (meets s hop talk sends hop_is carries still opened a.0 a.1)).first opened).greeted;
     }

@@ -17,7 +17,6 @@ use Rattle.target_hub.specs.Execution.{exec_after, exec_effect}
 use Rattle.target_hub.specs.Fresh.{answer_at, target_at}
 use Rattle.target_hub.specs.History.{IsAllowed, IsLegal, input_after, inputs_after, is_live}
 use Rattle.target_hub.specs.HubValue.{new_target}
-use Rattle.target_hub.specs.Laws.{AskingChangesNothing, AskingIsTheSame}
 use Rattle.target_hub.specs.Passing.{closed_told, tick_told}
 use Rattle.target_hub.specs.Sent.{ReadCommand, Told, agent_services, answer_told, caller_told, event_at, events_told, executed_by, executed_on, final_at, hello_at, is_through, progress_at, progress_data, sent, sent_after, tick_events_told, told_by, told_while_live, unknown_at}
 use Rattle.target_hub.specs.declared.done.Answered.{Answered}
@@ -28,6 +27,7 @@ use Rattle.target_hub.specs.declared.input.Input.TheVariants.{Closed, Executed, 
 use Rattle.target_hub.specs.declared.target.Target.{Target}
 use Rattle.target_truth.specs.Taught.{open_after}
 use Rattle.target_truth.proofs.Positions.{target_there}
+use Rattle.target_hub.proofs.TheLaws.{asking_changes_nothing, asking_is_the_same}
 use Rattle.chain_told.proofs.Agents.Sending.{inputs_push, still_live}
 use Rattle.target_truth.proofs.Messages.{as_read}
 
@@ -72,14 +72,14 @@ storable_asks (RegGetm list) storable = refl
 storable_asks command storable = absurd cc
 
 -- so its answer is that of the target behind it, and the same for every channel
-asked_there : AskingChangesNothing → AskingIsTheSame → (channel : ℕ) (command : Command) (target there : Target) → stores command ≡ true
+asked_there : (channel : ℕ) (command : Command) (target there : Target) → stores command ≡ true
     → there ≡ exec_after channel command target
     → answer_data command (exec_effect channel command target).answer ≡ answer_data command (exec_effect 0 command there).answer
-asked_there nothing same channel command target there storable is =
+asked_there channel command target there storable is =
     let asks : changes command ≡ false = storable_asks command storable in
-    let kept : there ≡ target = is ∙ (nothing channel command target asks).0 in
+    let kept : there ≡ target = is ∙ (asking_changes_nothing channel command target asks).0 in
     let effects : exec_effect channel command target ≡ exec_effect 0 command there =
-    same channel 0 command target asks ∙ ap (exec_effect 0 command) (sym kept) in
+    asking_is_the_same channel 0 command target asks ∙ ap (exec_effect 0 command) (sym kept) in
     ap (λ (effect : Effect). answer_data command effect.answer) effects
 
 -- ---- the messages of one input
@@ -152,65 +152,65 @@ refusal_is : (images : List Image) (history : List Input) (position : ℕ) (name
 refusal_is images history position None index code service name = record { flag = refl; unread = λ command is. absurd cc }
 refusal_is images history position (Some named) index code service name = record { flag = refl; same = λ command is storable. absurd cc }
 
-known_is : AskingChangesNothing → AskingIsTheSame → (images : List Image) (history : List Input) (position channel : ℕ) (command : Command) (target : Target) (service name : List ℕ)
+known_is : (images : List Image) (history : List Input) (position channel : ℕ) (command : Command) (target : Target) (service name : List ℕ)
     → target_at images history position ≡ exec_after channel command target
     → AnswersSo images history position (is_through (readings.Known command)) (answer_data command (exec_effect channel command target).answer) (as_read (readings.Known command) service name)
-known_is nothing same images history position channel command target service name there = record {
+known_is images history position channel command target service name there = record {
   flag = refl;
   same = λ other is storable.
       let one : other ≡ command = cc in
       subst (λ (c : Command). answer_data command (exec_effect channel command target).answer ≡ answer_at images history position c) (sym one)
-      (asked_there nothing same channel command target (target_at images history position) (subst (λ (c : Command). stores c ≡ true) one storable) there);
+      (asked_there channel command target (target_at images history position) (subst (λ (c : Command). stores c ≡ true) one storable) there);
 }
 
-answer_is : AskingChangesNothing → AskingIsTheSame → (images : List Image) (history before inputs : List Input) (channel : ℕ) (reading : Reading) (service name : List ℕ) (target : Target)
+answer_is : (images : List Image) (history before inputs : List Input) (channel : ℕ) (reading : Reading) (service name : List ℕ) (target : Target)
     → history ≡ before ++ Executed channel reading service name ∷ inputs → target ≡ inputs_after before (new_target images)
     → AnswerIs images history (length before + 1) (as_read reading service name) (executed channel service name reading target).answer
-answer_is nothing same images history before inputs channel (readings.Known command) service name target split made =
+answer_is images history before inputs channel (readings.Known command) service name target split made =
     let input = Executed channel (readings.Known command) service name in
     let position : ℕ = length before + 1 in
     let there : target_at images history position ≡ exec_after channel command target =
     ap (λ (h : List Input). target_at images h position) split ∙ target_there images before inputs input ∙ ap (input_after input) (sym made) in
-    known_is nothing same images history position channel command target service name there
-answer_is nothing same images history before inputs channel readings.Unknown service name target split made =
+    known_is images history position channel command target service name there
+answer_is images history before inputs channel readings.Unknown service name target split made =
     record { flag = refl; unread = λ command is. absurd cc }
-answer_is nothing same images history before inputs channel (readings.Bad index code) service name target split made =
+answer_is images history before inputs channel (readings.Bad index code) service name target split made =
     refusal_is images history (length before + 1) _ index code service name
 
 -- ---- of each input, and of all
 
-comes_by : AskingChangesNothing → AskingIsTheSame → (k : ℕ) (images : List Image) (history before inputs : List Input) (target : Target) (input : Input) (asked : List ReadCommand) (rest : List Told)
+comes_by : (k : ℕ) (images : List Image) (history before inputs : List Input) (target : Target) (input : Input) (asked : List ReadCommand) (rest : List Told)
     → IsAllowed before target input → history ≡ before ++ input ∷ inputs → target ≡ inputs_after before (new_target images) → length before + 1 ≤ length history
     → Come images history asked rest → Come images history (executed_by k input ++ asked) (told_while_live k before target input ++ rest)
-comes_by nothing same k images history before inputs target (Opened channel) asked rest allowed split made bound come =
+comes_by k images history before inputs target (Opened channel) asked rest allowed split made bound come =
     let place : ℕ = length before + 1 in
     live_comes (is_live k (before ++ Opened channel ∷ [])) images history asked (told_by k place target (Opened channel)) rest come
     (greeting_comes (channel == k) images history place bound asked rest come)
-comes_by nothing same k images history before inputs target (Executed channel reading service name) asked rest allowed split made bound come =
+comes_by k images history before inputs target (Executed channel reading service name) asked rest allowed split made bound come =
     let input = Executed channel reading service name in
     executed_comes (is_live k (before ++ input ∷ [])) (channel == k) images history (length before + 1) bound reading service name (executed channel service name reading target) asked rest
-    (answer_is nothing same images history before inputs channel reading service name target split made)
+    (answer_is images history before inputs channel reading service name target split made)
     (λ is. still_live k before input refl refl ∙ subst (λ n. is_live n before ≡ true) (eqb-true channel k is) allowed.0) come
-comes_by nothing same k images history before inputs target (Ticked thread) asked rest allowed split made bound come =
+comes_by k images history before inputs target (Ticked thread) asked rest allowed split made bound come =
     let place : ℕ = length before + 1 in
     live_comes (is_live k (before ++ Ticked thread ∷ [])) images history asked (told_by k place target (Ticked thread)) rest come
     (tick_comes images history place bound (tick_told thread target) asked rest come)
-comes_by nothing same k images history before inputs target (Closed channel) asked rest allowed split made bound come =
+comes_by k images history before inputs target (Closed channel) asked rest allowed split made bound come =
     let place : ℕ = length before + 1 in
     live_comes (is_live k (before ++ Closed channel ∷ [])) images history asked (told_by k place target (Closed channel)) rest come
     (events_come images history place bound (closed_told channel target) asked rest come)
 
-come_after : AskingChangesNothing → AskingIsTheSame → (k : ℕ) (images : List Image) (history before inputs : List Input) (target : Target) → IsLegal images history → history ≡ before ++ inputs
+come_after : (k : ℕ) (images : List Image) (history before inputs : List Input) (target : Target) → IsLegal images history → history ≡ before ++ inputs
     → target ≡ inputs_after before (new_target images) → Come images history (executed_on k inputs) (sent_after k before target inputs)
-come_after nothing same k images history before [] target legal split made = tt
-come_after nothing same k images history before (input ∷ inputs) target legal split made =
+come_after k images history before [] target legal split made = tt
+come_after k images history before (input ∷ inputs) target legal split made =
     let allowed : IsAllowed before target input = subst (λ t. IsAllowed before t input) (sym made) (legal before input inputs split) in
     let longer : length history ≡ length before + length (input ∷ inputs) = ap length split ∙ length-append before (input ∷ inputs) in
     let bound : length before + 1 ≤ length history = omega arith in
-    comes_by nothing same k images history before inputs target input (executed_on k inputs) (sent_after k (before ++ input ∷ []) (input_after input target) inputs) allowed split made bound
-    (come_after nothing same k images history (before ++ input ∷ []) inputs (input_after input target) legal (split ∙ sym (append_assoc before (input ∷ []) inputs))
+    comes_by k images history before inputs target input (executed_on k inputs) (sent_after k (before ++ input ∷ []) (input_after input target) inputs) allowed split made bound
+    (come_after k images history (before ++ input ∷ []) inputs (input_after input target) legal (split ∙ sym (append_assoc before (input ∷ []) inputs))
     (ap (input_after input) made ∙ sym (inputs_push before input (new_target images))))
 
-pub sent_comes : AskingChangesNothing → AskingIsTheSame → (images : List Image) (history : List Input) (k : ℕ) → IsLegal images history
+pub sent_comes : (images : List Image) (history : List Input) (k : ℕ) → IsLegal images history
     → Come images history (executed_on k history) (sent images k history)
-sent_comes nothing same images history k legal = come_after nothing same k images history [] history (new_target images) legal refl refl
+sent_comes images history k legal = come_after k images history [] history (new_target images) legal refl refl

@@ -8,10 +8,9 @@ use Rattle.target_hub.specs.Sent.{Told, event_at, final_at, hello_at, progress_a
 use Rattle.target_hub.specs.declared.input.Input.{Input}
 use Rattle.channel_core.specs.Arrivals.{Spoken}
 use Rattle.value_node.specs.Asked.{Asked}
-use Rattle.chain_told.proofs.Agents.Lists.{all_each}
 use Rattle.chain_told.proofs.Agents.Numbered.{AreApart, IsApart, one_place}
 use Rattle.chain_told.proofs.Agents.Saying.{ComeTo, left_behind, spoken}
-use Rattle.list_laws.proofs.AllLists.{all_contains, all_right as all_back, all_weaker}
+use Rattle.list_laws.proofs.AllLists.{all_contains, all_right as all_back, all_weaker, all_each}
 use Rattle.list_laws.proofs.Flags.{or_true}
 use Rattle.list_laws.proofs.Lists.{equal_itself as same_bytes}
 

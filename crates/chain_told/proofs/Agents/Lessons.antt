@@ -10,7 +10,8 @@ use Rattle.command_tables.specs.declared.reading.Reading.TheVariants as readings
 use Rattle.knowledge.specs.Facts.{Facts}
 use Rattle.knowledge.specs.Learning.{Message, learn, learn_all}
 use Rattle.target_contexts.specs.declared.process.Image.{Image}
-use Rattle.target_hub.specs.Ordered.{IsPrefixOf}
+use Rattle.list_laws.specs.Fronts.{IsFront}
+use Rattle.list_laws.proofs.Fronts.{front_first, front_rest, no_front}
 use Rattle.target_hub.specs.Sent.{ReadCommand, Told, event_at, final_at, hello_at, progress_at, unknown_at}
 use Rattle.target_hub.specs.declared.input.Input.{Input}
 use Rattle.target_truth.specs.Taught.{event_message, final_message, taught}
@@ -20,7 +21,6 @@ use Rattle.value_node.specs.Deeds.{command_asked}
 use Rattle.value_node.specs.Store.{lesson_of}
 use Rattle.chain_told.specs.Sent.{read_as}
 use Rattle.chain_told.proofs.Agents.Answering.{Come}
-use Rattle.chain_told.proofs.Agents.Lists.{front_first, front_rest, no_front}
 use Rattle.chain_told.proofs.Agents.Numbered.{IsFound}
 use Rattle.chain_told.proofs.Agents.Saying.{spoken}
 
@@ -49,7 +49,7 @@ final_taught all c a body found same =
     ∙ ap (λ (b : ReadCommand). final_message (Some b.reading) body) (sym same)
 
 pub learned_same : (images : List Image) (history : List Input) (all : List Asked) (told : List Told) (left : List Asked) (asked : List ReadCommand) (known : Facts)
-    → AllByRecursion (IsFound all) left → IsPrefixOf asked (map read_as left) → Come images history asked told
+    → AllByRecursion (IsFound all) left → IsFront asked (map read_as left) → Come images history asked told
     → learn_all (lessons all (spoken left told)) known ≡ learn_all (taught asked told) known
 learned_same images history all [] left asked known found front come = refl
 learned_same images history all (hello_at place body ∷ told) left asked known found front come =

@@ -7,8 +7,7 @@ use Rattle.command_tables.specs.Reading.{reading_of}
 use Rattle.command_tables.specs.declared.reading.Reading.{Reading}
 use Rattle.command_tables.specs.declared.reading.Reading.TheVariants as readings
 use Rattle.target_contexts.specs.declared.process.Image.{Image}
-use Rattle.target_hub.specs.Laws.{AskingChangesNothing, AskingIsTheSame}
-use Rattle.target_hub.specs.Ordered.{IsPrefixOf}
+use Rattle.list_laws.specs.Fronts.{IsFront}
 use Rattle.target_hub.specs.Received.{is_owed}
 use Rattle.target_hub.specs.Sent.{Told, event_at, executed_on, final_at, hello_at, is_through, progress_at, sent, unknown_at}
 use Rattle.target_hub.specs.declared.input.Input.{Input}
@@ -73,10 +72,10 @@ owed_told images history all (unknown_at place through ∷ told) (c ∷ left) fo
     one_owed all c through place (not_known []) (unknown_at place through) (owed_in all (spoken left told)) (filter is_owed told) found.0 come.0.1.flag refl
     (owed_told images history all told left found.1 come.1)
 
-pub owed : AskingChangesNothing → AskingIsTheSame → TargetTellsWhatIsOwed
-owed nothing same images history k commands legal few asked =
+pub owed : TargetTellsWhatIsOwed
+owed images history k commands legal few asked =
     let all = numbered 1 commands in
     let counted : 1 + length commands ≤ 10 ^ 64 = omega arith in
-    let front : IsPrefixOf (executed_on k history) (map read_as all) = subst (IsPrefixOf (executed_on k history)) (sym (read_numbered 1 commands)) asked in
+    let front : IsFront (executed_on k history) (map read_as all) = subst (IsFront (executed_on k history)) (sym (read_numbered 1 commands)) asked in
     owed_told images history all (sent images k history) all (found_all all (numbered_apart 1 commands counted))
-    (come_to images history (sent images k history) (executed_on k history) all front (sent_comes nothing same images history k legal))
+    (come_to images history (sent images k history) (executed_on k history) all front (sent_comes images history k legal))

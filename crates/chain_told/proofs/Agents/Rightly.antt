@@ -11,17 +11,16 @@ use Rattle.command_tables.specs.declared.reading.Reading.TheVariants as readings
 use Rattle.knowledge.specs.Facts.{nothing}
 use Rattle.knowledge.specs.Learning.{learned}
 use Rattle.target_contexts.specs.declared.process.Image.{Image}
-use Rattle.target_hub.specs.Laws.{AskingChangesNothing, AskingIsTheSame}
 use Rattle.target_hub.specs.History.{IsLegal}
-use Rattle.target_hub.specs.Ordered.{IsPrefixOf}
+use Rattle.list_laws.specs.Fronts.{IsFront}
 use Rattle.target_hub.specs.Sent.{ReadCommand, Told, event_at, executed_on, final_at, hello_at, progress_at, sent, unknown_at}
 use Rattle.target_hub.specs.declared.input.Input.{Input}
-use Rattle.target_truth.specs.Laws.{IsTrueAfterEachMessage}
 use Rattle.target_truth.specs.Taught.{position_of, taught}
 use Rattle.tcf_values.specs.declared.command.Command.{Command}
 use Rattle.value_node.specs.Asked.{Asked}
 use Rattle.value_node.specs.Barriers.{command_in}
 use Rattle.chain_told.specs.Sent.{TargetTellsRightly, read_as}
+use Rattle.target_truth.proofs.TheLaws.{told_is_true}
 use Rattle.chain_told.proofs.Agents.Answering.{AnswersSo, Come, sent_comes}
 use Rattle.chain_told.proofs.Agents.Ended.{Reached, all_before, reached}
 use Rattle.chain_told.proofs.Agents.Lessons.{learned_same}
@@ -101,11 +100,11 @@ come_first : (images : List Image) (history : List Input) (front more : List Tol
 come_first images history [] more asked come = tt
 come_first images history (now ∷ front) more asked come = (come.0, come_first images history front more _ come.1)
 
-true_now : IsTrueAfterEachMessage → (images : List Image) (history : List Input) (k : ℕ) (all : List Asked) (front more : List Told) (now : Told) → IsLegal images history
-    → AllByRecursion (IsFound all) all → IsPrefixOf (executed_on k history) (map read_as all) → Come images history (executed_on k history) (sent images k history)
+true_now : (images : List Image) (history : List Input) (k : ℕ) (all : List Asked) (front more : List Told) (now : Told) → IsLegal images history
+    → AllByRecursion (IsFound all) all → IsFront (executed_on k history) (map read_as all) → Come images history (executed_on k history) (sent images k history)
     → position_of now ≤ length history → sent images k history ≡ front ++ now ∷ more
     → AreTrueAt images history (mark_of (spoken all front ++ one_told (left_behind front all) now ∷ [])) (learned (lessons all (spoken all front ++ one_told (left_behind front all) now ∷ [])))
-true_now truth images history k all front more now legal found asked come bound split =
+true_now images history k all front more now legal found asked come bound split =
     let executed = executed_on k history in
     let left = left_behind front all in
     let mark : mark_of (spoken all front ++ one_told left now ∷ []) ≡ Some (position_of now) =
@@ -114,15 +113,15 @@ true_now truth images history k all front more now legal found asked come bound 
     let here : Come images history executed (front ++ now ∷ []) = come_first images history (front ++ now ∷ []) more executed (subst (Come images history executed) whole come) in
     let known : learned (lessons all (spoken all front ++ one_told left now ∷ [])) ≡ learned (taught executed (front ++ now ∷ [])) =
     ap (λ l. learned (lessons all l)) (sym (spoken_push front now all)) ∙ learned_same images history all (front ++ now ∷ []) all executed nothing found asked here in
-    subst₂ (AreTrueAt images history) (sym mark) (sym known) (bound, λ typed. truth images history legal typed k front more now split)
+    subst₂ (AreTrueAt images history) (sym mark) (sym known) (bound, λ typed. told_is_true images history legal typed k front more now split)
 
 -- ---- all of it
 
-rightly : IsTrueAfterEachMessage → AskingChangesNothing → AskingIsTheSame → (images : List Image) (history : List Input) (k : ℕ) (all : List Asked) (front more : List Told) (now : Told)
-    → IsLegal images history → AreApart all → IsPrefixOf (executed_on k history) (map read_as all) → sent images k history ≡ front ++ now ∷ more
+rightly : (images : List Image) (history : List Input) (k : ℕ) (all : List Asked) (front more : List Told) (now : Told)
+    → IsLegal images history → AreApart all → IsFront (executed_on k history) (map read_as all) → sent images k history ≡ front ++ now ∷ more
     → told.IsToldRightly images history all (spoken all front) (one_told (left_behind front all) now)
-rightly truth kept same images history k all front more now legal apart asked split =
-    let come : Come images history (executed_on k history) (sent images k history) = sent_comes kept same images history k legal in
+rightly images history k all front more now legal apart asked split =
+    let come : Come images history (executed_on k history) (sent images k history) = sent_comes images history k legal in
     let to : ComeTo images history all (front ++ now ∷ more) =
     subst (ComeTo images history all) split (come_to images history (sent images k history) (executed_on k history) all asked come) in
     let here : ComesTo images history (left_behind front all) now = come_at images history front more now all to in
@@ -134,16 +133,16 @@ rightly truth kept same images history k all front more now legal apart asked sp
       owed = owed_now images history all (spoken all front) now (left_behind front all) here left r.waiting;
       placed = placed images history k front more now all (beginning images history k legal) split;
       true =
-          true_now truth images history k all front more now legal found asked come
+          true_now images history k all front more now legal found asked come
           (within images history now (left_behind front all) here) split;
       answered = answered_now images history all r.done (spoken all front) now (left_behind front all) apart r.split here left r.ended;
     }
 
-pub told_rightly : IsTrueAfterEachMessage → AskingChangesNothing → AskingIsTheSame → TargetTellsRightly
-told_rightly truth kept same images history k commands legal few asked before rest s split =
+pub told_rightly : TargetTellsRightly
+told_rightly images history k commands legal few asked before rest s split =
     let all = numbered 1 commands in
     let counted : 1 + length commands ≤ 10 ^ 64 = omega arith in
-    let front : IsPrefixOf (executed_on k history) (map read_as all) = subst (IsPrefixOf (executed_on k history)) (sym (read_numbered 1 commands)) asked in
+    let front : IsFront (executed_on k history) (map read_as all) = subst (IsFront (executed_on k history)) (sym (read_numbered 1 commands)) asked in
     let c : Cut all (sent images k history) before s = cut (sent images k history) all before rest s split in
     subst₂ (told.IsToldRightly images history all) (sym c.first) (sym c.is)
-    (rightly truth kept same images history k all c.front c.more c.now legal (numbered_apart 1 commands counted) front c.split)
+    (rightly images history k all c.front c.more c.now legal (numbered_apart 1 commands counted) front c.split)

@@ -4,7 +4,8 @@ use Rattle.agent_node.specs.AgentLaws.{first_token, messages_told}
 use Rattle.channel_core.specs.Arrivals.{Spoken}
 use Rattle.channel_core.specs.Wire.{hello, locator}
 use Rattle.target_contexts.specs.declared.process.Image.{Image}
-use Rattle.target_hub.specs.Ordered.{IsPrefixOf}
+use Rattle.list_laws.specs.Fronts.{IsFront}
+use Rattle.list_laws.proofs.Fronts.{front_first, front_rest, no_front}
 use Rattle.target_hub.specs.Sent.{ReadCommand, Told, event_at, final_at, hello_at, progress_at, unknown_at}
 use Rattle.target_hub.specs.declared.input.Input.{Input}
 use Rattle.target_truth.specs.Taught.{open_after}
@@ -12,7 +13,6 @@ use Rattle.tcf_message.specs.Message.{event, final, not_known, progress}
 use Rattle.value_node.specs.Asked.{Asked}
 use Rattle.chain_told.specs.Sent.{read_as}
 use Rattle.chain_told.proofs.Agents.Answering.{AnswersSo, Come, Comes, FirstIs, IsNotKnown}
-use Rattle.chain_told.proofs.Agents.Lists.{front_first, no_front}
 use Rattle.list_laws.proofs.Lists.{nothing_there}
 
 -- ---- the messages
@@ -110,31 +110,30 @@ abbrev pub ComeTo : List Image → List Input → List Asked → List Told → T
 ComeTo images history left [] = Unit {0}
 ComeTo images history left (now ∷ told) = ComesTo images history left now × ComeTo images history (behind now left) told
 
-first_to : (P : ReadCommand → Type 0) (asked : List ReadCommand) (left : List Asked) → IsPrefixOf asked (map read_as left) → FirstIs P asked → FirstIs (λ (c : Asked). P (read_as c)) left
+first_to : (P : ReadCommand → Type 0) (asked : List ReadCommand) (left : List Asked) → IsFront asked (map read_as left) → FirstIs P asked → FirstIs (λ (c : Asked). P (read_as c)) left
 first_to P [] left front is = absurd is
 first_to P (a ∷ asked) [] front is = absurd (no_front a asked front)
 first_to P (a ∷ asked) (c ∷ left) front is = subst P (front_first a (read_as c) asked (map read_as left) front) is
 
-first_any : (asked : List ReadCommand) (left : List Asked) → IsPrefixOf asked (map read_as left) → FirstIs (λ (c : ReadCommand). Unit {0}) asked → FirstIs (λ (c : Asked). Unit {0}) left
+first_any : (asked : List ReadCommand) (left : List Asked) → IsFront asked (map read_as left) → FirstIs (λ (c : ReadCommand). Unit {0}) asked → FirstIs (λ (c : Asked). Unit {0}) left
 first_any [] left front is = absurd is
 first_any (a ∷ asked) [] front is = absurd (no_front a asked front)
 first_any (a ∷ asked) (c ∷ left) front is = tt
 
-front_dropped : (asked : List ReadCommand) (left : List Asked) → IsPrefixOf asked (map read_as left) → IsPrefixOf (drop 1 asked) (map read_as (drop 1 left))
+front_dropped : (asked : List ReadCommand) (left : List Asked) → IsFront asked (map read_as left) → IsFront (drop 1 asked) (map read_as (drop 1 left))
 front_dropped [] left front = (map read_as (drop 1 left), refl)
 front_dropped (a ∷ asked) [] front = absurd (no_front a asked front)
 front_dropped (a ∷ asked) (c ∷ left) front =
-    let whole : a ∷ (asked ++ front.0) ≡ read_as c ∷ map read_as left = front.1 in
-    let tail : asked ++ front.0 ≡ map read_as left = cc in (front.0, tail)
+    front_rest a (read_as c) asked (map read_as left) front
 
-pub front_behind : (now : Told) (asked : List ReadCommand) (left : List Asked) → IsPrefixOf asked (map read_as left) → IsPrefixOf (open_after now asked) (map read_as (behind now left))
+pub front_behind : (now : Told) (asked : List ReadCommand) (left : List Asked) → IsFront asked (map read_as left) → IsFront (open_after now asked) (map read_as (behind now left))
 front_behind (hello_at place body) asked left front = front
 front_behind (event_at place service name body) asked left front = front
 front_behind (progress_at place body) asked left front = front
 front_behind (final_at place through body) asked left front = front_dropped asked left front
 front_behind (unknown_at place through) asked left front = front_dropped asked left front
 
-comes_to : (images : List Image) (history : List Input) (now : Told) (asked : List ReadCommand) (left : List Asked) → IsPrefixOf asked (map read_as left) → Comes images history asked now
+comes_to : (images : List Image) (history : List Input) (now : Told) (asked : List ReadCommand) (left : List Asked) → IsFront asked (map read_as left) → Comes images history asked now
     → ComesTo images history left now
 comes_to images history (hello_at place body) asked left front comes = comes
 comes_to images history (event_at place service name body) asked left front comes = comes
@@ -142,7 +141,7 @@ comes_to images history (progress_at place body) asked left front comes = (comes
 comes_to images history (final_at place through body) asked left front comes = (comes.0, first_to (AnswersSo images history place through body) asked left front comes.1)
 comes_to images history (unknown_at place through) asked left front comes = (comes.0, first_to (IsNotKnown through) asked left front comes.1)
 
-pub come_to : (images : List Image) (history : List Input) (told : List Told) (asked : List ReadCommand) (left : List Asked) → IsPrefixOf asked (map read_as left) → Come images history asked told
+pub come_to : (images : List Image) (history : List Input) (told : List Told) (asked : List ReadCommand) (left : List Asked) → IsFront asked (map read_as left) → Come images history asked told
     → ComeTo images history left told
 come_to images history [] asked left front come = tt
 come_to images history (now ∷ told) asked left front come =

@@ -22,9 +22,8 @@ use Rattle.target_hub.specs.declared.input.Input.{Input}
 use Rattle.target_hub.specs.declared.input.Input.TheVariants.{Opened, Executed, Ticked, Closed}
 use Rattle.target_hub.specs.declared.target.Target.{Target}
 use Rattle.chain_told.proofs.Agents.Greetless.{AreGreetless, IsNoGreeting, closed_greetless, executed_greetless, ticked_greetless}
-use Rattle.chain_told.proofs.Agents.Lists.{all_each, all_map, all_test}
 use Rattle.list_laws.proofs.Flags.{or_neither, second_false, or_false as or_none}
-use Rattle.list_laws.proofs.AllLists.{all_append}
+use Rattle.list_laws.proofs.AllLists.{all_append, all_each, all_map_then, all_test}
 
 -- ---- after the Hello
 
@@ -75,7 +74,7 @@ event_plain (EventData.Hello list) none = absurd none
 event_plain event none = refl
 
 events_at : (position : ℕ) (events : List EventData) → AreGreetless events → AllByRecursion (IsAt position) (events_told position events)
-events_at position events none = all_map (IsAt position) IsNoGreeting (event_told position) events (λ event plain. ((le_refl position, event_plain event plain), refl)) none
+events_at position events none = all_map_then (IsAt position) IsNoGreeting (event_told position) events (λ event plain. ((le_refl position, event_plain event plain), refl)) none
 
 answer_at : (position : ℕ) (through : Bool) (answer : Answered) → IsAt position (answer_told position through answer)
 answer_at position through Unknown = (le_refl position, refl)
@@ -84,7 +83,7 @@ answer_at position through (Result body) = (le_refl position, refl)
 caller_at : (position : ℕ) (reading : Reading) (done : Done) → AllByRecursion (IsAt position) (caller_told position reading done)
 caller_at position reading done =
     all_append (IsAt position) (map (λ address. progress_at position (progress_data address)) done.progress) (answer_told position (is_through reading) done.answer ∷ [])
-    (all_map (IsAt position) (λ (address : ℕ). Unit {0}) (λ address. progress_at position (progress_data address)) done.progress (λ address none. (le_refl position, refl))
+    (all_map_then (IsAt position) (λ (address : ℕ). Unit {0}) (λ address. progress_at position (progress_data address)) done.progress (λ address none. (le_refl position, refl))
     (all_each (λ (address : ℕ). Unit {0}) done.progress (λ address. tt)))
     (answer_at position (is_through reading) done.answer, tt)
 

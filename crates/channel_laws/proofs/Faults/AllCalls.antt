@@ -8,7 +8,7 @@ use Rattle.channel_core.specs.EndValue.{EndValue}
 use Rattle.channel_core.specs.Laws.{listed}
 use Rattle.channel_core.specs.Receiving.{is_over}
 use Rattle.channel_core.specs.ReceivingLaws.{EndsFor, incoming_of}
-use Rattle.channel_core.specs.Runs.{Call, Run, after_call, after_calls, closing, commanding, delivering, draining, ending, putting_out, refusal_to, sending, taking}
+use Rattle.channel_core.specs.Runs.{Call, Run, after_call, after_calls, closing, commanding, delivering, draining, ending, putting_out, sending, taking}
 use Rattle.channel_core.specs.Taking.{next_taken}
 use Rattle.channel_core.specs.declared.states.Cause.{Cause}
 use Rattle.channel_core.specs.declared.states.Cause.TheVariants.{Ended, Own}
@@ -18,6 +18,7 @@ use Rattle.channel_core.specs.declared.taking.Taken.TheVariants.{Closed}
 use Rattle.channel_laws.proofs.Faults.Following.{AreFine, Follows, StateIs, StopIs, alike, command_came, either, piece_came}
 use Rattle.channel_laws.proofs.Faults.Taking.{IsFine, MayTake, TakenIs, taken_next}
 use Rattle.list_laws.proofs.AllLists.{all_append}
+use Rattle.channel_core.specs.Sending.{refusal_to}
 
 -- the causes that a call may bring
 abbrev pub MayBring : {T : Type 0} → (Cause → Type 0) → Call T → EndValue T → Type 0

@@ -10,8 +10,8 @@ use Rattle.channel_core.specs.Laws.{listed}
 use Rattle.channel_core.specs.QueueLaws.{TakesNothingClosed}
 use Rattle.channel_core.specs.Receiving.{came_by, delivered, is_over, item_came, stopped_by, with_last}
 use Rattle.channel_core.specs.RunLaws.{StaysClosed, sent_of}
-use Rattle.channel_core.specs.Runs.{Call, Issued, Run, after_call, after_calls, closing, commanding, delivering, draining, ending, putting_out, refusal_to, sending, taking, unless_refused}
-use Rattle.channel_core.specs.Sending.{refusal_of}
+use Rattle.channel_core.specs.Runs.{Call, Issued, Run, after_call, after_calls, closing, commanding, delivering, draining, ending, putting_out, sending, taking, unless_refused}
+use Rattle.channel_core.specs.Sending.{refusal_of, refusal_to}
 use Rattle.channel_core.specs.declared.held.Held.{Held}
 use Rattle.channel_core.specs.declared.sending.SendRefusal.{SendRefusal}
 use Rattle.channel_core.specs.declared.sending.SendRefusal.TheVariants.{NotOpen}

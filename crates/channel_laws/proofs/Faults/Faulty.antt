@@ -4,13 +4,13 @@ use Rattle.std.specs.Prelude.{Contains}
 use Rattle.std.specs.List.{flat_map}
 use Rattle.std.proofs.lemmas.Grind.{flat_map-append}
 use Rattle.std.proofs.lemmas.List.Folds.{list_any-append}
-use Rattle.channel_core.specs.Arrivals.{IsFront, Marked, Spoken, arrived, arrived_in, bytes_of, messages_in, queue_of}
+use Rattle.channel_core.specs.Arrivals.{Marked, Spoken, arrived, arrived_in, bytes_of, messages_in, queue_of}
 use Rattle.channel_core.specs.Beginning.{new_end}
 use Rattle.channel_core.specs.Closing.{is_closed}
 use Rattle.channel_core.specs.EndValue.{EndValue}
 use Rattle.channel_core.specs.Laws.{listed}
 use Rattle.channel_core.specs.QueueLaws.{TakesNothingClosed}
-use Rattle.channel_core.specs.ReceivingLaws.{EndsFairly, EndsFor, ReceivesInOrder, WhereAQueueComes, incoming_of, received}
+use Rattle.channel_core.specs.ReceivingLaws.{EndsFor, WhereAQueueComes, incoming_of, received}
 use Rattle.channel_core.specs.RunLaws.{AfterAllCalls, CountsAnswers, SendsInOrder, StaysClosed, is_answered, sent_of}
 use Rattle.channel_core.specs.Runs.{Call, Issued, Run, after_call, after_calls, begun, closing, commanding, delivering, draining, ending, putting_out, sending, taking}
 use Rattle.channel_core.specs.Taking.{broken, next_taken}
@@ -24,21 +24,14 @@ use Rattle.channel_core.specs.declared.states.Reason.TheVariants.{Early, Grammar
 use Rattle.channel_core.specs.declared.taking.Taken.{Taken}
 use Rattle.channel_core.specs.declared.taking.Taken.TheVariants.{Closed}
 use Rattle.channel_laws.specs.Faults.{FaultsAreThere, IsAwaited, IsFault, IsThere}
+use Rattle.channel_core.proofs.TheLaws.{counts_answers, ends_fairly, receives_in_order, sends_in_order, stays_closed, takes_nothing_closed}
 use Rattle.channel_laws.proofs.Faults.AllCalls.{IsFineRun, MayBring, MayBringAll, ends_fine, fine_after}
 use Rattle.channel_laws.proofs.Faults.Awaiting.{awaited_place}
 use Rattle.channel_laws.proofs.Faults.Closed.{FromNowOn, same_sent, still_after, undrained_after}
 use Rattle.channel_laws.proofs.Faults.Judging.{IsFaulty}
 use Rattle.channel_laws.proofs.Faults.Taking.{MayTake}
 use Rattle.list_laws.proofs.Flags.{or_false}
-
--- the laws of the crate below
-pub record Laws (T : Type 0) : Type 0 where
-  pub order : WhereAQueueComes {T = T} ReceivesInOrder
-  pub causes : WhereAQueueComes {T = T} EndsFairly
-  pub stays : AfterAllCalls {T = T} StaysClosed
-  pub none : AfterAllCalls {T = T} TakesNothingClosed
-  pub counts : AfterAllCalls {T = T} CountsAnswers
-  pub sends : AfterAllCalls {T = T} SendsInOrder
+use Rattle.list_laws.specs.Fronts.{IsFront}
 
 -- ---- Calls behind others
 
@@ -170,8 +163,8 @@ there_by (Grammar fault) spoken r t = tt
 there_by Early spoken r t = t
 there_by Token spoken r t = t
 
-pub all_are_there : {T : Type 0} → Laws T → WhereAQueueComes {T = T} FaultsAreThere
-all_are_there {T = T} laws body mark calls spoken is_ended well front number reason ends_for = by_reason reason ends_for
+pub all_are_there : {T : Type 0} → WhereAQueueComes {T = T} FaultsAreThere
+all_are_there {T = T} body mark calls spoken is_ended well front number reason ends_for = by_reason reason ends_for
   where
     start : Run T
     start = begun (new_end body mark)
@@ -185,15 +178,15 @@ all_are_there {T = T} laws body mark calls spoken is_ended well front number rea
     taking_brings : (before rest : List (Call T)) → calls ≡ before ++ taking ∷ rest → MayTake Fine (after_calls before start).end.inbox (after_calls before start).end
     taking_brings before rest is n why first left inbox faulty came =
         let r = after_calls before start in
-        let none = from_now_on TakesNothingClosed laws.none body mark before in
-        let stays = from_now_on StaysClosed laws.stays body mark before in
+        let none = from_now_on TakesNothingClosed takes_nothing_closed body mark before in
+        let stays = from_now_on StaysClosed stays_closed body mark before in
         let m : IsMoment r = record {
           fresh = none_while_opening body mark before;
-          counts = laws.counts body mark before;
-          sends = laws.sends body mark before;
-          undrained = undrained_after before start (laws.stays body mark) refl (is_open n why left r (laws.none body mark before) came);
+          counts = counts_answers body mark before;
+          sends = sends_in_order body mark before;
+          undrained = undrained_after before start (stays_closed body mark) refl (is_open n why left r (takes_nothing_closed body mark before) came);
         } in
-        let received_yet = (laws.order body mark before spoken is_ended well (fewer_came (bytes_of (queue_of spoken is_ended)) calls before (taking ∷ rest) is front)).front in
+        let received_yet = (receives_in_order body mark before spoken is_ended well (fewer_came (bytes_of (queue_of spoken is_ended)) calls before (taking ∷ rest) is front)).front in
         let later : now ≡ after_calls rest (after_call taking r) = ap (λ (cs : List (Call T)). after_calls cs start) is ∙ after_both before (taking ∷ rest) start in
         let t = there why spoken first left r (after_calls rest (after_call taking r)) received_yet inbox m (since n why left r rest none stays came) faulty in
         there_by why spoken now (subst (λ (x : Run T). IsThere why spoken x) (sym later) t)
@@ -212,6 +205,6 @@ all_are_there {T = T} laws body mark calls spoken is_ended well front number rea
     fine = fine_after Fine calls start brings (first_fine Fine body mark)
 
     by_reason : (why : Reason) → EndsFor now (Protocol number why) → IsThere why spoken now
-    by_reason (Grammar fault) is = absurd (laws.causes body mark calls spoken is_ended well front (Protocol number (Grammar fault)) is)
+    by_reason (Grammar fault) is = absurd (ends_fairly body mark calls spoken is_ended well front (Protocol number (Grammar fault)) is)
     by_reason Early is = ends_fine Fine now (Protocol number Early) fine is
     by_reason Token is = ends_fine Fine now (Protocol number Token) fine is

@@ -3,7 +3,7 @@ use Rattle.std.proofs.Common.{◌≡◌, ℕ, ◌+◌, ◌-◌, ◌≤◌, Bool,
 use Rattle.std.specs.List.{flat_map, list_any}
 use Rattle.std.proofs.lemmas.Bool.{le-leb}
 use Rattle.std.proofs.lemmas.List.{length-map}
-use Rattle.channel_core.specs.Arrivals.{AreSpoken, IsFront, Marked, Spoken, arrived, bytes_of, marked, messages_in, queue_of, whole_in}
+use Rattle.channel_core.specs.Arrivals.{AreSpoken, Marked, Spoken, arrived, bytes_of, marked, messages_in, queue_of, whole_in, all_heard}
 use Rattle.channel_core.specs.Closing.{is_closed}
 use Rattle.channel_core.specs.ReceivingLaws.{CanBeRead, IsFairCause, ReceivesInOrder, incoming_of, received}
 use Rattle.channel_core.specs.Runs.{Run}
@@ -12,17 +12,18 @@ use Rattle.channel_core.specs.declared.held.Incoming.{Incoming}
 use Rattle.channel_core.specs.declared.states.Cause.{Cause}
 use Rattle.channel_core.specs.declared.states.Cause.TheVariants.{Ended, Eos, Own, Protocol, Stream}
 use Rattle.channel_core.specs.declared.states.Reason.TheVariants.{Early, Grammar, Token}
-use Rattle.channel_core.proofs.Feeding.{Cited, total}
+use Rattle.channel_core.proofs.Feeding.{total}
 use Rattle.channel_core.proofs.Received as receiving
 use Rattle.channel_core.proofs.Running.{all_in_order}
 use Rattle.channel_laws.specs.Faults.{is_ending}
 use Rattle.channel_laws.proofs.Faults.Calling.{all_by_calls}
 use Rattle.channel_laws.proofs.Faults.Following.{StopIs}
-use Rattle.channel_laws.specs.Meeting.{IsLasting, Side, all_heard, as_comes, run_of}
+use Rattle.channel_laws.specs.Meeting.{IsLasting, Side, as_comes, run_of}
 use Rattle.channel_laws.proofs.Rest.Meeting.{entering, entering_formed, formed_as, queue_as, readable, said_as}
 use Rattle.channel_laws.proofs.Rest.Numbering.{taken_front}
 use Rattle.channel_laws.specs.Hop.{Carries, Hears}
 use Rattle.channel_laws.proofs.Hop.Stopping.{IsLast, all_stop_so}
+use Rattle.list_laws.specs.Fronts.{IsFront}
 
 -- ---- What is in flight comes behind what came
 
@@ -80,12 +81,12 @@ front_or_longer {A = A} (x ∷ first) (y ∷ second) more behind is =
         (λ (longer : length second ≤ length first). inr (omega arith))
         rest
 
-end_came : {T : Type 0} → Cited → (s : Side T) (spoken : List Spoken) (is_ended : Bool) (flight : List Marked) → AreSpoken spoken → bytes_of (queue_of spoken is_ended) ≡ arrived s.calls ++ flight
+end_came : {T : Type 0} → (s : Side T) (spoken : List Spoken) (is_ended : Bool) (flight : List Marked) → AreSpoken spoken → bytes_of (queue_of spoken is_ended) ≡ arrived s.calls ++ flight
     → (run_of s).end.stop ≡ Some Eos → is_ended ≡ true → total spoken ≤ length (arrived s.calls)
-end_came c s spoken false flight all comes stop told = absurd cc
-end_came c s spoken true flight all comes stop told = ⊎_elim
+end_came s spoken false flight all comes stop told = absurd cc
+end_came s spoken true flight all comes stop told = ⊎_elim
     (λ (front : IsFront (arrived s.calls) (bytes_of (queue_of spoken false))).
-    let fair : IsFairCause spoken false (received (run_of s)) Eos = receiving.all_fair c s.hello s.mark s.calls spoken false all front Eos (inl stop) in
+    let fair : IsFairCause spoken false (received (run_of s)) Eos = receiving.all_fair s.hello s.mark s.calls spoken false all front Eos (inl stop) in
     let never : false ≡ true = fair.0 in
     absurd cc)
     (λ (longer : length (bytes_of (queue_of spoken false)) ≤ length (arrived s.calls)). let size = bytes_total spoken in omega arith)
@@ -93,15 +94,15 @@ end_came c s spoken true flight all comes stop told = ⊎_elim
 
 -- ---- All that came wholly was received
 
-received_whole : {T : Type 0} → Cited → (s : Side T) (spoken : List Spoken) (is_ended : Bool) (flight : List Marked) → IsLasting s → AreSpoken spoken → bytes_of (queue_of spoken is_ended) ≡ arrived s.calls ++ flight
+received_whole : {T : Type 0} → (s : Side T) (spoken : List Spoken) (is_ended : Bool) (flight : List Marked) → IsLasting s → AreSpoken spoken → bytes_of (queue_of spoken is_ended) ≡ arrived s.calls ++ flight
     → is_closed (run_of s).end.state ≡ false → received (run_of s) ≡ messages_in (whole_in (length (arrived s.calls)) spoken)
-received_whole {T = T} c s spoken is_ended flight l all comes opened = by_stop (run_of s).end.stop refl
+received_whole {T = T} s spoken is_ended flight l all comes opened = by_stop (run_of s).end.stop refl
   where
     r : Run T
     r = run_of s
 
     fair : (cause : Cause) → r.end.stop ≡ Some cause → IsFairCause spoken is_ended (received r) cause
-    fair cause is = receiving.all_fair c s.hello s.mark s.calls spoken is_ended all (flight, comes) cause (inl is)
+    fair cause is = receiving.all_fair s.hello s.mark s.calls spoken is_ended all (flight, comes) cause (inl is)
 
     last : (cause : Cause) → r.end.stop ≡ Some cause → IsLast cause
     last cause is = subst (StopIs IsLast) is (all_stop_so s.hello s.mark s.calls)
@@ -110,7 +111,7 @@ received_whole {T = T} c s spoken is_ended flight l all comes opened = by_stop (
     by_cause Own is = absurd (last Own is)
     by_cause Eos is =
         let told = fair Eos is in
-        told.1 ∙ ap messages_in (sym (whole_all (length (arrived s.calls)) spoken (end_came c s spoken is_ended flight all comes is told.0)))
+        told.1 ∙ ap messages_in (sym (whole_all (length (arrived s.calls)) spoken (end_came s spoken is_ended flight all comes is told.0)))
     by_cause Ended is =
         let ends : list_any is_ending s.calls ≡ true = (all_by_calls s.hello s.mark s.calls).ended (inl is) in
         let lasting = l.lasting in
@@ -121,7 +122,7 @@ received_whole {T = T} c s spoken is_ended flight l all comes opened = by_stop (
     by_cause (Stream fault) is = absurd (fair (Stream fault) is)
 
     by_stop : (stop : Option Cause) → r.end.stop ≡ stop → received r ≡ messages_in (whole_in (length (arrived s.calls)) spoken)
-    by_stop None is = (receiving.all_in_order c s.hello s.mark s.calls spoken is_ended all (flight, comes)).whole (ap (λ flag. flag || is_some r.end.stop) opened ∙ ap is_some is)
+    by_stop None is = (receiving.all_in_order s.hello s.mark s.calls spoken is_ended all (flight, comes)).whole (ap (λ flag. flag || is_some r.end.stop) opened ∙ ap is_some is)
     by_stop (Some cause) is = by_cause cause is
 
 -- ---- What is under way
@@ -149,9 +150,9 @@ pub record Way {T U : Type 0} (is_marked : Bool) (s : Side T) (other : Side U) (
   pub spoken_is : hears.spoken ≡ spoken
   pub left_formed : AreSpoken hears.under_way
 
-pub way : {T U : Type 0} → (c : Cited) (is_marked : Bool) (s : Side T) (other : Side U) (flight : List Marked) → IsLasting s → (m : IsLasting other) → Carries is_marked s other flight
-    → is_closed (run_of s).end.state ≡ false → Way is_marked s other (said_as is_marked (readable c other m).spoken)
-way {T = T} {U = U} c is_marked s other flight l m h opened = record {
+pub way : {T U : Type 0} → (is_marked : Bool) (s : Side T) (other : Side U) (flight : List Marked) → IsLasting s → (m : IsLasting other) → Carries is_marked s other flight
+    → is_closed (run_of s).end.state ≡ false → Way is_marked s other (said_as is_marked (readable other m).spoken)
+way {T = T} {U = U} is_marked s other flight l m h opened = record {
   hears = record {
     spoken = comes;
     is_ended = q.is_ended;
@@ -159,7 +160,7 @@ way {T = T} {U = U} c is_marked s other flight l m h opened = record {
     queued = ap (as_comes is_marked) q.queue ∙ queue_as is_marked q.spoken q.is_ended;
     under_way = rest.under_way;
     order = rest.order;
-    came = received_whole c s comes q.is_ended flight l all_formed behind opened;
+    came = received_whole s comes q.is_ended flight l all_formed behind opened;
     told = in_order.told;
   };
   spoken_is = refl;
@@ -170,7 +171,7 @@ way {T = T} {U = U} c is_marked s other flight l m h opened = record {
     r = run_of s
 
     q : CanBeRead (run_of other)
-    q = readable c other m
+    q = readable other m
 
     comes : List Spoken
     comes = said_as is_marked q.spoken
@@ -182,7 +183,7 @@ way {T = T} {U = U} c is_marked s other flight l m h opened = record {
     behind = comes_behind is_marked s other flight q.spoken q.is_ended h q.queue opened
 
     in_order : ReceivesInOrder comes q.is_ended (arrived s.calls) r
-    in_order = receiving.all_in_order c s.hello s.mark s.calls comes q.is_ended all_formed (flight, behind)
+    in_order = receiving.all_in_order s.hello s.mark s.calls comes q.is_ended all_formed (flight, behind)
 
     rest : Left (flat_map incoming_of r.past.taken) (entering comes)
-    rest = left (flat_map incoming_of r.past.taken) (entering comes) (entering_formed comes all_formed) (taken_front c s comes q.is_ended all_formed (flight, behind))
+    rest = left (flat_map incoming_of r.past.taken) (entering comes) (entering_formed comes all_formed) (taken_front s comes q.is_ended all_formed (flight, behind))

@@ -5,7 +5,7 @@ use Rattle.std.specs.List.{filter, flat_map}
 use Rattle.std.proofs.lemmas.Bool.{or_left}
 use Rattle.std.proofs.lemmas.Slice.Eq.{bytes_eq-Decides}
 use Rattle.tcf_message.specs.Message.{MessageValue, command, event, final, flow, not_known, progress, spelling, IsWellFormed}
-use Rattle.channel_core.specs.Arrivals.{AreSpoken, Spoken, queue_of}
+use Rattle.channel_core.specs.Arrivals.{AreSpoken, Spoken, queue_of, all_heard}
 use Rattle.channel_core.specs.Beginning.{new_end}
 use Rattle.channel_core.specs.QueueLaws.{is_plain, sent_in}
 use Rattle.channel_core.specs.ReceivingLaws.{CanBeRead, incoming_of}
@@ -15,13 +15,12 @@ use Rattle.channel_core.specs.declared.held.Outgoing.{Outgoing}
 use Rattle.channel_core.specs.declared.states.EndState.{EndState}
 use Rattle.channel_core.specs.declared.states.EndState.TheVariants.{Opening}
 use Rattle.channel_core.specs.declared.taking.Taken.{Taken}
-use Rattle.channel_core.proofs.Feeding.{Cited}
 use Rattle.channel_core.proofs.Sent.{all_what_is_sent}
-use Rattle.channel_laws.specs.Meeting.{IsLasting, Side, all_heard, hello_behind, run_of}
+use Rattle.channel_laws.specs.Meeting.{IsLasting, Side, hello_behind, run_of}
 use Rattle.channel_laws.specs.Rest.{StandsAs, hello_among, is_hello}
+use Rattle.tcf_message.proofs.TheLaws.{read_back}
 use Rattle.channel_laws.proofs.Rest.AllCalls.{all_stand}
 use Rattle.channel_laws.proofs.Rest.Answering.{hello_heard}
-use Rattle.channel_laws.proofs.Rest.Levels.{Frames}
 use Rattle.channel_laws.proofs.Rest.Meeting.{entering, entering_formed, readable, said_as}
 use Rattle.channel_laws.proofs.Rest.Spelling.{framed_one}
 use Rattle.channel_laws.proofs.Hop.Coming.{Way}
@@ -35,27 +34,27 @@ hello_greets m body is =
     ∙ ap (λ b. is_hello (event_said b)) (and_true (bytes_eq locator locator) (bytes_eq hello_word hello_word) ((bytes_eq-Decides locator locator).1 refl) ((bytes_eq-Decides hello_word hello_word).1 refl))
 
 -- a message that is said as a Hello is one
-says_hello : Frames → (m : MessageValue) (mark other : Option ℕ) (body : List ℕ) → IsWellFormed m → IsWellFormed (event locator hello_word body) → said m mark ≡ said (event locator hello_word body) other
+says_hello : (m : MessageValue) (mark other : Option ℕ) (body : List ℕ) → IsWellFormed m → IsWellFormed (event locator hello_word body) → said m mark ≡ said (event locator hello_word body) other
     → is_hello (said_by m) ≡ true
-says_hello f m mark other body formed greeting is =
+says_hello m mark other body formed greeting is =
     let spelled : spelling m ≡ spelling (event locator hello_word body) = framed_one (spelling m) (spelling (event locator hello_word body)) (ap (λ (o : Outgoing). o.bytes) is) in
-    let first = f.read.1 m formed in
-    let second = f.read.1 (event locator hello_word body) greeting in
+    let first = read_back.1 m formed in
+    let second = read_back.1 (event locator hello_word body) greeting in
     let same : m ≡ event locator hello_word body = cc in
     hello_greets m body same
 
 -- the first plain message of a queue
-first_plain : Frames → (spoken : List Spoken) (is_ended : Bool) → AreSpoken spoken → (body : List ℕ) (mark : Option ℕ) (rest : List Outgoing) → IsWellFormed (event locator hello_word body)
+first_plain : (spoken : List Spoken) (is_ended : Bool) → AreSpoken spoken → (body : List ℕ) (mark : Option ℕ) (rest : List Outgoing) → IsWellFormed (event locator hello_word body)
     → filter is_plain (queue_of spoken is_ended) ≡ said (event locator hello_word body) mark ∷ rest → hello_behind spoken ≡ true
-first_plain f [] true all body mark rest greeting is = absurd cc
-first_plain f [] false all body mark rest greeting is = absurd cc
-first_plain f (s ∷ spoken) is_ended all body mark rest greeting is = by_message s.message s.mark all.0 is (λ later. first_plain f spoken is_ended all.1 body mark rest greeting later)
+first_plain [] true all body mark rest greeting is = absurd cc
+first_plain [] false all body mark rest greeting is = absurd cc
+first_plain (s ∷ spoken) is_ended all body mark rest greeting is = by_message s.message s.mark all.0 is (λ later. first_plain spoken is_ended all.1 body mark rest greeting later)
   where
     hello : Outgoing
     hello = said (event locator hello_word body) mark
 
     here : (m : MessageValue) (own : Option ℕ) → IsWellFormed m → said m own ∷ filter is_plain (queue_of spoken is_ended) ≡ hello ∷ rest → (is_hello (said_by m) || hello_behind spoken) ≡ true
-    here m own formed same = let one : said m own ≡ hello = cc in or_left (is_hello (said_by m)) (hello_behind spoken) (says_hello f m own mark body formed greeting one)
+    here m own formed same = let one : said m own ≡ hello = cc in or_left (is_hello (said_by m)) (hello_behind spoken) (says_hello m own mark body formed greeting one)
 
     by_message : (m : MessageValue) (own : Option ℕ) → IsWellFormed m → filter is_plain (queue_of (record { message = m; mark = own } ∷ spoken) is_ended) ≡ hello ∷ rest
         → (filter is_plain (queue_of spoken is_ended) ≡ hello ∷ rest → hello_behind spoken ≡ true) → hello_behind (record { message = m; mark = own } ∷ spoken) ≡ true
@@ -88,19 +87,19 @@ hello_entering (s ∷ spoken) = by_message s.message s.mark (hello_entering spok
 
 -- ---- It is under way
 
-pub hello_comes : {T U : Type 0} → (c : Cited) → Frames → (is_marked : Bool) (s : Side T) (other : Side U) (m : IsLasting other) → (down : Way is_marked s other (said_as is_marked (readable c other m).spoken))
+pub hello_comes : {T U : Type 0} → (is_marked : Bool) (s : Side T) (other : Side U) (m : IsLasting other) → (down : Way is_marked s other (said_as is_marked (readable other m).spoken))
     → (run_of s).end.state ≡ Opening → hello_behind down.hears.under_way ≡ true
-hello_comes {T = T} {U = U} c f is_marked s other m down opening =
-    sym (hello_heard f down.hears.under_way down.left_formed) ∙ ap hello_among (sym left) ∙ hello_heard f (entering down.hears.spoken) (entering_formed down.hears.spoken down.hears.formed)
+hello_comes {T = T} {U = U} is_marked s other m down opening =
+    sym (hello_heard down.hears.under_way down.left_formed) ∙ ap hello_among (sym left) ∙ hello_heard (entering down.hears.spoken) (entering_formed down.hears.spoken down.hears.formed)
     ∙ hello_entering down.hears.spoken ∙ ap hello_behind down.spoken_is ∙ hello_as is_marked q.spoken
-    ∙ first_plain f q.spoken q.is_ended q.well_formed other.hello other.mark (sent_in other.calls (new_end {T = U} other.hello other.mark)) m.formed
+    ∙ first_plain q.spoken q.is_ended q.well_formed other.hello other.mark (sent_in other.calls (new_end {T = U} other.hello other.mark)) m.formed
     (ap (filter is_plain) (sym q.queue) ∙ all_what_is_sent {T = U} other.hello other.mark other.calls)
   where
     r : Run T
     r = run_of s
 
     q : CanBeRead (run_of other)
-    q = readable c other m
+    q = readable other m
 
     none : r.past.taken ≡ []
     none = let P : EndState → Type 0 = λ state. StandsAs state r in subst P opening (all_stand s.hello s.mark s.calls)

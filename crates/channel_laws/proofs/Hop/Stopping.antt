@@ -3,7 +3,7 @@ use Rattle.std.proofs.Common.{◌≡◌, List, [], ◌∷◌, refl, sym, ap, sub
 use Rattle.channel_core.specs.Beginning.{new_end}
 use Rattle.channel_core.specs.Closing.{is_closed}
 use Rattle.channel_core.specs.RunLaws.{AfterAllCalls}
-use Rattle.channel_core.specs.Runs.{Call, Run, after_call, after_calls, begun, closing, commanding, delivering, draining, ending, putting_out, refusal_to, sending, taking}
+use Rattle.channel_core.specs.Runs.{Call, Run, after_call, after_calls, begun, closing, commanding, delivering, draining, ending, putting_out, sending, taking}
 use Rattle.channel_core.specs.declared.states.Cause.{Cause}
 use Rattle.channel_core.specs.declared.states.Cause.TheVariants.{Ended, Eos, Own, Protocol, Stream}
 use Rattle.channel_core.specs.declared.states.Reason.TheVariants.{Early, Grammar, Token}
@@ -12,6 +12,7 @@ use Rattle.channel_core.proofs.Faces.{Change, breaks, closed_change, closes, end
 use Rattle.channel_core.proofs.Keeping.{IsTidy}
 use Rattle.channel_core.proofs.Tidy.{tidy_called, tidy_open}
 use Rattle.channel_laws.proofs.Faults.Following.{AreFine, StopIs, alike, command_came, either, piece_came}
+use Rattle.channel_core.specs.Sending.{refusal_to}
 
 -- the causes of a last entry
 abbrev pub IsLast : Cause → Type 0

@@ -7,19 +7,17 @@ use Rattle.std.proofs.lemmas.List.Elements.{Contains-append_cases}
 use Rattle.std.proofs.lemmas.List.Folds.{list_any-append}
 use Rattle.std.proofs.lemmas.Slice.Eq.{bytes_eq-Decides}
 use Rattle.tcf_message.specs.Message.{MessageValue, command, event, final, flow, not_known, progress, reading}
-use Rattle.channel_core.specs.Arrivals.{AreSpoken, Spoken, messages_in}
+use Rattle.channel_core.specs.Arrivals.{AreSpoken, Spoken, messages_in, all_heard}
 use Rattle.channel_core.specs.ReceivingLaws.{incoming_of}
 use Rattle.channel_core.specs.RunLaws.{is_answered, sent_of, token_in}
 use Rattle.channel_core.specs.Runs.{Issued}
 use Rattle.channel_core.specs.Wire.{said_by, said_in}
 use Rattle.channel_core.specs.declared.held.Incoming.{Incoming}
-use Rattle.channel_core.proofs.Feeding.{Cited}
-use Rattle.channel_laws.specs.Meeting.{IsLasting, Side, all_heard, answers_among, run_of}
+use Rattle.channel_laws.specs.Meeting.{IsLasting, Side, answers_among, run_of}
 use Rattle.channel_laws.specs.Numbering.{token_asked, tokens_among}
 use Rattle.channel_laws.specs.Rest.{answered_among}
 use Rattle.channel_laws.proofs.Rest.Answering.{answered_heard}
 use Rattle.channel_laws.proofs.Rest.AsSaid.{all_tell}
-use Rattle.channel_laws.proofs.Rest.Levels.{Frames}
 use Rattle.channel_laws.proofs.Rest.Meeting.{entering, entering_formed, readable, said_as}
 use Rattle.channel_laws.proofs.Rest.Numbering.{tokens_of, tokens_sent}
 use Rattle.channel_laws.specs.Hop.{Hears, IsSomewhere, falls, rises, waits}
@@ -72,21 +70,21 @@ answers_entering token (s ∷ spoken) = by_message s.message s.mark (answers_ent
     by_message (flow level) mark rest = rest
 
 -- an answer is among what was taken, or under way
-answer_left : {T U : Type 0} → Frames → (is_marked : Bool) (s : Side T) (other : Side U) (h : Hears is_marked s other) → AreSpoken h.under_way → (n : ℕ)
+answer_left : {T U : Type 0} → (is_marked : Bool) (s : Side T) (other : Side U) (h : Hears is_marked s other) → AreSpoken h.under_way → (n : ℕ)
     → answers_among (decimal n) h.spoken ≡ (is_answered (run_of s).past.taken n || answers_among (decimal n) h.under_way)
-answer_left {T = T} f is_marked s other h formed n =
+answer_left {T = T} is_marked s other h formed n =
     let taken = flat_map incoming_of (run_of s).past.taken in
-    answers_entering (decimal n) h.spoken ∙ sym (answered_heard f (entering h.spoken) (entering_formed h.spoken h.formed) n) ∙ ap (λ ms. answered_among ms n) h.order
+    answers_entering (decimal n) h.spoken ∙ sym (answered_heard (entering h.spoken) (entering_formed h.spoken h.formed) n) ∙ ap (λ ms. answered_among ms n) h.order
     ∙ list_any-append (λ (m : Incoming). list_any (λ text. bytes_eq text (decimal n)) (token_in (said_in m.raw))) taken (all_heard h.under_way)
     ∙ ap (λ b. b || answered_among (all_heard h.under_way) n) (sym ((all_tell {T = T} s.hello s.mark s.calls).answered n))
-    ∙ ap (λ b. is_answered (run_of s).past.taken n || b) (answered_heard f h.under_way formed n)
+    ∙ ap (λ b. is_answered (run_of s).past.taken n || b) (answered_heard h.under_way formed n)
 
 -- ---- Where it is
 
-pub somewhere : {T U : Type 0} → (c : Cited) → Frames → (is_marked others_are : Bool) (s : Side T) (other : Side U) (spoken : List Spoken) (l : IsLasting s)
-    → (down : Way is_marked s other spoken) (up : Way others_are other s (said_as others_are (readable c s l).spoken)) → (i : Issued T) → Contains (sent_of (run_of s)) i
+pub somewhere : {T U : Type 0} → (is_marked others_are : Bool) (s : Side T) (other : Side U) (spoken : List Spoken) (l : IsLasting s)
+    → (down : Way is_marked s other spoken) (up : Way others_are other s (said_as others_are (readable s l).spoken)) → (i : Issued T) → Contains (sent_of (run_of s)) i
     → is_answered (run_of s).past.taken i.command.token ≡ false → IsSomewhere (decimal i.command.token) s other down.hears.spoken up.hears.under_way down.hears.under_way
-somewhere {T = T} {U = U} c f is_marked others_are s other spoken l down up i sent none = by_taken (among_or_not (tokens_among took) token)
+somewhere {T = T} {U = U} is_marked others_are s other spoken l down up i sent none = by_taken (among_or_not (tokens_among took) token)
   where
     token : List ℕ
     token = decimal i.command.token
@@ -100,14 +98,14 @@ somewhere {T = T} {U = U} c f is_marked others_are s other spoken l down up i se
     -- the commands that were sent are those that were taken, and those under way
     tokens : tokens_of (sent_of (run_of s)) ≡ tokens_among took ++ tokens_among (all_heard rising)
     tokens =
-        sym (tokens_sent f others_are s (readable c s l)) ∙ ap (λ xs. tokens_among (messages_in xs)) (sym up.spoken_is) ∙ ap tokens_among up.hears.order
+        sym (tokens_sent others_are s (readable s l)) ∙ ap (λ xs. tokens_among (messages_in xs)) (sym up.spoken_is) ∙ ap tokens_among up.hears.order
         ∙ flat_map-append (λ (m : Incoming). token_asked (reading m.raw)) took (all_heard rising)
 
     asked : Contains (tokens_among took) token ⊎ Contains (tokens_among (all_heard rising)) token
     asked = Contains-append_cases (tokens_among took) (tokens_among (all_heard rising)) token (subst (λ (ts : List (List ℕ)). Contains ts token) tokens (among_tokens (sent_of (run_of s)) i sent))
 
     answer : answers_among token down.hears.spoken ≡ answers_among token down.hears.under_way
-    answer = answer_left f is_marked s other down.hears down.left_formed i.command.token ∙ ap (λ b. b || answers_among token down.hears.under_way) none
+    answer = answer_left is_marked s other down.hears down.left_formed i.command.token ∙ ap (λ b. b || answers_among token down.hears.under_way) none
 
     by_answer : Contains (tokens_among took) token → (flag : Bool) → answers_among token down.hears.spoken ≡ flag → IsSomewhere token s other down.hears.spoken rising down.hears.under_way
     by_answer taken true is = falls taken is (sym answer ∙ is)

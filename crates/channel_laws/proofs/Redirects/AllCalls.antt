@@ -6,20 +6,17 @@ use Rattle.channel_core.specs.Closing.{is_closed}
 use Rattle.channel_core.specs.QueueLaws.{TakesNothingClosed}
 use Rattle.channel_core.specs.Receiving.{is_over}
 use Rattle.channel_core.specs.RunLaws.{AfterAllCalls, HoldsNoneWhereFree, sent_of}
-use Rattle.channel_core.specs.Runs.{Call, Run, after_call, after_calls, begun, closing, commanding, delivering, draining, ending, putting_out, refusal_to, sending, taking}
+use Rattle.channel_core.specs.Runs.{Call, Run, after_call, after_calls, begun, closing, commanding, delivering, draining, ending, putting_out, sending, taking}
 use Rattle.channel_core.specs.declared.states.Cause.TheVariants.{Own}
 use Rattle.channel_laws.specs.Redirects.{HoldsBehindRedirects}
+use Rattle.channel_core.proofs.TheLaws.{holds_none_where_free, takes_nothing_closed}
 use Rattle.channel_laws.proofs.Redirects.Holding.{HoldsBack, holds_commanded, holds_delivered, same, shut}
 use Rattle.channel_laws.proofs.Redirects.Standing.{HoldsBehind, stands_behind}
 use Rattle.channel_laws.proofs.Redirects.Taking.{holds_taken}
 use Rattle.list_laws.proofs.Lists.{take_front}
 use Rattle.channel_laws.proofs.Faults.Closed.{FromNowOn}
 use Rattle.channel_core.proofs.Keeping.{either_keeps as either}
-
--- the laws of the crate below
-pub record Laws (T : Type 0) : Type 0 where
-  pub holds_none : AfterAllCalls {T = T} HoldsNoneWhereFree
-  pub takes_none : AfterAllCalls {T = T} TakesNothingClosed
+use Rattle.channel_core.specs.Sending.{refusal_to}
 
 abbrev HoldsRun : {T : Type 0} → Run T → Type 0
 HoldsRun r = HoldsBack r.past.accepted r.past.taken r.end
@@ -56,8 +53,8 @@ sent_is r h =
 behind_redirects : {T : Type 0} → (r : Run T) → HoldsRun r → HoldsBehindRedirects r
 behind_redirects r h = subst (HoldsBehind r.past.taken) (sym (sent_is r h)) (stands_behind r.end.state r.end.redirect r.past.taken h.sent h.stands)
 
-pub all_hold_back : {T : Type 0} → Laws T → AfterAllCalls {T = T} HoldsBehindRedirects
-all_hold_back {T = T} laws hello mark calls =
+pub all_hold_back : {T : Type 0} → AfterAllCalls {T = T} HoldsBehindRedirects
+all_hold_back {T = T} hello mark calls =
     let first = begun (new_end {T = T} hello mark) in
     behind_redirects (after_calls calls first)
-    (holds calls first (laws.holds_none hello mark) (laws.takes_none hello mark) (record { sent = []; waiting = []; parts = refl; held = refl; stands = tt }))
+    (holds calls first (holds_none_where_free hello mark) (takes_nothing_closed hello mark) (record { sent = []; waiting = []; parts = refl; held = refl; stands = tt }))

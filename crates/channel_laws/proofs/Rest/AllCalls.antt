@@ -8,8 +8,8 @@ use Rattle.channel_core.specs.Beginning.{new_end}
 use Rattle.channel_core.specs.Closing.{is_closed}
 use Rattle.channel_core.specs.Receiving.{is_over}
 use Rattle.channel_core.specs.RunLaws.{AfterAllCalls, is_answered, row_of, sent_of}
-use Rattle.channel_core.specs.Runs.{Call, Issued, Run, after_call, after_calls, begun, closing, commanding, delivering, draining, ending, issued, putting_out, refusal_to, sending, taking}
-use Rattle.channel_core.specs.Sending.{last_token}
+use Rattle.channel_core.specs.Runs.{Call, Issued, Run, after_call, after_calls, begun, closing, commanding, delivering, draining, ending, issued, putting_out, sending, taking}
+use Rattle.channel_core.specs.Sending.{last_token, refusal_to}
 use Rattle.channel_core.specs.Taking.{next_taken}
 use Rattle.channel_core.specs.declared.states.Cause.TheVariants.{Own}
 use Rattle.channel_core.specs.declared.taking.Taken.{Taken}

@@ -7,7 +7,7 @@ use Rattle.std.proofs.lemmas.List.Folds.{list_any-append}
 use Rattle.std.proofs.lemmas.Slice.Eq.{bytes_eq-Decides}
 use Rattle.stream_escape.specs.Stream.{framed}
 use Rattle.tcf_message.specs.Message.{MessageValue, command, event, final, flow, not_known, progress, reading, spelling, HasNoZero, IsWellFormed, is_zero, ◌•◌}
-use Rattle.channel_core.specs.Arrivals.{AreSpoken, Spoken, queue_of}
+use Rattle.channel_core.specs.Arrivals.{AreSpoken, Spoken, queue_of, all_heard, all_said}
 use Rattle.channel_core.specs.ReceivingLaws.{CanBeRead, incoming_of}
 use Rattle.channel_core.specs.RunLaws.{is_answered, is_command, sent_of, token_in}
 use Rattle.channel_core.specs.Runs.{Issued, Run}
@@ -16,12 +16,11 @@ use Rattle.channel_core.specs.declared.held.Incoming.{Incoming}
 use Rattle.channel_core.specs.declared.held.Outgoing.{Outgoing}
 use Rattle.channel_core.specs.declared.states.EndState.TheVariants.{Live}
 use Rattle.channel_core.specs.declared.taking.Taken.{Taken}
-use Rattle.channel_core.proofs.Feeding.{Cited}
 use Rattle.channel_core.proofs.Running.{all_sent_in_order}
-use Rattle.channel_laws.specs.Meeting.{AtRest, IsAnsweredBy, RestTogether, WhereAllIsAnswered, all_heard, all_said, answers_among, does_one, hello_behind, lacks_hello_behind, redirect_in, redirects_among, run_of}
+use Rattle.channel_laws.specs.Meeting.{AtRest, IsAnsweredBy, RestTogether, WhereAllIsAnswered, answers_among, does_one, hello_behind, lacks_hello_behind, redirect_in, redirects_among, run_of}
 use Rattle.channel_laws.specs.Rest.{AreAnswered, IsMade, TellsAsMessages, answered_among, hello_among, is_done_for, is_hello, lacks_answer, lacks_hello, lacks_hello_among}
+use Rattle.tcf_message.proofs.TheLaws.{decimal_token, read_back}
 use Rattle.channel_laws.proofs.Rest.AsSaid.{all_tell}
-use Rattle.channel_laws.proofs.Rest.Levels.{Frames}
 use Rattle.channel_laws.proofs.Rest.Making.{sent_made}
 use Rattle.channel_laws.proofs.Rest.Meeting.{all_rest_together, entering, entering_formed, formed_as, queued_said, readable, said_as}
 use Rattle.channel_laws.proofs.Rest.Spelling.{field_one, framed_one}
@@ -33,11 +32,7 @@ spelled n service name body = spelling (command (decimal n) service name body)
 
 abbrev pub is_asking : MessageValue → Bool
 is_asking (command token service name body) = true
-is_asking (final token body) = false
-is_asking (progress token body) = false
-is_asking (not_known token) = false
-is_asking (event service name body) = false
-is_asking (flow level) = false
+is_asking _ = false
 
 -- the message is the command, and a redirect where that is one
 pub record IsAlike {T : Type 0} (m : MessageValue) (i : Issued T) : Type 0 where
@@ -64,11 +59,11 @@ redirect_one service name body other last rest first second redirects is =
     let two = field_one last name rest body second (ap (list_any is_zero) name_is ∙ names_have_none.1) one.1 in
     ap (λ x. is_redirect x last) one.0 ∙ ap (is_redirect service) two.0 ∙ redirects
 
-alike_command : {T : Type 0} → Frames → (token other last rest : List ℕ) (i : Issued T) → (made : IsMade i) → IsWellFormed (command token other last rest)
+alike_command : {T : Type 0} → (token other last rest : List ℕ) (i : Issued T) → (made : IsMade i) → IsWellFormed (command token other last rest)
     → spelling (command token other last rest) ≡ spelled i.command.token made.service made.name made.body → IsAlike (command token other last rest) i
-alike_command {T = T} c token other last rest i made formed is =
+alike_command {T = T} token other last rest i made formed is =
     let fits = made.fits in
-    let digits = c.token i.command.token (omega arith) in
+    let digits = decimal_token i.command.token (omega arith) in
     let fields : token • other • last • rest ≡ decimal i.command.token • made.service • made.name • made.body = cc in
     let one = field_one token (decimal i.command.token) (other • last • rest) (made.service • made.name • made.body) formed.0.0.0 digits.0 fields in
     record {
@@ -79,19 +74,19 @@ alike_command {T = T} c token other last rest i made formed is =
       redirects = λ redirects. redirect_one made.service made.name made.body other last rest formed.0.1 formed.0.2 (sym (ap (λ h. h.is_redirect) made.is) ∙ redirects) one.1;
     }
 
-alike_one : {T : Type 0} → Frames → (m : MessageValue) (i : Issued T) → (made : IsMade i) → IsWellFormed m → is_asking m ≡ true → spelling m ≡ spelled i.command.token made.service made.name made.body → IsAlike m i
-alike_one c (command token service name body) i made formed asking is = alike_command c token service name body i made formed is
-alike_one c (final token body) i made formed asking is = absurd cc
-alike_one c (progress token body) i made formed asking is = absurd cc
-alike_one c (not_known token) i made formed asking is = absurd cc
-alike_one c (event service name body) i made formed asking is = absurd cc
-alike_one c (flow level) i made formed asking is = absurd cc
+alike_one : {T : Type 0} → (m : MessageValue) (i : Issued T) → (made : IsMade i) → IsWellFormed m → is_asking m ≡ true → spelling m ≡ spelled i.command.token made.service made.name made.body → IsAlike m i
+alike_one (command token service name body) i made formed asking is = alike_command token service name body i made formed is
+alike_one (final token body) i made formed asking is = absurd cc
+alike_one (progress token body) i made formed asking is = absurd cc
+alike_one (not_known token) i made formed asking is = absurd cc
+alike_one (event service name body) i made formed asking is = absurd cc
+alike_one (flow level) i made formed asking is = absurd cc
 
-alike_said : {T : Type 0} → Frames → (x : Spoken) (i : Issued T) → IsMade i → IsWellFormed x.message → is_asking x.message ≡ true → said x.message x.mark ≡ i.command.outgoing → IsAlike x.message i
-alike_said c x i made formed asking is =
+alike_said : {T : Type 0} → (x : Spoken) (i : Issued T) → IsMade i → IsWellFormed x.message → is_asking x.message ≡ true → said x.message x.mark ≡ i.command.outgoing → IsAlike x.message i
+alike_said x i made formed asking is =
     let fits = made.fits in
     let bytes : framed (spelling x.message) ≡ framed (spelled i.command.token made.service made.name made.body) = ap (λ (o : Outgoing). o.bytes) (is ∙ ap (λ h. h.outgoing) made.is) in
-    alike_one c x.message i made formed asking
+    alike_one x.message i made formed asking
     (framed_one (spelling x.message) (spelled i.command.token made.service made.name made.body) bytes)
 
 -- ---- The commands of a queue
@@ -131,14 +126,14 @@ AreAlike [] (i ∷ sent) = ⊥
 AreAlike (x ∷ xs) [] = ⊥
 AreAlike (x ∷ xs) (i ∷ sent) = IsAlike x.message i × AreAlike xs sent
 
-pub are_alike : {T : Type 0} → Frames → (xs : List Spoken) (sent : List (Issued T)) → AreAsking xs → AllByRecursion IsMade sent → all_said xs ≡ map (λ i. i.command.outgoing) sent → AreAlike xs sent
-are_alike c [] [] each made is = tt
-are_alike c [] (i ∷ sent) each made is = absurd cc
-are_alike c (x ∷ xs) [] each made is = absurd cc
-are_alike {T = T} c (x ∷ xs) (i ∷ sent) each made is =
+pub are_alike : {T : Type 0} → (xs : List Spoken) (sent : List (Issued T)) → AreAsking xs → AllByRecursion IsMade sent → all_said xs ≡ map (λ i. i.command.outgoing) sent → AreAlike xs sent
+are_alike [] [] each made is = tt
+are_alike [] (i ∷ sent) each made is = absurd cc
+are_alike (x ∷ xs) [] each made is = absurd cc
+are_alike {T = T} (x ∷ xs) (i ∷ sent) each made is =
     let one : said x.message x.mark ≡ i.command.outgoing = cc in
     let rest : all_said xs ≡ map (λ (y : Issued T). y.command.outgoing) sent = cc in
-    (alike_said c x i made.0 each.0.0 each.0.1 one, are_alike c xs sent each.1 made.1 rest)
+    (alike_said x i made.0 each.0.0 each.0.1 one, are_alike xs sent each.1 made.1 rest)
 
 -- ---- What the other one took of them
 
@@ -149,14 +144,14 @@ Took answers_are xs = AllByRecursion (λ m. IsAnsweredBy answers_are (reading m.
 abbrev Asks : List Spoken → List Spoken → Type 0
 Asks answers_are xs = AllByRecursion (λ x. IsAnsweredBy answers_are (Ok x.message)) xs
 
-asked_first : (f : Frames) (answers_are : List Spoken) (spoken : List Spoken) → AreSpoken spoken → Took answers_are (entering spoken) → Asks answers_are (asking spoken)
-asked_first f answers_are [] all each = tt
-asked_first f answers_are (s ∷ spoken) all each = by_message s.message s.mark all.0 each (λ rest. asked_first f answers_are spoken all.1 rest)
+asked_first : (answers_are : List Spoken) (spoken : List Spoken) → AreSpoken spoken → Took answers_are (entering spoken) → Asks answers_are (asking spoken)
+asked_first answers_are [] all each = tt
+asked_first answers_are (s ∷ spoken) all each = by_message s.message s.mark all.0 each (λ rest. asked_first answers_are spoken all.1 rest)
   where
     by_message : (m : MessageValue) (mark : Option ℕ) → IsWellFormed m → Took answers_are (entering (record { message = m; mark = mark } ∷ spoken)) → (Took answers_are (entering spoken) → Asks answers_are (asking spoken))
         → Asks answers_are (asking (record { message = m; mark = mark } ∷ spoken))
     by_message (command token service name body) mark formed each rest =
-        (subst (IsAnsweredBy answers_are) (f.read.1 (command token service name body) formed) each.0, rest each.1)
+        (subst (IsAnsweredBy answers_are) (read_back.1 (command token service name body) formed) each.0, rest each.1)
     by_message (final token body) mark formed each rest = rest each.1
     by_message (progress token body) mark formed each rest = rest each.1
     by_message (not_known token) mark formed each rest = rest each.1
@@ -184,19 +179,19 @@ answered_each answers_are (x ∷ xs) (i ∷ sent) alike each =
 
 -- ---- What was heard of the other one
 
-said_heard : Frames → (m : MessageValue) → IsWellFormed m → said_in (spelling m) ≡ said_by m
-said_heard f m formed = ap said_of (f.read.1 m formed)
+said_heard : (m : MessageValue) → IsWellFormed m → said_in (spelling m) ≡ said_by m
+said_heard m formed = ap said_of (read_back.1 m formed)
 
-pub answered_heard : Frames → (spoken : List Spoken) → AreSpoken spoken → (n : ℕ) → answered_among (all_heard spoken) n ≡ answers_among (decimal n) spoken
-answered_heard f [] all n = refl
-answered_heard f (s ∷ spoken) all n =
-    ap (λ m. list_any (λ text. bytes_eq text (decimal n)) (token_in m) || answered_among (all_heard spoken) n) (said_heard f s.message all.0)
-    ∙ ap (λ b. list_any (λ text. bytes_eq text (decimal n)) (token_in (said_by s.message)) || b) (answered_heard f spoken all.1 n)
+pub answered_heard : (spoken : List Spoken) → AreSpoken spoken → (n : ℕ) → answered_among (all_heard spoken) n ≡ answers_among (decimal n) spoken
+answered_heard [] all n = refl
+answered_heard (s ∷ spoken) all n =
+    ap (λ m. list_any (λ text. bytes_eq text (decimal n)) (token_in m) || answered_among (all_heard spoken) n) (said_heard s.message all.0)
+    ∙ ap (λ b. list_any (λ text. bytes_eq text (decimal n)) (token_in (said_by s.message)) || b) (answered_heard spoken all.1 n)
 
-pub hello_heard : Frames → (spoken : List Spoken) → AreSpoken spoken → hello_among (all_heard spoken) ≡ hello_behind spoken
-hello_heard f [] all = refl
-hello_heard f (s ∷ spoken) all =
-    ap (λ m. is_hello m || hello_among (all_heard spoken)) (said_heard f s.message all.0) ∙ ap (λ b. is_hello (said_by s.message) || b) (hello_heard f spoken all.1)
+pub hello_heard : (spoken : List Spoken) → AreSpoken spoken → hello_among (all_heard spoken) ≡ hello_behind spoken
+hello_heard [] all = refl
+hello_heard (s ∷ spoken) all =
+    ap (λ m. is_hello m || hello_among (all_heard spoken)) (said_heard s.message all.0) ∙ ap (λ b. is_hello (said_by s.message) || b) (hello_heard spoken all.1)
 
 and_less : (a b h : Bool) → (b && not h) ≡ false → (a ≡ true → b ≡ true) → (a && not h) ≡ false
 and_less true b h none more = sym (ap (λ x. x && not h) (more refl)) ∙ none
@@ -218,29 +213,29 @@ does_too commands tokens covered (goes_on token) is = absurd cc
 does_too {T = T} commands tokens covered (answers token done) is =
     both_true done (list_any (λ (i : Issued T). i.command.is_redirect && bytes_eq token (decimal i.command.token)) commands) (list_any (λ text. bytes_eq token text) tokens) is (covered token)
 
-lacks_heard : {T : Type 0} → Frames → (commands : List (Issued T)) (tokens : List (List ℕ)) → AreCovered commands tokens → (spoken : List Spoken) → AreSpoken spoken → lacks_hello_behind tokens spoken ≡ false
+lacks_heard : {T : Type 0} → (commands : List (Issued T)) (tokens : List (List ℕ)) → AreCovered commands tokens → (spoken : List Spoken) → AreSpoken spoken → lacks_hello_behind tokens spoken ≡ false
     → lacks_hello_among commands (all_heard spoken) ≡ false
-lacks_heard f commands tokens covered [] all none = refl
-lacks_heard f commands tokens covered (s ∷ spoken) all none =
+lacks_heard commands tokens covered [] all none = refl
+lacks_heard commands tokens covered (s ∷ spoken) all none =
     let parts = or_parts (does_one tokens (said_by s.message) && not (hello_behind spoken)) (lacks_hello_behind tokens spoken) none in
     let first : (is_done_for commands (said_by s.message) && not (hello_behind spoken)) ≡ false =
     and_less (is_done_for commands (said_by s.message)) (does_one tokens (said_by s.message)) (hello_behind spoken) parts.0 (does_too commands tokens covered (said_by s.message)) in
-    ap (λ m. (is_done_for commands m && not (hello_among (all_heard spoken))) || lacks_hello_among commands (all_heard spoken)) (said_heard f s.message all.0)
-    ∙ ap (λ b. (is_done_for commands (said_by s.message) && not b) || lacks_hello_among commands (all_heard spoken)) (hello_heard f spoken all.1)
+    ap (λ m. (is_done_for commands m && not (hello_among (all_heard spoken))) || lacks_hello_among commands (all_heard spoken)) (said_heard s.message all.0)
+    ∙ ap (λ b. (is_done_for commands (said_by s.message) && not b) || lacks_hello_among commands (all_heard spoken)) (hello_heard spoken all.1)
     ∙ ap (λ b. b || lacks_hello_among commands (all_heard spoken)) first
-    ∙ lacks_heard f commands tokens covered spoken all.1 parts.1
+    ∙ lacks_heard commands tokens covered spoken all.1 parts.1
 
 -- ---- The redirects that the other one took
 
 abbrev redirects_of : List Spoken → List (List ℕ)
 redirects_of xs = flat_map (λ x. redirect_in (Ok x.message)) xs
 
-took_redirects : Frames → (spoken : List Spoken) → AreSpoken spoken → redirects_among (all_heard (entering spoken)) ≡ redirects_of (asking spoken)
-took_redirects f [] all = refl
-took_redirects f (s ∷ spoken) all = by_message s.message s.mark all.0 (took_redirects f spoken all.1)
+took_redirects : (spoken : List Spoken) → AreSpoken spoken → redirects_among (all_heard (entering spoken)) ≡ redirects_of (asking spoken)
+took_redirects [] all = refl
+took_redirects (s ∷ spoken) all = by_message s.message s.mark all.0 (took_redirects spoken all.1)
   where
     read : (m : MessageValue) → IsWellFormed m → redirect_in (reading (spelling m)) ++ redirects_among (all_heard (entering spoken)) ≡ redirect_in (Ok m) ++ redirects_among (all_heard (entering spoken))
-    read m formed = ap (λ r. redirect_in r ++ redirects_among (all_heard (entering spoken))) (f.read.1 m formed)
+    read m formed = ap (λ r. redirect_in r ++ redirects_among (all_heard (entering spoken))) (read_back.1 m formed)
 
     by_message : (m : MessageValue) (mark : Option ℕ) → IsWellFormed m → redirects_among (all_heard (entering spoken)) ≡ redirects_of (asking spoken)
         → redirects_among (all_heard (entering (record { message = m; mark = mark } ∷ spoken))) ≡ redirects_of (asking (record { message = m; mark = mark } ∷ spoken))
@@ -307,8 +302,8 @@ all_answered : {T : Type 0} → (r : Run T) (spoken : List Spoken) (sent : List 
 all_answered r spoken [] same each = tt
 all_answered r spoken (i ∷ sent) same each = (same i.command.token ∙ each.0, all_answered r spoken sent same each.1)
 
-pub all_free : {T U : Type 0} → Cited → Frames → WhereAllIsAnswered T U
-all_free {T = T} {U = U} c f others_are s other l m h g spoken a opened = record {
+pub all_free : {T U : Type 0} → WhereAllIsAnswered T U
+all_free {T = T} {U = U} others_are s other l m h g spoken a opened = record {
   live = live_is;
   held = rest.held live_is;
   pending = rest.pending live_is answered;
@@ -324,13 +319,13 @@ all_free {T = T} {U = U} c f others_are s other l m h g spoken a opened = record
     o = run_of other
 
     together : RestTogether true others_are s other
-    together = all_rest_together c f true others_are s other l m h g
+    together = all_rest_together true others_are s other l m h g
 
     rest : AtRest true s other
     rest = together.first opened
 
     q : CanBeRead r
-    q = readable c s l
+    q = readable s l
 
     heard : flat_map incoming_of r.past.taken ≡ all_heard spoken
     heard = rest.taken spoken a.formed a.queued
@@ -348,29 +343,29 @@ all_free {T = T} {U = U} c f others_are s other l m h g spoken a opened = record
     sends = sym (commands_said q.spoken q.is_ended) ∙ ap (filter is_command) (sym q.queue) ∙ (all_sent_in_order s.hello s.mark s.calls).are_sent
 
     alike : AreAlike (asking q.spoken) (sent_of r)
-    alike = are_alike f (asking q.spoken) (sent_of r) (are_asking q.spoken q.well_formed) (sent_made s.hello s.mark s.calls) sends
+    alike = are_alike (asking q.spoken) (sent_of r) (are_asking q.spoken q.well_formed) (sent_made s.hello s.mark s.calls) sends
 
     each : AllByRecursion (λ i. answers_among (decimal i.command.token) spoken ≡ true) (sent_of r)
     each =
         let P : List Incoming → Type 0 = λ ms. AllByRecursion (λ x. IsAnsweredBy spoken (reading x.raw)) ms in
-        answered_each spoken (asking q.spoken) (sent_of r) alike (asked_as spoken others_are q.spoken (asked_first f spoken comes all_formed (subst P took a.answered)))
+        answered_each spoken (asking q.spoken) (sent_of r) alike (asked_as spoken others_are q.spoken (asked_first spoken comes all_formed (subst P took a.answered)))
 
     tells_all : TellsAsMessages r
     tells_all = all_tell {T = T} s.hello s.mark s.calls
 
     answered : AreAnswered r.past.taken (sent_of r)
-    answered = all_answered r spoken (sent_of r) (λ n. tells_all.answered n ∙ ap (λ ms. answered_among ms n) heard ∙ answered_heard f spoken a.formed n) each
+    answered = all_answered r spoken (sent_of r) (λ n. tells_all.answered n ∙ ap (λ ms. answered_among ms n) heard ∙ answered_heard spoken a.formed n) each
 
     lacks : lacks_answer (sent_of r) r.past.taken ≡ false
     lacks = none_lacks r.past.taken (sent_of r) answered
 
     tokens : redirects_among (flat_map incoming_of o.past.taken) ≡ redirects_of (asking q.spoken)
-    tokens = ap redirects_among took ∙ took_redirects f comes all_formed ∙ redirects_as others_are q.spoken
+    tokens = ap redirects_among took ∙ took_redirects comes all_formed ∙ redirects_as others_are q.spoken
 
     lacks_too : lacks_hello (sent_of r) r.past.taken ≡ false
     lacks_too =
         tells_all.lacks (sent_of r) ∙ ap (lacks_hello_among (sent_of r)) heard
-        ∙ lacks_heard f (sent_of r) (redirects_of (asking q.spoken)) (covered_by (asking q.spoken) (sent_of r) alike) spoken a.formed (ap (λ ts. lacks_hello_behind ts spoken) (sym tokens) ∙ a.greeted)
+        ∙ lacks_heard (sent_of r) (redirects_of (asking q.spoken)) (covered_by (asking q.spoken) (sent_of r) alike) spoken a.formed (ap (λ ts. lacks_hello_behind ts spoken) (sym tokens) ∙ a.greeted)
 
     live_is : r.end.state ≡ Live
     live_is = rest.live lacks lacks_too

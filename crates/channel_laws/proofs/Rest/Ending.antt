@@ -12,19 +12,21 @@ use Rattle.channel_core.specs.EndValue.{EndValue}
 use Rattle.channel_core.specs.Receiving.{delivered, ended, is_over}
 use Rattle.channel_core.specs.ReceivingLaws.{WhereAQueueComes}
 use Rattle.channel_core.specs.RunLaws.{AfterAllCalls}
-use Rattle.channel_core.specs.Runs.{Call, Run, after_call, after_calls, begun, closing, commanding, delivering, draining, ending, putting_out, refusal_to, sending, taking}
+use Rattle.channel_core.specs.Runs.{Call, Run, after_call, after_calls, begun, closing, commanding, delivering, draining, ending, putting_out, sending, taking}
 use Rattle.channel_core.specs.declared.held.Incoming.{Incoming}
 use Rattle.channel_core.specs.declared.states.Cause.TheVariants.{Ended}
 use Rattle.channel_core.specs.declared.taking.Taken.{Taken}
 use Rattle.channel_core.proofs.Arriving.{delivered_end, delivered_over, delivered_whole}
 use Rattle.channel_core.proofs.Faces.{Change, breaks, closed_change, closes, ended_change, ends, Face, face, face_commanded, face_either, finishes, is_finished, over_is, stays, taken_change, takes}
-use Rattle.channel_core.proofs.Feeding.{Cited, FedTo, IsAt, at_first, fed_queue, to_end, within}
+use Rattle.channel_core.proofs.Feeding.{FedTo, IsAt, at_first, fed_queue, to_end, within}
 use Rattle.channel_core.proofs.Keeping.{IsTidy}
 use Rattle.channel_core.proofs.Running.{always}
 use Rattle.channel_core.proofs.Tidy.{tidy_called, tidy_open}
 use Rattle.channel_laws.specs.Faults.{is_ending}
 use Rattle.channel_laws.specs.Rest.{HearsTheEnd, IsOverAtItsEnd, StaysOver}
 use Rattle.channel_core.proofs.Received.{none_left}
+use Rattle.channel_core.specs.Sending.{refusal_to}
+use Rattle.stream_escape.proofs.TheLaws.{begins_between}
 
 -- the stream stands within the queue's next entry
 record IsWithin (is_ended : Bool) (more : List Marked) (f : Face) : Type 0 where
@@ -58,42 +60,42 @@ change_hears is_ended more taken after f g (finishes cause opened empty is taken
 
 -- ---- A piece
 
-fed_hears : {T : Type 0} → (c : Cited) (is_ended : Bool) (mark : Option ℕ) (piece : List ℕ) (more : List Marked) (e : EndValue T) → (g : IsWithin is_ended (marked piece mark ++ more) (face e))
+fed_hears : {T : Type 0} → (is_ended : Bool) (mark : Option ℕ) (piece : List ℕ) (more : List Marked) (e : EndValue T) → (g : IsWithin is_ended (marked piece mark ++ more) (face e))
     → FedTo g.later is_ended (length g.front + length piece) mark more (fed piece e.stream) → Hears is_ended more (face (delivered piece mark e))
-fed_hears c is_ended mark piece more e g (within whole later front split formed formed_later each items answer read at size) =
-    moved is_ended more _ (face (delivered piece mark e)) (delivered_whole c.read piece mark whole formed each e g.opened g.none items answer)
+fed_hears is_ended mark piece more e g (within whole later front split formed formed_later each items answer read at size) =
+    moved is_ended more _ (face (delivered piece mark e)) (delivered_whole piece mark whole formed each e g.opened g.none items answer)
     (going (record { later = later; front = front; formed = formed_later; at = at; read = read; none = g.none; opened = g.opened }))
-fed_hears c is_ended mark piece more e g (to_end is each items answer) =
-    moved is_ended more _ (face (delivered piece mark e)) (delivered_end c.read piece mark g.later g.formed each e g.opened g.none items answer)
+fed_hears is_ended mark piece more e g (to_end is each items answer) =
+    moved is_ended more _ (face (delivered piece mark e)) (delivered_end piece mark g.later g.formed each e g.opened g.none items answer)
     (over (or_right (is_some (face e).closed) true refl))
 
-piece_hears : {T : Type 0} → (c : Cited) (is_ended : Bool) (mark : Option ℕ) (piece : List ℕ) (more : List Marked) (e : EndValue T) → Hears is_ended (marked piece mark ++ more) (face e)
+piece_hears : {T : Type 0} → (is_ended : Bool) (mark : Option ℕ) (piece : List ℕ) (more : List Marked) (e : EndValue T) → Hears is_ended (marked piece mark ++ more) (face e)
     → Hears is_ended more (face (delivered piece mark e))
-piece_hears c is_ended mark piece more e (going g) = fed_hears c is_ended mark piece more e g (fed_queue c g.later is_ended mark more g.front piece e.stream g.formed g.read g.at)
-piece_hears c is_ended mark piece more e (over is) = moved is_ended more _ (face (delivered piece mark e)) (delivered_over piece mark e (over_is e ∙ is)) (over is)
+piece_hears is_ended mark piece more e (going g) = fed_hears is_ended mark piece more e g (fed_queue g.later is_ended mark more g.front piece e.stream g.formed g.read g.at)
+piece_hears is_ended mark piece more e (over is) = moved is_ended more _ (face (delivered piece mark e)) (delivered_over piece mark e (over_is e ∙ is)) (over is)
 
 -- ---- Every call
 
 abbrev HearsRun : {T : Type 0} → Bool → List Marked → Run T → Type 0
 HearsRun is_ended more r = Hears is_ended more (face r.end)
 
-hears_called : {T : Type 0} → (c : Cited) (is_ended : Bool) (call : Call T) (more : List Marked) (r : Run T) → IsTidy r.end → HearsRun is_ended (arrived_in call ++ more) r → HearsRun is_ended more (after_call call r)
-hears_called c is_ended (delivering piece mark) more r tidy h = piece_hears c is_ended mark piece more r.end h
-hears_called c is_ended ending more r tidy h = change_hears is_ended more r.past.taken r.past.taken (face r.end) _ (ended_change r.past.taken r.end) h
-hears_called c is_ended taking more r tidy h = change_hears is_ended more r.past.taken _ (face r.end) _ (taken_change r.past.taken r.end tidy) h
-hears_called c is_ended (commanding service name body tag mark) more r tidy h =
+hears_called : {T : Type 0} → (is_ended : Bool) (call : Call T) (more : List Marked) (r : Run T) → IsTidy r.end → HearsRun is_ended (arrived_in call ++ more) r → HearsRun is_ended more (after_call call r)
+hears_called is_ended (delivering piece mark) more r tidy h = piece_hears is_ended mark piece more r.end h
+hears_called is_ended ending more r tidy h = change_hears is_ended more r.past.taken r.past.taken (face r.end) _ (ended_change r.past.taken r.end) h
+hears_called is_ended taking more r tidy h = change_hears is_ended more r.past.taken _ (face r.end) _ (taken_change r.past.taken r.end tidy) h
+hears_called is_ended (commanding service name body tag mark) more r tidy h =
     moved is_ended more (face r.end) _ (face_commanded (refusal_to service name body r.end) service name body tag mark r.end refl) h
-hears_called c is_ended (sending message mark) more r tidy h = moved is_ended more (face r.end) _ (face_either (is_closed r.end.state) r.end _ (face r.end) refl refl) h
-hears_called c is_ended putting_out more r tidy h = moved is_ended more (face r.end) _ refl h
-hears_called c is_ended closing more r tidy h = change_hears is_ended more r.past.taken r.past.taken (face r.end) _ (closed_change r.past.taken r.end) h
-hears_called c is_ended draining more r tidy h = moved is_ended more (face r.end) _ (face_either (is_closed r.end.state) _ r.end (face r.end) refl refl) h
+hears_called is_ended (sending message mark) more r tidy h = moved is_ended more (face r.end) _ (face_either (is_closed r.end.state) r.end _ (face r.end) refl refl) h
+hears_called is_ended putting_out more r tidy h = moved is_ended more (face r.end) _ refl h
+hears_called is_ended closing more r tidy h = change_hears is_ended more r.past.taken r.past.taken (face r.end) _ (closed_change r.past.taken r.end) h
+hears_called is_ended draining more r tidy h = moved is_ended more (face r.end) _ (face_either (is_closed r.end.state) _ r.end (face r.end) refl refl) h
 
-hears_calls : {T : Type 0} → (c : Cited) (is_ended : Bool) (calls : List (Call T)) (more : List Marked) (r : Run T) → IsTidy r.end → HearsRun is_ended (arrived calls ++ more) r → HearsRun is_ended more (after_calls calls r)
-hears_calls c is_ended [] more r tidy h = h
-hears_calls {T = T} c is_ended (call ∷ calls) more r tidy h =
+hears_calls : {T : Type 0} → (is_ended : Bool) (calls : List (Call T)) (more : List Marked) (r : Run T) → IsTidy r.end → HearsRun is_ended (arrived calls ++ more) r → HearsRun is_ended more (after_calls calls r)
+hears_calls is_ended [] more r tidy h = h
+hears_calls {T = T} is_ended (call ∷ calls) more r tidy h =
     let Q : List Marked → Type 0 = λ bytes. HearsRun is_ended bytes r in
-    hears_calls c is_ended calls more (after_call call r) (tidy_called call r.end tidy)
-    (hears_called c is_ended call (arrived calls ++ more) r tidy (subst Q (append_assoc (arrived_in call) (arrived calls) more) h))
+    hears_calls is_ended calls more (after_call call r) (tidy_called call r.end tidy)
+    (hears_called is_ended call (arrived calls ++ more) r tidy (subst Q (append_assoc (arrived_in call) (arrived calls) more) h))
 
 -- ---- The law
 
@@ -106,8 +108,8 @@ heard : (is_ended : Bool) (f : Face) → is_ended ≡ true → Hears is_ended []
 heard is_ended f is (going g) = let P : Bool → Type 0 = λ b. IsAt g.front (queue_of g.later b) [] in absurd (never_within g.front g.later (subst P is g.at))
 heard is_ended f is (over finished) = finished
 
-pub all_hear : {T : Type 0} → Cited → WhereAQueueComes {T = T} HearsTheEnd
-all_hear {T = T} c body mark calls spoken is_ended all front ended complete =
+pub all_hear : {T : Type 0} → WhereAQueueComes {T = T} HearsTheEnd
+all_hear {T = T} body mark calls spoken is_ended all front ended complete =
     let first = begun (new_end {T = T} body mark) in
     let r = after_calls calls first in
     let more_is : front.0 ≡ [] = append_cancel_left (arrived calls) front.0 [] (sym front.1 ∙ sym complete ∙ sym (append-nil (arrived calls))) in
@@ -116,13 +118,13 @@ all_hear {T = T} c body mark calls spoken is_ended all front ended complete =
       front = [];
       formed = all;
       at = at_first spoken is_ended;
-      read = (c.between fresh).0 (record { ending = refl; fault = refl });
+      read = (begins_between fresh).0 (record { ending = refl; fault = refl });
       none = refl;
       opened = refl;
     }) in
     let Q : List Marked → Type 0 = λ bytes. HearsRun is_ended bytes first in
     let P : List Marked → Type 0 = λ bytes. HearsRun is_ended bytes r in
-    let now = hears_calls c is_ended calls front.0 first (tidy_open (new_end body mark) refl) (subst Q front.1 starts) in
+    let now = hears_calls is_ended calls front.0 first (tidy_open (new_end body mark) refl) (subst Q front.1 starts) in
     over_is r.end ∙ heard is_ended (face r.end) ended (subst P more_is now)
 
 -- ---- What is over stays so

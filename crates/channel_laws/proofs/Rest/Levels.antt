@@ -3,7 +3,6 @@ use Rattle.std.proofs.Common.{◌≡◌, ℕ, ◌+◌, ◌<◌, ◌≤◌, ◌==
 use Rattle.std.specs.Prelude.{ℤ, pos, int_lt}
 use Rattle.std.specs.List.{filter, last_or}
 use Rattle.stream_escape.specs.Stream.{framed}
-use Rattle.tcf_message.specs.Fault.{IsDecimalToken, IsReadBack}
 use Rattle.tcf_message.specs.Message.{MessageValue, command, event, final, flow, not_known, progress, spelling, IsWellFormed}
 use Rattle.channel_core.specs.Arrivals.{AreSpoken, Spoken, level_after, level_by, queue_of}
 use Rattle.channel_core.specs.Beginning.{new_end}
@@ -12,8 +11,8 @@ use Rattle.channel_core.specs.EndValue.{EndValue}
 use Rattle.channel_core.specs.Holding.{is_free, sent_out}
 use Rattle.channel_core.specs.Level.{is_due, leveled, level_of}
 use Rattle.channel_core.specs.RunLaws.{AfterAllCalls, IsFilled, first_byte, is_flow}
-use Rattle.channel_core.specs.Runs.{Call, Run, after_call, after_calls, begun, closing, commanding, delivering, draining, ending, message_of, putting_out, refusal_to, sending, taking, unless_refused}
-use Rattle.channel_core.specs.Sending.{commanded, made, sent_or_held}
+use Rattle.channel_core.specs.Runs.{Call, Run, after_call, after_calls, begun, closing, commanding, delivering, draining, ending, message_of, putting_out, sending, taking, unless_refused}
+use Rattle.channel_core.specs.Sending.{commanded, made, sent_or_held, refusal_to}
 use Rattle.channel_core.specs.Taking.{redirected, state_greeted}
 use Rattle.channel_core.specs.Wire.{said}
 use Rattle.channel_core.specs.declared.held.Held.{Held}
@@ -24,6 +23,7 @@ use Rattle.channel_core.proofs.Commands.{AreCommands, commands_push, farewell_no
 use Rattle.channel_core.proofs.Keeping.{Keeps, KeepsAny, KeepsOut, IsTidy, closed_keeps, delivered_keeps, either_keeps, ended_keeps, greeted_open, released_keeps, taken_keeps}
 use Rattle.channel_core.proofs.Running.{Stands, always, stands_after, stands_at_first}
 use Rattle.channel_laws.specs.Rest.{LetsCommandsOut}
+use Rattle.tcf_message.proofs.TheLaws.{read_back}
 use Rattle.channel_laws.proofs.Rest.Spelling.{framed_one}
 use Rattle.list_laws.proofs.Lists.{last_push}
 use Rattle.channel_core.proofs.Levels.{command_none}
@@ -166,36 +166,31 @@ tells_on (s ∷ spoken) is_ended all o level l = tells_first s.message s.mark sp
 
 -- ---- Two frames with the same bytes say the same
 
--- the laws of streams and of messages
-pub record Frames : Type 0 where
-  pub read : IsReadBack
-  pub token : IsDecimalToken
-
-level_one : Frames → (one other : ℤ) → IsWellFormed (flow one) → IsWellFormed (flow other) → framed (spelling (flow one)) ≡ framed (spelling (flow other)) → one ≡ other
-level_one c one other first second is =
+level_one : (one other : ℤ) → IsWellFormed (flow one) → IsWellFormed (flow other) → framed (spelling (flow one)) ≡ framed (spelling (flow other)) → one ≡ other
+level_one one other first second is =
     let spelled = framed_one (spelling (flow one)) (spelling (flow other)) is in
-    let first_read = c.read.1 (flow one) first in
-    let second_read = c.read.1 (flow other) second in
+    let first_read = read_back.1 (flow one) first in
+    let second_read = read_back.1 (flow other) second in
     cc
 
 -- ---- A level is one that can be told
 
 -- ---- The law
 
-lets_out : Frames → (o : Option Outgoing) (level : ℤ) (is_loud : Bool) → is_loud ≡ false → TellsOf o is_loud → LastTells o level → int_lt (pos 0) level ≡ false
-lets_out c None level is_loud quiet t l = ap (int_lt (pos 0)) l
-lets_out c (Some o) level is_loud quiet t l =
+lets_out : (o : Option Outgoing) (level : ℤ) (is_loud : Bool) → is_loud ≡ false → TellsOf o is_loud → LastTells o level → int_lt (pos 0) level ≡ false
+lets_out None level is_loud quiet t l = ap (int_lt (pos 0)) l
+lets_out (Some o) level is_loud quiet t l =
     let n = t.0 in
     let bytes : framed (spelling (flow level)) ≡ framed (spelling (flow (level_of n))) = ap (λ (x : Outgoing). x.bytes) (sym l.2 ∙ t.1) in
-    let same : level ≡ level_of n = level_one c level (level_of n) l.1 (level_fits n, omega arith) bytes in
+    let same : level ≡ level_of n = level_one level (level_of n) l.1 (level_fits n, omega arith) bytes in
     ap (int_lt (pos 0)) same ∙ sym t.2 ∙ quiet
 
 is_quiet : (is_loud : Bool) (n : ℕ) → IsFilled is_loud n → n ≤ 50 → is_loud ≡ false
 is_quiet true n filled few = let many : 50 < n = filled in absurd (omega arith)
 is_quiet false n filled few = refl
 
-pub all_let_out : {T : Type 0} → Frames → AfterAllCalls {T = T} LetsCommandsOut
-all_let_out {T = T} c hello mark calls opened few spoken is_ended all queued =
+pub all_let_out : {T : Type 0} → AfterAllCalls {T = T} LetsCommandsOut
+all_let_out {T = T} hello mark calls opened few spoken is_ended all queued =
     let first = begun (new_end {T = T} hello mark) in
     let r = after_calls calls first in
     let s = always {T = T} hello mark calls in
@@ -203,4 +198,4 @@ all_let_out {T = T} c hello mark calls opened few spoken is_ended all queued =
     let quiet : r.end.is_loud ≡ false = is_quiet r.end.is_loud (length r.end.inbox) (s.leveled.inbox opened) few in
     let P : List Outgoing → Type 0 = λ os. TellsOf (last_or None (filter is_flow os)) r.end.is_loud in
     let told = subst P (s.order ∙ queued) i.told in
-    lets_out c (last_or None (filter is_flow (queue_of spoken is_ended))) (level_after (pos 0) spoken) r.end.is_loud quiet told (tells_on spoken is_ended all None (pos 0) refl)
+    lets_out (last_or None (filter is_flow (queue_of spoken is_ended))) (level_after (pos 0) spoken) r.end.is_loud quiet told (tells_on spoken is_ended all None (pos 0) refl)

@@ -4,7 +4,7 @@ use Rattle.std.specs.List.{AllByRecursion}
 use Rattle.tcf_message.specs.Message.{most_body}
 use Rattle.channel_core.specs.Beginning.{new_end}
 use Rattle.channel_core.specs.RunLaws.{AfterAllCalls, sent_of}
-use Rattle.channel_core.specs.Runs.{Call, Issued, Run, after_call, after_calls, begun, closing, commanding, delivering, draining, ending, issued, putting_out, refusal_to, sending, taking, unless_refused}
+use Rattle.channel_core.specs.Runs.{Call, Issued, Run, after_call, after_calls, begun, closing, commanding, delivering, draining, ending, issued, putting_out, sending, taking, unless_refused}
 use Rattle.channel_core.specs.declared.sending.SendRefusal.{SendRefusal}
 use Rattle.channel_core.proofs.Commands.{sent_is}
 use Rattle.channel_core.proofs.Running.{Stands, always, stands_after, stands_at_first}
@@ -12,6 +12,7 @@ use Rattle.channel_laws.specs.Rest.{IsMade, MakesCommands}
 use Rattle.channel_laws.proofs.Rest.AllCalls.{is_new}
 use Rattle.list_laws.proofs.AllLists.{all_left, all_append}
 use Rattle.channel_core.proofs.Saying.{fitting}
+use Rattle.channel_core.specs.Sending.{refusal_to}
 
 made_new : {T : Type 0} → (refusal : Option SendRefusal) (service name body : List ℕ) (tag : T) (mark : Option ℕ) (r : Run T) → refusal_to service name body r.end ≡ refusal → Stands r → MakesCommands r
     → AllByRecursion IsMade (r.past.accepted ++ unless_refused refusal [] (issued service name body tag mark r.end ∷ []))

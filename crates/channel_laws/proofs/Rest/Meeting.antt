@@ -3,7 +3,7 @@ use Rattle.std.proofs.Common.{◌≡◌, ◌≢◌, ℕ, ◌≤◌, Bool, true, 
 use Rattle.std.specs.Prelude.{ℤ, pos, int_lt}
 use Rattle.std.specs.List.{filter, flat_map, list_any}
 use Rattle.tcf_message.specs.Message.{MessageValue, command, event, final, flow, not_known, progress, spelling}
-use Rattle.channel_core.specs.Arrivals.{AreSpoken, IsFront, Spoken, arrived, bytes_of, enters, level_after, level_by, queue_of}
+use Rattle.channel_core.specs.Arrivals.{AreSpoken, Spoken, arrived, bytes_of, enters, level_after, level_by, queue_of, all_heard, all_said}
 use Rattle.channel_core.specs.Beginning.{new_end}
 use Rattle.channel_core.specs.Closing.{is_closed}
 use Rattle.channel_core.specs.Greeting.{is_greeting}
@@ -21,19 +21,19 @@ use Rattle.channel_core.specs.declared.states.Cause.TheVariants.{Ended, Eos, Own
 use Rattle.channel_core.specs.declared.states.EndState.{EndState}
 use Rattle.channel_core.specs.declared.states.EndState.TheVariants.{Closed, Live, Opening, Reopening}
 use Rattle.channel_core.specs.declared.taking.Taken.{Taken}
-use Rattle.channel_core.proofs.Feeding.{Cited}
 use Rattle.channel_core.proofs.Received as receiving
 use Rattle.channel_core.proofs.Running.{all_can_be_read, all_end_once, all_free, all_in_order}
 use Rattle.channel_core.proofs.Sent.{all_what_is_sent}
 use Rattle.channel_laws.specs.Faults.{is_ending}
 use Rattle.channel_laws.proofs.Faults.Calling.{all_by_calls}
-use Rattle.channel_laws.specs.Meeting.{AtRest, HasAll, IsLasting, Side, WhereNothingIsUnderWay, all_heard, all_said, as_comes, run_of}
+use Rattle.channel_laws.specs.Meeting.{AtRest, HasAll, IsLasting, Side, WhereNothingIsUnderWay, as_comes, run_of}
 use Rattle.channel_laws.specs.Rest.{StandsAs, lacks_answer, lacks_hello}
 use Rattle.channel_laws.proofs.Rest.AllCalls.{all_pend, all_stand}
 use Rattle.channel_laws.proofs.Rest.Ending.{all_hear}
-use Rattle.channel_laws.proofs.Rest.Levels.{Frames, all_let_out}
+use Rattle.channel_laws.proofs.Rest.Levels.{all_let_out}
 use Rattle.channel_laws.proofs.Rest.Spelling.{framed_one}
 use Rattle.list_laws.proofs.Flags.{same_flag}
+use Rattle.list_laws.specs.Fronts.{IsFront}
 
 -- ---- A queue
 
@@ -139,8 +139,8 @@ heard_one (x ∷ xs) (y ∷ ys) is =
 -- ---- One end hears what the other one queued
 
 -- what the other one queued, as messages
-abbrev pub readable : {T : Type 0} → Cited → (s : Side T) → IsLasting s → CanBeRead (run_of s)
-readable c s l = all_can_be_read c.token s.hello s.mark s.calls l.formed l.readable
+abbrev pub readable : {T : Type 0} → (s : Side T) → IsLasting s → CanBeRead (run_of s)
+readable s l = all_can_be_read s.hello s.mark s.calls l.formed l.readable
 
 -- its messages, as they come
 pub queued_said : {T : Type 0} {r : Run T} → (is_marked : Bool) (q : CanBeRead r) → as_comes is_marked (filter is_message r.past.queued) ≡ all_said (entering (said_as is_marked q.spoken))
@@ -173,17 +173,17 @@ closed_of_over is_marked s other h over = by_flag (is_closed (run_of s).end.stat
 not_over : {T U : Type 0} → (is_marked : Bool) (s : Side T) (other : Side U) → HasAll is_marked s other → is_closed (run_of s).end.state ≡ false → is_over (run_of s).end ≡ false
 not_over is_marked s other h opened = ap (λ flag. flag || is_some (run_of s).end.stop) opened ∙ ap is_some h.stop
 
-hears_end : {T U : Type 0} → Cited → (is_marked : Bool) (s : Side T) (other : Side U) → IsLasting other → HasAll is_marked s other → (front : List Outgoing) → (run_of other).past.queued ≡ front ++ end_of_stream ∷ []
+hears_end : {T U : Type 0} → (is_marked : Bool) (s : Side T) (other : Side U) → IsLasting other → HasAll is_marked s other → (front : List Outgoing) → (run_of other).past.queued ≡ front ++ end_of_stream ∷ []
     → is_closed (run_of s).end.state ≡ true
-hears_end c is_marked s other l h front ends = by_flag (is_closed (run_of s).end.state) refl
+hears_end is_marked s other l h front ends = by_flag (is_closed (run_of s).end.state) refl
   where
     by_flag : (flag : Bool) → is_closed (run_of s).end.state ≡ flag → is_closed (run_of s).end.state ≡ true
     by_flag true closed = closed
     by_flag false opened =
-        let q = readable c other l in
+        let q = readable other l in
         let told = is_told_end q.spoken q.is_ended front (sym q.queue ∙ ends) in
         closed_of_over is_marked s other h
-        (all_hear c s.hello s.mark s.calls (said_as is_marked q.spoken) q.is_ended (formed_as is_marked q.spoken q.well_formed) (came_front is_marked s other q.spoken q.is_ended h q.queue) told
+        (all_hear s.hello s.mark s.calls (said_as is_marked q.spoken) q.is_ended (formed_as is_marked q.spoken q.well_formed) (came_front is_marked s other q.spoken q.is_ended h q.queue) told
         (all_came is_marked s other q.spoken q.is_ended h opened q.queue))
 
 -- ---- Both are closed
@@ -191,30 +191,30 @@ hears_end c is_marked s other l h front ends = by_flag (is_closed (run_of s).end
 abbrev pub ends_as : {T : Type 0} → (s : Side T) (cause : Cause) → (run_of s).end.state ≡ Closed cause → EndsAs (Closed cause) (run_of s).past.queued
 ends_as s cause is = let P : EndState → Type 0 = λ state. EndsAs state (run_of s).past.queued in subst P is (all_end_once s.hello s.mark s.calls).ends
 
-closes_for : {T U : Type 0} → Cited → (is_marked others_are : Bool) (s : Side T) (other : Side U) → IsLasting s → IsLasting other → HasAll is_marked s other → HasAll others_are other s → (cause : Cause)
+closes_for : {T U : Type 0} → (is_marked others_are : Bool) (s : Side T) (other : Side U) → IsLasting s → IsLasting other → HasAll is_marked s other → HasAll others_are other s → (cause : Cause)
     → (run_of s).end.state ≡ Closed cause → is_closed (run_of other).end.state ≡ true
-closes_for c is_marked others_are s other l m h g Own is = let e = ends_as s Own is in hears_end c others_are other s l g e.0 e.1
-closes_for c is_marked others_are s other l m h g Eos is =
-    let q = readable c other m in
+closes_for is_marked others_are s other l m h g Own is = let e = ends_as s Own is in hears_end others_are other s l g e.0 e.1
+closes_for is_marked others_are s other l m h g Eos is =
+    let q = readable other m in
     let fair : IsFairCause (said_as is_marked q.spoken) q.is_ended (received (run_of s)) Eos
-    = receiving.all_fair c s.hello s.mark s.calls (said_as is_marked q.spoken) q.is_ended (formed_as is_marked q.spoken q.well_formed) (came_front is_marked s other q.spoken q.is_ended h q.queue) Eos (inr (inl is)) in
+    = receiving.all_fair s.hello s.mark s.calls (said_as is_marked q.spoken) q.is_ended (formed_as is_marked q.spoken q.well_formed) (came_front is_marked s other q.spoken q.is_ended h q.queue) Eos (inr (inl is)) in
     q.closed fair.0
-closes_for c is_marked others_are s other l m h g Ended is =
+closes_for is_marked others_are s other l m h g Ended is =
     let ends : list_any is_ending s.calls ≡ true = (all_by_calls s.hello s.mark s.calls).ended (inr (inl is)) in
     let lasting = l.lasting in
     absurd cc
-closes_for c is_marked others_are s other l m h g (Protocol number reason) is = let e = ends_as s (Protocol number reason) is in hears_end c others_are other s l g e.0 e.1
-closes_for c is_marked others_are s other l m h g (Stream fault) is = let e = ends_as s (Stream fault) is in hears_end c others_are other s l g e.0 e.1
+closes_for is_marked others_are s other l m h g (Protocol number reason) is = let e = ends_as s (Protocol number reason) is in hears_end others_are other s l g e.0 e.1
+closes_for is_marked others_are s other l m h g (Stream fault) is = let e = ends_as s (Stream fault) is in hears_end others_are other s l g e.0 e.1
 
-closes_too : {T U : Type 0} → Cited → (is_marked others_are : Bool) (s : Side T) (other : Side U) → IsLasting s → IsLasting other → HasAll is_marked s other → HasAll others_are other s
+closes_too : {T U : Type 0} → (is_marked others_are : Bool) (s : Side T) (other : Side U) → IsLasting s → IsLasting other → HasAll is_marked s other → HasAll others_are other s
     → is_closed (run_of s).end.state ≡ true → is_closed (run_of other).end.state ≡ true
-closes_too c is_marked others_are s other l m h g closed = by_state (run_of s).end.state refl closed
+closes_too is_marked others_are s other l m h g closed = by_state (run_of s).end.state refl closed
   where
     by_state : (state : EndState) → (run_of s).end.state ≡ state → is_closed state ≡ true → is_closed (run_of other).end.state ≡ true
     by_state Opening is closed = absurd cc
     by_state Live is closed = absurd cc
     by_state Reopening is closed = absurd cc
-    by_state (Closed cause) is closed = closes_for c is_marked others_are s other l m h g cause is
+    by_state (Closed cause) is closed = closes_for is_marked others_are s other l m h g cause is
 
 -- ---- An open end
 
@@ -255,9 +255,9 @@ none_said : (spoken : List Spoken) → all_heard spoken ≡ [] → all_said spok
 none_said [] is = refl
 none_said (s ∷ spoken) is = absurd cc
 
-at_rest : {T U : Type 0} → Cited → Frames → (is_marked others_are : Bool) (s : Side T) (other : Side U) → IsLasting other → HasAll is_marked s other → HasAll others_are other s
+at_rest : {T U : Type 0} → (is_marked others_are : Bool) (s : Side T) (other : Side U) → IsLasting other → HasAll is_marked s other → HasAll others_are other s
     → is_closed (run_of s).end.state ≡ false → is_closed (run_of other).end.state ≡ false → AtRest is_marked s other
-at_rest {T = T} {U = U} c f is_marked others_are s other m h g opened open_too = record {
+at_rest {T = T} {U = U} is_marked others_are s other m h g opened open_too = record {
   messages = messages;
   formed = formed;
   queued = queued_is;
@@ -274,7 +274,7 @@ at_rest {T = T} {U = U} c f is_marked others_are s other m h g opened open_too =
     r = run_of s
 
     q : CanBeRead (run_of other)
-    q = readable c other m
+    q = readable other m
 
     comes : List Spoken
     comes = said_as is_marked q.spoken
@@ -303,7 +303,7 @@ at_rest {T = T} {U = U} c f is_marked others_are s other m h g opened open_too =
     heard_is : flat_map incoming_of r.past.taken ≡ all_heard messages
     heard_is =
         sym (append-nil (flat_map incoming_of r.past.taken)) ∙ ap (λ (inbox : List Arrived). flat_map incoming_of r.past.taken ++ map (λ a. a.incoming) inbox) (sym h.inbox)
-        ∙ (receiving.all_in_order c s.hello s.mark s.calls comes q.is_ended all_formed front).all over complete
+        ∙ (receiving.all_in_order s.hello s.mark s.calls comes q.is_ended all_formed front).all over complete
 
     queued_is : as_comes is_marked (filter is_message (run_of other).past.queued) ≡ all_said messages
     queued_is = queued_said is_marked q
@@ -311,8 +311,8 @@ at_rest {T = T} {U = U} c f is_marked others_are s other m h g opened open_too =
     told_is : int_lt (pos 0) r.end.told ≡ false
     told_is =
         let few : length (run_of other).end.inbox ≤ 50 = let none : length (run_of other).end.inbox ≡ 0 = ap length g.inbox in omega arith in
-        ap (int_lt (pos 0)) ((receiving.all_in_order c s.hello s.mark s.calls comes q.is_ended all_formed front).all_told over complete ∙ level_as is_marked (pos 0) q.spoken)
-        ∙ all_let_out f other.hello other.mark other.calls open_too few q.spoken q.is_ended q.well_formed q.queue
+        ap (int_lt (pos 0)) ((receiving.all_in_order s.hello s.mark s.calls comes q.is_ended all_formed front).all_told over complete ∙ level_as is_marked (pos 0) q.spoken)
+        ∙ all_let_out other.hello other.mark other.calls open_too few q.spoken q.is_ended q.well_formed q.queue
 
     begun_is : r.end.state ≢ Opening
     begun_is opening =
@@ -327,11 +327,11 @@ at_rest {T = T} {U = U} c f is_marked others_are s other m h g opened open_too =
     held_is : r.end.state ≡ Live → r.end.held ≡ []
     held_is live = all_free s.hello s.mark s.calls (ap (λ state. is_live state && not (int_lt (pos 0) r.end.told)) live ∙ ap not told_is)
 
-pub all_rest_together : {T U : Type 0} → Cited → Frames → WhereNothingIsUnderWay T U
-all_rest_together c f is_marked others_are s other l m h g =
-    let closed = same_flag (is_closed (run_of s).end.state) (is_closed (run_of other).end.state) (closes_too c is_marked others_are s other l m h g) (closes_too c others_are is_marked other s m l g h) in
+pub all_rest_together : {T U : Type 0} → WhereNothingIsUnderWay T U
+all_rest_together is_marked others_are s other l m h g =
+    let closed = same_flag (is_closed (run_of s).end.state) (is_closed (run_of other).end.state) (closes_too is_marked others_are s other l m h g) (closes_too others_are is_marked other s m l g h) in
     record {
       closed = closed;
-      first = λ opened. at_rest c f is_marked others_are s other m h g opened (sym closed ∙ opened);
-      second = λ opened. at_rest c f others_are is_marked other s l g h (sym closed ∙ opened) opened;
+      first = λ opened. at_rest is_marked others_are s other m h g opened (sym closed ∙ opened);
+      second = λ opened. at_rest others_are is_marked other s l g h (sym closed ∙ opened) opened;
     }

@@ -4,7 +4,7 @@ use Rattle.std.specs.Prelude.{decimal}
 use Rattle.std.specs.List.{AllByRecursion, filter, flat_map, range_with_len}
 use Rattle.std.proofs.lemmas.List.Concat.{flat_map-append}
 use Rattle.tcf_message.specs.Message.{MessageValue, command, event, final, flow, not_known, progress, reading, spelling, IsWellFormed}
-use Rattle.channel_core.specs.Arrivals.{AreSpoken, IsFront, Spoken, arrived, bytes_of, marked, messages_in, queue_of}
+use Rattle.channel_core.specs.Arrivals.{AreSpoken, Spoken, arrived, bytes_of, marked, messages_in, queue_of, all_heard, all_said}
 use Rattle.channel_core.specs.ReceivingLaws.{CanBeRead, incoming_of, received}
 use Rattle.channel_core.specs.RunLaws.{is_command, sent_of}
 use Rattle.channel_core.specs.Runs.{Issued, Run}
@@ -13,21 +13,19 @@ use Rattle.channel_core.specs.declared.held.Arrived.{Arrived}
 use Rattle.channel_core.specs.declared.held.Incoming.{Incoming}
 use Rattle.channel_core.specs.declared.held.Outgoing.{Outgoing}
 use Rattle.channel_core.proofs.Commands.{sent_is}
-use Rattle.channel_core.proofs.Feeding.{Cited}
 use Rattle.channel_core.proofs.Received as receiving
 use Rattle.channel_core.proofs.Running.{all_can_be_read, all_counted, all_in_order, all_sent_in_order, always}
-use Rattle.channel_laws.specs.Meeting.{Side, all_heard, all_said, as_comes, run_of}
+use Rattle.channel_laws.specs.Meeting.{Side, as_comes, run_of}
 use Rattle.channel_laws.specs.Rest.{IsMade}
 use Rattle.channel_laws.specs.Numbering.{WhatComesIsNumbered, token_asked, tokens_among, tokens_from}
+use Rattle.tcf_message.proofs.TheLaws.{read_back}
 use Rattle.channel_laws.proofs.Rest.Answering.{AreAlike, are_alike, are_asking, asking, commands_said, is_asking}
-use Rattle.channel_laws.proofs.Rest.Levels.{Frames}
 use Rattle.channel_laws.proofs.Rest.Making.{all_made, sent_made}
 use Rattle.channel_laws.proofs.Rest.Meeting.{entering, formed_as, queue_as, said_as}
+use Rattle.list_laws.specs.Fronts.{IsFront}
+use Rattle.list_laws.proofs.Fronts.{front_then}
 
 -- ---- Fronts
-
-front_of_front : {A : Type 0} → (first second third : List A) → IsFront first second → IsFront second third → IsFront first third
-front_of_front first second third one two = (one.0 ++ two.0, two.1 ∙ ap (λ xs. xs ++ two.0) one.1 ∙ append_assoc first one.0 two.0)
 
 -- a front of a numbered list is numbered
 front_numbered : (next count : ℕ) (tokens rest : List (List ℕ)) → tokens_from next count ≡ tokens ++ rest → tokens ≡ tokens_from next (length tokens)
@@ -89,12 +87,12 @@ sent_numbered {T = T} s =
 abbrev pub tokens_asked : List Spoken → List (List ℕ)
 tokens_asked xs = flat_map (λ x. token_asked (Ok x.message)) xs
 
-pub heard_tokens : Frames → (spoken : List Spoken) → AreSpoken spoken → tokens_among (all_heard (entering spoken)) ≡ tokens_asked (asking spoken)
-heard_tokens f [] all = refl
-heard_tokens f (s ∷ spoken) all = by_message s.message s.mark all.0 (heard_tokens f spoken all.1)
+pub heard_tokens : (spoken : List Spoken) → AreSpoken spoken → tokens_among (all_heard (entering spoken)) ≡ tokens_asked (asking spoken)
+heard_tokens [] all = refl
+heard_tokens (s ∷ spoken) all = by_message s.message s.mark all.0 (heard_tokens spoken all.1)
   where
     read : (m : MessageValue) → IsWellFormed m → token_asked (reading (spelling m)) ++ tokens_among (all_heard (entering spoken)) ≡ token_asked (Ok m) ++ tokens_among (all_heard (entering spoken))
-    read m formed = ap (λ r. token_asked r ++ tokens_among (all_heard (entering spoken))) (f.read.1 m formed)
+    read m formed = ap (λ r. token_asked r ++ tokens_among (all_heard (entering spoken))) (read_back.1 m formed)
 
     by_message : (m : MessageValue) (mark : Option ℕ) → IsWellFormed m → tokens_among (all_heard (entering spoken)) ≡ tokens_asked (asking spoken)
         → tokens_among (all_heard (entering (record { message = m; mark = mark } ∷ spoken))) ≡ tokens_asked (asking (record { message = m; mark = mark } ∷ spoken))
@@ -125,14 +123,14 @@ tokens_alike (x ∷ xs) (i ∷ sent) alike =
     ap (λ m. token_asked (Ok m) ++ tokens_asked xs) alike.0.is ∙ ap (λ ts. decimal i.command.token ∷ ts) (tokens_alike xs sent alike.1)
 
 -- the tokens that are asked for by what an end queued are those of the commands that it sent
-pub tokens_sent : {T : Type 0} → Frames → (is_marked : Bool) (s : Side T) (q : CanBeRead (run_of s)) → tokens_among (all_heard (entering (said_as is_marked q.spoken))) ≡ tokens_of (sent_of (run_of s))
-tokens_sent {T = T} f is_marked s q = heard_tokens f (said_as is_marked q.spoken) (formed_as is_marked q.spoken q.well_formed) ∙ tokens_as is_marked q.spoken ∙ tokens_alike (asking q.spoken) (sent_of (run_of s)) alike
+pub tokens_sent : {T : Type 0} → (is_marked : Bool) (s : Side T) (q : CanBeRead (run_of s)) → tokens_among (all_heard (entering (said_as is_marked q.spoken))) ≡ tokens_of (sent_of (run_of s))
+tokens_sent {T = T} is_marked s q = heard_tokens (said_as is_marked q.spoken) (formed_as is_marked q.spoken q.well_formed) ∙ tokens_as is_marked q.spoken ∙ tokens_alike (asking q.spoken) (sent_of (run_of s)) alike
   where
     said_so : all_said (asking q.spoken) ≡ map (λ i. i.command.outgoing) (sent_of (run_of s))
     said_so = sym (commands_said q.spoken q.is_ended) ∙ ap (filter is_command) (sym q.queue) ∙ (all_sent_in_order s.hello s.mark s.calls).are_sent
 
     alike : AreAlike (asking q.spoken) (sent_of (run_of s))
-    alike = are_alike f (asking q.spoken) (sent_of (run_of s)) (are_asking q.spoken q.well_formed) (sent_made s.hello s.mark s.calls) said_so
+    alike = are_alike (asking q.spoken) (sent_of (run_of s)) (are_asking q.spoken q.well_formed) (sent_made s.hello s.mark s.calls) said_so
 
 -- ---- What comes of another end
 
@@ -153,15 +151,15 @@ given_front {U = U} is_marked other spoken is_ended is =
     comes_more false (out ∷ first) more = ap (λ outs. (record out { mark = None }) ∷ outs) (comes_more false first more)
 
 -- the messages that were taken are a front of those that were queued
-pub taken_front : {T : Type 0} → Cited → (s : Side T) (spoken : List Spoken) (is_ended : Bool) → AreSpoken spoken → IsFront (arrived s.calls) (bytes_of (queue_of spoken is_ended))
+pub taken_front : {T : Type 0} → (s : Side T) (spoken : List Spoken) (is_ended : Bool) → AreSpoken spoken → IsFront (arrived s.calls) (bytes_of (queue_of spoken is_ended))
     → IsFront (flat_map incoming_of (run_of s).past.taken) (all_heard (entering spoken))
-taken_front {T = T} c s spoken is_ended all front =
+taken_front {T = T} s spoken is_ended all front =
     let r : Run T = run_of s in
     let taken : IsFront (flat_map incoming_of r.past.taken) (received r) = (map (λ (a : Arrived). a.incoming) r.end.inbox, refl) in
-    front_of_front (flat_map incoming_of r.past.taken) (received r) (messages_in spoken) taken (receiving.all_in_order c s.hello s.mark s.calls spoken is_ended all front).front
+    front_then (flat_map incoming_of r.past.taken) (received r) (messages_in spoken) taken (receiving.all_in_order s.hello s.mark s.calls spoken is_ended all front).front
 
-pub all_numbered : {T U : Type 0} → Cited → Frames → WhatComesIsNumbered T U
-all_numbered {T = T} {U = U} c f is_marked s other formed sends front = (front_numbered 1 (length o.past.accepted) (tokens_among took) first.0 first.1, few)
+pub all_numbered : {T U : Type 0} → WhatComesIsNumbered T U
+all_numbered {T = T} {U = U} is_marked s other formed sends front = (front_numbered 1 (length o.past.accepted) (tokens_among took) first.0 first.1, few)
   where
     o : Run U
     o = run_of other
@@ -170,7 +168,7 @@ all_numbered {T = T} {U = U} c f is_marked s other formed sends front = (front_n
     took = flat_map incoming_of (run_of s).past.taken
 
     q : CanBeRead o
-    q = all_can_be_read c.token other.hello other.mark other.calls formed sends
+    q = all_can_be_read other.hello other.mark other.calls formed sends
 
     comes : List Spoken
     comes = said_as is_marked q.spoken
@@ -179,16 +177,16 @@ all_numbered {T = T} {U = U} c f is_marked s other formed sends front = (front_n
     all_formed = formed_as is_marked q.spoken q.well_formed
 
     came : IsFront (arrived s.calls) (bytes_of (queue_of comes q.is_ended))
-    came = front_of_front (arrived s.calls) (bytes_of (as_comes is_marked o.past.given)) (bytes_of (queue_of comes q.is_ended)) front (given_front is_marked other q.spoken q.is_ended q.queue)
+    came = front_then (arrived s.calls) (bytes_of (as_comes is_marked o.past.given)) (bytes_of (queue_of comes q.is_ended)) front (given_front is_marked other q.spoken q.is_ended q.queue)
 
     heard : IsFront took (all_heard (entering comes))
-    heard = taken_front c s comes q.is_ended all_formed came
+    heard = taken_front s comes q.is_ended all_formed came
 
     asked : IsFront (tokens_among took) (tokens_of (sent_of o))
-    asked = (tokens_among heard.0, sym (tokens_sent f is_marked other q) ∙ ap tokens_among heard.1 ∙ flat_map-append (λ (m : Incoming). token_asked (reading m.raw)) took heard.0)
+    asked = (tokens_among heard.0, sym (tokens_sent is_marked other q) ∙ ap tokens_among heard.1 ∙ flat_map-append (λ (m : Incoming). token_asked (reading m.raw)) took heard.0)
 
     first : IsFront (tokens_among took) (tokens_from 1 (length o.past.accepted))
-    first = front_of_front (tokens_among took) (tokens_of (sent_of o)) (tokens_from 1 (length o.past.accepted)) asked (sent_numbered other)
+    first = front_then (tokens_among took) (tokens_of (sent_of o)) (tokens_from 1 (length o.past.accepted)) asked (sent_numbered other)
 
     few : length (tokens_among took) ≤ last_token
     few =

@@ -22,7 +22,8 @@ impl Knowledge {
     pub fn learn_event(&mut self, event: &EventData) -> Result<(), AllocError>
         ensures facts { OnOk result (AreSame (facts_of self.new) (learn (event_taken event.now) (facts_of self.old))) }
         ensures blocks { OnOk result (self.new.blocks ≡ blocks_learned (event_taken event.now) self.old) }
-        ensures cache { OnOk result ((messages : List Message) → IsCacheOf messages self.old → IsCacheOf (messages ++ event_taken event.now ∷ []) self.new) }
+        ensures cache { OnOk result ((messages : List Message) → IsCacheOf messages self.old
+            → IsCacheOf (messages ++ event_taken event.now ∷ []) self.new) }
         ensures at_once { IsTrue (only_drops event.now) → IsOk result }
         ensures empty { OnErr result (self.new ≡ empty) }
     {
@@ -39,7 +40,8 @@ impl Knowledge {
     pub fn learn_answer(&mut self, command: &Command, answer: &Answer) -> Result<(), AllocError>
         ensures facts { OnOk result (AreSame (facts_of self.new) (learn (answer_taken command.now answer.now) (facts_of self.old))) }
         ensures blocks { OnOk result (self.new.blocks ≡ blocks_learned (answer_taken command.now answer.now) self.old) }
-        ensures cache { OnOk result ((messages : List Message) → IsCacheOf messages self.old → IsCacheOf (messages ++ answer_taken command.now answer.now ∷ []) self.new) }
+        ensures cache { OnOk result ((messages : List Message) → IsCacheOf messages self.old
+            → IsCacheOf (messages ++ answer_taken command.now answer.now ∷ []) self.new) }
         ensures at_once { stores command.now ≡ false → IsOk result }
         ensures empty { OnErr result (self.new ≡ empty) }
     {

@@ -3,18 +3,14 @@ use Rattle.std.proofs.Common.{◌≡◌, ℕ, ◌+◌, ◌-◌, ◌^◌, ◌≤�
 use Rattle.std.specs.Prelude.{option_to_list, take, unwrap_or}
 use Rattle.std.specs.List.{AllByRecursion, filter, flat_map}
 use Rattle.std.proofs.lemmas.List.{map-append}
-use Rattle.tcf_message.specs.Fault.{IsReadBack}
-use Rattle.channel_core.specs.Arrivals.{AreSpoken, Spoken}
+use Rattle.channel_core.specs.Arrivals.{AreSpoken, Spoken, all_said}
 use Rattle.channel_core.specs.QueueLaws.{is_message}
-use Rattle.channel_core.specs.ReceivingLaws.{CanBeRead, QueuesReadable, incoming_of}
+use Rattle.channel_core.specs.ReceivingLaws.{CanBeRead, incoming_of}
 use Rattle.channel_core.specs.RunLaws.{sent_of}
 use Rattle.channel_core.specs.Runs.{Issued}
 use Rattle.channel_core.specs.Wire.{said}
 use Rattle.channel_core.specs.declared.taking.Taken.{Taken}
-use Rattle.channel_core.proofs.ClosingSo.{all_close_only_so, all_takes_nothing}
-use Rattle.channel_core.proofs.Running.{all_counted, all_end_once, all_sent_in_order, all_stay_closed}
-use Rattle.channel_core.proofs.Sent.{all_its_messages}
-use Rattle.channel_laws.specs.Meeting.{AnswersAll, IsFree, all_said, answers_among, lacks_hello_behind}
+use Rattle.channel_laws.specs.Meeting.{AnswersAll, IsFree, answers_among, lacks_hello_behind}
 use Rattle.channel_laws.specs.Numbering.{TakesNumbered, tokens_among}
 use Rattle.channel_laws.specs.Rest.{IsAsSaid, TellsAsMessages, answered_among, hello_among, lacks_hello, lacks_hello_among}
 use Rattle.channel_laws.proofs.Rest.AsSaid.{all_as_said, all_tell}
@@ -30,14 +26,12 @@ use Rattle.value_node.specs.Value.{value_services}
 use Rattle.value_node.specs.declared.states.Bind.{Bind}
 use Rattle.value_node.specs.declared.states.Bind.TheVariants.{Bound}
 use Rattle.value_node.proofs.Answering.{IsAnswering, always_answering}
-use Rattle.value_node.proofs.Holding.{Holds, Laws as NodeLaws, issued_from, issued_length}
+use Rattle.value_node.proofs.Holding.{Holds, issued_from, issued_length}
 use Rattle.value_node.proofs.HoldsCalled.{IsHeld, always_held}
 use Rattle.value_node.proofs.HoldsOwn.{always_answers}
 use Rattle.value_node.proofs.HoldsSaid.{always_passes}
-use Rattle.value_node.proofs.Knowing.{Lessons}
 use Rattle.value_node.proofs.OwnAnswers.{IsLeft}
-use Rattle.value_node.proofs.OwnReplies.{Names}
-use Rattle.value_node.proofs.Sendable.{Sizes}
+use Rattle.channel_core.proofs.TheLaws.{queues_readable}
 use Rattle.node_answers.proofs.Adds.BoundAnswered.{all_told}
 use Rattle.node_answers.proofs.Adds.Apart.{AreApart, numbered_apart, tokens_of}
 use Rattle.node_answers.proofs.Adds.BoundAsked.{IsWritten, all_written, asked_both}
@@ -48,28 +42,6 @@ use Rattle.node_answers.proofs.Adds.Own.{value_hello}
 use Rattle.node_answers.proofs.Adds.Taken.{redirects_of, redirects_taken, taken_answered, tokens_taken}
 use Rattle.node_answers.proofs.Adds.BoundTold.{answered_before, answered_later, hello_told, tells_from, tells_spelled, told_so}
 use Rattle.list_laws.proofs.AllLists.{all_append, all_left, all_right, all_then}
-
--- the laws of the crates below
-pub record Laws : Type 0 where
-  pub node : NodeLaws
-  pub names : Names
-  pub lower_readable : QueuesReadable Unit
-
-pub node_laws : IsReadBack → Sizes → Lessons → NodeLaws
-node_laws readable sizes lessons = record {
-  lower_takes_none = all_takes_nothing;
-  upper_takes_none = all_takes_nothing;
-  lower_closes = all_close_only_so;
-  upper_closes = all_close_only_so;
-  lower_messages = all_its_messages;
-  upper_sends = all_sent_in_order;
-  upper_counts = all_counted;
-  lower_ends = all_end_once;
-  lower_stays = all_stay_closed;
-  readable = readable;
-  sizes = sizes;
-  lessons = lessons;
-}
 
 take_all : {A : Type 0} → (xs : List A) (held : ℕ) → held ≡ 0 → take (length xs - held) xs ≡ xs
 take_all {A = A} xs held none = let same : length xs - held ≡ length xs = omega arith in ap (λ n. take n xs) same ∙ whole xs
@@ -84,7 +56,7 @@ none_left (c ∷ left) none = absurd cc
 
 -- ---- One value-add
 
-module _ (laws : Laws) (peer : List ℕ) (calls : List Call) where
+module _ (peer : List ℕ) (calls : List Call) where
   abbrev pub run : ValueRun
   run = after_all calls (no_calls peer)
 
@@ -92,7 +64,7 @@ module _ (laws : Laws) (peer : List ℕ) (calls : List Call) where
   past = run.past
 
   abbrev pub held : IsHeld run (deeds_from calls (no_calls peer))
-  held = always_held laws.node peer calls
+  held = always_held peer calls
 
   abbrev pub h : Holds run.value.relay run.past
   h = held.holds
@@ -114,17 +86,17 @@ module _ (laws : Laws) (peer : List ℕ) (calls : List Call) where
   asked_are = asked_both past ∙ ap (λ cs. asked_until past ++ cs) h.asked
 
   written : AllByRecursion IsWritten commands
-  written = subst (AllByRecursion IsWritten) asked_are (all_written laws.node.readable entries)
+  written = subst (AllByRecursion IsWritten) asked_are (all_written entries)
 
   -- what it told below
   pub itself : AnswersItself run
-  itself = always_answers laws.node laws.names peer calls
+  itself = always_answers peer calls
 
   abbrev pub spoken : List Spoken
   spoken = itself.own ++ tells_from [] deeds
 
   passes : PassesAllOn run (deeds_from calls (no_calls peer))
-  passes = always_passes laws.node peer calls
+  passes = always_passes peer calls
 
   pub queued : filter is_message (below past).past.queued ≡ all_said spoken
   queued =
@@ -135,10 +107,10 @@ module _ (laws : Laws) (peer : List ℕ) (calls : List Call) where
   spelled =
       all_append (λ (s : Spoken). IsSpelled s.message) itself.own (tells_from [] deeds)
       (own_spelled (asked_until past) itself.left itself.own (all_left IsWritten (asked_until past) (asked_in deeds) written) itself.is_own)
-      (tells_spelled laws.node.readable [] deeds tt (all_right IsWritten (asked_until past) (asked_in deeds) written))
+      (tells_spelled [] deeds tt (all_right IsWritten (asked_until past) (asked_in deeds) written))
 
   read : CanBeRead (below past)
-  read = laws.lower_readable value_services None (past.until_bound ++ past.since_bound) value_hello h.below_readable
+  read = queues_readable value_services None (past.until_bound ++ past.since_bound) value_hello h.below_readable
 
   formed : AreSpoken spoken
   formed =
@@ -156,7 +128,7 @@ module _ (laws : Laws) (peer : List ℕ) (calls : List Call) where
   module _ (bound : run.value.relay.bind ≡ Bound) where
     -- until it was bound
     answering : IsAnswering run
-    answering = always_answering laws.node laws.names peer calls
+    answering = always_answering peer calls
 
     no_redirect : run.value.relay.redirect ≡ None
     no_redirect =
@@ -190,7 +162,7 @@ module _ (laws : Laws) (peer : List ℕ) (calls : List Call) where
     pub greeted : TakesNumbered (below past) → lacks_hello_among (issued_from 1 (sent_in deeds)) (heard_in deeds) ≡ false → lacks_hello_behind (redirects_of commands) spoken ≡ false
     greeted numbered none =
         own_greeted (redirects_of commands) itself.own (tells_from [] deeds) (hello_told [] deeds hello_heard)
-        (all_greeted laws.names (redirects_of commands) (sent_in deeds) few_sent deeds refl h.right
+        (all_greeted (redirects_of commands) (sent_in deeds) few_sent deeds refl h.right
         (all_right (RedirectsWhereNamed (redirects_of commands)) (asked_until past) (asked_in deeds) (each_redirects commands (apart numbered))) none)
 
   module _ (bound : run.value.relay.bind ≡ Bound) (free : IsFree (above past)) where

@@ -2,7 +2,6 @@
 use Rattle.std.proofs.Common.{◌≡◌, ℕ, List, [], ◌∷◌, ◌++◌, Option, Result, Ok, refl, sym, ap, ◌∙◌}
 use Rattle.std.specs.List.{AllByRecursion, flat_map}
 use Rattle.std.proofs.lemmas.List.Concat.{flat_map-append}
-use Rattle.tcf_message.specs.Fault.{IsReadBack}
 use Rattle.tcf_message.specs.Message.{IsWellFormed, MessageValue, command, reading}
 use Rattle.tcf_message.specs.declared.message.MessageFault.{MessageFault}
 use Rattle.channel_core.specs.Runs.{begun}
@@ -21,18 +20,17 @@ use Rattle.list_laws.proofs.AllLists.{all_append}
 abbrev pub IsWritten : Asked → Type 0
 IsWritten c = IsWellFormed (command c.token c.service c.name c.body)
 
-module _ (back : IsReadBack) where
-  asked_in_written : (raw : List ℕ) (mark : Option ℕ) (m : Result MessageValue MessageFault) → reading raw ≡ m → AllByRecursion IsWritten (asked_in mark m)
-  asked_in_written raw mark (Ok (command token service name body)) is = (well_read back raw (command token service name body) is, tt)
-  asked_in_written raw mark m is = tt
+asked_in_written : (raw : List ℕ) (mark : Option ℕ) (m : Result MessageValue MessageFault) → reading raw ≡ m → AllByRecursion IsWritten (asked_in mark m)
+asked_in_written raw mark (Ok (command token service name body)) is = (well_read raw (command token service name body) is, tt)
+asked_in_written raw mark m is = tt
 
-  asked_by_written : (what : Taken Unit) → AllByRecursion IsWritten (asked_by what)
-  asked_by_written (taken.Command incoming) = asked_in_written incoming.raw incoming.mark (reading incoming.raw) refl
-  asked_by_written what = tt
+asked_by_written : (what : Taken Unit) → AllByRecursion IsWritten (asked_by what)
+asked_by_written (taken.Command incoming) = asked_in_written incoming.raw incoming.mark (reading incoming.raw) refl
+asked_by_written what = tt
 
-  pub all_written : (entries : List (Taken Unit)) → AllByRecursion IsWritten (flat_map asked_by entries)
-  all_written [] = tt
-  all_written (what ∷ entries) = all_append IsWritten (asked_by what) (flat_map asked_by entries) (asked_by_written what) (all_written entries)
+pub all_written : (entries : List (Taken Unit)) → AllByRecursion IsWritten (flat_map asked_by entries)
+all_written [] = tt
+all_written (what ∷ entries) = all_append IsWritten (asked_by what) (flat_map asked_by entries) (asked_by_written what) (all_written entries)
 
 -- ---- Those until it was bound, and those since
 

@@ -17,7 +17,6 @@ use Rattle.value_node.specs.RelayLaws.{IsOfItsCommand, token_below}
 use Rattle.value_node.proofs.DeedLists.{AreRight}
 use Rattle.value_node.proofs.Holding.{issued_from}
 use Rattle.value_node.proofs.Lists.{all_stands}
-use Rattle.value_node.proofs.OwnReplies.{Names}
 use Rattle.node_answers.proofs.Adds.BoundAnswered.{of_one, sent_same, sent_then}
 use Rattle.node_answers.proofs.Adds.BoundTokens.{RedirectsWhereNamed, issued_at}
 use Rattle.node_answers.proofs.Adds.BoundTold.{any_behind, hello_told, passed_as, tells_from}
@@ -44,7 +43,7 @@ own_greeted tokens (s ∷ own) told there none =
     none_first (does_one tokens (said_by s.message)) (hello_behind (own ++ told)) (lacks_hello_behind tokens (own ++ told))
     (λ is. any_behind (λ x. is_hello (said_by x.message)) own told there) (own_greeted tokens own told there none)
 
-module _ (names : Names) (tokens : List (List ℕ)) (all : List Asked) (few : 1 + length all ≤ 2 ^ 64) where
+module _ (tokens : List (List ℕ)) (all : List Asked) (few : 1 + length all ≤ 2 ^ 64) where
   abbrev Named : Asked → Type 0
   Named c = RedirectsWhereNamed tokens c
 
@@ -102,7 +101,7 @@ module _ (names : Names) (tokens : List (List ℕ)) (all : List Asked) (few : 1 
       let rightly = right.0 in
       let isnt : does_one tokens (answers_said c.token (is_done reply)) ≡ false =
       never_true (does_one tokens (answers_said c.token (is_done reply)))
-      (λ so. redirect_unstored names c rightly.command (each.0 (and_parts (is_done reply) (list_any (λ text. bytes_eq c.token text) tokens) so).1) rightly.read rightly.storable) in
+      (λ so. redirect_unstored c rightly.command (each.0 (and_parts (is_done reply) (list_any (λ text. bytes_eq c.token text) tokens) so).1) rightly.read rightly.storable) in
       ap (λ b. (b && not (hello_behind (tells_from sent deeds))) || lacks_hello_behind tokens (tells_from sent deeds)) isnt
       ∙ told_greeted (before ++ answers c reply mark ∷ []) deeds sent (sent_same before (answers c reply mark) sent refl are) whole right.1 each.1 named none
   told_greeted before (hears incoming ∷ deeds) sent are whole right each named none =

@@ -5,13 +5,12 @@ use Rattle.std.specs.List.{AllByRecursion, list_any}
 use Rattle.std.proofs.lemmas.Bool.{or_left, or_right}
 use Rattle.std.proofs.lemmas.List.{map-append}
 use Rattle.std.proofs.lemmas.List.Folds.{list_any-append}
-use Rattle.tcf_message.specs.Fault.{IsReadBack}
 use Rattle.tcf_message.specs.Message.{HasNoZero, MessageValue, command, event, final, flow, not_known, progress, reading}
 use Rattle.tcf_message.specs.declared.message.MessageFault.{MessageFault}
-use Rattle.channel_core.specs.Arrivals.{Spoken}
+use Rattle.channel_core.specs.Arrivals.{Spoken, all_said}
 use Rattle.channel_core.specs.RunLaws.{token_in}
 use Rattle.channel_core.specs.Wire.{said, said_by, said_of}
-use Rattle.channel_laws.specs.Meeting.{all_said, answers_among, hello_behind}
+use Rattle.channel_laws.specs.Meeting.{answers_among, hello_behind}
 use Rattle.channel_laws.specs.Rest.{hello_among, is_hello}
 use Rattle.channel_laws.proofs.Rest.Spelling.{AreSpelled, IsSpelled}
 use Rattle.value_node.specs.Asked.{Asked}
@@ -54,23 +53,22 @@ below_plain next token (c ∷ commands) plain written = by_flag (bytes_eq token 
     by_flag true rest = written.0.0.0.0
     by_flag false rest = rest
 
-module _ (back : IsReadBack) where
-  passed_spelled : (commands : List Asked) (raw : List ℕ) (mark : Option ℕ) (m : Result MessageValue MessageFault) → reading raw ≡ m → AllByRecursion IsWritten commands → AreSpelled (passed_as commands mark m)
-  passed_spelled commands raw mark (Ok (command token service name body)) is written = tt
-  passed_spelled commands raw mark (Ok (final token body)) is written = (below_plain 1 token commands (well_read back raw (final token body) is).0.0 written, tt)
-  passed_spelled commands raw mark (Ok (progress token body)) is written = (below_plain 1 token commands (well_read back raw (progress token body) is).0.0 written, tt)
-  passed_spelled commands raw mark (Ok (not_known token)) is written = (below_plain 1 token commands (well_read back raw (not_known token) is).0.0 written, tt)
-  passed_spelled commands raw mark (Ok (event service name body)) is written = ((well_read back raw (event service name body) is).0, tt)
-  passed_spelled commands raw mark (Ok (flow level)) is written = tt
-  passed_spelled commands raw mark (Err fault) is written = tt
+passed_spelled : (commands : List Asked) (raw : List ℕ) (mark : Option ℕ) (m : Result MessageValue MessageFault) → reading raw ≡ m → AllByRecursion IsWritten commands → AreSpelled (passed_as commands mark m)
+passed_spelled commands raw mark (Ok (command token service name body)) is written = tt
+passed_spelled commands raw mark (Ok (final token body)) is written = (below_plain 1 token commands (well_read raw (final token body) is).0.0 written, tt)
+passed_spelled commands raw mark (Ok (progress token body)) is written = (below_plain 1 token commands (well_read raw (progress token body) is).0.0 written, tt)
+passed_spelled commands raw mark (Ok (not_known token)) is written = (below_plain 1 token commands (well_read raw (not_known token) is).0.0 written, tt)
+passed_spelled commands raw mark (Ok (event service name body)) is written = ((well_read raw (event service name body) is).0, tt)
+passed_spelled commands raw mark (Ok (flow level)) is written = tt
+passed_spelled commands raw mark (Err fault) is written = tt
 
-  pub tells_spelled : (commands : List Asked) (deeds : List Deed) → AllByRecursion IsWritten commands → AllByRecursion IsWritten (asked_in deeds) → AreSpelled (tells_from commands deeds)
-  tells_spelled commands [] written all = tt
-  tells_spelled commands (forwards c ∷ deeds) written all = tells_spelled (commands ++ c ∷ []) deeds (all_append IsWritten commands (c ∷ []) written (all.0, tt)) all.1
-  tells_spelled commands (answers c reply mark ∷ deeds) written all = (all.0.0.0.0, tells_spelled commands deeds written all.1)
-  tells_spelled commands (hears incoming ∷ deeds) written all =
-      all_append (λ (s : Spoken). IsSpelled s.message) (passed_as commands incoming.mark (reading incoming.raw)) (tells_from commands deeds)
-      (passed_spelled commands incoming.raw incoming.mark (reading incoming.raw) refl written) (tells_spelled commands deeds written all)
+pub tells_spelled : (commands : List Asked) (deeds : List Deed) → AllByRecursion IsWritten commands → AllByRecursion IsWritten (asked_in deeds) → AreSpelled (tells_from commands deeds)
+tells_spelled commands [] written all = tt
+tells_spelled commands (forwards c ∷ deeds) written all = tells_spelled (commands ++ c ∷ []) deeds (all_append IsWritten commands (c ∷ []) written (all.0, tt)) all.1
+tells_spelled commands (answers c reply mark ∷ deeds) written all = (all.0.0.0.0, tells_spelled commands deeds written all.1)
+tells_spelled commands (hears incoming ∷ deeds) written all =
+    all_append (λ (s : Spoken). IsSpelled s.message) (passed_as commands incoming.mark (reading incoming.raw)) (tells_from commands deeds)
+    (passed_spelled commands incoming.raw incoming.mark (reading incoming.raw) refl written) (tells_spelled commands deeds written all)
 
 -- ---- A Hello that is heard is told
 

@@ -13,7 +13,7 @@ use Rattle.tcf_values.specs.declared.command.Command.TheVariants.{Redirect, GetC
 use Rattle.value_node.specs.Asked.{Asked}
 use Rattle.value_node.specs.Barriers.{command_in}
 use Rattle.value_node.specs.Deeds.{command_asked}
-use Rattle.value_node.proofs.OwnReplies.{Names}
+use Rattle.command_tables.proofs.TheLaws.{readings_are_legal}
 use Rattle.node_answers.proofs.Adds.Failing.{redirect_read}
 
 stores_none : (command : Command) → named_as command ≡ named.Locator commands.Redirect → stores command ≡ true → ⊥
@@ -33,9 +33,9 @@ read_so service name (Known c) command is some = let same : c ≡ command = cc i
 read_so service name Unknown command is some = absurd cc
 read_so service name (Bad index code) command is some = absurd cc
 
-pub redirect_unstored : Names → (c : Asked) (command : Command) → is_redirect c.service c.name ≡ true → command_asked c ≡ Some command → stores command ≡ true → ⊥
-redirect_unstored names c command redirects read stored =
-    let one : name_in c.service c.name ≡ Some (named.Locator commands.Redirect) = redirect_read names c.service c.name redirects in
-    let two : name_in c.service c.name ≡ Some (named_as command) = read_so c.service c.name (reading_of c.service c.name c.body) command (names.legal c.service c.name c.body) read in
+pub redirect_unstored : (c : Asked) (command : Command) → is_redirect c.service c.name ≡ true → command_asked c ≡ Some command → stores command ≡ true → ⊥
+redirect_unstored c command redirects read stored =
+    let one : name_in c.service c.name ≡ Some (named.Locator commands.Redirect) = redirect_read c.service c.name redirects in
+    let two : name_in c.service c.name ≡ Some (named_as command) = read_so c.service c.name (reading_of c.service c.name c.body) command (readings_are_legal c.service c.name c.body) read in
     let same : named_as command ≡ named.Locator commands.Redirect = cc in
     stores_none command same stored

@@ -19,7 +19,8 @@ use Rattle.tcf_values.specs.declared.command.Command.TheVariants.{Sync, GetPeers
 use Rattle.value_node.specs.Own.{is_peer, own_by, own_named, own_reply, own_to, redirect_failed, unknown_peer}
 use Rattle.value_node.specs.declared.own.Own.{Own}
 use Rattle.value_node.specs.declared.own.Own.TheVariants as own
-use Rattle.value_node.proofs.OwnReplies.{Names}
+use Rattle.command_tables.proofs.TheLaws.{readings_are_legal}
+use Rattle.service_names.proofs.TheLaws.{names_are_exact}
 
 abbrev pub IsFailed : Own → Type 0
 IsFailed own.Unknown = Unit {0}
@@ -49,15 +50,14 @@ failed_by peer service name (Known c) is read = failed_to peer c (sym read.0 ∙
 failed_by peer service name IsUnknown is read = tt
 failed_by peer service name (Bad index code) is read = refl
 
-module _ (names : Names) where
-  pub redirect_read : (service name : List ℕ) → is_redirect service name ≡ true → name_in service name ≡ Some (named.Locator commands.Redirect)
-  unfolding locator redirect_name
-  redirect_read service name is =
-      let both = and_parts (bytes_eq service locator) (bytes_eq name redirect_name) is in
-      (names.exact service name (named.Locator commands.Redirect)).1 ((bytes_eq-Decides service locator).0 both.0, (bytes_eq-Decides name redirect_name).0 both.1)
+pub redirect_read : (service name : List ℕ) → is_redirect service name ≡ true → name_in service name ≡ Some (named.Locator commands.Redirect)
+unfolding locator redirect_name
+redirect_read service name is =
+    let both = and_parts (bytes_eq service locator) (bytes_eq name redirect_name) is in
+    (names_are_exact service name (named.Locator commands.Redirect)).1 ((bytes_eq-Decides service locator).0 both.0, (bytes_eq-Decides name redirect_name).0 both.1)
 
-  pub reply_failed : (peer service name body : List ℕ) → is_redirect service name ≡ true → IsFailed (own_reply peer service name body)
-  unfolding own_reply
-  reply_failed peer service name body asks =
-      let is = redirect_read service name asks in
-      subst (λ (c : Option CommandName). IsFailed (own_named peer c (reading_of service name body))) (sym is) (failed_by peer service name (reading_of service name body) is (names.legal service name body))
+pub reply_failed : (peer service name body : List ℕ) → is_redirect service name ≡ true → IsFailed (own_reply peer service name body)
+unfolding own_reply
+reply_failed peer service name body asks =
+    let is = redirect_read service name asks in
+    subst (λ (c : Option CommandName). IsFailed (own_named peer c (reading_of service name body))) (sym is) (failed_by peer service name (reading_of service name body) is (readings_are_legal service name body))

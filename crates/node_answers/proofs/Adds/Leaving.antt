@@ -4,7 +4,7 @@ use Rattle.std.specs.Prelude.{Contains, IfSome, bytes_eq, option_map, unwrap_or}
 use Rattle.std.specs.List.{filter, flat_map, list_any}
 use Rattle.std.proofs.lemmas.Bool.{or_parts}
 use Rattle.std.proofs.lemmas.List.Folds.{list_any-append}
-use Rattle.channel_core.specs.Arrivals.{AreSpoken, Spoken}
+use Rattle.channel_core.specs.Arrivals.{AreSpoken, Spoken, all_said}
 use Rattle.channel_core.specs.Closing.{is_closed}
 use Rattle.channel_core.specs.QueueLaws.{is_message}
 use Rattle.channel_core.specs.ReceivingLaws.{incoming_of}
@@ -12,7 +12,7 @@ use Rattle.channel_core.specs.RunLaws.{is_answered, token_in, unanswered}
 use Rattle.channel_core.specs.Wire.{answers, event_said, hello, is_redirect, locator, said_by}
 use Rattle.channel_core.specs.declared.states.EndState.TheVariants.{Reopening}
 use Rattle.channel_core.specs.declared.taking.Taken.{Taken}
-use Rattle.channel_laws.specs.Meeting.{all_said, answers_among, does_one, hello_behind, lacks_hello_behind, redirects_among}
+use Rattle.channel_laws.specs.Meeting.{answers_among, does_one, hello_behind, lacks_hello_behind, redirects_among}
 use Rattle.channel_laws.specs.Numbering.{TakesNumbered, tokens_among}
 use Rattle.channel_laws.specs.Rest.{answered_among, lacks_hello, lacks_hello_among}
 use Rattle.channel_laws.proofs.Rest.AllCalls.{all_pend}
@@ -30,8 +30,9 @@ use Rattle.value_node.specs.declared.states.Bind.TheVariants.{Unbound, Opening, 
 use Rattle.value_node.proofs.Holding.{Holds, issued_from}
 use Rattle.value_node.proofs.OwnAnswers.{IsLeft}
 use Rattle.node_answers.specs.Waiting.{AnswersWhatItCan, AwaitsHello, Lacks, LeavesUnanswered, WaitsFor, pending_below}
+use Rattle.value_node.proofs.TheLaws.{asks_nothing_below, ends_are_runs}
 use Rattle.node_answers.proofs.Adds.Apart.{AreApart, same_asked, tokens_of}
-use Rattle.node_answers.proofs.Adds.Bound.{Laws, accepted, apart, as_said, asked_are, few_sent, greeted, itself, queued, spelled, tells}
+use Rattle.node_answers.proofs.Adds.Bound.{accepted, apart, as_said, asked_are, few_sent, greeted, itself, queued, spelled, tells}
 use Rattle.node_answers.proofs.Adds.Bound as bound_run
 use Rattle.node_answers.proofs.Adds.BoundAnswered.{answer_told}
 use Rattle.node_answers.proofs.Adds.BoundTold.{answered_later, tells_from}
@@ -40,7 +41,7 @@ use Rattle.node_answers.proofs.Adds.LeavingPending.{is_pending, pends_still, tok
 use Rattle.node_answers.proofs.Adds.LeavingSent.{answer_untold, sent_apart, sent_asked, sent_unless_told, sent_unstored}
 use Rattle.node_answers.proofs.Adds.LeavingTokens.{IsOneOf, IsPlaced, apart_behind, one_contained, one_either, one_holds, one_left, one_of, one_placed, one_right, others_before, to_tokens}
 use Rattle.node_answers.proofs.Adds.LeavingUpper.{all_reopening}
-use Rattle.node_answers.proofs.Adds.Own.{Cited, HasSaid, LeftIn, always_said, greeting, none_left, own_formed, own_queue}
+use Rattle.node_answers.proofs.Adds.Own.{HasSaid, LeftIn, always_said, greeting, none_left, own_formed, own_queue}
 use Rattle.node_answers.proofs.Adds.Pairing.{AnswerEach, among_behind, each_among, each_at}
 use Rattle.node_answers.proofs.Adds.Replying.{clashes}
 use Rattle.node_answers.proofs.Adds.Speaking.{spoken_in}
@@ -90,7 +91,7 @@ upper_is upper (Some calls) same unclosed = same
 
 -- ---- One value-add
 
-module _ (cited : Cited) (laws : Laws) (peer : List ℕ) (calls : List Call) (numbered : TakesNumbered (below (after_all calls (no_calls peer)).past)) where
+module _ (peer : List ℕ) (calls : List Call) (numbered : TakesNumbered (below (after_all calls (no_calls peer)).past)) where
   abbrev run : ValueRun
   run = after_all calls (no_calls peer)
 
@@ -101,19 +102,19 @@ module _ (cited : Cited) (laws : Laws) (peer : List ℕ) (calls : List Call) (nu
   p = run.past
 
   abbrev h : Holds v p
-  h = bound_run.h laws peer calls
+  h = bound_run.h peer calls
 
   abbrev deeds : List Deed
-  deeds = bound_run.deeds laws peer calls
+  deeds = bound_run.deeds peer calls
 
   abbrev commands : List Asked
-  commands = bound_run.commands laws peer calls
+  commands = bound_run.commands peer calls
 
   abbrev entries : List (Taken Unit)
   entries = (below p).past.taken
 
   abbrev says : HasSaid run
-  says = always_said cited peer calls
+  says = always_said peer calls
 
   -- what it said itself, and what it says below
   abbrev own : List Spoken
@@ -122,31 +123,31 @@ module _ (cited : Cited) (laws : Laws) (peer : List ℕ) (calls : List Call) (nu
   abbrev told : List Spoken
   told = own ++ tells_from [] deeds
 
-  own_is : own ≡ (itself laws peer calls).own
+  own_is : own ≡ (itself peer calls).own
   own_is =
-      let o = itself laws peer calls in
-      same_said own o.own (own_formed run (cited.runs peer calls)) (all_left (λ (s : Spoken). IsSpelled s.message) o.own (tells_from [] deeds) (spelled laws peer calls))
-      (sym (own_queue run (cited.asks_nothing peer calls)) ∙ o.queue)
+      let o = itself peer calls in
+      same_said own o.own (own_formed run (ends_are_runs peer calls)) (all_left (λ (s : Spoken). IsSpelled s.message) o.own (tells_from [] deeds) (spelled peer calls))
+      (sym (own_queue run (asks_nothing_below peer calls)) ∙ o.queue)
 
   spoken_is : (spoken : List Spoken) → AreSpoken spoken → filter is_message (below p).past.queued ≡ all_said spoken → spoken ≡ told
   spoken_is spoken formed are =
-      same_said spoken (bound_run.spoken laws peer calls) formed (spelled laws peer calls) (sym are ∙ queued laws peer calls) ∙ ap (λ ss. ss ++ tells_from [] deeds) (sym own_is)
+      same_said spoken (bound_run.spoken peer calls) formed (spelled peer calls) (sym are ∙ queued peer calls) ∙ ap (λ ss. ss ++ tells_from [] deeds) (sym own_is)
 
   -- its commands: those that it answered itself, the one that is left, and those since it was bound
   parts : commands ≡ says.answered ++ (says.left ++ asked_in deeds)
   parts = ap (λ cs. cs ++ asked_in deeds) says.commands ∙ append_assoc says.answered says.left (asked_in deeds)
 
   all_apart : AreApart (tokens_of (says.answered ++ (says.left ++ asked_in deeds)))
-  all_apart = subst (λ cs. AreApart (tokens_of cs)) parts (apart laws peer calls numbered)
+  all_apart = subst (λ cs. AreApart (tokens_of cs)) parts (apart peer calls numbered)
 
   deeds_apart : AreApart (tokens_of (asked_in deeds))
   deeds_apart = apart_behind says.left (asked_in deeds) (apart_behind says.answered (says.left ++ asked_in deeds) all_apart)
 
   tokens_are : tokens_among (flat_map incoming_of entries) ≡ tokens_of commands
-  tokens_are = tokens_taken entries (as_said laws peer calls) ∙ ap tokens_of (asked_are laws peer calls)
+  tokens_are = tokens_taken entries (as_said peer calls) ∙ ap tokens_of (asked_are peer calls)
 
   redirects_are : redirects_among (flat_map incoming_of entries) ≡ redirects_of commands
-  redirects_are = redirects_taken entries (as_said laws peer calls) ∙ ap redirects_of (asked_are laws peer calls)
+  redirects_are = redirects_taken entries (as_said peer calls) ∙ ap redirects_of (asked_are peer calls)
 
   taken_one : (token : List ℕ) → IsOneOf token (says.left ++ asked_in deeds) → Contains (tokens_among (flat_map incoming_of entries)) token
   taken_one token one =
@@ -197,7 +198,7 @@ module _ (cited : Cited) (laws : Laws) (peer : List ℕ) (calls : List Call) (nu
     none_done : lacks_hello_behind (redirects_among (flat_map incoming_of entries)) told ≡ false
     none_done =
         ap (λ ts. lacks_hello_behind ts told) redirects_are ∙ ap (λ ss. lacks_hello_behind (redirects_of commands) ss) told_own ∙ ap (λ cs. lacks_hello_behind (redirects_of cs) own) commands_are
-        ∙ undone says.answered says.left (spoken_in p.until_bound first_end) (subst (λ cs. AreApart (tokens_of cs)) commands_are (apart laws peer calls numbered))
+        ∙ undone says.answered says.left (spoken_in p.until_bound first_end) (subst (λ cs. AreApart (tokens_of cs)) commands_are (apart peer calls numbered))
         (subst (λ b. AnswerEach b says.answered (spoken_in p.until_bound first_end)) off says.each)
 
   -- ---- While it is bound
@@ -219,13 +220,13 @@ module _ (cited : Cited) (laws : Laws) (peer : List ℕ) (calls : List Call) (nu
     pending =
         ap (λ (o : Option Upper). pending_below o) upper
         ∙ ap (λ rows. map (λ row. row.1.token) rows) (sym ((all_pend value_services None (unwrap_or p.connection [])).pending opened))
-        ∙ ap (λ is. map (λ row. row.1.token) (unanswered (record (above p).past { accepted = is }))) (accepted laws peer calls bound)
+        ∙ ap (λ is. map (λ row. row.1.token) (unanswered (record (above p).past { accepted = is }))) (accepted peer calls bound)
 
     heard_answered : (number : ℕ) → answered_among (heard_in deeds) number ≡ is_answered heard number
-    heard_answered number = ap (λ ms. answered_among ms number) h.messages ∙ sym ((tells laws peer calls).answered number)
+    heard_answered number = ap (λ ms. answered_among ms number) h.messages ∙ sym ((tells peer calls).answered number)
 
     few : (front : List Asked) (c : Asked) (back : List Asked) → sent_in deeds ≡ front ++ c ∷ back → 1 + length (front ++ c ∷ back) ≤ 2 ^ 64
-    few front c back are = subst (λ cs. 1 + length cs ≤ 2 ^ 64) are (few_sent laws peer calls bound)
+    few front c back are = subst (λ cs. 1 + length cs ≤ 2 ^ 64) are (few_sent peer calls bound)
 
     -- what was sent above and has no answer is pending
     sent_pends : (token : List ℕ) → Lacks (below p) told token → IsOneOf token (sent_in deeds) → Contains (pending_below v.upper) token
@@ -261,14 +262,14 @@ module _ (cited : Cited) (laws : Laws) (peer : List ℕ) (calls : List Call) (nu
     lacks_above : lacks_hello_behind (redirects_among (flat_map incoming_of entries)) told ≡ true → lacks_hello (above p).past.accepted heard ≡ true
     lacks_above lacks = by_flag (lacks_hello_among (issued_from 1 (sent_in deeds)) (heard_in deeds)) refl
       where
-        below_lacks : lacks_hello_behind (redirects_of commands) (bound_run.spoken laws peer calls) ≡ true
+        below_lacks : lacks_hello_behind (redirects_of commands) (bound_run.spoken peer calls) ≡ true
         below_lacks = ap (λ ss. lacks_hello_behind (redirects_of commands) (ss ++ tells_from [] deeds)) (sym own_is) ∙ ap (λ ts. lacks_hello_behind ts told) (sym redirects_are) ∙ lacks
 
         by_flag : (flag : Bool) → lacks_hello_among (issued_from 1 (sent_in deeds)) (heard_in deeds) ≡ flag → lacks_hello (above p).past.accepted heard ≡ true
         by_flag true is =
-            ap (λ is. lacks_hello is heard) (accepted laws peer calls bound) ∙ (tells laws peer calls).lacks (issued_from 1 (sent_in deeds))
+            ap (λ is. lacks_hello is heard) (accepted peer calls bound) ∙ (tells peer calls).lacks (issued_from 1 (sent_in deeds))
             ∙ ap (lacks_hello_among (issued_from 1 (sent_in deeds))) (sym h.messages) ∙ is
-        by_flag false is = absurd (clashes (lacks_hello_behind (redirects_of commands) (bound_run.spoken laws peer calls)) (greeted laws peer calls bound numbered is) below_lacks)
+        by_flag false is = absurd (clashes (lacks_hello_behind (redirects_of commands) (bound_run.spoken peer calls)) (greeted peer calls bound numbered is) below_lacks)
 
     awaits : lacks_hello_behind (redirects_among (flat_map incoming_of entries)) told ≡ true → AwaitsHello v
     awaits lacks =
@@ -334,5 +335,5 @@ module _ (cited : Cited) (laws : Laws) (peer : List ℕ) (calls : List Call) (nu
   pub leaves_unanswered : is_closed v.lower.state ≡ false → (spoken : List Spoken) → AreSpoken spoken → filter is_message (below p).past.queued ≡ all_said spoken → LeavesUnanswered run spoken
   leaves_unanswered unclosed spoken formed are = subst (LeavesUnanswered run) (sym (spoken_is spoken formed are)) (leaves v.bind refl unclosed)
 
-pub always_leaves : Cited → Laws → AfterAllCalls AnswersWhatItCan
-always_leaves cited laws peer calls unclosed numbered spoken formed are = leaves_unanswered cited laws peer calls numbered unclosed spoken formed are
+pub always_leaves : AfterAllCalls AnswersWhatItCan
+always_leaves peer calls unclosed numbered spoken formed are = leaves_unanswered peer calls numbered unclosed spoken formed are

@@ -8,13 +8,11 @@ use Rattle.std.proofs.lemmas.List.Concat.{flat_map-append}
 use Rattle.channel_core.specs.Arrivals.{AreSpoken, Spoken}
 use Rattle.channel_core.specs.Beginning.{new_end}
 use Rattle.channel_core.specs.Closing.{is_closed}
-use Rattle.channel_core.specs.QueueLaws.{ClosesOnlySo, is_commanding, is_message}
+use Rattle.channel_core.specs.QueueLaws.{is_commanding, is_message}
 use Rattle.channel_core.specs.ReceivingLaws.{SaysReadable, incoming_of}
-use Rattle.channel_core.specs.RunLaws.{AfterAllCalls as AfterEndCalls}
 use Rattle.channel_core.specs.Runs.{Run}
 use Rattle.channel_core.specs.Taking.{closes, next_taken}
 use Rattle.channel_core.specs.Wire.{answers, event_said, hello, is_redirect, locator, said, said_by}
-use Rattle.channel_core.proofs.ClosingSo.{all_close_only_so}
 use Rattle.channel_core.proofs.Sent.{all_its_messages}
 use Rattle.channel_laws.specs.Meeting.{answers_among}
 use Rattle.channel_laws.specs.Numbering.{TakesNumbered, tokens_among}
@@ -23,7 +21,7 @@ use Rattle.tcf_message.specs.Message.{IsWellFormed, event}
 use Rattle.value_node.specs.Asked.{Asked}
 use Rattle.value_node.specs.OwnLaws.{AsksNothingBelow, asked_until}
 use Rattle.value_node.specs.Passing.{Lower}
-use Rattle.value_node.specs.RelayLaws.{AfterAllCalls, EndsAreRuns, asked_by}
+use Rattle.value_node.specs.RelayLaws.{EndsAreRuns, asked_by}
 use Rattle.value_node.specs.Runs.{Call, LowerCall, Past, ValueRun, after_all, below, below_until_bound, bytes_end, comes, connects, fails, gives, is_binding, lower_after, no_calls, no_past, only_if, own_by, reconnected, remembered, turns, with_calls}
 use Rattle.value_node.specs.Value.{awaits, connected_to, new_relay, value_services}
 use Rattle.value_node.specs.ValueValue.{ValueValue}
@@ -31,9 +29,10 @@ use Rattle.value_node.specs.declared.relay.Relay.{Relay}
 use Rattle.value_node.specs.declared.states.Bind.{Bind}
 use Rattle.value_node.specs.declared.states.Bind.TheVariants.{Unbound, Opening, Bound, Closed}
 use Rattle.value_node.proofs.OwnAnswers.{IsLeft, plain, spelled}
-use Rattle.value_node.proofs.OwnReplies.{Names}
 use Rattle.value_node.proofs.Pasts.{after_both, taken_in, taken_more}
 use Rattle.value_node.proofs.Steps.{called_whole, end_ran, relay_called, whole}
+use Rattle.channel_core.proofs.TheLaws.{closes_only_so}
+use Rattle.value_node.proofs.TheLaws.{asks_nothing_below, ends_are_runs}
 use Rattle.node_answers.proofs.Adds.Apart.{AreApart, apart_left, numbered_apart, same_asked, tokens_of}
 use Rattle.node_answers.proofs.Adds.Pairing.{AnswerEach, among_behind, each_among, each_at, each_then}
 use Rattle.node_answers.proofs.Adds.Replying.{Replies, call_replies}
@@ -41,12 +40,6 @@ use Rattle.node_answers.proofs.Adds.Speaking.{sent_spelled, spoken_both, spoken_
 use Rattle.node_answers.proofs.Adds.Taken.{tokens_taken}
 use Rattle.value_node.proofs.Answering.{first_end, asked_of, asked_more}
 use Rattle.list_laws.proofs.AllLists.{all_left}
-
--- the laws that this stands on
-pub record Cited : Type 0 where
-  pub runs : AfterAllCalls EndsAreRuns
-  pub asks_nothing : AfterAllCalls AsksNothingBelow
-  pub names : Names
 
 -- what it said itself
 pub record OwnPart (r : ValueRun) : Type 0 where
@@ -108,7 +101,7 @@ IsSaying v p = Says p.until_bound v.bind v.redirect p.is_bound
 abbrev TakesClosing : Lower → Type 0
 TakesClosing e = is_closed e.state ≡ false → is_closed (next_taken e).1.state ≡ closes (next_taken e).0
 
-module _ (names : Names) (call : Call) (v : Relay) (p : Past) (ends : EndsAreRuns (record { value = whole v; past = p })) (closes_so : TakesClosing v.lower) where
+module _ (call : Call) (v : Relay) (p : Past) (ends : EndsAreRuns (record { value = whole v; past = p })) (closes_so : TakesClosing v.lower) where
   abbrev next : Relay
   next = relay_called call v
 
@@ -118,7 +111,7 @@ module _ (names : Names) (call : Call) (v : Relay) (p : Past) (ends : EndsAreRun
   says_by false off s =
       let lower : v.lower ≡ (lower_after p.until_bound).end =
       ends.lower ∙ ap (λ calls. (lower_after (p.until_bound ++ calls)).end) (ends.unbound off) ∙ ap (λ calls. (lower_after calls).end) (append-nil p.until_bound) in
-      says_more p.until_bound (own_by call v) v.lower lower v.bind next.bind v.redirect next.redirect s (call_replies names call v p s.left closes_so ends.stands off s.left_is)
+      says_more p.until_bound (own_by call v) v.lower lower v.bind next.bind v.redirect next.redirect s (call_replies call v p s.left closes_so ends.stands off s.left_is)
 
   says_called : IsSaying v p → IsSaying next (with_calls call v next p)
   says_called s = says_by p.is_bound refl s
@@ -127,36 +120,36 @@ says_connected : (flag : Bool) (v : Relay) (p : Past) → IsSaying v p → IsSay
 says_connected false v p s = s
 says_connected true v p s = s
 
-says_remembered : Names → (call : Call) (v : Relay) (p : Past) → EndsAreRuns (record { value = whole v; past = p }) → TakesClosing v.lower → IsSaying v p
+says_remembered : (call : Call) (v : Relay) (p : Past) → EndsAreRuns (record { value = whole v; past = p }) → TakesClosing v.lower → IsSaying v p
     → IsSaying (relay_called call v) (remembered call v (relay_called call v) p)
-says_remembered names (comes side piece mark) v p ends closes_so s = says_called names (comes side piece mark) v p ends closes_so s
-says_remembered names (bytes_end side) v p ends closes_so s = says_called names (bytes_end side) v p ends closes_so s
-says_remembered names (turns side) v p ends closes_so s = says_called names (turns side) v p ends closes_so s
-says_remembered names connects v p ends closes_so s = says_connected (awaits v) v p s
-says_remembered names fails v p ends closes_so s = says_called names fails v p ends closes_so s
-says_remembered names (gives side) v p ends closes_so s = says_called names (gives side) v p ends closes_so s
+says_remembered (comes side piece mark) v p ends closes_so s = says_called (comes side piece mark) v p ends closes_so s
+says_remembered (bytes_end side) v p ends closes_so s = says_called (bytes_end side) v p ends closes_so s
+says_remembered (turns side) v p ends closes_so s = says_called (turns side) v p ends closes_so s
+says_remembered connects v p ends closes_so s = says_connected (awaits v) v p s
+says_remembered fails v p ends closes_so s = says_called fails v p ends closes_so s
+says_remembered (gives side) v p ends closes_so s = says_called (gives side) v p ends closes_so s
 
 -- ---- after any calls
 
-takes_closing : AfterEndCalls {T = Unit} ClosesOnlySo → (v : Relay) (p : Past) → EndsAreRuns (record { value = whole v; past = p }) → TakesClosing v.lower
-takes_closing closing v p ends = subst TakesClosing (sym ends.lower) (closing value_services None (p.until_bound ++ p.since_bound)).by_taking
+takes_closing : (v : Relay) (p : Past) → EndsAreRuns (record { value = whole v; past = p }) → TakesClosing v.lower
+takes_closing v p ends = subst TakesClosing (sym ends.lower) (closes_only_so value_services None (p.until_bound ++ p.since_bound)).by_taking
 
 abbrev pub HasSaid : ValueRun → Type 0
 HasSaid r = IsSaying r.value.relay r.past
 
-said_from : Names → AfterEndCalls {T = Unit} ClosesOnlySo → (calls : List Call) (v : Relay) (p : Past) → ((more : List Call) → EndsAreRuns (after_all more (record { value = whole v; past = p })))
+said_from : (calls : List Call) (v : Relay) (p : Past) → ((more : List Call) → EndsAreRuns (after_all more (record { value = whole v; past = p })))
     → IsSaying v p → HasSaid (after_all calls (record { value = whole v; past = p }))
-said_from names closing [] v p ends s = s
-said_from names closing (call ∷ calls) v p ends s =
+said_from [] v p ends s = s
+said_from (call ∷ calls) v p ends s =
     let next = relay_called call v in
     let later : (more : List Call) → EndsAreRuns (after_all more (record { value = whole next; past = remembered call v next p })) = λ more.
     subst (λ (value : ValueValue). EndsAreRuns (after_all more (record { value = value; past = remembered call v value.relay p }))) (called_whole call v) (ends (call ∷ more)) in
     subst (λ (value : ValueValue). HasSaid (after_all calls (record { value = value; past = remembered call v value.relay p }))) (sym (called_whole call v))
-    (said_from names closing calls next (remembered call v next p) later (says_remembered names call v p (ends []) (takes_closing closing v p (ends [])) s))
+    (said_from calls next (remembered call v next p) later (says_remembered call v p (ends []) (takes_closing v p (ends [])) s))
 
-pub always_said : Cited → (peer : List ℕ) (calls : List Call) → HasSaid (after_all calls (no_calls peer))
-always_said cited peer calls =
-    said_from cited.names all_close_only_so calls (new_relay peer) no_past (cited.runs peer)
+pub always_said : (peer : List ℕ) (calls : List Call) → HasSaid (after_all calls (no_calls peer))
+always_said peer calls =
+    said_from calls (new_relay peer) no_past (ends_are_runs peer)
     (record { answered = []; left = []; commands = refl; each = tt; left_is = (refl, refl) })
 
 -- ---- what holds of the whole
@@ -239,7 +232,7 @@ part_of r s ends asks_nothing numbered stands =
           done_at p.is_bound s.answered spoken apart s.each before rest one c are (subst (λ cs. Contains cs c) whole_is has) asks says;
     }
 
-pub own_part : Cited → (peer : List ℕ) (calls : List Call) → TakesNumbered (below (after_all calls (no_calls peer)).past)
+pub own_part : (peer : List ℕ) (calls : List Call) → TakesNumbered (below (after_all calls (no_calls peer)).past)
     → ((after_all calls (no_calls peer)).value.relay.bind ≡ Unbound) ⊎ ((after_all calls (no_calls peer)).value.relay.bind ≡ Bound)
     → OwnPart (after_all calls (no_calls peer))
-own_part cited peer calls numbered stands = part_of (after_all calls (no_calls peer)) (always_said cited peer calls) (cited.runs peer calls) (cited.asks_nothing peer calls) numbered stands
+own_part peer calls numbered stands = part_of (after_all calls (no_calls peer)) (always_said peer calls) (ends_are_runs peer calls) (asks_nothing_below peer calls) numbered stands

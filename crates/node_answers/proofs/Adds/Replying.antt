@@ -29,7 +29,7 @@ use Rattle.value_node.specs.declared.states.Bind.{Bind}
 use Rattle.value_node.specs.declared.states.Bind.TheVariants.{Unbound, Opening, Bound, Closed}
 use Rattle.value_node.specs.declared.states.Side.TheVariants.{Below, Above}
 use Rattle.value_node.proofs.OwnAnswers.{IsLeft}
-use Rattle.value_node.proofs.OwnReplies.{IsReplyTo, Names, reply_is}
+use Rattle.value_node.proofs.OwnReplies.{IsReplyTo, reply_is}
 use Rattle.value_node.proofs.Pasts.{taken_in}
 use Rattle.value_node.proofs.Steps.{relay, relay_called}
 use Rattle.value_node.proofs.TakenBelow.{behind_takes}
@@ -108,41 +108,40 @@ own_replies token service name body mark own.Connect store peer e upper unclosed
 abbrev pub CallReplies : Call → Relay → List Asked → Type 0
 CallReplies call v left = Replies left (flat_map asked_by (taken_in (own_by call v) v.lower)) (spoken_in (own_by call v) v.lower) (relay_called call v).bind (relay_called call v).redirect
 
-module _ (names : Names) where
-  read_replies : (m : Result MessageValue MessageFault) (mark : Option ℕ) (store : StoreValue) (peer : List ℕ) (lower e : Lower) (upper : Option Upper) → is_closed e.state ≡ false
-      → Replies [] (asked_in mark m ++ []) (spoken_in (asked_below m (relay store peer Unbound lower upper None)) e)
-      (asked m mark (relay store peer Unbound e upper None)).1.bind (asked m mark (relay store peer Unbound e upper None)).1.redirect
-  read_replies (Ok (command token service name body)) mark store peer lower e upper unclosed =
-      own_replies token service name body mark (own_reply peer service name body) store peer e upper unclosed (reply_is names peer service name body) (reply_failed names peer service name body)
-  read_replies m mark store peer lower e upper unclosed = still [] Unbound None (refl, refl)
+read_replies : (m : Result MessageValue MessageFault) (mark : Option ℕ) (store : StoreValue) (peer : List ℕ) (lower e : Lower) (upper : Option Upper) → is_closed e.state ≡ false
+    → Replies [] (asked_in mark m ++ []) (spoken_in (asked_below m (relay store peer Unbound lower upper None)) e)
+    (asked m mark (relay store peer Unbound e upper None)).1.bind (asked m mark (relay store peer Unbound e upper None)).1.redirect
+read_replies (Ok (command token service name body)) mark store peer lower e upper unclosed =
+    own_replies token service name body mark (own_reply peer service name body) store peer e upper unclosed (reply_is peer service name body) (reply_failed peer service name body)
+read_replies m mark store peer lower e upper unclosed = still [] Unbound None (refl, refl)
 
-  took_replies : (what : Option (Taken Unit)) (store : StoreValue) (peer : List ℕ) (lower e : Lower) (upper : Option Upper) → is_closed e.state ≡ closes what
-      → Replies [] (flat_map asked_by (listed what)) (spoken_in (took_below_below what (relay store peer Unbound lower upper None)) e)
-      (took_any_below what (relay store peer Unbound e upper None)).1.bind (took_any_below what (relay store peer Unbound e upper None)).1.redirect
-  took_replies None store peer lower e upper unclosed = still [] Unbound None (refl, refl)
-  took_replies (Some (taken.Hello incoming)) store peer lower e upper unclosed = still [] Unbound None (refl, refl)
-  took_replies (Some (taken.Command incoming)) store peer lower e upper unclosed = read_replies (reading incoming.raw) incoming.mark store peer lower e upper unclosed
-  took_replies (Some (taken.Event incoming)) store peer lower e upper unclosed = still [] Unbound None (refl, refl)
-  took_replies (Some (taken.Progress token incoming)) store peer lower e upper unclosed = still [] Unbound None (refl, refl)
-  took_replies (Some (taken.Final tag incoming)) store peer lower e upper unclosed = still [] Unbound None (refl, refl)
-  took_replies (Some (taken.Closed cause)) store peer lower e upper unclosed = still [] Closed None (refl, refl)
+took_replies : (what : Option (Taken Unit)) (store : StoreValue) (peer : List ℕ) (lower e : Lower) (upper : Option Upper) → is_closed e.state ≡ closes what
+    → Replies [] (flat_map asked_by (listed what)) (spoken_in (took_below_below what (relay store peer Unbound lower upper None)) e)
+    (took_any_below what (relay store peer Unbound e upper None)).1.bind (took_any_below what (relay store peer Unbound e upper None)).1.redirect
+took_replies None store peer lower e upper unclosed = still [] Unbound None (refl, refl)
+took_replies (Some (taken.Hello incoming)) store peer lower e upper unclosed = still [] Unbound None (refl, refl)
+took_replies (Some (taken.Command incoming)) store peer lower e upper unclosed = read_replies (reading incoming.raw) incoming.mark store peer lower e upper unclosed
+took_replies (Some (taken.Event incoming)) store peer lower e upper unclosed = still [] Unbound None (refl, refl)
+took_replies (Some (taken.Progress token incoming)) store peer lower e upper unclosed = still [] Unbound None (refl, refl)
+took_replies (Some (taken.Final tag incoming)) store peer lower e upper unclosed = still [] Unbound None (refl, refl)
+took_replies (Some (taken.Closed cause)) store peer lower e upper unclosed = still [] Closed None (refl, refl)
 
-  below_replies : (store : StoreValue) (peer : List ℕ) (bind : Bind) (lower : Lower) (upper : Option Upper) (redirect : Option (List ℕ)) (p : Past) (left : List Asked)
-      → (is_closed lower.state ≡ false → is_closed (next_taken lower).1.state ≡ closes (next_taken lower).0)
-      → StandsWell bind (relay store peer bind lower upper redirect) p → p.is_bound ≡ false → IsLeft bind redirect left → CallReplies (turns Below) (relay store peer bind lower upper redirect) left
-  unfolding turned_below
-  below_replies store peer Unbound lower upper (Some token) p left closes_so stands off is = let clash : ◌≡◌ {A = Option (List ℕ)} (Some token) None = is.1 in absurd cc
-  below_replies store peer Unbound lower upper None p (c ∷ left) closes_so stands off is = let clash : c ∷ left ≡ [] = is.0 in absurd cc
-  below_replies store peer Unbound lower upper None p [] closes_so stands off is =
-      let next = next_taken lower in
-      let v = relay store peer Unbound lower upper None in
-      let all : flat_map asked_by (listed next.0 ++ taken_in (took_below_below next.0 v) next.1) ≡ flat_map asked_by (listed next.0) =
-      ap (λ ts. flat_map asked_by (listed next.0 ++ ts)) (behind_takes next.0 v next.1) ∙ ap (flat_map asked_by) (append-nil (listed next.0)) in
-      subst (λ xs. Replies [] xs (spoken_in (took_below_below next.0 v) next.1) (took_any_below next.0 (relay store peer Unbound next.1 upper None)).1.bind (took_any_below next.0 (relay store peer Unbound next.1 upper None)).1.redirect)
-      (sym all) (took_replies next.0 store peer lower next.1 upper (closes_so stands.0))
-  below_replies store peer Opening lower upper redirect p left closes_so stands off is = still left Opening redirect is
-  below_replies store peer Bound lower upper redirect p left closes_so stands off is = let bound : p.is_bound ≡ true = stands.2 in absurd cc
-  below_replies store peer Closed lower upper redirect p left closes_so stands off is = still left Closed redirect is
+below_replies : (store : StoreValue) (peer : List ℕ) (bind : Bind) (lower : Lower) (upper : Option Upper) (redirect : Option (List ℕ)) (p : Past) (left : List Asked)
+    → (is_closed lower.state ≡ false → is_closed (next_taken lower).1.state ≡ closes (next_taken lower).0)
+    → StandsWell bind (relay store peer bind lower upper redirect) p → p.is_bound ≡ false → IsLeft bind redirect left → CallReplies (turns Below) (relay store peer bind lower upper redirect) left
+unfolding turned_below
+below_replies store peer Unbound lower upper (Some token) p left closes_so stands off is = let clash : ◌≡◌ {A = Option (List ℕ)} (Some token) None = is.1 in absurd cc
+below_replies store peer Unbound lower upper None p (c ∷ left) closes_so stands off is = let clash : c ∷ left ≡ [] = is.0 in absurd cc
+below_replies store peer Unbound lower upper None p [] closes_so stands off is =
+    let next = next_taken lower in
+    let v = relay store peer Unbound lower upper None in
+    let all : flat_map asked_by (listed next.0 ++ taken_in (took_below_below next.0 v) next.1) ≡ flat_map asked_by (listed next.0) =
+    ap (λ ts. flat_map asked_by (listed next.0 ++ ts)) (behind_takes next.0 v next.1) ∙ ap (flat_map asked_by) (append-nil (listed next.0)) in
+    subst (λ xs. Replies [] xs (spoken_in (took_below_below next.0 v) next.1) (took_any_below next.0 (relay store peer Unbound next.1 upper None)).1.bind (took_any_below next.0 (relay store peer Unbound next.1 upper None)).1.redirect)
+    (sym all) (took_replies next.0 store peer lower next.1 upper (closes_so stands.0))
+below_replies store peer Opening lower upper redirect p left closes_so stands off is = still left Opening redirect is
+below_replies store peer Bound lower upper redirect p left closes_so stands off is = let bound : p.is_bound ≡ true = stands.2 in absurd cc
+below_replies store peer Closed lower upper redirect p left closes_so stands off is = still left Closed redirect is
 
 -- ---- from above, and by a connection that isn't made
 
@@ -200,15 +199,15 @@ connected_still : (flag : Bool) (v : Relay) (left : List Asked) → IsLeft v.bin
 connected_still true v left is = still left v.bind v.redirect is
 connected_still false v left is = still left v.bind v.redirect is
 
-pub call_replies : Names → (call : Call) (v : Relay) (p : Past) (left : List Asked) → (is_closed v.lower.state ≡ false → is_closed (next_taken v.lower).1.state ≡ closes (next_taken v.lower).0)
+pub call_replies : (call : Call) (v : Relay) (p : Past) (left : List Asked) → (is_closed v.lower.state ≡ false → is_closed (next_taken v.lower).1.state ≡ closes (next_taken v.lower).0)
     → StandsWell v.bind v p → p.is_bound ≡ false → IsLeft v.bind v.redirect left → CallReplies call v left
-call_replies names (comes Below piece mark) v p left closes_so stands off is = still left v.bind v.redirect is
-call_replies names (comes Above piece mark) v p left closes_so stands off is = still left v.bind v.redirect is
-call_replies names (bytes_end Below) v p left closes_so stands off is = still left v.bind v.redirect is
-call_replies names (bytes_end Above) v p left closes_so stands off is = still left v.bind v.redirect is
-call_replies names (turns Below) v p left closes_so stands off is = below_replies names v.store v.peer v.bind v.lower v.upper v.redirect p left closes_so stands off is
-call_replies names (turns Above) v p left closes_so stands off is = above_replies v.store v.peer v.bind v.lower v.upper v.redirect p left stands off is
-call_replies names connects v p left closes_so stands off is = connected_still (awaits v) v left is
-call_replies names fails v p left closes_so stands off is = failed_replies (awaits v) v.store v.peer v.bind v.lower v.upper v.redirect p left refl stands off is
-call_replies names (gives Below) v p left closes_so stands off is = still left v.bind v.redirect is
-call_replies names (gives Above) v p left closes_so stands off is = still left v.bind v.redirect is
+call_replies (comes Below piece mark) v p left closes_so stands off is = still left v.bind v.redirect is
+call_replies (comes Above piece mark) v p left closes_so stands off is = still left v.bind v.redirect is
+call_replies (bytes_end Below) v p left closes_so stands off is = still left v.bind v.redirect is
+call_replies (bytes_end Above) v p left closes_so stands off is = still left v.bind v.redirect is
+call_replies (turns Below) v p left closes_so stands off is = below_replies v.store v.peer v.bind v.lower v.upper v.redirect p left closes_so stands off is
+call_replies (turns Above) v p left closes_so stands off is = above_replies v.store v.peer v.bind v.lower v.upper v.redirect p left stands off is
+call_replies connects v p left closes_so stands off is = connected_still (awaits v) v left is
+call_replies fails v p left closes_so stands off is = failed_replies (awaits v) v.store v.peer v.bind v.lower v.upper v.redirect p left refl stands off is
+call_replies (gives Below) v p left closes_so stands off is = still left v.bind v.redirect is
+call_replies (gives Above) v p left closes_so stands off is = still left v.bind v.redirect is

@@ -15,14 +15,8 @@ use Rattle.value_node.proofs.Steps.{ran}
 use Rattle.list_laws.proofs.AllLists.{all_append}
 
 abbrev pub spoken_by : LowerCall → Lower → List Spoken
-spoken_by (delivering piece mark) e = []
-spoken_by ending e = []
-spoken_by taking e = []
-spoken_by (commanding service name body tag mark) e = []
 spoken_by (sending message mark) e = if is_closed e.state then [] else (record { message = message_of message; mark = mark }) ∷ []
-spoken_by putting_out e = []
-spoken_by closing e = []
-spoken_by draining e = []
+spoken_by _ e = []
 
 abbrev pub spoken_in : List LowerCall → Lower → List Spoken
 spoken_in [] e = []

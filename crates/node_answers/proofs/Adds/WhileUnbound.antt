@@ -16,7 +16,8 @@ use Rattle.value_node.specs.Runs.{LowerCall, ValueRun, after_all, below, below_u
 use Rattle.value_node.specs.Value.{value_services}
 use Rattle.value_node.specs.declared.states.Bind.TheVariants.{Unbound}
 use Rattle.node_answers.specs.Answering.{AnswersUnbound}
-use Rattle.node_answers.proofs.Adds.Own.{Cited, OwnPart, own_part}
+use Rattle.value_node.proofs.TheLaws.{ends_are_runs}
+use Rattle.node_answers.proofs.Adds.Own.{OwnPart, own_part}
 use Rattle.node_answers.proofs.Adds.Replying.{clashes}
 use Rattle.node_answers.proofs.Adds.Taken.{redirects_of, redirects_taken, taken_answered}
 
@@ -90,5 +91,5 @@ unbound_all r ends unbound o =
       }),
     )
 
-pub always_answers_unbound : Cited → AfterAllCalls AnswersUnbound
-always_answers_unbound cited peer calls unbound numbered = unbound_all (after_all calls (no_calls peer)) (cited.runs peer calls) unbound (own_part cited peer calls numbered (inl unbound))
+pub always_answers_unbound : AfterAllCalls AnswersUnbound
+always_answers_unbound peer calls unbound numbered = unbound_all (after_all calls (no_calls peer)) (ends_are_runs peer calls) unbound (own_part peer calls numbered (inl unbound))

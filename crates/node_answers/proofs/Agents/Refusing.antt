@@ -8,7 +8,7 @@ use Rattle.command_tables.specs.declared.reading.Reading.{Reading}
 use Rattle.command_tables.specs.declared.reading.Reading.TheVariants as readings
 use Rattle.reply_tables.specs.Rows.{row_named}
 use Rattle.reply_tables.specs.Written.{answer_data, refusal_data}
-use Rattle.service_names.specs.Commands.{NamesAreExact, name_in, named_as}
+use Rattle.service_names.specs.Commands.{name_in, named_as}
 use Rattle.service_names.specs.declared.commands.CommandName.{CommandName}
 use Rattle.service_names.specs.declared.commands.CommandName.TheVariants as service
 use Rattle.service_names.specs.declared.commands.LocatorCommand.TheVariants as commands
@@ -20,6 +20,7 @@ use Rattle.target_hub.specs.declared.done.Answered.{Answered}
 use Rattle.target_hub.specs.declared.done.Answered.TheVariants.{Result, Unknown}
 use Rattle.target_hub.specs.declared.target.Target.{Target}
 use Rattle.list_laws.proofs.Flags.{and_parts}
+use Rattle.service_names.proofs.TheLaws.{names_are_exact}
 
 -- an answer with data has an error
 abbrev pub Refuses : Answered → Type 0
@@ -30,11 +31,11 @@ Refuses (Result body) = is_done body ≡ false
 refused_undone : (code : ℕ) → is_done (refusal_data (row_named (service.Locator commands.Redirect)) code) ≡ false
 refused_undone code = refl
 
-names_redirect : NamesAreExact → (service_is name : List ℕ) → is_redirect service_is name ≡ true → name_in service_is name ≡ Some (service.Locator commands.Redirect)
+names_redirect : (service_is name : List ℕ) → is_redirect service_is name ≡ true → name_in service_is name ≡ Some (service.Locator commands.Redirect)
 unfolding locator redirect_name
-names_redirect exact service_is name is =
+names_redirect service_is name is =
     let parts = and_parts (bytes_eq service_is locator) (bytes_eq name redirect_name) is in
-    (exact service_is name (service.Locator commands.Redirect)).1 ((bytes_eq-Decides service_is locator).0 parts.0, (bytes_eq-Decides name redirect_name).0 parts.1)
+    (names_are_exact service_is name (service.Locator commands.Redirect)).1 ((bytes_eq-Decides service_is locator).0 parts.0, (bytes_eq-Decides name redirect_name).0 parts.1)
 
 known_undone : (channel : ℕ) (command : Command) (target : Target) → named_as command ≡ service.Locator commands.Redirect → is_done (answer_data command (exec_effect channel command target).answer) ≡ false
 unfolding exec_effect
@@ -44,12 +45,12 @@ known_undone channel command target is = absurd cc
 refusal_undone : (named : Option CommandName) (code : ℕ) → named ≡ Some (service.Locator commands.Redirect) → Refuses (refusal named code)
 refusal_undone named code is = subst (λ n. Refuses (refusal n code)) (sym is) (refused_undone code)
 
-pub redirect_refused : NamesAreExact → (channel : ℕ) (service_is name : List ℕ) (reading : Reading) (target : Target) → IsReading service_is name reading → is_redirect service_is name ≡ true
+pub redirect_refused : (channel : ℕ) (service_is name : List ℕ) (reading : Reading) (target : Target) → IsReading service_is name reading → is_redirect service_is name ≡ true
     → Refuses (executed channel service_is name reading target).answer
-redirect_refused exact channel service_is name (readings.Known command) target read is =
-    let both : Some (named_as command) ≡ Some (service.Locator commands.Redirect) = sym read.0 ∙ names_redirect exact service_is name is in
+redirect_refused channel service_is name (readings.Known command) target read is =
+    let both : Some (named_as command) ≡ Some (service.Locator commands.Redirect) = sym read.0 ∙ names_redirect service_is name is in
     let same : named_as command ≡ service.Locator commands.Redirect = cc in
     known_undone channel command target same
-redirect_refused exact channel service_is name readings.Unknown target read is = tt
-redirect_refused exact channel service_is name (readings.Bad index code) target read is =
-    refusal_undone (name_in service_is name) code (names_redirect exact service_is name is)
+redirect_refused channel service_is name readings.Unknown target read is = tt
+redirect_refused channel service_is name (readings.Bad index code) target read is =
+    refusal_undone (name_in service_is name) code (names_redirect service_is name is)

@@ -7,7 +7,6 @@ use Rattle.channel_core.specs.Runs.{Call as EndCall, delivering, ending, putting
 use Rattle.channel_core.specs.declared.taking.Taken.{Taken}
 use Rattle.channel_core.specs.declared.taking.Taken.TheVariants as taken
 use Rattle.command_tables.specs.Reading.{reading_of}
-use Rattle.command_tables.specs.ReadingLaws.{ReadingsAreLegal}
 use Rattle.target_contexts.specs.declared.process.Image.{Image}
 use Rattle.target_hub.specs.Answering.{executed}
 use Rattle.target_hub.specs.Passing.{closed_told, tick_told}
@@ -19,19 +18,22 @@ use Rattle.target_hub.specs.declared.done.Done.{Done}
 use Rattle.target_hub.specs.declared.input.Input.{Input}
 use Rattle.target_hub.specs.declared.input.Input.TheVariants.{Closed, Executed, Opened, Ticked}
 use Rattle.target_hub.specs.declared.target.Target.{Target}
-use Rattle.tcf_message.specs.Fault.{IsReadBack}
 use Rattle.tcf_message.specs.Message.{IsToken, MessageValue, command, event, final, flow, most_body, not_known, progress, reading}
 use Rattle.tcf_message.specs.declared.message.MessageFault.{MessageFault}
 use Rattle.tcf_values.specs.declared.event.EventData.{EventData}
 use Rattle.tcf_values.specs.declared.ids.ContextId.{ContextId}
 use Rattle.agent_node.specs.Agent.{done_by, going_tells, instruction_tells, is_full, is_refused, opened, read_as, ticked, turned}
-use Rattle.agent_node.specs.AgentLaws.{AgentFollowsHistory, AgentTellsTheTruth}
+use Rattle.agent_node.specs.AgentLaws.{AgentFollowsHistory}
 use Rattle.agent_node.specs.AgentValue.{AgentValue}
 use Rattle.agent_node.specs.Runs.{AgentRun, Call, Past, after_all, after_call, answer_calls, answer_of, answered_by, asked_by, bytes_end, comes, event_call, gives, hearing, input_by, input_if, input_of, next_of, no_calls, on_number, on_one, on_open, opens, progress_call, ticked_by, ticks, took_by, turns, with_calls}
 use Rattle.agent_node.specs.declared.agent.Turned.{Turned}
 use Rattle.agent_node.specs.declared.agent.Turned.TheVariants.{Nothing, Took}
+use Rattle.agent_node.proofs.TheLaws.{agent_tells_the_truth}
+use Rattle.command_tables.proofs.TheLaws.{readings_are_legal}
+use Rattle.target_hub.proofs.TheLaws.{answers_are_sendable, closings_tell_sendable, commands_tell_sendable, stays_bounded, ticks_tell_sendable}
+use Rattle.tcf_message.proofs.TheLaws.{read_back}
 use Rattle.node_answers.proofs.Agents.Pasts.{each_called, number_called, open_called, opened_called, unless_called, with_called}
-use Rattle.node_answers.proofs.Agents.Telling.{TargetLaws, progress_size}
+use Rattle.node_answers.proofs.Agents.Telling.{progress_size}
 use Rattle.list_laws.proofs.Flags.{or_right as or_second}
 
 -- a call of the agent's end
@@ -137,105 +139,98 @@ reached_more images r more reached = record {
 abbrev AreSent : List Past → Type 0
 AreSent pasts = AllByRecursion (λ past. ArePlain past.calls) pasts
 
-pub record SendingLaws : Type 0 where
-  pub truth : AgentTellsTheTruth
-  pub back : IsReadBack
-  pub reads : ReadingsAreLegal
-  pub target : TargetLaws
+events_plain : (position : ℕ) (events : List EventData) → AreSendable events → ArePlain (map (event_call position) events)
+events_plain position [] each = tt
+events_plain position (first ∷ events) each = ((((each.0.service, each.0.name), each.0.size), refl), events_plain position events each.1)
 
-module _ (laws : SendingLaws) where
-  events_plain : (position : ℕ) (events : List EventData) → AreSendable events → ArePlain (map (event_call position) events)
-  events_plain position [] each = tt
-  events_plain position (first ∷ events) each = ((((each.0.service, each.0.name), each.0.size), refl), events_plain position events each.1)
+hearing_plain : (events : List EventData) (position : ℕ) (pasts : List Past) → AreSendable events → AreSent pasts → AreSent (hearing events position pasts)
+hearing_plain events position pasts sendable each = each_called IsPlain (with_calls (map (event_call position) events)) (with_called IsPlain (map (event_call position) events) (events_plain position events sendable)) pasts each
 
-  hearing_plain : (events : List EventData) (position : ℕ) (pasts : List Past) → AreSendable events → AreSent pasts → AreSent (hearing events position pasts)
-  hearing_plain events position pasts sendable each = each_called IsPlain (with_calls (map (event_call position) events)) (with_called IsPlain (map (event_call position) events) (events_plain position events sendable)) pasts each
+answer_plain : (token : List ℕ) (position : ℕ) (answer : Answered) → IsToken token → IsSendable answer → IsPlain (sending (answer_of token answer) (Some position))
+answer_plain token position Unknown is sendable = let none : 0 ≤ most_body = omega arith in ((is, none), refl)
+answer_plain token position (IsResult body) is sendable = ((is, sendable), refl)
 
-  answer_plain : (token : List ℕ) (position : ℕ) (answer : Answered) → IsToken token → IsSendable answer → IsPlain (sending (answer_of token answer) (Some position))
-  answer_plain token position Unknown is sendable = let none : 0 ≤ most_body = omega arith in ((is, none), refl)
-  answer_plain token position (IsResult body) is sendable = ((is, sendable), refl)
+answers_plain : (token : List ℕ) (position : ℕ) (addresses : List ℕ) (answer : Answered) → IsToken token → IsSendable answer
+    → ArePlain (map (progress_call token position) addresses ++ sending (answer_of token answer) (Some position) ∷ [])
+answers_plain token position [] answer is sendable = (answer_plain token position answer is sendable, tt)
+answers_plain token position (address ∷ addresses) answer is sendable = (((is, progress_size address), refl), answers_plain token position addresses answer is sendable)
 
-  answers_plain : (token : List ℕ) (position : ℕ) (addresses : List ℕ) (answer : Answered) → IsToken token → IsSendable answer
-      → ArePlain (map (progress_call token position) addresses ++ sending (answer_of token answer) (Some position) ∷ [])
-  answers_plain token position [] answer is sendable = (answer_plain token position answer is sendable, tt)
-  answers_plain token position (address ∷ addresses) answer is sendable = (((is, progress_size address), refl), answers_plain token position addresses answer is sendable)
+done_is : (k : ℕ) (service name body : List ℕ) (target : Target) → done_by k service name (read_as service name body) target ≡ executed k service name (reading_of service name body) target
+unfolding done_by read_as
+done_is k service name body target = refl
 
-  done_is : (k : ℕ) (service name body : List ℕ) (target : Target) → done_by k service name (read_as service name body) target ≡ executed k service name (reading_of service name body) target
-  unfolding done_by read_as
-  done_is k service name body target = refl
+going_is : (k : ℕ) (target : Target) → going_tells k target ≡ closed_told k target
+unfolding going_tells
+going_is k target = refl
 
-  going_is : (k : ℕ) (target : Target) → going_tells k target ≡ closed_told k target
-  unfolding going_tells
-  going_is k target = refl
+instruction_is : (thread : ContextId) (target : Target) → instruction_tells thread target ≡ tick_told thread target
+unfolding instruction_tells
+instruction_is thread target = refl
 
-  instruction_is : (thread : ContextId) (target : Target) → instruction_tells thread target ≡ tick_told thread target
-  unfolding instruction_tells
-  instruction_is thread target = refl
+token_of : (raw token service name body : List ℕ) → reading raw ≡ Ok (command token service name body) → IsToken token
+token_of raw token service name body is = ((read_back.0 raw (command token service name body)).0 is).0.0.0
 
-  token_of : (raw token service name body : List ℕ) → reading raw ≡ Ok (command token service name body) → IsToken token
-  token_of raw token service name body is = ((laws.back.0 raw (command token service name body)).0 is).0.0.0
+asked_plain : (k : ℕ) (raw : List ℕ) (what : Result MessageValue MessageFault) (a : AgentValue) (pasts : List Past) → reading raw ≡ what → IsBounded a.target → AreSent pasts → AreSent (asked_by k what a pasts)
+asked_plain k raw (Ok (command token service name body)) a pasts is bounded each =
+    let read = reading_of service name body in
+    let done = executed k service name read a.target in
+    let P : Done → Type 0 = λ d. AreSent (answered_by k token (a.position + 1) d pasts) in
+    subst P (sym (done_is k service name body a.target))
+    (each_called IsPlain (on_number k (answer_calls token (a.position + 1) done))
+    (number_called IsPlain k (answer_calls token (a.position + 1) done)
+    (answers_plain token (a.position + 1) done.progress done.answer (token_of raw token service name body is) (answers_are_sendable k service name read a.target bounded)))
+    (hearing done.events (a.position + 1) pasts)
+    (hearing_plain done.events (a.position + 1) pasts (commands_tell_sendable k service name read a.target (readings_are_legal service name body) bounded) each))
+asked_plain k raw (Ok (final token body)) a pasts is bounded each = each
+asked_plain k raw (Ok (progress token body)) a pasts is bounded each = each
+asked_plain k raw (Ok (not_known token)) a pasts is bounded each = each
+asked_plain k raw (Ok (event service name body)) a pasts is bounded each = each
+asked_plain k raw (Ok (flow level)) a pasts is bounded each = each
+asked_plain k raw (Err fault) a pasts is bounded each = each
 
-  asked_plain : (k : ℕ) (raw : List ℕ) (what : Result MessageValue MessageFault) (a : AgentValue) (pasts : List Past) → reading raw ≡ what → IsBounded a.target → AreSent pasts → AreSent (asked_by k what a pasts)
-  asked_plain k raw (Ok (command token service name body)) a pasts is bounded each =
-      let read = reading_of service name body in
-      let done = executed k service name read a.target in
-      let P : Done → Type 0 = λ d. AreSent (answered_by k token (a.position + 1) d pasts) in
-      subst P (sym (done_is k service name body a.target))
-      (each_called IsPlain (on_number k (answer_calls token (a.position + 1) done))
-      (number_called IsPlain k (answer_calls token (a.position + 1) done)
-      (answers_plain token (a.position + 1) done.progress done.answer (token_of raw token service name body is) (laws.target.answers k service name read a.target bounded)))
-      (hearing done.events (a.position + 1) pasts)
-      (hearing_plain done.events (a.position + 1) pasts (laws.target.commands k service name read a.target (laws.reads service name body) bounded) each))
-  asked_plain k raw (Ok (final token body)) a pasts is bounded each = each
-  asked_plain k raw (Ok (progress token body)) a pasts is bounded each = each
-  asked_plain k raw (Ok (not_known token)) a pasts is bounded each = each
-  asked_plain k raw (Ok (event service name body)) a pasts is bounded each = each
-  asked_plain k raw (Ok (flow level)) a pasts is bounded each = each
-  asked_plain k raw (Err fault) a pasts is bounded each = each
+took_plain : (k : ℕ) (what : Option (Taken Unit)) (a : AgentValue) (pasts : List Past) → IsBounded a.target → AreSent pasts → AreSent (took_by k what a pasts)
+took_plain k None a pasts bounded each = each
+took_plain k (Some (taken.Command incoming)) a pasts bounded each = asked_plain k incoming.raw (reading incoming.raw) a pasts refl bounded each
+took_plain k (Some (taken.Closed cause)) a pasts bounded each =
+    hearing_plain (going_tells k a.target) (a.position + 1) pasts (subst AreSendable (sym (going_is k a.target)) (closings_tell_sendable k a.target bounded)) each
+took_plain k (Some (taken.Hello incoming)) a pasts bounded each = each
+took_plain k (Some (taken.Event incoming)) a pasts bounded each = each
+took_plain k (Some (taken.Progress token incoming)) a pasts bounded each = each
+took_plain k (Some (taken.Final tag incoming)) a pasts bounded each = each
 
-  took_plain : (k : ℕ) (what : Option (Taken Unit)) (a : AgentValue) (pasts : List Past) → IsBounded a.target → AreSent pasts → AreSent (took_by k what a pasts)
-  took_plain k None a pasts bounded each = each
-  took_plain k (Some (taken.Command incoming)) a pasts bounded each = asked_plain k incoming.raw (reading incoming.raw) a pasts refl bounded each
-  took_plain k (Some (taken.Closed cause)) a pasts bounded each =
-      hearing_plain (going_tells k a.target) (a.position + 1) pasts (subst AreSendable (sym (going_is k a.target)) (laws.target.closings k a.target bounded)) each
-  took_plain k (Some (taken.Hello incoming)) a pasts bounded each = each
-  took_plain k (Some (taken.Event incoming)) a pasts bounded each = each
-  took_plain k (Some (taken.Progress token incoming)) a pasts bounded each = each
-  took_plain k (Some (taken.Final tag incoming)) a pasts bounded each = each
+ticked_plain : (told : Option (List EventData)) (a : AgentValue) (pasts : List Past) → IfSome told AreSendable → AreSent pasts → AreSent (ticked_by told a pasts)
+ticked_plain None a pasts sendable each = each
+ticked_plain (Some events) a pasts sendable each = hearing_plain events (a.position + 1) pasts sendable each
 
-  ticked_plain : (told : Option (List EventData)) (a : AgentValue) (pasts : List Past) → IfSome told AreSendable → AreSent pasts → AreSent (ticked_by told a pasts)
-  ticked_plain None a pasts sendable each = each
-  ticked_plain (Some events) a pasts sendable each = hearing_plain events (a.position + 1) pasts sendable each
+call_plain : (call : Call) (r : AgentRun) → IsBounded r.agent.target → AreSent r.channels → AreSent (after_call call r).channels
+call_plain (opens k) r bounded each = opened_called IsPlain (opened k r.agent).0 k r.agent r.channels each
+call_plain (comes k piece) r bounded each = each_called IsPlain (on_open k (delivering piece None ∷ [])) (open_called IsPlain k (delivering piece None ∷ []) ((tt, refl), tt)) r.channels each
+call_plain (bytes_end k) r bounded each = each_called IsPlain (on_number k (ending ∷ [])) (number_called IsPlain k (ending ∷ []) ((tt, refl), tt)) r.channels each
+call_plain (turns k) r bounded each =
+    let took = on_one k (taking ∷ []) r.channels in
+    unless_called IsPlain (is_full r.agent) r.channels (took_by k (next_of r.channels k) r.agent took) each
+    (took_plain k (next_of r.channels k) r.agent took bounded (each_called IsPlain (on_number k (taking ∷ [])) (number_called IsPlain k (taking ∷ []) ((tt, refl), tt)) r.channels each))
+call_plain (ticks thread) r bounded each =
+    unless_called IsPlain (is_full r.agent) r.channels (ticked_by (instruction_tells thread r.agent.target) r.agent r.channels) each
+    (ticked_plain (instruction_tells thread r.agent.target) r.agent r.channels
+    (subst (λ o. IfSome o AreSendable) (sym (instruction_is thread r.agent.target)) (ticks_tell_sendable thread r.agent.target bounded)) each)
+call_plain (gives k) r bounded each = each_called IsPlain (on_number k (putting_out ∷ [])) (number_called IsPlain k (putting_out ∷ []) ((tt, refl), tt)) r.channels each
 
-  call_plain : (call : Call) (r : AgentRun) → IsBounded r.agent.target → AreSent r.channels → AreSent (after_call call r).channels
-  call_plain (opens k) r bounded each = opened_called IsPlain (opened k r.agent).0 k r.agent r.channels each
-  call_plain (comes k piece) r bounded each = each_called IsPlain (on_open k (delivering piece None ∷ [])) (open_called IsPlain k (delivering piece None ∷ []) ((tt, refl), tt)) r.channels each
-  call_plain (bytes_end k) r bounded each = each_called IsPlain (on_number k (ending ∷ [])) (number_called IsPlain k (ending ∷ []) ((tt, refl), tt)) r.channels each
-  call_plain (turns k) r bounded each =
-      let took = on_one k (taking ∷ []) r.channels in
-      unless_called IsPlain (is_full r.agent) r.channels (took_by k (next_of r.channels k) r.agent took) each
-      (took_plain k (next_of r.channels k) r.agent took bounded (each_called IsPlain (on_number k (taking ∷ [])) (number_called IsPlain k (taking ∷ []) ((tt, refl), tt)) r.channels each))
-  call_plain (ticks thread) r bounded each =
-      unless_called IsPlain (is_full r.agent) r.channels (ticked_by (instruction_tells thread r.agent.target) r.agent r.channels) each
-      (ticked_plain (instruction_tells thread r.agent.target) r.agent r.channels
-      (subst (λ o. IfSome o AreSendable) (sym (instruction_is thread r.agent.target)) (laws.target.ticks thread r.agent.target bounded)) each)
-  call_plain (gives k) r bounded each = each_called IsPlain (on_number k (putting_out ∷ [])) (number_called IsPlain k (putting_out ∷ []) ((tt, refl), tt)) r.channels each
+pub record Stays (r : AgentRun) : Type 0 where
+  pub few : length r.history < 2 ^ 64
+  pub plain : AreSent r.channels
 
-  pub record Stays (r : AgentRun) : Type 0 where
-    pub few : length r.history < 2 ^ 64
-    pub plain : AreSent r.channels
+call_stays : (images : List Image) (call : Call) (r : AgentRun) → Reached images r → Stays r → Stays (after_call call r)
+call_stays images call r reached s =
+    let f : AgentFollowsHistory images r = subst (AgentFollowsHistory images) reached.is (agent_tells_the_truth images reached.calls) in
+    record {
+      few = input_fits call r.agent r.history f.position s.few;
+      plain = call_plain call r (subst IsBounded (sym f.target) (stays_bounded images r.history f.legal)) s.plain;
+    }
 
-  call_stays : (images : List Image) (call : Call) (r : AgentRun) → Reached images r → Stays r → Stays (after_call call r)
-  call_stays images call r reached s =
-      let f : AgentFollowsHistory images r = subst (AgentFollowsHistory images) reached.is (laws.truth images reached.calls) in
-      record {
-        few = input_fits call r.agent r.history f.position s.few;
-        plain = call_plain call r (subst IsBounded (sym f.target) (laws.target.bounded images r.history f.legal)) s.plain;
-      }
+calls_stay : (images : List Image) (calls : List Call) (r : AgentRun) → Reached images r → Stays r → Stays (after_all calls r)
+calls_stay images [] r reached s = s
+calls_stay images (call ∷ calls) r reached s = calls_stay images calls (after_call call r) (reached_more images r (call ∷ []) reached) (call_stays images call r reached s)
 
-  calls_stay : (images : List Image) (calls : List Call) (r : AgentRun) → Reached images r → Stays r → Stays (after_all calls r)
-  calls_stay images [] r reached s = s
-  calls_stay images (call ∷ calls) r reached s = calls_stay images calls (after_call call r) (reached_more images r (call ∷ []) reached) (call_stays images call r reached s)
-
-  pub all_stay : (images : List Image) (calls : List Call) → Stays (after_all calls (no_calls images))
-  all_stay images calls = let none : 0 < 2 ^ 64 = omega arith in calls_stay images calls (no_calls images) (record { calls = []; is = refl }) (record { few = none; plain = tt })
+pub all_stay : (images : List Image) (calls : List Call) → Stays (after_all calls (no_calls images))
+all_stay images calls = let none : 0 < 2 ^ 64 = omega arith in calls_stay images calls (no_calls images) (record { calls = []; is = refl }) (record { few = none; plain = tt })

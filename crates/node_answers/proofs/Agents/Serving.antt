@@ -6,26 +6,22 @@ use Rattle.agent_node.specs.Runs.{Past, after_all, no_calls, run_of}
 use Rattle.node_answers.specs.AgentAnswering.{ServesAll, ServesAllAfterAnyCalls}
 use Rattle.channel_core.specs.Arrivals.{Spoken}
 use Rattle.channel_core.specs.ReceivingLaws.{incoming_of}
-use Rattle.channel_core.specs.RunLaws.{AfterAllCalls}
 use Rattle.channel_core.specs.declared.held.Incoming.{Incoming}
 use Rattle.channel_laws.specs.Meeting.{AnswersAll, lacks_hello_behind}
 use Rattle.channel_laws.specs.Numbering.{TakesNumbered, tokens_from}
-use Rattle.channel_laws.specs.Rest.{TakesAsSaid}
 use Rattle.target_contexts.specs.declared.process.Image.{Image}
 use Rattle.target_hub.specs.History.{IsLegal}
 use Rattle.target_hub.specs.Sent.{Told, agent_services, executed_on, sent}
 use Rattle.target_hub.specs.declared.input.Input.{Input}
 use Rattle.tcf_message.specs.Message.{IsToken}
+use Rattle.agent_node.proofs.TheLaws.{agent_tells_the_truth}
+use Rattle.channel_laws.proofs.TheLaws.{takes_as_said}
 use Rattle.node_answers.proofs.Agents.Numbered.{all_apart, redirect_of}
-use Rattle.node_answers.proofs.Agents.Sending.{ArePlain, SendingLaws, all_stay, executed_fits, plain_commands, plain_readable}
+use Rattle.node_answers.proofs.Agents.Sending.{ArePlain, all_stay, executed_fits, plain_commands, plain_readable}
 use Rattle.node_answers.proofs.Agents.Spoken.{AreAnswered, said_spoken, told_answered, told_does_none, told_formed, told_to}
 use Rattle.node_answers.proofs.Agents.Taken.{all_answered, all_named, asked_among, asked_same, redirects_same, tokens_same}
 use Rattle.node_answers.proofs.Agents.Telling.{Come, agent_hello, all_come}
 use Rattle.list_laws.proofs.AllLists.{all_both}
-
-pub record Laws : Type 0 where
-  pub sending : SendingLaws
-  pub taken : AfterAllCalls {T = Unit} TakesAsSaid
 
 same_length : (commands : List Asked) → length (tokens commands) ≡ length commands
 same_length [] = refl
@@ -35,7 +31,7 @@ read_length : (commands : List Asked) → length (map read commands) ≡ length 
 read_length [] = refl
 read_length (c ∷ commands) = ap suc (read_length commands)
 
-module _ (laws : Laws) (images : List Image) (history : List Input) (few : length history < 2 ^ 64) (legal : IsLegal images history) (past : Past) (follows : FollowsHistory images history past) where
+module _ (images : List Image) (history : List Input) (few : length history < 2 ^ 64) (legal : IsLegal images history) (past : Past) (follows : FollowsHistory images history past) where
   asked_are : List Asked
   asked_are = asked (run_of past)
 
@@ -48,11 +44,11 @@ module _ (laws : Laws) (images : List Image) (history : List Input) (few : lengt
   -- the commands are those that the messages are
   same_asked : asked_among messages ≡ asked_are
   unfolding messages asked_are
-  same_asked = asked_same (run_of past).past.taken (laws.taken agent_services (Some past.position) past.calls)
+  same_asked = asked_same (run_of past).past.taken (takes_as_said agent_services (Some past.position) past.calls)
 
   come : Come (map read asked_are) told
   unfolding asked_are told
-  come = subst (λ cs. Come cs (sent images past.number history)) follows.executed (all_come laws.sending.target images history past.number legal)
+  come = subst (λ cs. Come cs (sent images past.number history)) follows.executed (all_come images history past.number legal)
 
   few_asked : length asked_are < 2 ^ 64
   unfolding asked_are
@@ -65,7 +61,7 @@ module _ (laws : Laws) (images : List Image) (history : List Input) (few : lengt
   spoken = told_to asked_are told
 
   named : AllByRecursion (λ c. IsToken c.token) asked_are
-  named = subst (AllByRecursion (λ c. IsToken c.token)) same_asked (all_named laws.sending.back messages)
+  named = subst (AllByRecursion (λ c. IsToken c.token)) same_asked (all_named messages)
 
   numbered : TakesNumbered (run_of past) → tokens asked_are ≡ tokens_from 1 (length asked_are)
   unfolding messages
@@ -86,17 +82,17 @@ module _ (laws : Laws) (images : List Image) (history : List Input) (few : lengt
     },
   )
 
-serves : (laws : Laws) (images : List Image) (history : List Input) → length history < 2 ^ 64 → IsLegal images history → (past : Past) → FollowsHistory images history past → ArePlain past.calls → ServesAll past
-serves laws images history few legal past follows plain = record {
+serves : (images : List Image) (history : List Input) → length history < 2 ^ 64 → IsLegal images history → (past : Past) → FollowsHistory images history past → ArePlain past.calls → ServesAll past
+serves images history few legal past follows plain = record {
   formed = agent_hello;
   readable = plain_readable past.calls plain;
   asks_nothing = plain_commands past.calls plain;
-  answers = answers_all laws images history few legal past follows;
+  answers = answers_all images history few legal past follows;
 }
 
-pub serves_all : Laws → ServesAllAfterAnyCalls
-serves_all laws images calls =
+pub serves_all : ServesAllAfterAnyCalls
+serves_all images calls =
     let r = after_all calls (no_calls images) in
-    let f = laws.sending.truth images calls in
-    let s = all_stay laws.sending images calls in
-    all_both (FollowsHistory images r.history) (λ past. ArePlain past.calls) ServesAll r.channels (serves laws images r.history s.few f.legal) f.channels s.plain
+    let f = agent_tells_the_truth images calls in
+    let s = all_stay images calls in
+    all_both (FollowsHistory images r.history) (λ past. ArePlain past.calls) ServesAll r.channels (serves images r.history s.few f.legal) f.channels s.plain

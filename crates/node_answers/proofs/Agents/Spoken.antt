@@ -4,9 +4,9 @@ use Rattle.std.specs.Prelude.{bytes_eq}
 use Rattle.std.specs.List.{AllByRecursion}
 use Rattle.std.proofs.lemmas.Slice.Eq.{bytes_eq-Decides}
 use Rattle.agent_node.specs.AgentLaws.{Asked, all_said, messages_told, read, tokens}
-use Rattle.channel_core.specs.Arrivals.{AreSpoken, Spoken}
+use Rattle.channel_core.specs.Arrivals.{AreSpoken, Spoken, all_said as all_spoken}
 use Rattle.channel_core.specs.Wire.{event_said, hello, is_done, is_redirect, locator, said}
-use Rattle.channel_laws.specs.Meeting.{all_said as all_spoken, answers_among, does_one, hello_behind, lacks_hello_behind}
+use Rattle.channel_laws.specs.Meeting.{answers_among, does_one, hello_behind, lacks_hello_behind}
 use Rattle.target_hub.specs.Sent.{Told, event_at, final_at, hello_at, progress_at, unknown_at}
 use Rattle.tcf_message.specs.Message.{IsToken, MessageValue, event, final, most_body, not_known, progress}
 use Rattle.node_answers.proofs.Agents.Lists.{and_first, and_second}

@@ -13,9 +13,9 @@ use Rattle.channel_laws.specs.Meeting.{IsAnsweredBy, redirect_in, redirects_amon
 use Rattle.channel_laws.specs.Numbering.{token_asked, tokens_among}
 use Rattle.channel_laws.specs.Rest.{IsAsSaid}
 use Rattle.channel_core.specs.Arrivals.{Spoken}
-use Rattle.tcf_message.specs.Fault.{IsReadBack}
 use Rattle.tcf_message.specs.Message.{IsToken, MessageValue, command, event, final, flow, not_known, progress, reading}
 use Rattle.tcf_message.specs.declared.message.MessageFault.{MessageFault}
+use Rattle.tcf_message.proofs.TheLaws.{read_back}
 use Rattle.node_answers.proofs.Agents.Numbered.{redirect_of}
 use Rattle.node_answers.proofs.Agents.Spoken.{AreAnswered}
 use Rattle.list_laws.proofs.AllLists.{all_append}
@@ -103,12 +103,12 @@ all_answered spoken [] each = tt
 all_answered spoken (i ∷ messages) each = let parts = answered_first spoken (reading i.raw) (asked_among messages) each in (parts.0, all_answered spoken messages parts.1)
 
 -- what is read as a command has a token
-pub all_named : IsReadBack → (messages : List Incoming) → AllByRecursion (λ c. IsToken c.token) (asked_among messages)
-all_named back [] = tt
-all_named back (i ∷ messages) = all_append (λ c. IsToken c.token) (asked_in (reading i.raw)) (asked_among messages) (by_reading (reading i.raw) refl) (all_named back messages)
+pub all_named : (messages : List Incoming) → AllByRecursion (λ c. IsToken c.token) (asked_among messages)
+all_named [] = tt
+all_named (i ∷ messages) = all_append (λ c. IsToken c.token) (asked_in (reading i.raw)) (asked_among messages) (by_reading (reading i.raw) refl) (all_named messages)
   where
     by_reading : (m : Result MessageValue MessageFault) → reading i.raw ≡ m → AllByRecursion (λ c. IsToken c.token) (asked_in m)
-    by_reading (Ok (command token service name body)) is = (((back.0 i.raw (command token service name body)).0 is).0.0.0, tt)
+    by_reading (Ok (command token service name body)) is = (((read_back.0 i.raw (command token service name body)).0 is).0.0.0, tt)
     by_reading (Ok (final token body)) is = tt
     by_reading (Ok (progress token body)) is = tt
     by_reading (Ok (not_known token)) is = tt

@@ -4,16 +4,14 @@ use Rattle.std.specs.Prelude.{decimal}
 use Rattle.json_values.specs.SizeLaws.{decimal_size}
 use Rattle.channel_core.specs.Wire.{hello, is_done, is_redirect, locator}
 use Rattle.command_tables.specs.declared.reading.Reading.{Reading}
-use Rattle.service_names.specs.Commands.{NamesAreExact}
 use Rattle.target_contexts.specs.declared.process.Image.{Image}
 use Rattle.tcf_message.specs.Message.{IsWellFormed, event, most_body}
 use Rattle.tcf_values.specs.declared.event.EventData.{EventData}
 use Rattle.target_hub.specs.Answering.{executed}
 use Rattle.target_hub.specs.History.{IsAllowed, IsLegal, input_after, inputs_after, is_live}
-use Rattle.target_hub.specs.HistoryLaws.{StaysBounded}
 use Rattle.target_hub.specs.HubValue.{new_target}
 use Rattle.target_hub.specs.Passing.{closed_told, tick_told}
-use Rattle.target_hub.specs.Sendable.{AnswersAreSendable, AreSendable, ClosingsTellSendable, CommandsTellSendable, IsBounded, IsSendable, TicksTellSendable}
+use Rattle.target_hub.specs.Sendable.{AreSendable, IsBounded, IsSendable}
 use Rattle.target_hub.specs.Sent.{ReadCommand, Told, agent_services, answer_told, caller_told, event_at, events_told, executed_by, executed_on, final_at, hello_at, is_through, progress_at, progress_data, sent, sent_after, tick_events_told, told_by, told_while_live, unknown_at}
 use Rattle.target_hub.specs.declared.done.Answered.{Answered}
 use Rattle.target_hub.specs.declared.done.Answered.TheVariants.{Result, Unknown}
@@ -22,17 +20,9 @@ use Rattle.target_hub.specs.declared.input.Input.{Input}
 use Rattle.target_hub.specs.declared.input.Input.TheVariants.{Closed, Executed, Opened, Ticked}
 use Rattle.target_hub.specs.declared.target.Target.{Target}
 use Rattle.agent_node.proofs.Histories.{inputs_more, live_same}
+use Rattle.target_hub.proofs.TheLaws.{answers_are_sendable, closings_tell_sendable, commands_tell_sendable, stays_bounded, ticks_tell_sendable}
 use Rattle.node_answers.proofs.Agents.Refusing.{Refuses, redirect_refused}
 use Rattle.target_hub.proofs.Bounded.{front_legal}
-
--- the laws of the target
-pub record TargetLaws : Type 0 where
-  pub exact : NamesAreExact
-  pub commands : CommandsTellSendable
-  pub answers : AnswersAreSendable
-  pub ticks : TicksTellSendable
-  pub closings : ClosingsTellSendable
-  pub bounded : StaysBounded
 
 pub agent_hello : IsWellFormed (event locator hello agent_services)
 unfolding locator hello agent_services
@@ -137,35 +127,34 @@ greeting_come false position asked rest come = come
 
 -- ---- Of each input, and of all
 
-module _ (laws : TargetLaws) where
-  input_come : (k : ℕ) (before : List Input) (target : Target) (input : Input) (asked : List ReadCommand) (rest : List Told) → IsAllowed before target input → IsBounded target → Come asked rest
-      → Come (executed_by k input ++ asked) (told_while_live k before target input ++ rest)
-  input_come k before target (Opened channel) asked rest allowed bounded come =
-      come_if (is_live k (before ++ Opened channel ∷ [])) asked (told_by k (length before + 1) target (Opened channel)) rest come
-      (greeting_come (channel == k) (length before + 1) asked rest come)
-  input_come k before target (Executed channel reading service name) asked rest allowed bounded come =
-      let input = Executed channel reading service name in
-      let done = executed channel service name reading target in
-      executed_come (is_live k (before ++ input ∷ [])) (channel == k) (length before + 1) reading service name done asked rest
-      (laws.commands channel service name reading target allowed.1 bounded)
-      (record { sendable = laws.answers channel service name reading target bounded; refuses = redirect_refused laws.exact channel service name reading target allowed.1 })
-      (λ is. live_same k before input refl refl ∙ subst (λ n. is_live n before ≡ true) (eqb-true channel k is) allowed.0) come
-  input_come k before target (Ticked thread) asked rest allowed bounded come =
-      come_if (is_live k (before ++ Ticked thread ∷ [])) asked (told_by k (length before + 1) target (Ticked thread)) rest come
-      (tick_come (length before + 1) (tick_told thread target) asked rest (laws.ticks thread target bounded) come)
-  input_come k before target (Closed channel) asked rest allowed bounded come =
-      come_if (is_live k (before ++ Closed channel ∷ [])) asked (told_by k (length before + 1) target (Closed channel)) rest come
-      (events_come (length before + 1) (closed_told channel target) asked rest (laws.closings channel target bounded) come)
+input_come : (k : ℕ) (before : List Input) (target : Target) (input : Input) (asked : List ReadCommand) (rest : List Told) → IsAllowed before target input → IsBounded target → Come asked rest
+    → Come (executed_by k input ++ asked) (told_while_live k before target input ++ rest)
+input_come k before target (Opened channel) asked rest allowed bounded come =
+    come_if (is_live k (before ++ Opened channel ∷ [])) asked (told_by k (length before + 1) target (Opened channel)) rest come
+    (greeting_come (channel == k) (length before + 1) asked rest come)
+input_come k before target (Executed channel reading service name) asked rest allowed bounded come =
+    let input = Executed channel reading service name in
+    let done = executed channel service name reading target in
+    executed_come (is_live k (before ++ input ∷ [])) (channel == k) (length before + 1) reading service name done asked rest
+    (commands_tell_sendable channel service name reading target allowed.1 bounded)
+    (record { sendable = answers_are_sendable channel service name reading target bounded; refuses = redirect_refused channel service name reading target allowed.1 })
+    (λ is. live_same k before input refl refl ∙ subst (λ n. is_live n before ≡ true) (eqb-true channel k is) allowed.0) come
+input_come k before target (Ticked thread) asked rest allowed bounded come =
+    come_if (is_live k (before ++ Ticked thread ∷ [])) asked (told_by k (length before + 1) target (Ticked thread)) rest come
+    (tick_come (length before + 1) (tick_told thread target) asked rest (ticks_tell_sendable thread target bounded) come)
+input_come k before target (Closed channel) asked rest allowed bounded come =
+    come_if (is_live k (before ++ Closed channel ∷ [])) asked (told_by k (length before + 1) target (Closed channel)) rest come
+    (events_come (length before + 1) (closed_told channel target) asked rest (closings_tell_sendable channel target bounded) come)
 
-  come_after : (k : ℕ) (images : List Image) (before : List Input) (target : Target) (inputs : List Input) → IsLegal images (before ++ inputs) → target ≡ inputs_after before (new_target images)
-      → Come (executed_on k inputs) (sent_after k before target inputs)
-  come_after k images before target [] legal made = refl
-  come_after k images before target (input ∷ inputs) legal made =
-      let allowed : IsAllowed before target input = subst (λ t. IsAllowed before t input) (sym made) (legal before input inputs refl) in
-      let bounded : IsBounded target = subst IsBounded (sym made) (laws.bounded images before (front_legal images before (input ∷ inputs) legal)) in
-      input_come k before target input (executed_on k inputs) (sent_after k (before ++ input ∷ []) (input_after input target) inputs) allowed bounded
-      (come_after k images (before ++ input ∷ []) (input_after input target) inputs (subst (IsLegal images) (sym (append_assoc before (input ∷ []) inputs)) legal)
-      (ap (input_after input) made ∙ sym (inputs_more before input (new_target images))))
+come_after : (k : ℕ) (images : List Image) (before : List Input) (target : Target) (inputs : List Input) → IsLegal images (before ++ inputs) → target ≡ inputs_after before (new_target images)
+    → Come (executed_on k inputs) (sent_after k before target inputs)
+come_after k images before target [] legal made = refl
+come_after k images before target (input ∷ inputs) legal made =
+    let allowed : IsAllowed before target input = subst (λ t. IsAllowed before t input) (sym made) (legal before input inputs refl) in
+    let bounded : IsBounded target = subst IsBounded (sym made) (stays_bounded images before (front_legal images before (input ∷ inputs) legal)) in
+    input_come k before target input (executed_on k inputs) (sent_after k (before ++ input ∷ []) (input_after input target) inputs) allowed bounded
+    (come_after k images (before ++ input ∷ []) (input_after input target) inputs (subst (IsLegal images) (sym (append_assoc before (input ∷ []) inputs)) legal)
+    (ap (input_after input) made ∙ sym (inputs_more before input (new_target images))))
 
-  pub all_come : (images : List Image) (history : List Input) (k : ℕ) → IsLegal images history → Come (executed_on k history) (sent images k history)
-  all_come images history k legal = come_after k images [] (new_target images) history legal refl
+pub all_come : (images : List Image) (history : List Input) (k : ℕ) → IsLegal images history → Come (executed_on k history) (sent images k history)
+all_come images history k legal = come_after k images [] (new_target images) history legal refl

@@ -9,10 +9,11 @@ use Rattle.block_store.specs.declared.block.Block.{Block}
 use Rattle.data_services.specs.Bytes.{part_of}
 use Rattle.data_services.specs.MemoryRows.{is_no_size, is_outside, memory_bytes}
 use Rattle.knowledge.specs.Facts.{Facts, byte_is, is_suspended, state_is}
-use Rattle.knowledge.specs.Laws.{AreKnown, ReadIsKnown}
+use Rattle.knowledge.specs.Laws.{AreKnown}
 use Rattle.knowledge.specs.Reply.{is_readable, memory_reply, process_asked, range_asked, range_of}
 use Rattle.knowledge.specs.Rows as learned
 use Rattle.knowledge.specs.declared.state.StateFact.{StateFact}
+use Rattle.knowledge.proofs.TheLaws.{read_is_known}
 use Rattle.target_truth.proofs.Stored.Found.{mapped, passed}
 use Rattle.target_contexts.specs.Named.{number_for, process_at_number}
 use Rattle.target_contexts.specs.declared.process.Process.{Process}
@@ -120,37 +121,37 @@ given_held addr size bytes found process range there same =
     (passed (is_no_size size) faults.BadSize _ range.sized (passed (is_outside addr size) faults.BadAddress None range.placed refl))
     ∙ ap answers.Blob same
 
-covered_alike : ReadIsKnown → (target : Target) (known : Facts) (blocks : List Block) (number : ℕ) (addr size : ℤ) (bytes : List ℕ) → Holds known target → AreKnown blocks known
+covered_alike : (target : Target) (known : Facts) (blocks : List Block) (number : ℕ) (addr size : ℤ) (bytes : List ℕ) → Holds known target → AreKnown blocks known
     → IsRange addr size → covered number (unsigned_abs addr) (unsigned_abs size) blocks ≡ Some bytes → given addr size (process_in number target) ≡ answers.Blob bytes
-covered_alike read target known blocks number addr size bytes holds are range is =
+covered_alike target known blocks number addr size bytes holds are range is =
     let first = unsigned_abs addr in
     let count = unsigned_abs size in
     let long : length bytes ≡ count = covered_length number first count blocks bytes is in
     let found = held (process_in number target) first bytes (omega (arith, long, range.some))
-    (λ k byte there. holds.facts (byte_is number (first + k) byte) (are number (first + k) byte (read number first count blocks bytes k byte is there))) in
+    (λ k byte there. holds.facts (byte_is number (first + k) byte) (are number (first + k) byte (read_is_known number first count blocks bytes k byte is there))) in
     given_held addr size bytes (process_in number target) found.0 range found.1 (ap (λ n. part_of first n found.0.memory) (sym long) ∙ found.2)
 
-range_alike : ReadIsKnown → (target : Target) (known : Facts) (blocks : List Block) (number : ℕ) (addr size : ℤ) (answer : Answer) → Holds known target → AreKnown blocks known
+range_alike : (target : Target) (known : Facts) (blocks : List Block) (number : ℕ) (addr size : ℤ) (answer : Answer) → Holds known target → AreKnown blocks known
     → (can : Bool) → is_readable addr size ≡ can
     → memory_reply (cond can (Some (record { process = number; addr = unsigned_abs addr; size = unsigned_abs size })) None) blocks ≡ Some answer
     → answer ≡ given addr size (process_in number target)
-range_alike read target known blocks number addr size answer holds are false can is = absurd (none-some answer is)
-range_alike read target known blocks number addr size answer holds are true can is =
+range_alike target known blocks number addr size answer holds are false can is = absurd (none-some answer is)
+range_alike target known blocks number addr size answer holds are true can is =
     let found = mapped answers.Blob (covered number (unsigned_abs addr) (unsigned_abs size) blocks) answer is in
-    sym found.2 ∙ sym (covered_alike read target known blocks number addr size found.0 holds are (readable addr size can) found.1)
+    sym found.2 ∙ sym (covered_alike target known blocks number addr size found.0 holds are (readable addr size can) found.1)
 
-process_alike : ReadIsKnown → (target : Target) (known : Facts) (blocks : List Block) (context : Option ContextId) (addr size : ℤ) (answer : Answer) → Holds known target
+process_alike : (target : Target) (known : Facts) (blocks : List Block) (context : Option ContextId) (addr size : ℤ) (answer : Answer) → Holds known target
     → AreKnown blocks known → (number : Option ℕ) → option_and_then (process_asked known) context ≡ number
     → memory_reply (option_and_then (range_of addr size) number) blocks ≡ Some answer
     → answer ≡ given addr size (process_at_number (option_and_then number_for context) target.contexts.processes)
-process_alike read target known blocks context addr size answer holds are None asked is = absurd (none-some answer is)
-process_alike read target known blocks context addr size answer holds are (Some number) asked is =
-    range_alike read target known blocks number addr size answer holds are (is_readable addr size) refl is
+process_alike target known blocks context addr size answer holds are None asked is = absurd (none-some answer is)
+process_alike target known blocks context addr size answer holds are (Some number) asked is =
+    range_alike target known blocks number addr size answer holds are (is_readable addr size) refl is
     ∙ ap (λ n. given addr size (process_at_number n target.contexts.processes)) (sym (named target known context number holds asked))
 
-pub memory_alike : ReadIsKnown → (channel : ℕ) (id : List ℕ) (addr word size mode : ℤ) (target : Target) (known : Facts) (blocks : List Block) (answer : Answer)
+pub memory_alike : (channel : ℕ) (id : List ℕ) (addr word size mode : ℤ) (target : Target) (known : Facts) (blocks : List Block) (answer : Answer)
     → Holds known target → AreKnown blocks known → memory_reply (range_asked id addr size known) blocks ≡ Some answer
     → answer ≡ (exec_effect channel (commands.MemGet id addr word size mode) target).answer
 unfolding exec_effect
-memory_alike read channel id addr word size mode target known blocks answer holds are is =
-    process_alike read target known blocks (context_of id) addr size answer holds are (option_and_then (process_asked known) (context_of id)) refl is
+memory_alike channel id addr word size mode target known blocks answer holds are is =
+    process_alike target known blocks (context_of id) addr size answer holds are (option_and_then (process_asked known) (context_of id)) refl is

@@ -9,14 +9,15 @@ use Rattle.block_store.specs.declared.block.Block.{Block}
 use Rattle.command_tables.specs.Canonical.{AreBytes}
 use Rattle.knowledge.specs.Changes.{bytes_read}
 use Rattle.knowledge.specs.Facts.{Facts, is_suspended}
-use Rattle.knowledge.specs.Laws.{AreKnown, ReadIsKnown}
+use Rattle.knowledge.specs.Laws.{AreKnown}
 use Rattle.knowledge.specs.Reply.{answer_known, are_parts_known, context_state_reply, is_readable, memory_reply, parts_bytes, process_asked, range_asked, range_of, register_known, suspended_reply, thread_reply, word_reply}
 use Rattle.knowledge.specs.Rows.{answer_changes, are_of_range, memory_read, process_for, state_of_thread}
 use Rattle.knowledge.specs.declared.state.StateFact.{StateFact}
 use Rattle.knowledge.specs.declared.state.StateFact.TheVariants as state
 use Rattle.reply_tables.specs.Limits.{IsAnswerTo}
-use Rattle.reply_tables.specs.ReadingLaws.{BytesReadBack}
 use Rattle.reply_tables.specs.Written.{IsTyped}
+use Rattle.knowledge.proofs.TheLaws.{read_is_known}
+use Rattle.reply_tables.proofs.TheLaws.{bytes_read_back}
 use Rattle.value_store.proofs.Lessons.Each.{bound, mapped, passed}
 use Rattle.value_store.proofs.Lessons.Learned.{IsSoundOf}
 use Rattle.value_store.proofs.Lessons.Registers.{parts_tell, parts_typed, whole_tells, word_bytes}
@@ -91,17 +92,17 @@ bytes_below : (bytes : List ℕ) → ((k byte : ℕ) → slice_get bytes k ≡ S
 bytes_below [] each = tt
 bytes_below (byte ∷ bytes) each = (each 0 byte refl, bytes_below bytes (λ k. each (suc k)))
 
-covered_good : ReadIsKnown → BytesReadBack → (known : Facts) (blocks : List Block) (id : List ℕ) (addr word size mode : ℤ) (context : ContextId) (bytes : List ℕ) → IsSoundOf known
+covered_good : (known : Facts) (blocks : List Block) (id : List ℕ) (addr word size mode : ℤ) (context : ContextId) (bytes : List ℕ) → IsSoundOf known
     → AreKnown blocks known → context_of id ≡ Some context → covered (process_for context) (unsigned_abs addr) (unsigned_abs size) blocks ≡ Some bytes
     → IsGood known (command.MemGet id addr word size mode) (Answer.Blob bytes)
-covered_good read_known bytes_back known blocks id addr word size mode context bytes sound kept named is =
+covered_good known blocks id addr word size mode context bytes sound kept named is =
     let process = process_for context in
     let first = unsigned_abs addr in
     let each : (k byte : ℕ) → slice_get bytes k ≡ Some byte → known.bytes process (first + k) byte ≡ true =
-    λ k byte there. kept process (first + k) byte (read_known process first (unsigned_abs size) blocks bytes k byte is there) in
+    λ k byte there. kept process (first + k) byte (read_is_known process first (unsigned_abs size) blocks bytes k byte is there) in
     record {
       fits = refl;
-      typed = bytes_back bytes (each_below bytes (bytes_below bytes (λ k byte there. sound.bytes process (first + k) byte (each k byte there))));
+      typed = bytes_read_back bytes (each_below bytes (bytes_below bytes (λ k byte there. sound.bytes process (first + k) byte (each k byte there))));
       tells = subst (λ (o : Option ContextId). AllByRecursion (Tells known) (memory_read o addr size bytes)) (sym named)
           (all_if (Tells known) (are_of_range addr size bytes) (bytes_read process first bytes ∷ []) (λ can. (each, tt)));
     }
@@ -129,10 +130,10 @@ range_is addr size process asked is =
     one_range : (one other : Asked) → ◌≡◌ {A = Option Asked} (Some one) (Some other) → one ≡ other
     one_range one other is = cc
 
-memory_good : ReadIsKnown → BytesReadBack → (known : Facts) (blocks : List Block) (id : List ℕ) (addr word size mode : ℤ) (range : Option Asked) (answer : Answer) → IsSoundOf known
+memory_good : (known : Facts) (blocks : List Block) (id : List ℕ) (addr word size mode : ℤ) (range : Option Asked) (answer : Answer) → IsSoundOf known
     → AreKnown blocks known → range_asked id addr size known ≡ range → memory_reply range blocks ≡ Some answer → IsGood known (command.MemGet id addr word size mode) answer
-memory_good read_known bytes_back known blocks id addr word size mode None answer sound kept ranged is = cc
-memory_good read_known bytes_back known blocks id addr word size mode (Some asked) answer sound kept ranged is =
+memory_good known blocks id addr word size mode None answer sound kept ranged is = cc
+memory_good known blocks id addr word size mode (Some asked) answer sound kept ranged is =
     let named = bound (range_of addr size) (option_and_then (process_asked known) (context_of id)) asked ranged in
     let context = bound (process_asked known) (context_of id) named.0 named.1 in
     let range = range_is addr size named.0 asked named.2 in
@@ -143,7 +144,7 @@ memory_good read_known bytes_back known blocks id addr word size mode (Some aske
     ∙ ap (λ n. covered (process_for context.0) n asked.size blocks) range.addr
     ∙ ap (λ n. covered (process_for context.0) (unsigned_abs addr) n blocks) range.size) ∙ found.1 in
     subst (IsGood known (command.MemGet id addr word size mode)) found.2
-    (covered_good read_known bytes_back known blocks id addr word size mode context.0 found.0 sound kept context.1 there)
+    (covered_good known blocks id addr word size mode context.0 found.0 sound kept context.1 there)
 
 -- ---- each command
 
@@ -151,36 +152,36 @@ either_answer : (flag : Bool) (one found : Answer) → cond flag (Some one) None
 either_answer true one found is = (refl, cc)
 either_answer false one found is = cc
 
-pub answer_good : ReadIsKnown → BytesReadBack → (asked : Command) (known : Facts) (blocks : List Block) (answer : Answer) → IsSoundOf known → AreKnown blocks known
+pub answer_good : (asked : Command) (known : Facts) (blocks : List Block) (answer : Answer) → IsSoundOf known → AreKnown blocks known
     → answer_known asked known blocks ≡ Some answer → IsGood known asked answer
-answer_good read_known bytes_back (command.GetContext id) known blocks answer sound kept is =
+answer_good (command.GetContext id) known blocks answer sound kept is =
     let found = mapped Answer.Context (known.contexts id) answer is in
     subst (IsGood known (command.GetContext id)) found.2 (record { fits = (refl, sound.contexts id found.0 found.1); typed = tt; tells = (found.1, tt) })
-answer_good read_known bytes_back (command.GetState id) known blocks answer sound kept is = state_good known id (context_of id) answer sound refl is
-answer_good read_known bytes_back (command.BpProperties id) known blocks answer sound kept is =
+answer_good (command.GetState id) known blocks answer sound kept is = state_good known id (context_of id) answer sound refl is
+answer_good (command.BpProperties id) known blocks answer sound kept is =
     let found = mapped Answer.Bp (known.properties id) answer is in
     subst (IsGood known (command.BpProperties id)) found.2 (record { fits = (refl, sound.properties id found.0 found.1); typed = tt; tells = (found.1, tt) })
-answer_good read_known bytes_back (command.BpGetStatus id) known blocks answer sound kept is =
+answer_good (command.BpGetStatus id) known blocks answer sound kept is =
     let found = mapped Answer.Status (known.statuses id) answer is in
     subst (IsGood known (command.BpGetStatus id)) found.2 (record { fits = (refl, sound.statuses id found.0 found.1); typed = tt; tells = (found.1, tt) })
-answer_good read_known bytes_back (command.RegGet id) known blocks answer sound kept is =
+answer_good (command.RegGet id) known blocks answer sound kept is =
     let found = mapped word_reply (register_known id known) answer is in
     subst (IsGood known (command.RegGet id)) found.2 (record {
       fits = refl;
-      typed = bytes_back (to_le_bytes w32 found.0) (each_below (to_le_bytes w32 found.0) (word_bytes found.0));
+      typed = bytes_read_back (to_le_bytes w32 found.0) (each_below (to_le_bytes w32 found.0) (word_bytes found.0));
       tells = whole_tells known id found.0 (to_le_bytes w32 found.0) sound found.1 (λ four. refl);
     })
-answer_good read_known bytes_back (command.RegGetm list) known blocks answer sound kept is =
+answer_good (command.RegGetm list) known blocks answer sound kept is =
     let found = either_answer (nat_le 1 (length list) && nat_le (length list) 256 && are_parts_known known list) (Answer.Blob (parts_bytes known list)) answer is in
     subst (IsGood known (command.RegGetm list)) found.1 (record {
       fits = refl;
-      typed = bytes_back (parts_bytes known list) (each_below (parts_bytes known list) (parts_typed known list));
+      typed = bytes_read_back (parts_bytes known list) (each_below (parts_bytes known list) (parts_typed known list));
       tells = parts_tell known list sound (all_known (nat_le 1 (length list) && nat_le (length list) 256) (are_parts_known known list) found.0);
     })
   where
     all_known : (some all : Bool) → (some && all) ≡ true → all ≡ true
     all_known true all is = is
     all_known false all is = cc
-answer_good read_known bytes_back (command.MemGet id addr word size mode) known blocks answer sound kept is =
-    memory_good read_known bytes_back known blocks id addr word size mode (range_asked id addr size known) answer sound kept refl is
-answer_good read_known bytes_back _ known blocks answer sound kept is = cc
+answer_good (command.MemGet id addr word size mode) known blocks answer sound kept is =
+    memory_good known blocks id addr word size mode (range_asked id addr size known) answer sound kept refl is
+answer_good _ known blocks answer sound kept is = cc

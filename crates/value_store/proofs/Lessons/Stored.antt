@@ -4,14 +4,14 @@ use Rattle.std.specs.Prelude.{nat_le}
 use Rattle.std.specs.Str.{is_utf8}
 use Rattle.cache_learning.specs.Lessons.{answer_by}
 use Rattle.knowledge.specs.Facts.{Facts, IsPart, nothing}
-use Rattle.knowledge.specs.Laws.{ReadIsKnown, RepliesStaySame}
 use Rattle.knowledge.specs.Learning.{learn, learned}
 use Rattle.knowledge.specs.Reply.{answer_known}
 use Rattle.knowledge.specs.Rows.{answer_changes}
 use Rattle.reply_tables.specs.Answers.{answer_read}
-use Rattle.reply_tables.specs.ReadingLaws.{AnswersReadBack, BytesReadBack}
 use Rattle.reply_tables.specs.Written.{answer_data}
 use Rattle.value_store.specs.Laws.{StoredAnswersTeachNothingNew}
+use Rattle.knowledge.proofs.TheLaws.{replies_stay_same}
+use Rattle.reply_tables.proofs.TheLaws.{answers_read_back}
 use Rattle.value_store.proofs.Lessons.Answered.{IsGood, answer_good}
 use Rattle.value_store.proofs.Lessons.Each.{passed}
 use Rattle.value_store.proofs.Lessons.Learned.{IsSoundOf, learned_sound, nothing_sound}
@@ -38,14 +38,14 @@ read_part command answer some known true read good part is =
 read_part command answer some known false read good part is =
     subst (λ (found : Option Answer). IsPart (learn (answer_by command found) some) known) (sym is) part
 
-pub nothing_new : ReadIsKnown → RepliesStaySame → AnswersReadBack → BytesReadBack → StoredAnswersTeachNothingNew
-nothing_new read_known replies answers_back bytes_back messages s command body some taken store is part =
+pub nothing_new : StoredAnswersTeachNothingNew
+nothing_new messages s command body some taken store is part =
     let known : Facts = learned messages in
     let sound : IsSoundOf known = learned_sound messages nothing taken nothing_sound in
     let found = answer_of_data command (answer_known command (facts_in s.known) s.blocks) body is in
     let answer : Answer = found.0 in
-    let there : answer_known command known s.blocks ≡ Some answer = sym (replies command (facts_in s.known) known s.blocks store.facts) ∙ found.1 in
-    let good : IsGood known command answer = answer_good read_known bytes_back command known s.blocks answer sound store.bytes there in
+    let there : answer_known command known s.blocks ≡ Some answer = sym (replies_stay_same command (facts_in s.known) known s.blocks store.facts) ∙ found.1 in
+    let good : IsGood known command answer = answer_good command known s.blocks answer sound store.bytes there in
     let read : answer_read command (answer_data command answer) ≡ cond (is_utf8 (answer_data command answer)) (Some answer) None =
-    answers_back command answer good.fits good.typed in
+    answers_read_back command answer good.fits good.typed in
     read_part command answer some known (is_utf8 (answer_data command answer)) (answer_read command body) good part (sym (ap (answer_read command) found.2) ∙ read)

@@ -1,4 +1,4 @@
-use Rattle.breakpoints.proofs.Runs.{gone_owns_nothing}
+use Rattle.breakpoints.proofs.TheLaws.{gone_owns_nothing}
 use Rattle.breakpoints.proofs.laws.a_gone_channel_owns_nothing.Goals as goal
 
 pub returns : goal.returns

@@ -1,5 +1,5 @@
-use Rattle.breakpoints.proofs.Runs.{stays_orderly}
+use Rattle.breakpoints.proofs.TheLaws.{list_stays_orderly}
 use Rattle.breakpoints.proofs.laws.the_list_stays_orderly.Goals as goal
 
 pub returns : goal.returns
-returns c = stays_orderly
+returns c = list_stays_orderly

@@ -7,7 +7,7 @@ use Rattle.cache_learning.proofs.hearing.hear_answer.Goals as goal
 
 pub returns-in-Known-clause-kept : goal.returns-in-Known-clause-kept
 returns-in-Known-clause-kept c =
-    answer_kept c.the_same_learn_the_same.ensures.facts c.the_same_learn_the_same.ensures.blocks c.learn_answer.result
+    answer_kept c.learn_answer.result
     (answer_taken c.args.command.now c.in-Known.answer) (answer_message c.args.command.now c.args.body.now) c.args.cache.now c.learn_answer.new.self
     (answer_known c.args.command.now c.args.body.now c.in-Known.answer (sym c.in-Known.is ∙ c.in_ok-answer.ensures.value))
     c.learn_answer.ensures.facts c.learn_answer.ensures.blocks

@@ -8,7 +8,7 @@ use Rattle.cache_learning.proofs.hearing.hear_event.Goals as goal
 pub returns-in_ok-learn_event-in-Known-clause-kept : goal.returns-in_ok-learn_event-in-Known-clause-kept
 returns-in_ok-learn_event-in-Known-clause-kept c =
     kept_as (ap message_by (sym c.in-Known.is ∙ c.in_ok-event.ensures.value))
-    (kept_too c.the_same_learn_the_same.ensures.facts c.the_same_learn_the_same.ensures.blocks (event_taken c.in-Known.event) c.args.cache.now c.learn_event.new.self
+    (kept_too (event_taken c.in-Known.event) c.args.cache.now c.learn_event.new.self
     c.in_ok-learn_event-in-Known.ensures.facts c.in_ok-learn_event-in-Known.ensures.blocks)
 
 pub returns-in_ok-learn_event-in-Known-clause-learned : goal.returns-in_ok-learn_event-in-Known-clause-learned

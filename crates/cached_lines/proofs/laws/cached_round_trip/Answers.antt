@@ -1,5 +1,5 @@
-use Rattle.cached_lines.proofs.Values.{cached_round_trip}
+use Rattle.cached_lines.proofs.TheLaws.{cached_round_trip}
 use Rattle.cached_lines.proofs.laws.cached_round_trip.Goals as goal
 
 pub returns : goal.returns
-returns c = cached_round_trip c.context_round_trip.ensures
+returns c = cached_round_trip

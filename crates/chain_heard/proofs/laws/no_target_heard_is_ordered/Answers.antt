@@ -1,5 +1,5 @@
-use Rattle.chain_heard.proofs.Heard.{no_target_ordered}
+use Rattle.chain_heard.proofs.TheLaws.{no_target_is_ordered}
 use Rattle.chain_heard.proofs.laws.no_target_heard_is_ordered.Goals as goal
 
 pub returns : goal.returns
-returns c = no_target_ordered
+returns c = no_target_is_ordered

@@ -1,5 +1,5 @@
-use Rattle.chain_heard.proofs.Fresh.{heard_fresh, no_target_fresh}
+use Rattle.chain_heard.proofs.TheLaws.{heard_is_fresh, no_target_is_fresh}
 use Rattle.chain_heard.proofs.laws.what_was_heard_is_fresh.Goals as goal
 
 pub returns : goal.returns
-returns c = record { heard = heard_fresh; no_target = no_target_fresh }
+returns c = record { heard = heard_is_fresh; no_target = no_target_is_fresh }

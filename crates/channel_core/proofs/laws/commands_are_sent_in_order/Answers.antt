@@ -1,5 +1,5 @@
-use Rattle.channel_core.proofs.Running.{all_sent_in_order}
+use Rattle.channel_core.proofs.TheLaws.{sends_in_order}
 use Rattle.channel_core.proofs.laws.commands_are_sent_in_order.Goals as goal
 
 pub returns : goal.returns
-returns g c = all_sent_in_order
+returns g c = sends_in_order

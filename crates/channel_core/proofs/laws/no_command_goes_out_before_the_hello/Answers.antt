@@ -1,5 +1,5 @@
-use Rattle.channel_core.proofs.Waiting.{all_wait}
+use Rattle.channel_core.proofs.TheLaws.{waits_for_hello}
 use Rattle.channel_core.proofs.laws.no_command_goes_out_before_the_hello.Goals as goal
 
 pub returns : goal.returns
-returns g c = all_wait
+returns g c = waits_for_hello

@@ -1,19 +1,5 @@
-use Rattle.channel_core.proofs.Feeding.{Cited}
-use Rattle.channel_laws.proofs.Rest.Levels.{Frames}
-use Rattle.channel_laws.proofs.Rest.Answering.{all_free}
+use Rattle.channel_laws.proofs.TheLaws.{answered_end_is_free}
 use Rattle.channel_laws.proofs.laws.an_answered_end_is_free.Goals as goal
 
 pub returns : goal.returns
-returns g c =
-    let cited : Cited = record {
-      pieces = c.pieces_are_one.ensures;
-      between = c.frames_are_read.ensures.between;
-      part = c.frames_are_read.ensures.part;
-      whole = c.frames_are_read.ensures.whole;
-      escape = c.frames_are_read.ensures.escape;
-      end = c.frames_are_read.ensures.end;
-      read = c.read_back.ensures;
-      token = c.decimal_token.ensures;
-    } in
-    let frames : Frames = record { read = c.read_back.ensures; token = c.decimal_token.ensures } in
-    all_free cited frames
+returns g c = answered_end_is_free

@@ -1,17 +1,5 @@
-use Rattle.channel_core.proofs.Feeding.{Cited}
-use Rattle.channel_laws.proofs.Rest.Ending.{all_hear}
+use Rattle.channel_laws.proofs.TheLaws.{hears_the_end}
 use Rattle.channel_laws.proofs.laws.the_end_of_a_queue_is_heard.Goals as goal
 
 pub returns : goal.returns
-returns g c =
-    let cited : Cited = record {
-      pieces = c.pieces_are_one.ensures;
-      between = c.frames_are_read.ensures.between;
-      part = c.frames_are_read.ensures.part;
-      whole = c.frames_are_read.ensures.whole;
-      escape = c.frames_are_read.ensures.escape;
-      end = c.frames_are_read.ensures.end;
-      read = c.read_back.ensures;
-      token = c.decimal_token.ensures;
-    } in
-    all_hear cited
+returns g c = hears_the_end

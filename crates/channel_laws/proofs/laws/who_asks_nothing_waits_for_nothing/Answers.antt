@@ -1,5 +1,5 @@
-use Rattle.channel_laws.proofs.Rest.Asking.{all_wait_for_nothing}
+use Rattle.channel_laws.proofs.TheLaws.{asks_nothing_waits_for_nothing}
 use Rattle.channel_laws.proofs.laws.who_asks_nothing_waits_for_nothing.Goals as goal
 
 pub returns : goal.returns
-returns g c = all_wait_for_nothing
+returns g c = asks_nothing_waits_for_nothing

@@ -1,5 +1,5 @@
-use Rattle.client_node.proofs.Calls.{once_after}
+use Rattle.client_node.proofs.TheLaws.{answered_once}
 use Rattle.client_node.proofs.laws.each_command_is_answered_once.Goals as goal
 
 pub returns : goal.returns
-returns c = once_after
+returns c = answered_once

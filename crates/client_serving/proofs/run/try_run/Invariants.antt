@@ -5,4 +5,4 @@ use Rattle.client_serving.proofs.run.try_run.Given as goal
 -- so many events came, and the next one is waited for
 abbrev pub invariant-loop-counter : goal.invariant-loop-counter
 invariant-loop-counter g l =
-    Makes (Waits l.script l.address l.counter l.serving) (g.W.Wires.told l.fn.wires) (g.W.Wires.told l.wires) (g.W.Wires.faults l.fn.wires) (g.W.Wires.faults l.wires)
+    Makes (Waits l.script l.address l.counter l.serving) (g.W.Wires.seen l.fn.wires) (g.W.Wires.seen l.wires)

@@ -1,8 +1,8 @@
-use Rattle.data_services.proofs.Threads.{order_stays, threads_stay}
+use Rattle.data_services.proofs.TheLaws.{order_stays, threads_stay}
 use Rattle.data_services.proofs.laws.threads_stay.Goals as goal
 
 pub returns-clause-threads : goal.returns-clause-threads
-returns-clause-threads c = threads_stay c.a_change_changes_one.ensures
+returns-clause-threads c = threads_stay
 
 pub returns-clause-order : goal.returns-clause-order
-returns-clause-order c = order_stays c.they_stay_orderly.ensures.change
+returns-clause-order c = order_stays

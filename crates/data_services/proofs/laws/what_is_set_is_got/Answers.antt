@@ -3,6 +3,6 @@ use Rattle.data_services.proofs.laws.what_is_set_is_got.Goals as goal
 
 pub returns : goal.returns
 returns c = record {
-  memory = memory_set_is_got c.a_change_changes_one.ensures;
-  register = register_set_is_got c.a_change_changes_one.ensures;
+  memory = memory_set_is_got;
+  register = register_set_is_got;
 }

@@ -3,8 +3,8 @@ use Rattle.data_services.proofs.parts.is_off_after.Goals as goal
 
 pub returns-in-Some : goal.returns-in-Some
 returns-in-Some c =
-    off_there c.a_change_changes_one.ensures c.args.process c.args.parts.now c.args.bytes.now c.args.targets.now c.in-Some.found.now c.cpu_after.result
+    off_there c.args.process c.args.parts.now c.args.bytes.now c.args.targets.now c.in-Some.found.now c.cpu_after.result
     c.in-Some.ensures.value c.cpu_after.ensures
 
 pub returns-in-None : goal.returns-in-None
-returns-in-None c = off_missing c.a_change_changes_one.ensures c.args.process c.args.parts.now c.args.bytes.now c.args.targets.now c.in-None.ensures.value
+returns-in-None c = off_missing c.args.process c.args.parts.now c.args.bytes.now c.args.targets.now c.in-None.ensures.value

@@ -1,5 +1,5 @@
-use Rattle.knowledge.proofs.Blocks.{learned_blocks}
+use Rattle.knowledge.proofs.TheLaws.{blocks_are_learned}
 use Rattle.knowledge.proofs.laws.blocks_are_learned.Goals as goal
 
 pub returns : goal.returns
-returns c = learned_blocks
+returns c = blocks_are_learned

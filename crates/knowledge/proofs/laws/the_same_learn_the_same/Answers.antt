@@ -1,4 +1,4 @@
-use Rattle.knowledge.proofs.Same.{blocks_stay_same, facts_stay_same}
+use Rattle.knowledge.proofs.TheLaws.{blocks_stay_same, facts_stay_same}
 use Rattle.knowledge.proofs.laws.the_same_learn_the_same.Goals as goal
 
 pub returns-clause-facts : goal.returns-clause-facts

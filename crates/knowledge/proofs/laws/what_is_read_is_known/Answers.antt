@@ -1,4 +1,4 @@
-use Rattle.knowledge.proofs.Blocks.{read_is_known}
+use Rattle.knowledge.proofs.TheLaws.{read_is_known}
 use Rattle.knowledge.proofs.laws.what_is_read_is_known.Goals as goal
 
 pub returns : goal.returns

@@ -2,4 +2,4 @@ use Rattle.run_control.proofs.Touched.{touches_one}
 use Rattle.run_control.proofs.laws.a_tick_touches_one.Goals as goal
 
 pub returns : goal.returns
-returns c = touches_one c.a_change_changes_one.ensures c.an_end_ends_one.ensures
+returns c = touches_one

@@ -4,5 +4,5 @@ use Rattle.serving_wires.proofs.flushing.flush_all.Given as goal
 -- the rows so far are flushed
 abbrev pub invariant-loop-place : goal.invariant-loop-place
 invariant-loop-place g l =
-    PutTo g.T.OnWire.has l.place l.initial.rows l.rows (g.W.Wires.told l.initial.wires) (g.W.Wires.told l.wires) (g.W.Wires.faults l.initial.wires) (g.W.Wires.faults l.wires)
+    PutTo g.T.OnWire.has l.place l.initial.rows l.rows (g.W.Wires.seen l.initial.wires) (g.W.Wires.seen l.wires)
     (g.W.Wires.unused l.initial.wires) (g.W.Wires.unused l.wires)

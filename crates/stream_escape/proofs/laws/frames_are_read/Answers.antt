@@ -1,4 +1,4 @@
-use Rattle.stream_escape.proofs.Parts.{begins_between, parts_bring_nothing, last_parts_bring_messages, escapes_bring_nothing, last_bytes_bring_the_end}
+use Rattle.stream_escape.proofs.TheLaws.{begins_between, escapes_bring_nothing, last_bytes_bring_the_end, last_parts_bring_messages, parts_bring_nothing}
 use Rattle.stream_escape.proofs.laws.frames_are_read.Goals as goal
 
 pub returns : goal.returns

@@ -1,5 +1,5 @@
-use Rattle.stream_escape.proofs.Readings.{one}
+use Rattle.stream_escape.proofs.TheLaws.{one_reading}
 use Rattle.stream_escape.proofs.laws.one_reading.Goals as goal
 
 pub returns : goal.returns
-returns c = one
+returns c = one_reading

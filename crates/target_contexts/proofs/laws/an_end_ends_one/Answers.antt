@@ -1,4 +1,4 @@
-use Rattle.target_contexts.proofs.Lookup.{ends_one}
+use Rattle.target_contexts.proofs.TheLaws.{ends_one}
 use Rattle.target_contexts.proofs.laws.an_end_ends_one.Goals as goal
 
 pub returns : goal.returns

@@ -1,4 +1,4 @@
-use Rattle.target_contexts.proofs.Short.{change_stays_short, end_stays_short, found_is_short, start_stays_short}
+use Rattle.target_contexts.proofs.TheLaws.{change_stays_short, end_stays_short, found_is_short, start_stays_short}
 use Rattle.target_contexts.proofs.lengths.they_stay_short.Goals as goal
 
 pub returns : goal.returns

@@ -2,7 +2,7 @@ use Rattle.tcf_app.proofs.Outcomes.{each_is_shown, is_shown_once}
 use Rattle.tcf_app.proofs.laws.one_outcome.Goals as goal
 
 pub returns-clause-some : goal.returns-clause-some
-returns-clause-some c = each_is_shown c.each_goes_on.ensures
+returns-clause-some c = each_is_shown
 
 pub returns-clause-once : goal.returns-clause-once
-returns-clause-once c = is_shown_once c.one_reading.ensures c.one_fault.ensures.one c.one_fault.ensures.unread
+returns-clause-once c = is_shown_once

@@ -11,30 +11,30 @@ loop-rest-init g c = record {
 }
 
 pub returns-in_err-bad-clause-part : goal.returns-in_err-bad-clause-part
-returns-in_err-bad-clause-part g c = on_err c.from_residual.result (part_here c.each_goes_on.ensures _ _ _ _ _ _ c.loop-rest.invariant.stands)
+returns-in_err-bad-clause-part g c = on_err c.from_residual.result (part_here _ _ _ _ _ _ c.loop-rest.invariant.stands)
 
 pub returns-in_err-put_all-clause-part : goal.returns-in_err-put_all-clause-part
 returns-in_err-put_all-clause-part g c =
     let part = c.in_err-put_all.ensures.part in
-    let next = next_piece c.each_goes_on.ensures _ _ _ _ _ _ _ _ _ _ _ _ c.loop-rest.invariant.stands c.in_ok-bad.ensures c.split_at.ensures.by_index.0 in
+    let next = next_piece _ _ _ _ _ _ _ _ _ _ _ _ c.loop-rest.invariant.stands c.in_ok-bad.ensures c.split_at.ensures.by_index.0 in
     on_err c.from_residual-in_err-put_all.result
-    (part_within _ _ _ _ _ _ _ part.0 next c.loop-rest.invariant.stands.told_is
-    (part.1 ∙ ap (λ (t : List ℕ). added (take part.0 t) (g.S.Sink.told c.loop-rest.out)) c.as_slice.ensures))
+    (part_within _ _ _ _ (g.S.Sink.seen c.args.out.now) (g.S.Sink.seen c.loop-rest.out) (g.S.Sink.seen c.put_all.new.sink) part.0 next c.loop-rest.invariant.stands.told_is
+    (part.1 ∙ ap (λ (t : List ℕ). added (take part.0 t) (g.S.Sink.seen c.loop-rest.out).told) c.as_slice.ensures))
 
 pub returns-then-is_some-clause-lines : goal.returns-then-is_some-clause-lines
 returns-then-is_some-clause-lines g c =
-    let next = next_piece c.each_goes_on.ensures _ _ _ _ _ _ _ _ _ _ _ _ c.loop-rest.invariant.stands c.in_ok-bad.ensures c.split_at.ensures.by_index.0 in
+    let next = next_piece _ _ _ _ _ _ _ _ _ _ _ _ c.loop-rest.invariant.stands c.in_ok-bad.ensures c.split_at.ensures.by_index.0 in
     let found = some_of c.in_ok-bad.bad c.is_some.result c.is_some.ensures c.if-is_some.true in
-    lines_bad _ _ _ _ found.0 _ _ _ next found.1 c.loop-rest.invariant.stands.told_is
-    (c.in_ok-put_all.ensures.put ∙ ap (λ (t : List ℕ). added t (g.S.Sink.told c.loop-rest.out)) c.as_slice.ensures)
+    lines_bad _ _ _ _ found.0 (g.S.Sink.seen c.args.out.now) (g.S.Sink.seen c.loop-rest.out) (g.S.Sink.seen c.put_all.new.sink) next found.1 c.loop-rest.invariant.stands.told_is
+    (c.in_ok-put_all.ensures.put ∙ ap (λ (t : List ℕ). added t (g.S.Sink.seen c.loop-rest.out).told) c.as_slice.ensures)
 
 pub loop-rest-preserved : goal.loop-rest-preserved
 loop-rest-preserved g c =
     let good = none_of c.in_ok-bad.bad c.is_some.result c.is_some.ensures c.if-is_some.false in
     record {
       stands = stands_next _ _ _ _ _ _ _ _ _ _ _ _ _ c.loop-rest.invariant.stands c.in_ok-bad.ensures c.split_at.ensures.by_index.0 good
-          (c.in_ok-put_all.ensures.put ∙ ap (λ (t : List ℕ). added t (g.S.Sink.told c.loop-rest.out)) c.as_slice.ensures);
-      calm = c.in_ok-put_all.ensures.unharmed (λ e. cc) ∙ c.loop-rest.invariant.calm;
+          (c.in_ok-put_all.ensures.put ∙ ap (λ (t : List ℕ). added t (g.S.Sink.seen c.loop-rest.out).told) c.as_slice.ensures);
+      calm = c.in_ok-put_all.ensures.cause ∙ c.loop-rest.invariant.calm;
     }
 
 pub returns-clause-lines : goal.returns-clause-lines

@@ -2,4 +2,4 @@ use Rattle.tcf_schedules.proofs.Scripts.{reads_the_script}
 use Rattle.tcf_schedules.proofs.laws.reads_the_script.Goals as goal
 
 pub returns : goal.returns
-returns c = reads_the_script c.reads_the_script_line.ensures
+returns c = reads_the_script

@@ -1,5 +1,5 @@
-use Rattle.tcf_schedules.proofs.Schedules.{reads_what_is_said}
+use Rattle.tcf_schedules.proofs.TheLaws.{reads_what_is_said}
 use Rattle.tcf_schedules.proofs.laws.reads_what_is_said.Goals as goal
 
 pub returns : goal.returns
-returns c = reads_what_is_said c.reads_the_text.ensures
+returns c = reads_what_is_said

@@ -1,5 +1,5 @@
-use Rattle.tcf_schedules.proofs.Schedules.{steps_within}
+use Rattle.tcf_schedules.proofs.TheLaws.{reads_within}
 use Rattle.tcf_schedules.proofs.laws.what_is_read_is_within.Goals as goal
 
 pub returns : goal.returns
-returns c = steps_within c.reads_what_is_said.ensures
+returns c = reads_within

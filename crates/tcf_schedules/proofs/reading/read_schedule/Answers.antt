@@ -13,7 +13,7 @@ pub returns-clause-within : goal.returns-clause-within
 returns-clause-within c =
     let end : length c.loop-rest.rest.now ≡ 0 = grind arith in
     subst (λ (s : Schedule). AreSteps s.chains (plans_of s.steps)) (sym c.into_schedule.ensures)
-    (steps_at_end c.reads_what_is_said.ensures c.args.file.now c.loop-rest.rest.now _ (meaning c.loop-rest.reading) c.loop-rest.invariant.read end)
+    (steps_at_end c.args.file.now c.loop-rest.rest.now _ (meaning c.loop-rest.reading) c.loop-rest.invariant.read end)
 
 -- the error that is handed on
 told : {T : Type 0} (r : Result T TextRefusal) (e : TextRefusal) → r ≡ Err NoMemory → IsErrAnd r (λ x. x ≡ e) → e ≡ NoMemory
@@ -37,5 +37,5 @@ pub returns-in_err-take_line-clause-wants : goal.returns-in_err-take_line-clause
 returns-in_err-take_line-clause-wants c =
     λ memory.
     let wants : c.take_line.result ≡ Err NoMemory = c.in_err-take_line.was ∙ ap Err (told c.from_residual.result c.in_err-take_line.field-0.0 memory c.from_residual.ensures.1) in
-    wants_memory c.reads_what_is_said.ensures c.args.file.now (meaning c.loop-rest.reading) c.loop-rest.rest.now c.cut_line.result.0.now c.cut_line.result.1.now
+    wants_memory c.args.file.now (meaning c.loop-rest.reading) c.loop-rest.rest.now c.cut_line.result.0.now c.cut_line.result.1.now
     c.loop-rest.invariant.reached c.cut_line.ensures.lines (c.take_line.ensures.kept wants) (c.take_line.ensures.wants wants)

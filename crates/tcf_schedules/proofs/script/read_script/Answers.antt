@@ -18,7 +18,7 @@ loop-rest-preserved c =
     let after = c.cut_line.result.1.now in
     record {
       read = script_next file c.loop-rest.number script next rest line after c.loop-rest.invariant.read c.cut_line.ensures.lines c.in_ok-take_line.ensures.ok;
-      reached = reached_script c.reads_the_script_line.ensures file script next rest line after c.loop-rest.invariant.reached c.cut_line.ensures.lines c.in_ok-take_line.ensures.ok;
+      reached = reached_script file script next rest line after c.loop-rest.invariant.reached c.cut_line.ensures.lines c.in_ok-take_line.ensures.ok;
       counted = omega arith;
     }
 
@@ -30,5 +30,5 @@ pub returns-in_err-take_line-clause-wants : goal.returns-in_err-take_line-clause
 returns-in_err-take_line-clause-wants c =
     λ memory.
     let wants : c.take_line.result ≡ Err NoMemory = c.in_err-take_line.was ∙ ap Err (told c.from_residual.result c.in_err-take_line.field-0.0 memory c.from_residual.ensures.1) in
-    script_wants c.reads_the_script_line.ensures c.args.file.now c.loop-rest.script c.loop-rest.rest.now c.cut_line.result.0.now c.cut_line.result.1.now
+    script_wants c.args.file.now c.loop-rest.script c.loop-rest.rest.now c.cut_line.result.0.now c.cut_line.result.1.now
     c.loop-rest.invariant.reached c.cut_line.ensures.lines (c.take_line.ensures.kept wants) (c.take_line.ensures.wants wants)

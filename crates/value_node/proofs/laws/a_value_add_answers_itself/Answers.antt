@@ -1,36 +1,5 @@
-use Rattle.value_node.proofs.Holding.{Laws}
-use Rattle.value_node.proofs.HoldsOwn.{always_answers, always_asks_nothing, always_connects}
-use Rattle.value_node.proofs.OwnReplies.{Names}
+use Rattle.value_node.proofs.TheLaws.{answers_itself, asks_nothing_below, connects_when_asked}
 use Rattle.value_node.proofs.laws.a_value_add_answers_itself.Goals as goal
 
 pub returns : goal.returns
-returns c =
-    let laws : Laws = record {
-      lower_takes_none = c.a_closed_end_takes_nothing.ensures;
-      upper_takes_none = c.a_closed_end_takes_nothing-2.ensures;
-      lower_closes = c.an_end_closes_only_so.ensures;
-      upper_closes = c.an_end_closes_only_so-2.ensures;
-      lower_messages = c.only_what_is_sent_is_queued.ensures.messages;
-      upper_sends = c.commands_are_sent_in_order.ensures;
-      upper_counts = c.each_answer_is_that_of_a_sent_command.ensures.counted;
-      lower_ends = c.a_closed_end_stays_closed.ensures.once;
-      lower_stays = c.a_closed_end_stays_closed.ensures.stays;
-      readable = c.read_back.ensures;
-      sizes = record {
-        answers = c.what_is_small_fits.ensures.answers;
-        refusals = c.what_is_small_fits.ensures.refusals;
-        reports = c.what_is_small_fits.ensures.reports;
-      };
-      lessons = record {
-        facts = c.the_same_learn_the_same.ensures.facts;
-        blocks = c.the_same_learn_the_same.ensures.blocks;
-        learned = c.blocks_are_learned.ensures;
-        unanswered = c.others_stay_unanswered.ensures;
-      };
-    } in
-    let names : Names = record { exact = c.names_are_exact.ensures; legal = c.readings_are_legal.ensures } in
-    record {
-      answers = always_answers laws names;
-      connects = always_connects laws names;
-      asks_nothing = always_asks_nothing laws;
-    }
+returns c = record { answers = answers_itself; connects = connects_when_asked; asks_nothing = asks_nothing_below }

@@ -6,7 +6,7 @@ use Rattle.value_serving.proofs.passing.pass_on.Given as goal
 abbrev pub invariant-loop-add : goal.invariant-loop-add
 invariant-loop-add g l =
     PassesTo l.fn.peer (g.W.Wires.unused l.fn.wires) (g.W.Wires.unused l.wires) l.fn.add l.add l.fn.sending l.sending
-    (g.W.Wires.told l.fn.wires) (g.W.Wires.told l.wires) (g.W.Wires.faults l.fn.wires) (g.W.Wires.faults l.wires)
+    (g.W.Wires.seen l.fn.wires) (g.W.Wires.seen l.wires)
 
 abbrev pub decreases-loop-add : goal.decreases-loop-add
 decreases-loop-add g l = count_of l.add

@@ -8,4 +8,4 @@ use Rattle.value_serving.proofs.passing.take.Given as goal
 abbrev pub invariant-loop : goal.invariant-loop
 invariant-loop g l =
     Makes (Goes l.fn.peer (g.W.Wires.unused l.fn.wires) (g.W.Wires.unused l.wires) (taken l.fn.count l.fn.add) (taken (l.fn.count - l.counter) l.add) l.fn.sending l.sending)
-    (g.W.Wires.told l.fn.wires) (g.W.Wires.told l.wires) (g.W.Wires.faults l.fn.wires) (g.W.Wires.faults l.wires)
+    (g.W.Wires.seen l.fn.wires) (g.W.Wires.seen l.wires)

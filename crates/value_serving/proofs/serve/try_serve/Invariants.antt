@@ -6,4 +6,4 @@ use Rattle.value_serving.proofs.serve.try_serve.Given as goal
 abbrev pub invariant-loop-before : goal.invariant-loop-before
 invariant-loop-before g l =
     Makes (Running l.fn.peer l.fn.address l.before l.serving (g.W.Wires.unused l.wires))
-    (g.W.Wires.told l.fn.wires) (g.W.Wires.told l.wires) (g.W.Wires.faults l.fn.wires) (g.W.Wires.faults l.wires)
+    (g.W.Wires.seen l.fn.wires) (g.W.Wires.seen l.wires)

@@ -1,5 +1,5 @@
-use Rattle.world_laws.proofs.Playable.{read_playable}
+use Rattle.world_laws.proofs.TheLaws.{read_playable}
 use Rattle.world_laws.proofs.laws.read_is_playable.Goals as goal
 
 pub returns : goal.returns
-returns c = read_playable c.what_is_read_is_within.ensures
+returns c = read_playable

@@ -10,25 +10,25 @@ pub returns-clause-answer : goal.returns-clause-answer
 returns-clause-answer c =
     told_as c.data_of.result _ _
     (ap (data_of c.args.command.now) (sym c.in-Some.is)
-    ∙ found_is c.the_same_answer_the_same.ensures.answers c.args.command.now c.self.inside.cache c.reply.new.self c.in_ok-answer.field-0 c.self.inside.mark c.args.self.now c.self.view_is
+    ∙ found_is c.args.command.now c.self.inside.cache c.reply.new.self c.in_ok-answer.field-0 c.self.inside.mark c.args.self.now c.self.view_is
     c.in_ok-answer.ensures.answer)
     c.data_of.ensures.value
 
 pub returns-clause-used : goal.returns-clause-used
 returns-clause-used c =
     always c.data_of.result
-    (used_store c.the_same_answer_the_same.ensures.ranges c.args.command.now c.self.inside.cache c.reply.new.self c.in_ok-answer.field-0 c.self.inside.mark c.args.self.now c.self.view_is
+    (used_store c.args.command.now c.self.inside.cache c.reply.new.self c.in_ok-answer.field-0 c.self.inside.mark c.args.self.now c.self.view_is
     c.in_ok-answer.ensures.answer)
 
 pub returns-in_default-clause-answer : goal.returns-in_default-clause-answer
 returns-in_default-clause-answer c =
     sym (ap (data_of c.args.command.now) c.in_default.is)
-    ∙ found_is c.the_same_answer_the_same.ensures.answers c.args.command.now c.self.inside.cache c.reply.new.self c.in_ok-answer.field-0 c.self.inside.mark c.args.self.now c.self.view_is
+    ∙ found_is c.args.command.now c.self.inside.cache c.reply.new.self c.in_ok-answer.field-0 c.self.inside.mark c.args.self.now c.self.view_is
     c.in_ok-answer.ensures.answer
 
 pub returns-in_default-clause-used : goal.returns-in_default-clause-used
 returns-in_default-clause-used c =
-    used_store c.the_same_answer_the_same.ensures.ranges c.args.command.now c.self.inside.cache c.reply.new.self c.in_ok-answer.field-0 c.self.inside.mark c.args.self.now c.self.view_is
+    used_store c.args.command.now c.self.inside.cache c.reply.new.self c.in_ok-answer.field-0 c.self.inside.mark c.args.self.now c.self.view_is
     c.in_ok-answer.ensures.answer
 
 pub data_of-requires : goal.data_of-requires

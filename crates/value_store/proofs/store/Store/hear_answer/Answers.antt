@@ -8,7 +8,7 @@ use Rattle.value_store.proofs.store.Store.hear_answer.Goals as goal
 pub returns-in-Some : goal.returns-in-Some
 returns-in-Some c =
     subst (λ command. OnOk c.hear_answer.result (store_of c.hear_answer.new.cache c.self.inside.mark ≡ taught (lesson_of command c.args.body.now) c.args.self.now)) (sym c.in-Some.is)
-    (heard_is c.the_same_learn_the_same.ensures.facts c.the_same_learn_the_same.ensures.blocks c.hear_answer.result
+    (heard_is c.hear_answer.result
     (answer_message c.in-Some.command c.args.body.now) c.self.inside.cache c.hear_answer.new.cache c.self.inside.mark c.args.self.now c.self.view_is
     c.hear_answer.ensures.learned)
 

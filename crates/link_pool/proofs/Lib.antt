@@ -1,0 +1,13 @@
+pub mod Numbered
+pub mod Rowed
+pub mod Chains
+pub mod Held
+pub mod Parts
+pub mod Standing
+pub mod Whole
+pub mod Attaching
+pub mod Pushing
+pub mod Unlinking
+pub mod Moving
+pub mod Clearing
+pub mod Indexing

@@ -1,0 +1,9 @@
+pub mod Value
+pub mod Rows
+pub mod Lists
+pub mod Nodes
+pub mod Tokens
+pub mod Chain
+pub mod Slots
+pub mod Steps
+pub mod Indexed

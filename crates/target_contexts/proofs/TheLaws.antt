@@ -1,0 +1,36 @@
+-- The laws of contexts, as terms.
+use Rattle.target_contexts.specs.Laws.{ChangeStaysOrderly, ChangesOne, EndStaysOrderly, EndsOne, StartStaysOrderly, StartsOne}
+use Rattle.target_contexts.specs.Short.{ChangeStaysShort, EndStaysShort, FoundIsShort, StartStaysShort}
+use Rattle.target_contexts.proofs.Lookup as lookup
+use Rattle.target_contexts.proofs.Orderly.{change_orderly, end_orderly, start_orderly}
+use Rattle.target_contexts.proofs.Short as short
+
+pub starts_one : StartsOne
+starts_one = lookup.starts_one
+
+pub changes_one : ChangesOne
+changes_one = lookup.changes_one
+
+pub ends_one : EndsOne
+ends_one = lookup.ends_one
+
+pub start_stays_orderly : StartStaysOrderly
+start_stays_orderly = start_orderly
+
+pub change_stays_orderly : ChangeStaysOrderly
+change_stays_orderly = change_orderly
+
+pub end_stays_orderly : EndStaysOrderly
+end_stays_orderly = end_orderly
+
+pub found_is_short : FoundIsShort
+found_is_short = short.found_is_short
+
+pub start_stays_short : StartStaysShort
+start_stays_short = short.start_stays_short
+
+pub change_stays_short : ChangeStaysShort
+change_stays_short = short.change_stays_short
+
+pub end_stays_short : EndStaysShort
+end_stays_short = short.end_stays_short

@@ -12,4 +12,5 @@ pub mod Turning
 pub mod Truth
 pub mod Told
 pub mod Strangers
+pub mod Openings
 pub mod TheLaws

@@ -6,3 +6,4 @@ pub mod Agent
 pub mod Runs
 pub mod AgentLaws
 pub mod Strangers
+pub mod Openings

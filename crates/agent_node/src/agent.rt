@@ -33,8 +33,8 @@ pub enum Turned {
 }
 
 /// An agent. Contracts see the target, the number of its inputs so far, the channels, and whether memory was wanting in a
-/// call: then the agent is spent, and each later call that may take memory answers want of it again. What its channels
-/// had queued can still be taken out, but for a channel at whose own end memory was wanting.
+/// call: then the agent is spent and has no channels any more, each later call that may take memory answers want of it
+/// again, and no call changes anything.
 #[derive(Drop)]
 pub struct AgentNode {
     alloc: Global,
@@ -74,11 +74,13 @@ impl AgentNode {
         ensures opened { IfOk result (λ did. (did, self.new) ≡ opened k self.old) }
         ensures fresh { OnOk result (self.old.is_spent ≡ false) }
         ensures spent { OnErr result (self.new.is_spent ≡ true) }
+        ensures silent { OnErr result (self.new.channels ≡ []) }
+        ensures kept { self.old.is_spent ≡ true → self.new ≡ record self.old { channels = [] } }
     {
         self.fresh()?;
         let answer = self.try_open(k);
         if answer.is_err() {
-            self.spent = true;
+            self.give_up();
         }
         answer
     }
@@ -118,11 +120,13 @@ impl AgentNode {
         ensures delivered { OnOk result (self.new ≡ delivered k piece.now self.old) }
         ensures fresh { OnOk result (self.old.is_spent ≡ false) }
         ensures spent { OnErr result (self.new.is_spent ≡ true) }
+        ensures silent { OnErr result (self.new.channels ≡ []) }
+        ensures kept { self.old.is_spent ≡ true → self.new ≡ record self.old { channels = [] } }
     {
         self.fresh()?;
         let answer = self.try_deliver(k, piece);
         if answer.is_err() {
-            self.spent = true;
+            self.give_up();
         }
         answer
     }
@@ -158,11 +162,13 @@ impl AgentNode {
         ensures turned { IfOk result (λ what. (what, self.new) ≡ turned k self.old) }
         ensures fresh { OnOk result (self.old.is_spent ≡ false) }
         ensures spent { OnErr result (self.new.is_spent ≡ true) }
+        ensures silent { OnErr result (self.new.channels ≡ []) }
+        ensures kept { self.old.is_spent ≡ true → self.new ≡ record self.old { channels = [] } }
     {
         self.fresh()?;
         let answer = self.try_turn(k);
         if answer.is_err() {
-            self.spent = true;
+            self.give_up();
         }
         answer
     }
@@ -318,11 +324,13 @@ impl AgentNode {
         ensures ticked { IfOk result (λ did. (did, self.new) ≡ ticked thread self.old) }
         ensures fresh { OnOk result (self.old.is_spent ≡ false) }
         ensures spent { OnErr result (self.new.is_spent ≡ true) }
+        ensures silent { OnErr result (self.new.channels ≡ []) }
+        ensures kept { self.old.is_spent ≡ true → self.new ≡ record self.old { channels = [] } }
     {
         self.fresh()?;
         let answer = self.try_tick(thread);
         if answer.is_err() {
-            self.spent = true;
+            self.give_up();
         }
         answer
     }
@@ -344,7 +352,7 @@ impl AgentNode {
     }
 
     /// Takes the next message of the channel that is to be sent, or the end of the stream, escaped; `None` exactly where
-    /// nothing is queued, or memory was wanting at the channel's end.
+    /// nothing is queued, and so where the agent is spent.
     #[tactic(auto, unfolding(crate::specs::Agent::given, crate::specs::Agent::after_giving))]
     pub fn take_out(&mut self, k: u64) -> Option<Outgoing>
         ensures given { result ≡ given k self.old }
@@ -386,12 +394,23 @@ impl AgentNode {
         self.hub.running()
     }
 
+    /// Memory was wanting: the agent is spent, and its channels are gone.
+    fn give_up(&mut self)
+        ensures { self.new ≡ record self.old { channels = []; is_spent = true } }
+    {
+        self.spent = true;
+        self.channels.clear();
+    }
+
     /// Want of memory, where it was met before.
-    fn fresh(&self) -> Result<(), AllocError>
-        ensures fresh { OnOk result (self.now.is_spent ≡ false) }
-        ensures spent { OnErr result (self.now.is_spent ≡ true) }
+    fn fresh(&mut self) -> Result<(), AllocError>
+        ensures fresh { OnOk result (self.old.is_spent ≡ false) }
+        ensures same { OnOk result (self.new ≡ self.old) }
+        ensures spent { OnErr result (self.old.is_spent ≡ true) }
+        ensures gone { OnErr result (self.new ≡ record self.old { channels = []; is_spent = true }) }
     {
         if self.spent {
+            self.give_up();
             return Err(AllocError);
         }
         Ok(())

@@ -10,6 +10,9 @@ mod telling;
 
 pub use agent::{AgentNode, Turned};
 pub use channel::Channel;
-pub use laws::{an_agent_has_no_strangers, an_agent_tells_the_truth};
+pub use laws::{
+    a_channel_opens_where_it_may, an_agent_has_no_strangers, an_agent_tells_the_truth,
+    at_most_64_are_live,
+};
 pub use numbers::Span;
 pub use target_hub::{Image, Input};

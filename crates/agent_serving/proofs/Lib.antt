@@ -7,8 +7,18 @@ mod Hearing
 mod Settled
 mod Fronts
 mod Acted
+mod CallLists
+mod GivenOut
+mod Doing
+mod Wires
+mod ServedSo
+mod Boxes
+mod Rooms
+mod Idling
+mod Leaving
 mod Running
 pub mod Gathering
 mod Given
 mod Taking
 mod Ending
+pub mod TheLaws

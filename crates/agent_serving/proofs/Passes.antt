@@ -20,20 +20,20 @@ pub left_ends : (threads rest : List ContextId) (most left : ℕ) (first now : A
     → left ≡ left_by_pass threads most first
 left_ends threads rest most left first now none so = none ∙ sym (so ∙ ap (λ (n : ℕ). left_by_pass rest n now) none ∙ none_is_left rest now)
 
-passes_of_none : (passes : ℕ) (a : AgentValue) → after_passes passes 0 a ≡ a
+pub passes_of_none : (passes : ℕ) (a : AgentValue) → after_passes passes 0 a ≡ a
 unfolding after_passes
 passes_of_none zero a = refl
 passes_of_none (suc passes) a =
     ap (λ (left : ℕ). after_passes passes left (after_pass (threads_of a) 0 a)) (none_is_left (threads_of a) a)
     ∙ ap (λ (b : AgentValue). after_passes passes 0 b) (pass_of_none (threads_of a) a) ∙ passes_of_none passes a
 
-passes_over_none : (passes left : ℕ) (a : AgentValue) → threads_of a ≡ [] → after_passes passes left a ≡ a
+pub passes_over_none : (passes left : ℕ) (a : AgentValue) → threads_of a ≡ [] → after_passes passes left a ≡ a
 unfolding after_passes
 passes_over_none zero left a none = refl
 passes_over_none (suc passes) left a none =
     ap (λ (threads : List ContextId). after_passes passes (left_by_pass threads left a) (after_pass threads left a)) none ∙ passes_over_none passes left a none
 
-one_pass : (passes left : ℕ) (a : AgentValue) → after_passes (suc passes) left a ≡ after_passes passes (left_by_pass (threads_of a) left a) (after_pass (threads_of a) left a)
+pub one_pass : (passes left : ℕ) (a : AgentValue) → after_passes (suc passes) left a ≡ after_passes passes (left_by_pass (threads_of a) left a) (after_pass (threads_of a) left a)
 unfolding after_passes
 one_pass passes left a = refl
 

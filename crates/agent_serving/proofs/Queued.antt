@@ -82,7 +82,7 @@ first_twice k change then (c ∷ cs) = by_flag (c.number == k) refl (first_twice
     by_flag false is rest =
         ap (in_first k then) (first_later k change c cs is) ∙ first_later k then c (in_first k change cs) is ∙ ap (λ xs. c ∷ xs) rest ∙ sym (first_later k (λ e. then (change e)) c cs is)
 
-abbrev mapped : (End → End) → Option Channel → Option Channel
+abbrev pub mapped : (End → End) → Option Channel → Option Channel
 mapped change None = None
 mapped change (Some c) = Some (with_end (change c.end) c)
 

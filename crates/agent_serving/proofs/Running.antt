@@ -34,6 +34,7 @@ use Rattle.serving_wires.proofs.Turns.{listened, gave, events_then, one_longer, 
 use Rattle.serving_wires.proofs.Fronts.{fronts_behind}
 use Rattle.serving_wires.proofs.RisingPuts.{rising}
 use Rattle.serving_wires.specs.Ends.{no_listening, no_event}
+use Rattle.agent_serving.proofs.ServedSo.{behind_wires}
 use Rattle.agent_serving.proofs.Settled.{served_so, settled}
 use Rattle.serving_wires.proofs.Standing.{Stand, filter_keeps, stand_more}
 use Rattle.agent_serving.proofs.Standing.{by_lines, lines_keep}
@@ -61,7 +62,14 @@ runs_fronts laws images address count real unused calls r = fronts laws images c
 
 pub nothing_yet : (images : List Image) (address : List ℕ) (turns : ℕ) → ServesAgent images address turns NoMemory []
 nothing_yet images address turns =
-    record { listens = inr (refl, refl); serves = each_none (IsInPlace (served_by images)) []; fronts = λ channel. ((served_by images).served [] channel, refl); settled = λ other some. absurd (other refl); ends = refl }
+    record {
+      listens = inr (refl, refl);
+      serves = each_none (IsInPlace (served_by images)) [];
+      fronts = λ channel. ((served_by images).served [] channel, refl);
+      settled = λ other some. absurd (other refl);
+      agent = behind_wires images [] (λ channel. ((served_by images).served [] channel, refl));
+      ends = refl;
+    }
 
 pub no_listener : (images : List Image) (address : List ℕ) (turns : ℕ) → ServesAgent images address turns WireFault (listened address (Err refusals.Failed))
 no_listener images address turns =
@@ -70,6 +78,7 @@ no_listener images address turns =
       serves = each_one (IsInPlace (served_by images)) [] (Listened address (Err refusals.Failed)) tt;
       fronts = λ channel. ((served_by images).served [] channel, refl);
       settled = λ other some. absurd (some refl);
+      agent = behind_wires images (listened address (Err refusals.Failed)) (λ channel. ((served_by images).served [] channel, refl));
       ends = record { earlier = []; last = Listened address (Err refusals.Failed); split = refl; fails_last = no_listening address refl; goes_on = refl; sound = refl };
     }
 
@@ -177,6 +186,7 @@ stopped laws images address turns count real new unused unused_then calls more w
       serves = then.serves;
       fronts = fronts laws images (calls ++ more) new.lines then.stands.agree.lines then.stands.spares;
       settled = λ other some. settled laws images (calls ++ more) new.lines then.stands.agree.lines then.flushed then.stands.spares then.rises;
+      agent = behind_wires images (calls ++ more) (fronts laws images (calls ++ more) new.lines then.stands.agree.lines then.stands.spares);
       ends = record {
         earlier = events_in calls;
         last = then.came ∙ ap (λ (e : WireEvent). events_in calls ++ e ∷ []) (is_the_stop t.event (sym t.last));
@@ -195,6 +205,7 @@ all_taken laws images address turns count real unused calls all r =
       serves = r.serves;
       fronts = runs_fronts laws images address count real unused calls r;
       settled = λ other some. settles laws images address count real unused calls r some;
+      agent = behind_wires images calls (runs_fronts laws images address count real unused calls r);
       ends = record { counted = r.counted ∙ all; goes_on = r.goes_on; sound = r.sound };
     }
 
@@ -217,6 +228,9 @@ broken laws images address turns count real unused calls within r =
           (λ channel missing. none_of_both (is_on channel) calls failed
           (r.stands.spares channel (ap (λ (es : List WireEvent). found channel (after_events images es).lines) (sym quiet) ∙ missing)) refl)
           (subst (λ (ks : List ℕ). IsStrictlyIncreasing ks) (sym (fold-append put_on [] calls failed)) r.rises);
+      agent = behind_wires images now
+          (fronts_behind (served_by images) calls failed (event_in_place laws images address count real unused calls (Err refusals.Failed) r) refl
+          (runs_fronts laws images address count real unused calls r));
       ends = record {
         earlier = calls;
         last = Gave (Err refusals.Failed);
@@ -237,6 +251,7 @@ wanting images address turns calls more listens serves sound in_place more_front
       serves = each_more (IsInPlace (served_by images)) calls more serves in_place;
       fronts = more_fronts;
       settled = λ other some. absurd (other refl);
+      agent = behind_wires images (calls ++ more) more_fronts;
       ends = none_of_both fails calls more sound more_sound;
     }
 

@@ -3,5 +3,7 @@ pub mod Ticking
 pub mod Lines
 pub mod ServingValue
 pub mod Serving
+pub mod Served
+pub mod Left
 pub mod Serve
 pub mod Turn

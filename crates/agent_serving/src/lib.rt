@@ -1,6 +1,7 @@
 //! An agent that is served over wires: each event goes to it, and what it tells goes to its peers.
 #![tactic(auto)]
 
+pub mod laws;
 mod line;
 mod passing;
 pub mod serve;
@@ -8,5 +9,6 @@ mod serving;
 mod ticking;
 
 pub use agent_node::Image;
+pub use laws::{nothing_is_left_to_do, what_is_served_is_an_agent};
 pub use serve::serve_agent;
 pub use serving_wires::ServeEnd;

@@ -16,6 +16,9 @@ use tcf_wires::{WireRefusal, Wires};
 /// which there are 1 to 1,000,000,000, one event is taken and goes to the agent; all messages that can be taken are
 /// taken; then what is queued is put, one put a wire, in rising order of the channels.
 ///
+/// Behind the wires stands an agent: what they take of each is a front of what some calls of a new one gave out on its channel,
+/// which is what a legal history tells it.
+///
 /// Where 64 channels are live, a further connection gets the end of the stream and is shut. A wire is shut once nothing
 /// is left to put after its channel's end. What a wire doesn't take is put first after the next event; what is queued
 /// for a wire that is lost is dropped, and the agent learns of it by an event alone.

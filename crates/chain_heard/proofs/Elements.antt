@@ -1,10 +1,9 @@
 -- The elements of lists: what holds of each, their places, and how many pass a test.
-use Rattle.std.proofs.Common.{◌≡◌, ◌+◌, ◌≤◌, ◌<◌, zero, suc, Bool, true, false, ◌&&◌, cond, List, [], ◌∷◌, ◌++◌, length, map, filter, refl, ap, ap₂, sym, ◌∙◌, arith, length-append}
+use Rattle.std.proofs.Common.{◌≡◌, ◌+◌, ◌≤◌, ◌<◌, zero, suc, Bool, true, false, cond, List, [], ◌∷◌, ◌++◌, length, map, filter, refl, ap, ap₂, sym, ◌∙◌, arith, length-append}
 use Rattle.std.specs.Prelude.{All}
 use Rattle.std.specs.List.{AllByRecursion, Contains}
 use Rattle.std.proofs.lemmas.List.{append_assoc}
 use Rattle.std.proofs.lemmas.List.Elements.{filter-append}
-use Rattle.list_laws.specs.Fronts.{IsFront}
 
 -- ---- what holds of each
 
@@ -94,39 +93,3 @@ length_front xs ys zs split = let long : length xs + length ys ≡ length zs = s
 
 pub filter_length : {A : Type 0} → (p : A → Bool) (xs ys zs : List A) → xs ++ ys ≡ zs → length (filter p xs) ≤ length (filter p zs)
 filter_length p xs ys zs split = length_front (filter p xs) (filter p ys) (filter p zs) (sym (filter-append p xs ys) ∙ ap (filter p) split)
-
--- of two fronts the shorter one is a front of the other
-pub shorter_front : {A : Type 0} → (xs ys us vs : List A) → xs ++ us ≡ ys ++ vs → length ys ≤ length xs → IsFront ys xs
-shorter_front xs [] us vs split less = (xs, refl)
-shorter_front [] (y ∷ ys) us vs split less = absurd (omega arith)
-shorter_front (x ∷ xs) (y ∷ ys) us vs split less =
-    let head : x ≡ y = cc in
-    let tail : xs ++ us ≡ ys ++ vs = cc in
-    let within : length ys ≤ length xs = omega arith in
-    let more : IsFront ys xs = shorter_front xs ys us vs tail within in
-    (more.0, ap₂ (λ a l. a ∷ l) head more.1)
-
--- of fewer elements fewer pass a test
-pub fewer : {A : Type 0} → (p q : A → Bool) (xs : List A) → length (filter p (filter q xs)) ≤ length (filter p xs)
-fewer p q [] = omega arith
-fewer {A} p q (x ∷ xs) = by_flags (q x) (p x) refl (fewer p q xs)
-  where
-    by_flags : (kept_flag passed : Bool) → p x ≡ passed → length (filter p (filter q xs)) ≤ length (filter p xs)
-        → length (filter p (cond kept_flag (x ∷ filter q xs) (filter q xs))) ≤ length (cond passed (x ∷ filter p xs) (filter p xs))
-    by_flags true true is less =
-        let here : length (filter p (x ∷ filter q xs)) ≡ length (x ∷ filter p (filter q xs)) = ap (λ b. length (cond b (x ∷ filter p (filter q xs)) (filter p (filter q xs)))) is in omega arith
-    by_flags true false is less =
-        let here : length (filter p (x ∷ filter q xs)) ≡ length (filter p (filter q xs)) = ap (λ b. length (cond b (x ∷ filter p (filter q xs)) (filter p (filter q xs)))) is in omega arith
-    by_flags false true is less = omega arith
-    by_flags false false is less = less
-
--- and fewer pass a stronger one
-pub stronger : {A : Type 0} → (p q : A → Bool) (xs : List A) → length (filter (λ x. p x && q x) xs) ≤ length (filter p xs)
-stronger p q [] = omega arith
-stronger {A} p q (x ∷ xs) = by_flags (p x) (q x) (stronger p q xs)
-  where
-    by_flags : (one other : Bool) → length (filter (λ y. p y && q y) xs) ≤ length (filter p xs)
-        → length (cond (one && other) (x ∷ filter (λ y. p y && q y) xs) (filter (λ y. p y && q y) xs)) ≤ length (cond one (x ∷ filter p xs) (filter p xs))
-    by_flags true true less = omega arith
-    by_flags true false less = omega arith
-    by_flags false other less = less

@@ -1,8 +1,8 @@
 -- Each answer with a position to a storable command is what the target answers there, behind all commands before it that may change the target.
-use Rattle.std.proofs.Common.{◌≡◌, ℕ, ◌+◌, ◌≤◌, ◌<◌, ◌^◌, min, nat_lt, Bool, true, false, ◌&&◌, true≢false, List, [], ◌∷◌, ◌++◌, drop, length, map, filter, take, Option, Some, None, refl, ap, ap₂, sym, ◌∙◌, subst, subst₂, arith, length-take-le, take-append-drop, ltb→lt, T}
+use Rattle.std.proofs.Common.{◌≡◌, ℕ, ◌+◌, ◌≤◌, ◌<◌, ◌^◌, nat_lt, Bool, true, false, true≢false, List, [], ◌∷◌, ◌++◌, drop, length, map, filter, take, Option, Some, None, refl, ap, ap₂, sym, ◌∙◌, subst, subst₂, arith, length-take-le, take-append-drop, ltb→lt, ltb-false, T}
 use Rattle.std.specs.Prelude.{Contains, decimal}
 use Rattle.std.specs.List.{AllByRecursion, flat_map}
-use Rattle.std.proofs.lemmas.List.{append_assoc, append-nil, map-append}
+use Rattle.std.proofs.lemmas.List.{append_assoc, take-append-le}
 use Rattle.std.proofs.lemmas.List.Concat.{flat_map-append}
 use Rattle.std.proofs.lemmas.List.Elements.{filter-append}
 use Rattle.channel_core.specs.Arrivals.{Spoken}
@@ -12,11 +12,12 @@ use Rattle.command_tables.specs.declared.reading.Reading.{Reading}
 use Rattle.command_tables.specs.declared.reading.Reading.TheVariants as readings
 use Rattle.knowledge.specs.Learning.{learned}
 use Rattle.target_contexts.specs.declared.process.Image.{Image}
-use Rattle.target_hub.specs.Fresh.{AreBehind, Fresh, FreshLine, IsFresh, IsStorable, barriers_below, barriers_on, is_barrier}
+use Rattle.target_hub.specs.Fresh.{AreBehind, Fresh, FreshLine, IsFresh, IsStorable, is_barrier}
 use Rattle.target_hub.specs.Ordered.{through}
 use Rattle.target_hub.specs.Received.{goes_through, is_owed, read, told_of}
-use Rattle.target_hub.specs.Sent.{ReadCommand, Told, agent_services, executed_on, hello_at, sent}
+use Rattle.target_hub.specs.Sent.{Told, agent_services, executed_on, hello_at, sent}
 use Rattle.target_hub.specs.declared.input.Input.{Input}
+use Rattle.target_hub.specs.declared.input.Input.TheVariants.{Executed}
 use Rattle.target_truth.specs.Typed.{AreTyped}
 use Rattle.tcf_message.specs.Message.{MessageValue, final, not_known}
 use Rattle.tcf_text.specs.Lines.{Accepted, accepted, mark_of}
@@ -37,12 +38,11 @@ use Rattle.chain_heard.proofs.Heard.{Hearing, HearsNothing, hearing, hears_nothi
 use Rattle.chain_heard.proofs.Known.{Counted, Place, number_is, one_place, under}
 use Rattle.chain_heard.proofs.Lines.{AreLinesOf, AtLine, IsLineOf, at_line, line_mark, messages_cut, says_event, says_final, says_hello, says_progress, says_unknown}
 use Rattle.list_laws.specs.Fronts.{IsFront}
-use Rattle.list_laws.proofs.Splits.{filter_mapped, filter_nothing}
 use Rattle.list_laws.proofs.Fronts.{front_filter, front_then}
 use Rattle.chain_heard.proofs.Marks.{Rising, greeting, mark_now, own_unmarked}
 use Rattle.chain_heard.proofs.Placed.{IsBare, RisingLines, bare_lines, rising_lines}
 use Rattle.chain_heard.proofs.Turns.{IsEndedIf, IsThroughOpen, Turn, ended_before, later_numbers}
-use Rattle.chain_heard.proofs.Elements.{all_cuts, all_kept, all_index, SameCut, Cut, contains_cut, InOne, in_first, in_second, in_one_of, mapped_length, filter_length, shorter_front, fewer, stronger}
+use Rattle.chain_heard.proofs.Elements.{all_cuts, all_kept, all_index, SameCut, Cut, contains_cut, InOne, in_first, in_second, in_one_of, mapped_length, filter_length}
 use Rattle.list_laws.proofs.AllLists.{all_append, all_right as all_back, all_filter, all_weaker, all_at, all_both as all_two}
 use Rattle.chain_through.proofs.OwnTold.{IsUnmarked}
 
@@ -56,78 +56,84 @@ barrier_by (readings.Bad index code) = refl
 bars_as : (c : Accepted) → bars (asked_as c) ≡ is_barrier (read c).reading
 bars_as c = barrier_by (reading_of c.service c.name c.body)
 
-abbrev is_below : ℕ → Accepted → Bool
-is_below number c = is_barrier (read c).reading && nat_lt c.number number
-
--- those with a smaller number have their answers
+-- a barrier with a smaller number has its answer
 abbrev IsBelowEnded : ℕ → List Spoken → Accepted → Type 0
-IsBelowEnded number before c = is_below number c ≡ true → is_ended (decimal c.number) before ≡ true
-
-below : (number : ℕ) (c : Accepted) → is_below number c ≡ true → (is_barrier (read c).reading ≡ true) × (c.number < number)
-below number c is = by_flags (is_barrier (read c).reading) (nat_lt c.number number) refl is
-  where
-    by_flags : (one other : Bool) → nat_lt c.number number ≡ other → (one && other) ≡ true → (one ≡ true) × (c.number < number)
-    by_flags true true less both = (refl, ltb→lt c.number number (subst T (sym less) tt))
-    by_flags true false less both = absurd (true≢false (sym both))
-    by_flags false other less both = absurd (true≢false (sym both))
+IsBelowEnded number before c = is_barrier (read c).reading ≡ true → c.number < number → is_ended (decimal c.number) before ≡ true
 
 below_ended : (all done left : List Accepted) (c : Accepted) (number : ℕ) (before : List Spoken) (token : List ℕ) → Counted all → all ≡ done ++ c ∷ left → number ≡ c.number
     → decimal c.number ≡ token → AreEndedBefore bars (map asked_as all) before token → AllByRecursion (IsBelowEnded number before) all
 below_ended all done left c number before token counted split same named settled =
     subst (AllByRecursion (IsBelowEnded number before)) (sym split)
     (all_append (IsBelowEnded number before) done (c ∷ left)
-    (all_weaker (IsEndedIf bars before) (IsBelowEnded number before) done (λ d ended is. ended (bars_as d ∙ (below number d is).0))
+    (all_weaker (IsEndedIf bars before) (IsBelowEnded number before) done (λ d ended is less. ended (bars_as d ∙ is))
     (ended_before bars all done left c before token split named settled)) (
-      (λ is. let less : c.number < number = (below number c is).1 in absurd (omega arith)),
-      all_weaker (λ d. c.number + 1 ≤ d.number) (IsBelowEnded number before) left
-          (λ d above is. let less : d.number < number = (below number d is).1 in absurd (omega arith)) (later_numbers all done left c counted split),
+      (λ is less. absurd (omega arith)),
+      all_weaker (λ d. c.number + 1 ≤ d.number) (IsBelowEnded number before) left (λ d above is less. absurd (omega arith)) (later_numbers all done left c counted split),
     ))
 
--- those that are left have a greater number
+-- a command that isn't below
+abbrev IsNotBelow : ℕ → Accepted → Type 0
+IsNotBelow number c = is_barrier (read c).reading ≡ true → c.number < number → ⊥
+
+-- so it is with those that go through and are left
 none_below : (number : ℕ) (before : List Spoken) (rest : List Accepted) → AllByRecursion (IsBelowEnded number before) rest → AllByRecursion (IsThroughOpen before) rest
-    → filter (is_below number) (filter goes_through rest) ≡ []
+    → AllByRecursion (IsNotBelow number) (filter goes_through rest)
 none_below number before rest ended none =
     let q : List Accepted = filter goes_through rest in
-    filter_nothing (is_below number) q
-    (all_two (λ c. goes_through c ≡ true) (λ c. goes_through c ≡ true → is_below number c ≡ false) (λ c. is_below number c ≡ false) q (λ c goes other. other goes)
-    (all_kept goes_through rest)
-    (all_filter (λ c. goes_through c ≡ true → is_below number c ≡ false) goes_through rest
-    (all_two (IsBelowEnded number before) (IsThroughOpen before) (λ c. goes_through c ≡ true → is_below number c ≡ false) rest
-    (λ c first second goes. not_both (is_below number c) (is_ended (decimal c.number) before) first (second goes)) ended none)))
-  where
-    not_both : (flag over : Bool) → (flag ≡ true → over ≡ true) → over ≡ false → flag ≡ false
-    not_both true over first second = absurd (true≢false (sym (first refl) ∙ second))
-    not_both false over first second = refl
+    all_two (λ c. goes_through c ≡ true) (λ c. goes_through c ≡ true → IsNotBelow number c) (IsNotBelow number) q (λ c goes other. other goes) (all_kept goes_through rest)
+    (all_filter (λ c. goes_through c ≡ true → IsNotBelow number c) goes_through rest
+    (all_two (IsBelowEnded number before) (IsThroughOpen before) (λ c. goes_through c ≡ true → IsNotBelow number c) rest
+    (λ c first second goes is less. true≢false (sym (first is less) ∙ second goes)) ended none))
 
--- what is answered so far was executed up to the position
-are_behind : (history first second : List Input) (k number : ℕ) (log : List LogLine) (done rest later : List Accepted) (before : List Spoken) → through log ≡ filter goes_through later
-    → later ≡ done ++ rest → history ≡ first ++ second → AllByRecursion (IsBelowEnded number before) rest → AllByRecursion (IsThroughOpen before) rest
-    → IsFront (filter flag_of (executed_on k history)) (filter flag_of (map read later)) → length (filter goes_through done) ≤ length (filter flag_of (executed_on k first))
-    → barriers_below number log ≤ barriers_on k first
-are_behind history first second k number log done rest later before through_is parts split ended none goes enough =
-    let d : List Accepted = filter goes_through done in
-    let e : List Accepted = filter goes_through rest in
-    let x : List ReadCommand = filter flag_of (executed_on k first) in
-    let z : List ReadCommand = filter flag_of (executed_on k second) in
-    let barrier : ReadCommand → Bool = λ c. is_barrier c.reading in
-    let whole : filter goes_through later ≡ d ++ e = ap (filter goes_through) parts ∙ filter-append goes_through done rest in
-    let counted : barriers_below number log ≡ length (filter (is_below number) d) =
-    ap (λ cs. length (filter (is_below number) cs)) (through_is ∙ whole)
-    ∙ ap length (filter-append (is_below number) d e ∙ ap (λ l. filter (is_below number) d ++ l) (none_below number before rest ended none) ∙ append-nil (filter (is_below number) d)) in
-    let weaker : length (filter (is_below number) d) ≤ length (filter (λ (c : Accepted). is_barrier (read c).reading) d) =
-    stronger (λ (c : Accepted). is_barrier (read c).reading) (λ (c : Accepted). nat_lt c.number number) d in
-    let mapped : length (filter barrier (map read d)) ≡ length (filter (λ (c : Accepted). is_barrier (read c).reading) d) =
-    ap length (filter_mapped barrier read d) ∙ mapped_length read (filter (λ (c : Accepted). is_barrier (read c).reading) d) in
-    let executed : filter flag_of (executed_on k history) ≡ x ++ z =
-    ap (λ inputs. filter flag_of (executed_on k inputs)) split ∙ ap (filter flag_of) (executed_parts k first second) ∙ filter-append flag_of (executed_on k first) (executed_on k second) in
-    let both : x ++ (z ++ goes.0) ≡ map read d ++ map read e =
-    sym (append_assoc x z goes.0) ∙ ap (λ l. l ++ goes.0) (sym executed) ∙ sym goes.1 ∙ filter_mapped flag_of read later ∙ ap (map read) whole ∙ map-append read d e in
-    let long : length (map read d) ≡ length d = mapped_length read d in
-    let within : length (map read d) ≤ length x = omega arith in
-    let front : IsFront (map read d) x = shorter_front x (map read d) (z ++ goes.0) (map read e) both within in
-    let less : length (filter barrier (map read d)) ≤ length (filter barrier x) = filter_length barrier (map read d) front.0 x (sym front.1) in
-    let least : length (filter barrier x) ≤ barriers_on k first = fewer barrier flag_of (executed_on k first) in
+-- so a command below stands among those that are done
+stands_among : (number : ℕ) (d e first later : List Accepted) (c : Accepted) → AllByRecursion (IsNotBelow number) e → d ++ e ≡ first ++ c ∷ later
+    → is_barrier (read c).reading ≡ true → c.number < number → length first < length d
+stands_among number [] e first later c none split is less = absurd (all_at (IsNotBelow number) first later c (subst (AllByRecursion (IsNotBelow number)) split none) is less)
+stands_among number (a ∷ d) e [] later c none split is less = omega arith
+stands_among number (a ∷ d) e (b ∷ first) later c none split is less =
+    let tail : d ++ e ≡ first ++ c ∷ later = cc in
+    let more : length first < length d = stands_among number d e first later c none tail is less in
     omega arith
+
+-- what k executes up to a position that isn't beyond some inputs it executes in them
+executed_front : (k position : ℕ) (before after : List Input) → position ≤ length before
+    → length (filter flag_of (executed_on k (take position (before ++ after)))) ≤ length (filter flag_of (executed_on k before))
+executed_front k position before after within =
+    let left : take position (before ++ after) ≡ take position before = take-append-le position before after within in
+    let parts : executed_on k (take position before) ++ executed_on k (drop position before) ≡ executed_on k before =
+    sym (executed_parts k (take position before) (drop position before)) ∙ ap (executed_on k) (take-append-drop position before) in
+    let less = filter_length flag_of (executed_on k (take position before)) (executed_on k (drop position before)) (executed_on k before) parts in
+    subst (λ inputs. length (filter flag_of (executed_on k inputs)) ≤ length (filter flag_of (executed_on k before))) (sym left) less
+
+-- what is answered so far was executed up to the position, so a command below stands there or before it
+are_behind : (history : List Input) (k number position : ℕ) (log : List LogLine) (done rest later : List Accepted) (before : List Spoken) → through log ≡ filter goes_through later
+    → later ≡ done ++ rest → AllByRecursion (IsBelowEnded number before) rest → AllByRecursion (IsThroughOpen before) rest
+    → length (filter goes_through done) ≤ length (filter flag_of (executed_on k (take position history))) → AreBehind log history number position k
+are_behind history k number position log done rest later before through_is parts ended none enough c place at is less = by_order (nat_lt position place) refl
+  where
+    input : Input
+    input = Executed k (read c).reading c.service c.name
+
+    whole : filter goes_through done ++ filter goes_through rest ≡ at.first ++ c ∷ at.later
+    whole = sym (filter-append goes_through done rest) ∙ ap (filter goes_through) (sym parts) ∙ sym through_is ∙ at.among
+
+    among : length at.first < length (filter goes_through done)
+    among = stands_among number (filter goes_through done) (filter goes_through rest) at.first at.later c (none_below number before rest ended none) whole is less
+
+    many : length (filter flag_of (executed_on k at.before)) ≡ length at.first
+    many = ap length at.same ∙ mapped_length read at.first
+
+    there : length (filter goes_through done) ≤ length (filter flag_of (executed_on k (take position (at.before ++ input ∷ at.after))))
+    there = subst (λ inputs. length (filter goes_through done) ≤ length (filter flag_of (executed_on k (take position inputs)))) at.split enough
+
+    by_order : (flag : Bool) → nat_lt position place ≡ flag → place ≤ position
+    by_order false order = ltb-false position place order
+    by_order true order =
+        let over : position < place = ltb→lt position place (subst T (sym order) tt) in
+        let stop = at.place in
+        let within : position ≤ length at.before = omega arith in
+        let few = executed_front k position at.before (input ∷ at.after) within in
+        absurd (omega (arith, among, many, there))
 
 -- ---- where the answer stands
 
@@ -168,17 +174,16 @@ rising_front position (s ∷ told) more rises = (rises.0, rising_front rises.0.p
 behind_turn : (log : List LogLine) (images : List Image) (history : List Input) (k position : ℕ) (answered later : List Accepted) (hears : Hears log images history k position answered later)
     (shape : Shape (filter tells log) hears.own hears.rest position) (before : List Spoken) (xs : List LogLine) (place number : ℕ) (turn : Turn answered later before xs)
     → length (filter goes_through turn.done) ≤ length (filter flag_of (executed_on k (take place history)))
-    → AllByRecursion (IsBelowEnded number before) (answered ++ later) → barriers_below number log ≤ barriers_on k (take place history)
+    → AllByRecursion (IsBelowEnded number before) (answered ++ later) → AreBehind log history number place k
 behind_turn log images history k position answered later hears shape before xs place number turn enough ended =
-    are_behind history (take place history) (drop place history) k number log turn.done turn.rest later before
-    (through_left log images history k position answered later hears shape) turn.split (sym (take-append-drop place history))
+    are_behind history k number place log turn.done turn.rest later before (through_left log images history k position answered later hears shape) turn.split
     (all_back (IsBelowEnded number before) turn.done turn.rest
-    (subst (AllByRecursion (IsBelowEnded number before)) turn.split (all_back (IsBelowEnded number before) answered later ended))) turn.open_yet hears.goes enough
+    (subst (AllByRecursion (IsBelowEnded number before)) turn.split (all_back (IsBelowEnded number before) answered later ended))) turn.open_yet enough
 
 -- the commands that were answered before it were executed up to its position
 behind_at : (log : List LogLine) (images : List Image) (history : List Input) (k position : ℕ) (answered later : List Accepted) (hears : Hears log images history k position answered later)
     (before told more : List Spoken) (s : Spoken) (place number : ℕ) → before ≡ (hears.own ++ greeting position ∷ []) ++ told → hears.rest ≡ told ++ s ∷ more → s.mark ≡ Some place → place ≤ length history
-    → AllByRecursion (IsBelowEnded number before) (answered ++ later) → barriers_below number log ≤ barriers_on k (take place history)
+    → AllByRecursion (IsBelowEnded number before) (answered ++ later) → AreBehind log history number place k
 behind_at log images history k position answered later hears before told more s place number same split mark within ended =
     let all : List Accepted = answered ++ later in
     let shape = shape_of (filter tells log) hears.heard hears.own hears.rest position hears.split hears.lines_are in
@@ -217,9 +222,6 @@ behind_at log images history k position answered later hears before told more s 
     told_of_hello : ℕ → Told
     told_of_hello place = hello_at place agent_services
 
-min_low : (a b c : ℕ) → a ≤ c → min a b ≤ c
-min_low a b c less = omega arith
-
 -- the command of an answer is this storable one
 storable_is : (log : List LogLine) (all : List Accepted) (number : ℕ) (command : Command) (c : Asked) → Counted all → accepted log ≡ all → number < 2 ^ 64
     → command_under (decimal number) (map asked_as all) ≡ Some c → IsStorable log number command → command_asked c ≡ Some command
@@ -253,14 +255,12 @@ fresh_answer log images history k position answered later typed hears before bac
     let at : Stands log hears.own hears.rest before position s = stands log images history k position answered later hears before back place s (decimal number) body split message mark in
     let ended : AllByRecursion (IsBelowEnded number before) all =
     below_ended all p.done p.left p.command number before c.token hears.counted p.split same named fresh.settled in
-    let least : barriers_below number log ≤ barriers_on k (take place history) =
+    let behind : AreBehind log history number place k =
     behind_at log images history k position answered later hears before at.told at.more s place number at.first at.second mark true_here.0 ended in
     record {
       within = true_here.0;
       same = fresh.same typed;
-      behind = λ j channel.
-          subst (AreBehind log history number place) (its_channel log images history k position answered later hears j channel)
-          (min_low (barriers_below number log) (barriers_on k history) (barriers_on k (take place history)) least);
+      behind = λ j channel. subst (AreBehind log history number place) (its_channel log images history k position answered later hears j channel) behind;
     }
 
 fresh_unknown : (log : List LogLine) (images : List Image) (history : List Input) (k position : ℕ) (answered later : List Accepted)

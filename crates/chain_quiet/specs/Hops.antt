@@ -1,7 +1,7 @@
 -- The hops of a way, at any moment.
 use Rattle.std.specs.Prelude.{◌≡◌, ◌⊎◌, Bool, true, false, List, [], ◌∷◌, ◌++◌, filter, Option, None, Some, IfSome}
 use Rattle.std.specs.List.{AllByRecursion, flat_map, list_any}
-use Rattle.chain_route.specs.Carrying.{AllCarry, GivesAll, HaveConnected, IsDead, IsUnused, Made, end_of, past_of, value_of}
+use Rattle.chain_route.specs.Carrying.{AllCarry, GivesAll, HaveConnected, IsDead, IsUnused, Made, agent_end, past_of, value_of}
 use Rattle.chain_route.specs.Runs.{Talk}
 use Rattle.chain_route.specs.declared.hop.Hop.{Hop}
 use Rattle.channel_core.specs.Arrivals.{AreSpoken, Spoken, arrived, bytes_of, messages_in, queue_of, all_said}
@@ -21,7 +21,7 @@ use Rattle.list_laws.specs.Fronts.{IsFront}
 
 -- it opened a channel, or refused it
 abbrev pub IsAgentSide : Option (Side Unit) → Talk → Type 0
-IsAgentSide None talk = talk.gave ≡ end_of_stream ∷ []
+IsAgentSide None talk = (talk.is_refused ≡ true) × (talk.gave ≡ end_of_stream ∷ [])
 IsAgentSide (Some a) talk = IsChannel a talk
 
 -- ---- a way
@@ -31,7 +31,7 @@ pub record IsWay {T : Type 0} (s : Side T) (hops : List Hop) (made : List Made) 
   pub sends : IsReadable s
   pub given : list_any (λ hop. hop.is_live) hops ≡ true → (run_of s).end.queued ≡ []
   pub adds : AllByRecursion (λ m. GivesAll (value_of m)) made
-  pub carries : AllCarry (end_of_side s) hops made (end_of talk)
+  pub carries : AllCarry (end_of_side s) hops made (agent_end talk)
   pub connected : HaveConnected made (last_is_live hops)  -- a value-add above which a hop is live has connected
   pub channel : IfSome agent (λ a. IsChannel a talk)
   pub served : last_is_live hops ≡ true → IsAgentSide agent talk
@@ -47,9 +47,10 @@ pub record HopOfAgent {T : Type 0} (hop : Hop) (s : Side T) (a : Side Unit) : Ty
   pub stands : HopStands true false s a (bytes_of hop.down) (unmarked hop.up)
   pub answers : (spoken : List Spoken) × AnswersAll (run_of a) spoken
 
--- One whose channel the agent refused is closed above: the end of the stream alone was given there, and of it came what isn't in
--- flight; so no message came.
+-- One whose channel the agent refused is closed above: nothing goes up it. The end of the stream alone was given there, and of it
+-- came what isn't in flight; so no message came.
 pub record HopRefused {T : Type 0} (hop : Hop) (s : Side T) : Type 0 where
+  pub dropped : hop.up ≡ []
   pub gave : bytes_of (end_of_stream ∷ []) ≡ arrived s.calls ++ bytes_of hop.down
   pub silent : flat_map incoming_of (run_of s).past.taken ≡ []
   pub closes : (is_over (run_of s).end ≡ true) ⊎ (bytes_of hop.down ≡ [] → ⊥)

@@ -1,7 +1,7 @@
 -- A way at one moment at which nothing is under way on it.
 use Rattle.std.specs.Prelude.{◌≡◌, ◌⊎◌, Bool, true, false, List, [], ◌∷◌, ◌++◌, filter, map, unwrap_or, None, IfSome}
 use Rattle.std.specs.List.{AllByRecursion, list_any}
-use Rattle.chain_route.specs.Carrying.{AllCarry, End, Made, end_of, past_of, value_of}
+use Rattle.chain_route.specs.Carrying.{AllCarry, End, Made, agent_end, past_of, value_of}
 use Rattle.chain_route.specs.Runs.{Talk}
 use Rattle.chain_route.specs.declared.hop.Hop.{Hop}
 use Rattle.chain_route.specs.Taking.{AllTakeAll, AreBound, TakesAllOf}
@@ -25,7 +25,7 @@ use Rattle.list_laws.specs.Fronts.{IsFront}
 
 -- as a hop sees it
 abbrev pub end_of_side : {T : Type 0} → Side T → End
-end_of_side s = record { gave = (run_of s).past.given; came = arrived s.calls; is_lost = list_any is_ending s.calls }
+end_of_side s = record { gave = (run_of s).past.given; came = arrived s.calls; is_lost = list_any is_ending s.calls; is_refused = false }
 
 -- the two sides of a value-add
 abbrev pub side_below : Made → Side Unit
@@ -65,6 +65,7 @@ unmarked outs = bytes_of (map (λ (out : Outgoing). record out { mark = None }) 
 
 -- the end of a channel that it opened
 pub record IsChannel (a : Side Unit) (talk : Talk) : Type 0 where
+  pub opened : talk.is_refused ≡ false
   pub gave : talk.gave ≡ (run_of a).past.given
   pub given : (run_of a).end.queued ≡ []
   pub came : is_closed (run_of a).end.state ≡ false → unmarked talk.got ≡ arrived a.calls
@@ -94,7 +95,7 @@ pub record IsWayStill {T : Type 0} (s : Side T) (hops : List Hop) (made : List M
   pub sends : IsReadable s
   pub hops_are : AllByRecursion HopIsStill hops
   pub adds : AllByRecursion AddIsStill made
-  pub carries : AllCarry (end_of_side s) hops made (end_of talk)
+  pub carries : AllCarry (end_of_side s) hops made (agent_end talk)
   pub served : last_is_live hops ≡ true → IsServedOrRefused talk
 
 -- the upper end of a value-add, where it is open, has no command that isn't answered, and holds none

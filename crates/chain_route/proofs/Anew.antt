@@ -19,8 +19,10 @@ AreDeadBehind (suc k) (hop ∷ hops) = AreDeadBehind k hops
 
 dead_carries : (hop : Hop) → IsDead hop → HopHolds hop unused_tip unused_tip
 dead_carries hop dead = subst (λ h. HopHolds h unused_tip unused_tip) (sym dead) (record {
-  up = λ live. refl;
+  up = λ live free. refl;
   up_front = ([], refl);
+  refuses = λ live. refl;
+  refused = λ shut. absurd cc;
   down = λ live. refl;
   down_front = ([], refl);
   dead = λ none. refl;

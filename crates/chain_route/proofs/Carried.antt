@@ -16,28 +16,30 @@ use Rattle.chain_route.specs.declared.hop.Hop.{Hop}
 
 -- ---- a hop
 
-abbrev hop_of : Bool → List Outgoing → List Outgoing → Hop
-hop_of live up down = record { is_live = live; up = up; down = down }
+abbrev hop_of : (live shut : Bool) → List Outgoing → List Outgoing → Hop
+hop_of live shut up down = record { is_live = live; is_refused = shut; up = up; down = down }
 
-sent_parts : (side : Side) (live : Bool) (up down : List Outgoing) (out : Outgoing) (outs : List Outgoing)
-    → sent_from side outs (sent_from side (out ∷ []) (hop_of live up down)) ≡ sent_from side (out ∷ outs) (hop_of live up down)
-sent_parts Below true up down out outs = ap (λ xs. hop_of true up xs) (append_assoc down (out ∷ []) outs)
-sent_parts Below false up down out outs = refl
-sent_parts Above true up down out outs = ap (λ xs. hop_of true xs down) (append_assoc up (out ∷ []) outs)
-sent_parts Above false up down out outs = refl
+sent_parts : (side : Side) (live shut : Bool) (up down : List Outgoing) (out : Outgoing) (outs : List Outgoing)
+    → sent_from side outs (sent_from side (out ∷ []) (hop_of live shut up down)) ≡ sent_from side (out ∷ outs) (hop_of live shut up down)
+sent_parts Below true shut up down out outs = ap (λ xs. hop_of true shut up xs) (append_assoc down (out ∷ []) outs)
+sent_parts Below false shut up down out outs = refl
+sent_parts Above true true up down out outs = refl
+sent_parts Above true false up down out outs = ap (λ xs. hop_of true false xs down) (append_assoc up (out ∷ []) outs)
+sent_parts Above false shut up down out outs = refl
 
 -- one message and then the others
 pub sent_on : (side : Side) (out : Outgoing) (outs : List Outgoing) (hop : Hop) → sent_from side outs (sent_from side (out ∷ []) hop) ≡ sent_from side (out ∷ outs) hop
-sent_on side out outs hop = sent_parts side hop.is_live hop.up hop.down out outs
+sent_on side out outs hop = sent_parts side hop.is_live hop.is_refused hop.up hop.down out outs
 
-none_parts : (side : Side) (live : Bool) (up down : List Outgoing) → sent_from side [] (hop_of live up down) ≡ hop_of live up down
-none_parts Below true up down = ap (λ xs. hop_of true up xs) (append-nil down)
-none_parts Below false up down = refl
-none_parts Above true up down = ap (λ xs. hop_of true xs down) (append-nil up)
-none_parts Above false up down = refl
+none_parts : (side : Side) (live shut : Bool) (up down : List Outgoing) → sent_from side [] (hop_of live shut up down) ≡ hop_of live shut up down
+none_parts Below true shut up down = ap (λ xs. hop_of true shut up xs) (append-nil down)
+none_parts Below false shut up down = refl
+none_parts Above true true up down = refl
+none_parts Above true false up down = ap (λ xs. hop_of true false xs down) (append-nil up)
+none_parts Above false shut up down = refl
 
 pub none_sent : (side : Side) (hop : Hop) → sent_from side [] hop ≡ hop
-none_sent side hop = none_parts side hop.is_live hop.up hop.down
+none_sent side hop = none_parts side hop.is_live hop.is_refused hop.up hop.down
 
 -- ---- a value-add gives the first message that a side has queued
 

@@ -8,7 +8,7 @@ use Rattle.value_node.specs.ValueValue.{ValueValue}
 use Rattle.value_node.specs.declared.states.Side.TheVariants.{Below, Above}
 use Rattle.chain_route.specs.Carrying.{HaveConnected, Made, past_of, value_of}
 use Rattle.chain_route.specs.Hop.{connected as hop_connected}
-use Rattle.chain_route.specs.Route.{add_put, connected, hop_put, joined, last_of, made_at, on_hop, peer_of, with_carried, with_upper}
+use Rattle.chain_route.specs.Route.{add_put, connected, hop_put, joined, last_of, made_at, on_hop, peer_of, upper_below, with_carried, with_upper}
 use Rattle.chain_route.specs.RouteValue.{RouteValue}
 use Rattle.chain_route.specs.Runs.{Call, RouteRun}
 use Rattle.chain_route.specs.declared.hop.Hop.{Hop}
@@ -63,13 +63,14 @@ mapped_at (suc i) (y ∷ made) x is = mapped_at i made x is
 
 -- ---- A hop is connected above a value-add that waits
 
-abbrev pub begun_at : ℕ → ValueValue → RouteValue → RouteValue
-begun_at at v route = record { hops = slice_set route.hops (suc at) (hop_connected []); adds = slice_set route.adds at (called connects v) }
+abbrev pub begun_at : Hop → ℕ → ValueValue → RouteValue → RouteValue
+begun_at h at v route = record { hops = slice_set route.hops (suc at) h; adds = slice_set route.adds at (called connects v) }
 
-pub joined_at : (at : ℕ) (route : RouteValue) (v : ValueValue) → HasAt route.hops (suc at) → slice_get route.adds at ≡ Some v → joined (suc at) route ≡ with_carried Above at (begun_at at v route)
-joined_at at route v hop add =
-    let next = record route { hops = slice_set route.hops (suc at) (hop_connected []) } in
-    let on : on_hop (λ x. hop_connected []) (suc at) route ≡ next = ap (λ o. hop_put (λ x. hop_connected []) (suc at) o route) hop.there in
+pub begins_at : (h : Hop) (at : ℕ) (route : RouteValue) (v : ValueValue) → HasAt route.hops (suc at) → slice_get route.adds at ≡ Some v
+    → upper_below (suc at) (on_hop (λ x. h) (suc at) route) ≡ with_carried Above at (begun_at h at v route)
+begins_at h at route v hop add =
+    let next = record route { hops = slice_set route.hops (suc at) h } in
+    let on : on_hop (λ x. h) (suc at) route ≡ next = ap (λ o. hop_put (λ x. h) (suc at) o route) hop.there in
     let some : (suc at == 0) ≡ false = ne_eqb (suc at) 0 (λ is. absurd (omega (arith, is))) in
     let less : suc at - 1 ≡ at = omega arith in
     ap (λ y. cond (suc at == 0) y (with_upper (suc at - 1) y)) on
@@ -136,7 +137,7 @@ module _ (at : ℕ) (calls : List Call) (r : RouteRun) (h : Holds calls r) (m : 
   -- the route is that, with the Hello of the upper end on its way
   joined_is : joined (suc at) (made_at (suc at) r.route) ≡ with_carried Above at begun
   joined_is =
-      joined_at at (made_at (suc at) r.route) (value_of m) (hop_at (suc at) r.route.hops behind.dead)
+      begins_at (hop_connected []) at (made_at (suc at) r.route) (value_of m) (hop_at (suc at) r.route.hops behind.dead)
       (taken_at at r.route.adds (new_value peer ∷ []) (value_of m) (ap (λ vs. slice_get vs at) h.adds ∙ mapped_at at h.made m there))
 
   joined_holds : Holds calls (with_route (with_carried Below (suc at) (joined (suc at) (made_at (suc at) r.route))) r)

@@ -11,7 +11,7 @@ use Rattle.value_node.specs.ValueValue.{ValueValue}
 use Rattle.value_node.specs.declared.relay.Relay.{Relay}
 use Rattle.value_node.specs.declared.states.Side.{Side}
 use Rattle.value_node.specs.declared.states.Side.TheVariants.{Below, Above}
-use Rattle.chain_route.specs.Carrying.{AllLoseByCuts, HaveConnected, IsDead, LosesByCut, Made, end_below, end_of, is_cut_of, past_of, value_of}
+use Rattle.chain_route.specs.Carrying.{AllLoseByCuts, HaveConnected, IsDead, LosesByCut, Made, agent_end, end_below, end_of, is_cut_of, past_of, value_of}
 use Rattle.chain_route.specs.Hop as hop
 use Rattle.chain_route.specs.Hop.{no_hop}
 use Rattle.chain_route.specs.Route.{cut, ended_below, hop_put, last_of, live_of, on_add}
@@ -133,11 +133,11 @@ client_cut at p = by_place at
     by_place (suc i) = ap client (ne_eqb (suc i) 0 (λ is. absurd (omega (arith, is))))
 
 agent_cut : {calls : List RouteCall} (at : ℕ) (x : Hop) (r : RouteRun) (h : Holds calls r) → slice_get r.route.hops at ≡ Some x → x.is_live ≡ true
-    → record { end = end_of (loses_if (at == last_of r.route) r.past.agent); is_used = r.past.is_reached } ≡ cut_above (slice_get h.made at) (agent_tip r.past)
+    → record { end = agent_end (loses_if (at == last_of r.route) r.past.agent); is_used = r.past.is_reached } ≡ cut_above (slice_get h.made at) (agent_tip r.past)
 agent_cut at x r h there live = by_made (slice_get h.made at) refl
   where
     agent : Bool → Tip
-    agent flag = record { end = end_of (loses_if flag r.past.agent); is_used = r.past.is_reached }
+    agent flag = record { end = agent_end (loses_if flag r.past.agent); is_used = r.past.is_reached }
 
     by_made : (m : Option Made) → slice_get h.made at ≡ m → agent (at == last_of r.route) ≡ cut_above m (agent_tip r.past)
     by_made None none =

@@ -60,6 +60,8 @@ carries_of_holds : (hop : Hop) (lower upper : Tip) → (lower.is_used ≡ false 
 carries_of_holds hop lower upper unused idle h = record {
   up = h.up;
   up_front = h.up_front;
+  refuses = h.refuses;
+  refused = h.refused;
   down = h.down;
   down_front = h.down_front;
   dead = h.dead;

@@ -73,10 +73,10 @@ arrived_more calls more = flat_map-append arrived_in calls more
 -- ---- What an end gave, and what came to it, by its calls
 
 abbrev pub end_by : {T : Type 0} → EndValue T → List (Call T) → End
-end_by e calls = record { gave = (after_calls calls (begun e)).past.given; came = arrived calls; is_lost = list_any is_ending calls }
+end_by e calls = record { gave = (after_calls calls (begun e)).past.given; came = arrived calls; is_lost = list_any is_ending calls; is_refused = false }
 
 abbrev ends : List Outgoing → List Marked → Bool → End
-ends gave came lost = record { gave = gave; came = came; is_lost = lost }
+ends gave came lost = record { gave = gave; came = came; is_lost = lost; is_refused = false }
 
 end_is : (gave also : List Outgoing) (came too : List Marked) (lost as_well : Bool) → gave ≡ also → came ≡ too → lost ≡ as_well → ends gave came lost ≡ ends also too as_well
 end_is gave also came too lost as_well p q l = ap (λ x. ends x came lost) p ∙ ap (λ x. ends also x lost) q ∙ ap (ends also too) l

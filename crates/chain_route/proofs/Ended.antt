@@ -5,7 +5,7 @@ use Rattle.channel_core.specs.Arrivals.{bytes_of}
 use Rattle.channel_core.specs.declared.held.Outgoing.{Outgoing}
 use Rattle.value_node.specs.ValueValue.{ValueValue}
 use Rattle.value_node.specs.declared.states.Side.TheVariants.{Below, Above}
-use Rattle.chain_route.specs.Carrying.{End, IsDead, Made, end_of}
+use Rattle.chain_route.specs.Carrying.{End, IsDead, Made, agent_end, end_of}
 use Rattle.chain_route.specs.Hop.{no_hop}
 use Rattle.chain_route.specs.Hop as hop
 use Rattle.chain_route.specs.Lane.{arriving, staying}
@@ -85,7 +85,7 @@ sends_up_holds outs calls hops adds p joined h =
     both is = let no : true ≡ false = sym joined ∙ is in cc
 
 got_more : (talk : Talk) (parts : List Outgoing) → end_of (gets parts talk) ≡ came_more (bytes_of parts) (end_of talk)
-got_more talk parts = ap (λ bs. record { gave = talk.gave; came = bs; is_lost = talk.is_lost }) (bytes_more (λ mark. mark) talk.got parts)
+got_more talk parts = ap (λ bs. record { gave = talk.gave; came = bs; is_lost = talk.is_lost; is_refused = false }) (bytes_more (λ mark. mark) talk.got parts)
 
 pub arrives_down_holds : (count : ℕ) (calls : List Call) (hops : List Hop) (adds : List ValueValue) (p : Past) → Holds calls (run_by hops adds p)
     → Holds calls (record {
@@ -117,7 +117,7 @@ arrives_down_holds count calls (x ∷ hops) adds p h =
 
 -- the agent's talk goes on, and is none where it wasn't reached
 last_holds : (calls : List Call) (change : Hop → Hop) (dead : (h : Hop) → IsDead h → IsDead (change h)) (talk : Talk) (x : Hop) (hops : List Hop) (adds : List ValueValue) (p : Past)
-    → ((l : Tip) (h : Hop) → slice_get (x ∷ hops) (last_place (x ∷ hops)) ≡ Some h → HopHolds h l (agent_tip p) → HopHolds (change h) l (record { end = end_of talk; is_used = p.is_reached }))
+    → ((l : Tip) (h : Hop) → slice_get (x ∷ hops) (last_place (x ∷ hops)) ≡ Some h → HopHolds h l (agent_tip p) → HopHolds (change h) l (record { end = agent_end talk; is_used = p.is_reached }))
     → (p.is_reached ≡ false → talk ≡ no_talk) → Holds calls (run_by (x ∷ hops) adds p)
     → Holds calls (record { route = on_hop change (last_of (record { hops = x ∷ hops; adds = adds })) (record { hops = x ∷ hops; adds = adds }); past = with_agent talk p })
 last_holds calls change dead talk x hops adds p carries none h =
@@ -131,7 +131,7 @@ last_holds calls change dead talk x hops adds p carries none h =
     holds = record {
       made = h.made;
       adds = h.adds;
-      way = last_way (agent_tip p) (end_of talk) (client_tip p) (x ∷ hops) h.made has.last (change has.last) has.there (λ l c. carries l has.last has.there c) (dead has.last) h.way;
+      way = last_way (agent_tip p) (agent_end talk) (client_tip p) (x ∷ hops) h.made has.last (change has.last) has.there (λ l c. carries l has.last has.there c) (dead has.last) h.way;
       unmade = h.unmade;
       unjoined = h.unjoined;
       unreached = none;
@@ -155,6 +155,9 @@ sends_down_holds outs calls (x ∷ hops) adds p reached h =
     both : p.is_reached ≡ false → ⊥
     both is = let no : true ≡ false = sym reached ∙ is in cc
 
+agent_got_more : (talk : Talk) (parts : List Outgoing) → agent_end (gets parts talk) ≡ came_more (bytes_of parts) (agent_end talk)
+agent_got_more talk parts = ap (λ bs. record { gave = talk.gave; came = bs; is_lost = talk.is_lost; is_refused = talk.is_refused }) (bytes_more (λ mark. mark) talk.got parts)
+
 pub arrives_up_holds : (count : ℕ) (calls : List Call) (hops : List Hop) (adds : List ValueValue) (p : Past) → Holds calls (run_by hops adds p)
     → Holds calls (record {
       route = arrived_up count (record { hops = hops; adds = adds });
@@ -170,7 +173,7 @@ arrives_up_holds count calls (x ∷ hops) adds p h = last_holds calls change (de
     flight = flight_up (record { hops = x ∷ hops; adds = adds })
 
     talks : Talk → Tip
-    talks talk = record { end = end_of talk; is_used = p.is_reached }
+    talks talk = record { end = agent_end talk; is_used = p.is_reached }
 
     flight_is : (y : Hop) → slice_get (x ∷ hops) (last_place (x ∷ hops)) ≡ Some y → flight ≡ y.up
     flight_is y there = ap (λ n. up_of (slice_get (x ∷ hops) n)) (last_is x hops) ∙ ap up_of there
@@ -178,7 +181,7 @@ arrives_up_holds count calls (x ∷ hops) adds p h = last_holds calls change (de
     carries : (l : Tip) (y : Hop) → slice_get (x ∷ hops) (last_place (x ∷ hops)) ≡ Some y → HopHolds y l (agent_tip p) → HopHolds (change y) l (talks (gets (arriving count flight) p.agent))
     carries l y there c =
         subst (λ u. HopHolds (change y) l (talks (gets (arriving count u) p.agent))) (sym (flight_is y there))
-        (subst (λ e. HopHolds (change y) l (record { end = e; is_used = p.is_reached })) (sym (got_more p.agent (arriving count y.up))) (up_came count y l (agent_tip p) c))
+        (subst (λ e. HopHolds (change y) l (record { end = e; is_used = p.is_reached })) (sym (agent_got_more p.agent (arriving count y.up))) (up_came count y l (agent_tip p) c))
 
     none : p.is_reached ≡ false → gets (arriving count flight) p.agent ≡ no_talk
     none is =

@@ -1,20 +1,20 @@
 -- What happens on a hop: it carries on.
-use Rattle.std.proofs.Common.{◌≡◌, ℕ, Bool, true, false, cond, List, [], ◌++◌, refl, sym, ap, ◌∙◌, subst, append_assoc, append-nil}
+use Rattle.std.proofs.Common.{◌≡◌, ℕ, Bool, true, false, not, ◌&&◌, cond, List, [], ◌++◌, refl, sym, ap, ◌∙◌, subst, append_assoc, append-nil}
 use Rattle.channel_core.specs.Arrivals.{Marked, bytes_of}
 use Rattle.channel_core.specs.declared.held.Outgoing.{Outgoing}
 use Rattle.value_node.specs.declared.states.Side.{Side}
 use Rattle.value_node.specs.declared.states.Side.TheVariants.{Below, Above}
 use Rattle.chain_route.specs.Carrying.{End, IsDead}
-use Rattle.chain_route.specs.Hop.{arrived_at, connected, lane_to, no_hop, sent_down, sent_from, sent_up}
+use Rattle.chain_route.specs.Hop.{arrived_at, connected, goes_up, lane_to, no_hop, sent_down, sent_from, sent_up}
 use Rattle.chain_route.specs.Lane.{arriving, staying}
 use Rattle.chain_route.specs.declared.hop.Hop.{Hop}
 use Rattle.chain_route.proofs.Bytes.{arrives_first, bytes_more}
-use Rattle.list_laws.proofs.Flags.{not_both}
+use Rattle.list_laws.proofs.Flags.{and_parts, not_both, not_true}
 use Rattle.list_laws.specs.Fronts.{IsFront}
 use Rattle.list_laws.proofs.Fronts.{front_more, front_same}
 
 abbrev pub fresh_end : End
-fresh_end = record { gave = []; came = []; is_lost = false }
+fresh_end = record { gave = []; came = []; is_lost = false; is_refused = false }
 
 abbrev pub gave_more : List Outgoing → End → End
 gave_more outs e = record e { gave = e.gave ++ outs }
@@ -45,8 +45,10 @@ grown more t = record t { end = more t.end }
 -- it was lost to each end that was connected
 
 pub record HopHolds (hop : Hop) (lower upper : Tip) : Type 0 where
-  pub up : hop.is_live ≡ true → bytes_of lower.end.gave ≡ upper.end.came ++ bytes_of hop.up
+  pub up : hop.is_live ≡ true → upper.end.is_refused ≡ false → bytes_of lower.end.gave ≡ upper.end.came ++ bytes_of hop.up
   pub up_front : IsFront upper.end.came (bytes_of lower.end.gave)
+  pub refuses : hop.is_live ≡ true → hop.is_refused ≡ upper.end.is_refused
+  pub refused : upper.end.is_refused ≡ true → (upper.end.came ≡ []) × (hop.up ≡ [])
   pub down : hop.is_live ≡ true → bytes_of upper.end.gave ≡ lower.end.came ++ bytes_of hop.down
   pub down_front : IsFront lower.end.came (bytes_of upper.end.gave)
   pub dead : hop.is_live ≡ false → hop ≡ no_hop
@@ -70,22 +72,29 @@ lane_given came e outs flight is =
 -- ---- a node gives
 
 pub up_given : (outs : List Outgoing) (hop : Hop) (lower upper : Tip) → HopHolds hop lower upper → HopHolds (sent_up outs hop) (grown (gave_more outs) lower) upper
-up_given outs hop lower upper h = by_flag hop.is_live refl
+up_given outs hop lower upper h = by_flag (goes_up hop) refl
   where
-    by_flag : (flag : Bool) → hop.is_live ≡ flag → HopHolds (cond flag (record hop { up = hop.up ++ outs }) hop) (grown (gave_more outs) lower) upper
-    by_flag true live = record {
-      up = λ _. lane_given upper.end.came lower.end outs hop.up (h.up live);
+    by_flag : (flag : Bool) → goes_up hop ≡ flag → HopHolds (cond flag (record hop { up = hop.up ++ outs }) hop) (grown (gave_more outs) lower) upper
+    by_flag true is =
+        let live : hop.is_live ≡ true = (and_parts hop.is_live (not hop.is_refused) is).0 in
+        let free : upper.end.is_refused ≡ false = sym (h.refuses live) ∙ not_true hop.is_refused (and_parts hop.is_live (not hop.is_refused) is).1 in
+        record {
+          up = λ _ _. lane_given upper.end.came lower.end outs hop.up (h.up live free);
+          up_front = front_given upper.end.came lower.end outs h.up_front;
+          refuses = h.refuses;
+          refused = λ shut. absurd (not_both shut free);
+          down = h.down;
+          down_front = h.down_front;
+          dead = λ none. absurd (not_both live none);
+          lasting = h.lasting;
+          lost = λ none. absurd (not_both live none);
+          lost_above = λ none. absurd (not_both live none);
+        }
+    by_flag false dropped = record {
+      up = λ live free. absurd (not_both (ap (λ b. b && not hop.is_refused) live ∙ ap not (h.refuses live ∙ free)) dropped);
       up_front = front_given upper.end.came lower.end outs h.up_front;
-      down = h.down;
-      down_front = h.down_front;
-      dead = λ none. absurd (not_both live none);
-      lasting = h.lasting;
-      lost = λ none. absurd (not_both live none);
-      lost_above = λ none. absurd (not_both live none);
-    }
-    by_flag false dead = record {
-      up = λ live. absurd (not_both live dead);
-      up_front = front_given upper.end.came lower.end outs h.up_front;
+      refuses = h.refuses;
+      refused = h.refused;
       down = h.down;
       down_front = h.down_front;
       dead = h.dead;
@@ -101,6 +110,8 @@ down_given outs hop lower upper h = by_flag hop.is_live refl
     by_flag true live = record {
       up = h.up;
       up_front = h.up_front;
+      refuses = h.refuses;
+      refused = h.refused;
       down = λ _. lane_given lower.end.came upper.end outs hop.down (h.down live);
       down_front = front_given lower.end.came upper.end outs h.down_front;
       dead = λ none. absurd (not_both live none);
@@ -111,6 +122,8 @@ down_given outs hop lower upper h = by_flag hop.is_live refl
     by_flag false dead = record {
       up = h.up;
       up_front = h.up_front;
+      refuses = h.refuses;
+      refused = h.refused;
       down = λ live. absurd (not_both live dead);
       down_front = front_given lower.end.came upper.end outs h.down_front;
       dead = h.dead;
@@ -129,19 +142,24 @@ split_flight count flight came gave is =
 none_more : (came all : List Marked) → IsFront came all → IsFront (came ++ []) all
 none_more came all p = subst (λ bs. IsFront bs all) (sym (append-nil came)) p
 
--- a hop that isn't live has nothing in flight
+-- a hop that isn't live has nothing in flight, and one whose channel was refused nothing that goes up
 pub up_came : (count : ℕ) (hop : Hop) (lower upper : Tip) → HopHolds hop lower upper → HopHolds (record hop { up = staying count hop.up }) lower (grown (came_more (bytes_of (arriving count hop.up))) upper)
-up_came count hop lower upper h = by_flag hop.is_live refl
+up_came count hop lower upper h = by_flags hop.is_live upper.end.is_refused refl refl
   where
     After : Hop → Type 0
     After x = HopHolds (record x { up = staying count x.up }) lower (grown (came_more (bytes_of (arriving count x.up))) upper)
 
-    by_flag : (flag : Bool) → hop.is_live ≡ flag → After hop
-    by_flag true live =
-        let split = split_flight count hop.up upper.end.came (bytes_of lower.end.gave) (h.up live) in
+    nothing : upper.end.is_refused ≡ true → (upper.end.came ++ [] ≡ []) × (staying count [] ≡ [])
+    nothing shut = (append-nil upper.end.came ∙ (h.refused shut).0, refl)
+
+    by_flags : (flag shut : Bool) → hop.is_live ≡ flag → upper.end.is_refused ≡ shut → After hop
+    by_flags true false live free =
+        let split = split_flight count hop.up upper.end.came (bytes_of lower.end.gave) (h.up live free) in
         record {
-          up = λ _. split;
+          up = λ _ _. split;
           up_front = (bytes_of (staying count hop.up), split);
+          refuses = h.refuses;
+          refused = λ shut. absurd (not_both shut free);
           down = h.down;
           down_front = h.down_front;
           dead = λ none. absurd (not_both live none);
@@ -149,9 +167,25 @@ up_came count hop lower upper h = by_flag hop.is_live refl
           lost = λ none. absurd (not_both live none);
           lost_above = λ none. absurd (not_both live none);
         }
-    by_flag false dead = subst After (sym (h.dead dead)) (record {
+    by_flags true true live shut =
+        let With : List Outgoing → Type 0 = λ flight. HopHolds (record hop { up = staying count flight }) lower (grown (came_more (bytes_of (arriving count flight))) upper) in
+        subst With (sym (h.refused shut).1) (record {
+          up = λ _ free. absurd (not_both shut free);
+          up_front = none_more upper.end.came (bytes_of lower.end.gave) h.up_front;
+          refuses = h.refuses;
+          refused = nothing;
+          down = h.down;
+          down_front = h.down_front;
+          dead = λ none. absurd (not_both live none);
+          lasting = h.lasting;
+          lost = λ none. absurd (not_both live none);
+          lost_above = λ none. absurd (not_both live none);
+        })
+    by_flags false shut dead is = subst After (sym (h.dead dead)) (record {
       up = λ live. absurd cc;
       up_front = none_more upper.end.came (bytes_of lower.end.gave) h.up_front;
+      refuses = λ live. absurd cc;
+      refused = nothing;
       down = λ live. absurd cc;
       down_front = h.down_front;
       dead = λ _. refl;
@@ -172,6 +206,8 @@ down_came count hop lower upper h = by_flag hop.is_live refl
         record {
           up = h.up;
           up_front = h.up_front;
+          refuses = h.refuses;
+          refused = h.refused;
           down = λ _. split;
           down_front = (bytes_of (staying count hop.down), split);
           dead = λ none. absurd (not_both live none);
@@ -182,6 +218,8 @@ down_came count hop lower upper h = by_flag hop.is_live refl
     by_flag false dead = subst After (sym (h.dead dead)) (record {
       up = λ live. absurd cc;
       up_front = h.up_front;
+      refuses = λ live. absurd cc;
+      refused = λ shut. ((h.refused shut).0, refl);
       down = λ live. absurd cc;
       down_front = none_more lower.end.came (bytes_of upper.end.gave) h.down_front;
       dead = λ _. refl;
@@ -197,6 +235,8 @@ pub cut_carries : (hop : Hop) (lower upper : Tip) → HopHolds hop lower upper �
 cut_carries hop lower upper h = record {
   up = λ live. absurd cc;
   up_front = h.up_front;
+  refuses = λ live. absurd cc;
+  refused = λ shut. ((h.refused shut).0, refl);
   down = λ live. absurd cc;
   down_front = h.down_front;
   dead = λ _. refl;
@@ -207,8 +247,10 @@ cut_carries hop lower upper h = record {
 
 pub begun_carries : HopHolds (connected []) (used fresh_end) (used fresh_end)
 begun_carries = record {
-  up = λ _. refl;
+  up = λ _ _. refl;
   up_front = ([], refl);
+  refuses = λ _. refl;
+  refused = λ shut. absurd cc;
   down = λ _. refl;
   down_front = ([], refl);
   dead = λ none. absurd cc;

@@ -5,7 +5,7 @@ use Rattle.std.specs.Prelude.{slice_get, slice_set}
 use Rattle.std.specs.List.{AllByRecursion}
 use Rattle.value_node.specs.ValueValue.{ValueValue}
 use Rattle.value_node.specs.declared.states.Side.{Side}
-use Rattle.chain_route.specs.Carrying.{AllLoseByCuts, IsGoneBy, IsUnused, LosesByCut, Made, end_of, value_of}
+use Rattle.chain_route.specs.Carrying.{AllLoseByCuts, IsGoneBy, IsUnused, LosesByCut, Made, agent_end, end_of, value_of}
 use Rattle.chain_route.specs.Passing.{Pair, delivered, pair}
 use Rattle.chain_route.specs.Route.{beside, delivered_at, pair_put, with_pair}
 use Rattle.chain_route.specs.RouteValue.{RouteValue}
@@ -24,7 +24,7 @@ client_tip p = record { end = end_of p.client; is_used = p.is_joined }
 
 -- and the agent's
 abbrev pub agent_tip : Past → Tip
-agent_tip p = record { end = end_of p.agent; is_used = p.is_reached }
+agent_tip p = record { end = agent_end p.agent; is_used = p.is_reached }
 
 pub record Holds (calls : List Call) (r : RouteRun) : Type 0 where
   pub made : List Made
@@ -54,9 +54,9 @@ unused_client calls r h none more = by_flag r.past.is_joined refl
 -- nothing was said to the agent before it was reached
 pub unreached_agent : (calls : List Call) (r : RouteRun) (h : Holds calls r) → r.past.is_reached ≡ false → agent_tip r.past ≡ unused_tip
 unreached_agent calls r h is =
-    ap (λ talk. record { end = end_of talk; is_used = r.past.is_reached }) (h.unreached is) ∙ ap (λ flag. record { end = fresh_end; is_used = flag }) is
+    ap (λ talk. record { end = agent_end talk; is_used = r.past.is_reached }) (h.unreached is) ∙ ap (λ flag. record { end = fresh_end; is_used = flag }) is
 
-pub idle_agent : (calls : List Call) (r : RouteRun) (h : Holds calls r) → r.past.is_reached ≡ false → IsUnused (end_of r.past.agent)
+pub idle_agent : (calls : List Call) (r : RouteRun) (h : Holds calls r) → r.past.is_reached ≡ false → IsUnused (agent_end r.past.agent)
 idle_agent calls r h is = subst (λ t. IsUnused t.end) (sym (unreached_agent calls r h is)) (refl, refl)
 
 -- ---- A value-add and a hop beside it change

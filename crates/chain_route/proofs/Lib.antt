@@ -3,6 +3,7 @@ pub mod Parts
 pub mod Carried
 pub mod Resting
 pub mod Pieces
+pub mod Until
 pub mod Hops
 pub mod Lent
 pub mod Flows

@@ -46,16 +46,20 @@ carried_twice side p =
     ∙ ap (pair v) (none_sent side h)
 
 -- what goes out doesn't touch what comes
-lane_by : (side : Side) (live : Bool) (up down outs : List Outgoing) → lane_to side (sent_from side outs (record { is_live = live; up = up; down = down })) ≡ lane_to side (record { is_live = live; up = up; down = down })
-lane_by Below true up down outs = refl
-lane_by Below false up down outs = refl
-lane_by Above true up down outs = refl
-lane_by Above false up down outs = refl
+abbrev hop_of : (live shut : Bool) → List Outgoing → List Outgoing → Hop
+hop_of live shut up down = record { is_live = live; is_refused = shut; up = up; down = down }
 
-lane_kept : (side : Side) (outs : List Outgoing) (h : Hop) → lane_to side (sent_from side outs h) ≡ lane_to side h
-lane_kept side outs h = lane_by side h.is_live h.up h.down outs
+lane_by : (side : Side) (live shut : Bool) (up down outs : List Outgoing) → lane_to side (sent_from side outs (hop_of live shut up down)) ≡ lane_to side (hop_of live shut up down)
+lane_by Below true shut up down outs = refl
+lane_by Below false shut up down outs = refl
+lane_by Above true true up down outs = refl
+lane_by Above true false up down outs = refl
+lane_by Above false shut up down outs = refl
 
-lane_left : (side : Side) (count : ℕ) (p : Pair) → lane_to side (came side count p).hop ≡ staying count (lane_to side p.hop)
+pub lane_kept : (side : Side) (outs : List Outgoing) (h : Hop) → lane_to side (sent_from side outs h) ≡ lane_to side h
+lane_kept side outs h = lane_by side h.is_live h.is_refused h.up h.down outs
+
+pub lane_left : (side : Side) (count : ℕ) (p : Pair) → lane_to side (came side count p).hop ≡ staying count (lane_to side p.hop)
 lane_left Below count p = refl
 lane_left Above count p = refl
 
@@ -70,10 +74,10 @@ size_to side p = size_in (lane_to side p.hop)
 abbrev may : Side → Pair → Bool
 may side p = takes side p.add p.hop
 
-piece_taken : (side : Side) (count : ℕ) (p : Pair) → may side p ≡ true → delivered side count p ≡ carried side (came side count p)
+pub piece_taken : (side : Side) (count : ℕ) (p : Pair) → may side p ≡ true → delivered side count p ≡ carried side (came side count p)
 piece_taken side count p is = ap (λ b. cond b (carried side (came side count p)) p) is
 
-piece_still : (side : Side) (count : ℕ) (p : Pair) → may side p ≡ false → delivered side count p ≡ p
+pub piece_still : (side : Side) (count : ℕ) (p : Pair) → may side p ≡ false → delivered side count p ≡ p
 piece_still side count p is = ap (λ b. cond b (carried side (came side count p)) p) is
 
 -- where a piece arrives, the queue is carried then, and less is in flight
@@ -112,7 +116,7 @@ piece_goes side count more p settled = by_flag (may side p) refl
 
 -- ---- All pieces
 
-pieces_again : (n : ℕ) (side : Side) (p : Pair) → pieces n side p ≡ again (delivered side most_bytes) n p
+pub pieces_again : (n : ℕ) (side : Side) (p : Pair) → pieces n side p ≡ again (delivered side most_bytes) n p
 pieces_again zero side p = refl
 pieces_again (suc n) side p = pieces_again n side (delivered side most_bytes p)
 

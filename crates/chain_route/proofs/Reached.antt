@@ -2,32 +2,29 @@
 use Rattle.std.proofs.Common.{◌≡◌, ℕ, zero, suc, ◌+◌, ◌-◌, ◌==◌, ◌<◌, Bool, true, false, cond, List, [], ◌∷◌, ◌++◌, length, map, Some, refl, sym, ap, ◌∙◌, subst, arith, ne_eqb}
 use Rattle.std.specs.Prelude.{IsSome, slice_get, slice_set}
 use Rattle.std.specs.List.{AllByRecursion}
-use Rattle.channel_core.specs.Wire.{end_of_stream}
 use Rattle.channel_core.specs.Arrivals.{bytes_of}
 use Rattle.value_node.specs.Runs.{called, connects}
 use Rattle.value_node.specs.ValueValue.{ValueValue}
 use Rattle.value_node.specs.declared.states.Side.TheVariants.{Above}
 use Rattle.chain_route.specs.Carrying.{HaveConnected, IsGoneBy, Made, end_above, end_of, past_of, value_of}
 use Rattle.chain_route.specs.Hop as hop
-use Rattle.chain_route.specs.Hop.{connected, sent_from}
-use Rattle.chain_route.specs.Passing.{carried, pair, queued_at}
-use Rattle.chain_route.specs.Route.{hop_put, joined, last_of, on_hop, pair_put, reached, refused, sent_down, with_carried, with_pair}
+use Rattle.chain_route.specs.Hop.{connected}
+use Rattle.chain_route.specs.Route.{last_of, on_hop, reached, upper_below, with_carried}
 use Rattle.chain_route.specs.RouteValue.{RouteValue}
 use Rattle.chain_route.specs.Runs.{Call, Past, RouteRun, awaits_of, earlier_of, is_waiting, reached_past}
 use Rattle.chain_route.specs.declared.hop.Hop.{Hop}
 use Rattle.chain_route.proofs.Each.{EachCarries}
 use Rattle.chain_route.proofs.Adds.{tip_above}
-use Rattle.chain_route.proofs.Connecting.{HasAt, begun_at, joined_at, mapped_at}
-use Rattle.chain_route.proofs.Ended.{sends_down_holds}
+use Rattle.chain_route.proofs.Connecting.{HasAt, begins_at, begun_at, mapped_at}
 use Rattle.chain_route.proofs.Flows.{HopHolds, Tip, fresh_end, used}
 use Rattle.chain_route.proofs.Holding.{Holds, agent_tip, client_tip}
 use Rattle.chain_route.proofs.Joining.{carried_holds}
 use Rattle.chain_route.proofs.Losses.{loses_same, losses_set, lost_same}
 use Rattle.chain_route.proofs.Moving.{call_value}
-use Rattle.chain_route.proofs.Reaching.{Awaits, above_anew, anew, below_anew, connected_anew, gone_by, opened_carries, reached_all, waits_in}
+use Rattle.chain_route.proofs.Reaching.{Awaits, above_anew, anew, below_anew, connected_anew, gone_by, opened, opened_carries, reached_all, waits_in}
 use Rattle.chain_route.proofs.Ways.{made_size, set_mapped}
 use Rattle.list_laws.proofs.AllLists.{all_append}
-use Rattle.list_laws.proofs.Lists.{get_within as some_within, get_set, set_length}
+use Rattle.list_laws.proofs.Lists.{get_within as some_within, set_length}
 use Rattle.list_laws.specs.Fronts.{IsFront}
 
 -- ---- Straight from the client: nothing was said on the hop, and the agent wasn't reached
@@ -63,7 +60,7 @@ opened_way calls did x after adds p wanted carries h =
 wanted_reached : (calls : List Call) (did : Bool) (x : Hop) (adds : List ValueValue) (p : Past) → p.is_wanted ≡ true → Holds calls (record { route = record { hops = x ∷ []; adds = adds }; past = p })
     → Holds calls (record { route = reached did (record { hops = x ∷ []; adds = adds }); past = reached_past did p })
 wanted_reached calls true x adds p wanted h = opened_way calls true x (connected []) adds p wanted (opened_carries true) h
-wanted_reached calls false x adds p wanted h = opened_way calls false x (connected (end_of_stream ∷ [])) adds p wanted (opened_carries false) h
+wanted_reached calls false x adds p wanted h = opened_way calls false x hop.refused adds p wanted (opened_carries false) h
 
 -- ---- By the last value-add
 
@@ -115,13 +112,13 @@ earlier_gone calls r h at m there size waits = by_flag r.past.is_reached refl
         all_append IsGoneBy r.past.earlier (r.past.agent.got ∷ []) h.earlier (gone_by m waits some r.past.agent.got front, tt)
     by_flag false is = h.earlier
 
--- the upper end of it begins anew, and its Hello goes up; behind that the end of the stream comes down where the agent refused
-module _ (calls : List Call) (r : RouteRun) (h : Holds calls r) (at : ℕ) (m : Made) (there : slice_get h.made at ≡ Some m) (size : length r.route.hops ≡ at + 2) (waits : Awaits m) where
+-- the upper end of it begins anew, and its Hello goes up where the agent didn't refuse; else it is dropped
+module _ (did : Bool) (calls : List Call) (r : RouteRun) (h : Holds calls r) (at : ℕ) (m : Made) (there : slice_get h.made at ≡ Some m) (size : length r.route.hops ≡ at + 2) (waits : Awaits m) where
   abbrev begun : RouteValue
-  begun = begun_at at (value_of m) r.route
+  begun = begun_at (opened did) at (value_of m) r.route
 
   abbrev p : Past
-  p = reached_past true r.past
+  p = reached_past did r.past
 
   abbrev made_now : List Made
   made_now = slice_set h.made at (anew m)
@@ -149,8 +146,8 @@ module _ (calls : List Call) (r : RouteRun) (h : Holds calls r) (at : ℕ) (m : 
     adds = ap (λ vs. slice_set vs at (called connects (value_of m))) h.adds
         ∙ ap (λ v. slice_set (map value_of h.made) at v) (sym (call_value connects m)) ∙ set_mapped value_of at h.made (anew m);
     way = record {
-      all = reached_all at (used (end_of r.past.client)) r.route.hops h.made (agent_tip r.past) (agent_tip p) m (anew m) (connected []) there size (below_anew m waits) (above_anew m waits)
-          (opened_carries true) used_way;
+      all = reached_all at (used (end_of r.past.client)) r.route.hops h.made (agent_tip r.past) (agent_tip p) m (anew m) (opened did) there size (below_anew m waits) (above_anew m waits)
+          (opened_carries did) used_way;
       connected = all_connected at h.made r.past.is_reached m (anew m) there count (connected_anew m waits) h.way.connected;
       reached = λ is. omega (arith, made_count, hops_count);
       unreached = λ is. absurd cc;
@@ -170,8 +167,8 @@ module _ (calls : List Call) (r : RouteRun) (h : Holds calls r) (at : ℕ) (m : 
       made_count : length made_now ≡ at + 1
       made_count = set_length at h.made (anew m) ∙ count
 
-      hops_count : length (slice_set r.route.hops (suc at) (connected [])) ≡ at + 2
-      hops_count = set_length (suc at) r.route.hops (connected []) ∙ size
+      hops_count : length (slice_set r.route.hops (suc at) (opened did)) ≡ at + 2
+      hops_count = set_length (suc at) r.route.hops (opened did) ∙ size
 
   abbrev carried_up : RouteValue
   carried_up = with_carried Above at begun
@@ -179,52 +176,25 @@ module _ (calls : List Call) (r : RouteRun) (h : Holds calls r) (at : ℕ) (m : 
   up_holds : Holds calls (record { route = carried_up; past = p })
   up_holds = carried_holds Above at calls (record { route = begun; past = p }) begun_holds
 
-  joined_is : joined (last_of r.route) r.route ≡ carried_up
-  joined_is =
+  -- the hop begins so
+  begun_is : upper_below (last_of r.route) (on_hop (λ x. opened did) (last_of r.route) r.route) ≡ carried_up
+  begun_is =
       let last : last_of r.route ≡ suc at = omega (arith, size) in
-      ap (λ k. joined k r.route) last
-      ∙ joined_at at r.route (value_of m) (has_at (suc at) r.route.hops (omega (arith, size))) (ap (λ vs. slice_get vs at) h.adds ∙ mapped_at at h.made m there)
+      ap (λ k. upper_below k (on_hop (λ x. opened did) k r.route)) last
+      ∙ begins_at (opened did) at r.route (value_of m) (has_at (suc at) r.route.hops (omega (arith, size))) (ap (λ vs. slice_get vs at) h.adds ∙ mapped_at at h.made m there)
     where
       has_at : {A : Type 0} → (i : ℕ) (xs : List A) → i < length xs → HasAt xs i
       has_at i [] less = absurd (omega (arith, less))
       has_at zero (x ∷ xs) less = record { x = x; there = refl }
       has_at (suc i) (x ∷ xs) less = let rest = has_at i xs (omega (arith, less)) in record { x = rest.x; there = rest.there }
 
-  -- the hop is live, so the end of the stream goes down it
-  abbrev next : ValueValue
-  next = called connects (value_of m)
+  reached_now : Holds calls (record { route = upper_below (last_of r.route) (on_hop (λ x. opened did) (last_of r.route) r.route); past = p })
+  reached_now = subst (λ route. Holds calls (record { route = route; past = p })) (sym begun_is) up_holds
 
-  hop_there : slice_get begun.hops (at + 1) ≡ Some (connected [])
-  hop_there = subst (λ k. slice_get begun.hops k ≡ Some (connected [])) (omega arith) (set_hop (suc at) r.route.hops (omega (arith, size)))
-    where
-      set_hop : (i : ℕ) (hops : List Hop) → i < length hops → slice_get (slice_set hops i (connected [])) i ≡ Some (connected [])
-      set_hop i [] less = absurd (omega (arith, less))
-      set_hop zero (x ∷ hops) less = refl
-      set_hop (suc i) (x ∷ hops) less = set_hop i hops (omega (arith, less))
-
-  up_is : carried_up ≡ with_pair Above at (carried Above (pair next (connected []))) begun
-  up_is =
-      let add : slice_get begun.adds at ≡ Some next = get_set at r.route.adds next (value_of m) (ap (λ vs. slice_get vs at) h.adds ∙ mapped_at at h.made m there) in
-      ap (λ a. pair_put (carried Above) Above at a (slice_get begun.hops (at + 1)) begun) add ∙ ap (λ o. pair_put (carried Above) Above at (Some next) o begun) hop_there
-
-  refused_is : refused (last_of r.route) carried_up ≡ sent_down (end_of_stream ∷ []) carried_up
-  refused_is =
-      let y = sent_from Above (queued_at Above next) (connected []) in
-      let hops : carried_up.hops ≡ slice_set begun.hops (at + 1) y = ap (λ x. x.hops) up_is in
-      let size_is : length carried_up.hops ≡ at + 2 = ap length hops ∙ set_length (at + 1) begun.hops y ∙ set_length (suc at) r.route.hops (connected []) ∙ size in
-      let here : slice_get carried_up.hops (at + 1) ≡ Some y = ap (λ xs. slice_get xs (at + 1)) hops ∙ get_set (at + 1) begun.hops y (connected []) hop_there in
-      let first : last_of r.route ≡ at + 1 = omega (arith, size) in
-      let last : last_of carried_up ≡ at + 1 = omega (arith, size_is) in
-      ap (λ k. refused k carried_up) first
-      ∙ ap (λ o. hop_put (λ x. record x { down = x.down ++ end_of_stream ∷ [] }) (at + 1) o carried_up) here
-      ∙ sym (ap (λ o. hop_put (hop.sent_down (end_of_stream ∷ [])) (at + 1) o carried_up) here)
-      ∙ sym (ap (λ k. on_hop (hop.sent_down (end_of_stream ∷ [])) k carried_up) last)
-
-  last_reached : (did : Bool) → Holds calls (record { route = reached did r.route; past = reached_past did r.past })
-  last_reached true = subst (λ route. Holds calls (record { route = route; past = p })) (sym joined_is) up_holds
-  last_reached false =
-      subst (λ route. Holds calls (record { route = route; past = reached_past false r.past })) (sym (ap (refused (last_of r.route)) joined_is ∙ refused_is))
-      (sends_down_holds (end_of_stream ∷ []) calls carried_up.hops carried_up.adds p refl up_holds)
+last_reached : (did : Bool) (calls : List Call) (r : RouteRun) (h : Holds calls r) (at : ℕ) (m : Made) → slice_get h.made at ≡ Some m → length r.route.hops ≡ at + 2 → Awaits m
+    → Holds calls (record { route = reached did r.route; past = reached_past did r.past })
+last_reached true calls r h at m there size waits = reached_now true calls r h at m there size waits
+last_reached false calls r h at m there size waits = reached_now false calls r h at m there size waits
 
 -- ---- Both
 
@@ -243,7 +213,7 @@ reaches_by did calls (x ∷ g ∷ hops) adds p waiting h =
     ap (λ n. awaits_of (slice_get adds n)) (sym less)
     ∙ sym (ap (λ b. cond b p.is_wanted (awaits_of (slice_get adds (last_of r.route - 1)))) some) ∙ waiting in
     let w = waits_in at h.made (sym (ap (λ vs. awaits_of (slice_get vs at)) h.adds) ∙ waits) in
-    last_reached calls r h at w.m w.there (omega arith) w.waits did
+    last_reached did calls r h at w.m w.there (omega arith) w.waits
 
 pub reaches_kept : (did : Bool) (calls : List Call) (r : RouteRun) → is_waiting r ≡ true → Holds calls r → Holds calls (record { route = reached did r.route; past = reached_past did r.past })
 reaches_kept did calls r waiting h = reaches_by did calls r.route.hops r.route.adds r.past waiting h

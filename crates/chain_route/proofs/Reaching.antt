@@ -1,6 +1,6 @@
 -- The upper end of a value-add begins anew below a hop that is connected.
 use Rattle.std.proofs.Common.{◌≡◌, ℕ, zero, suc, ◌+◌, Bool, true, false, cond, List, [], ◌∷◌, ◌++◌, length, map, take, Option, Some, None, refl, sym, ap, ◌∙◌, subst, arith}
-use Rattle.std.specs.Prelude.{IfSome, IsSome, option_to_list, slice_get, slice_set, unwrap_or}
+use Rattle.std.specs.Prelude.{IfSome, IsSome, not, option_to_list, slice_get, slice_set, unwrap_or}
 use Rattle.std.specs.List.{AllByRecursion, list_any}
 use Rattle.channel_core.specs.Arrivals.{bytes_of}
 use Rattle.channel_core.specs.Greeting.{is_greeting}
@@ -13,7 +13,7 @@ use Rattle.value_node.specs.declared.relay.Relay.{Relay}
 use Rattle.value_node.specs.declared.states.Bind.{Bind}
 use Rattle.value_node.specs.declared.states.Bind.TheVariants.{Unbound, Opening, Bound, Closed}
 use Rattle.chain_route.specs.Carrying.{IsGoneBy, Made, end_above, end_below, past_of, value_of}
-use Rattle.chain_route.specs.Hop.{connected}
+use Rattle.chain_route.specs.Hop.{connected, refused}
 use Rattle.chain_route.specs.Runs.{awaits_of, given_by}
 use Rattle.chain_route.specs.declared.hop.Hop.{Hop}
 use Rattle.chain_route.proofs.Each.{EachCarries}
@@ -98,14 +98,29 @@ gone_by m waits some got front = by_connection (past_of m).connection refl some
 
 -- where the agent refused, the end of the stream is on its way
 abbrev pub opened : Bool → Hop
-opened did = connected (given_by did)
+opened true = connected []
+opened false = refused
 
-pub opened_carries : (did : Bool) → HopHolds (opened did) (used fresh_end) (used (record { gave = given_by did; came = []; is_lost = false }))
-opened_carries did = record {
-  up = λ live. refl;
+pub opened_carries : (did : Bool) → HopHolds (opened did) (used fresh_end) (used (record { gave = given_by did; came = []; is_lost = false; is_refused = not did }))
+opened_carries true = record {
+  up = λ live free. refl;
   up_front = ([], refl);
+  refuses = λ live. refl;
+  refused = λ shut. absurd cc;
   down = λ live. refl;
-  down_front = (bytes_of (given_by did), refl);
+  down_front = ([], refl);
+  dead = λ none. absurd cc;
+  lasting = λ live. (refl, refl);
+  lost = λ none. absurd cc;
+  lost_above = λ none. absurd cc;
+}
+opened_carries false = record {
+  up = λ live free. absurd cc;
+  up_front = ([], refl);
+  refuses = λ live. refl;
+  refused = λ shut. (refl, refl);
+  down = λ live. refl;
+  down_front = (bytes_of (given_by false), refl);
   dead = λ none. absurd cc;
   lasting = λ live. (refl, refl);
   lost = λ none. absurd cc;

@@ -53,7 +53,7 @@ enough {S} step size P goes (suc n) (suc m) s holds few also =
 
 -- ---- What stays in flight is less
 
-size_more : (out : Outgoing) (outs : List Outgoing) → size_in (out ∷ outs) ≡ length out.bytes + 1 + size_in outs
+pub size_more : (out : Outgoing) (outs : List Outgoing) → size_in (out ∷ outs) ≡ length out.bytes + 1 + size_in outs
 size_more out outs = sum_by-cons (λ o. length o.bytes + 1) out outs
 
 pub stays_within : (count : ℕ) (outs : List Outgoing) → size_in (staying count outs) ≤ size_in outs

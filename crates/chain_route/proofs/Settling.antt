@@ -2,7 +2,6 @@
 use Rattle.std.proofs.Common.{◌≡◌, ℕ, zero, suc, ◌+◌, ◌-◌, ◌<◌, ◌≤◌, ◌==◌, nat_lt, Bool, true, false, cond, List, [], ◌∷◌, ◌++◌, length, take, Option, Some, None, refl, sym, ap, ◌∙◌, subst, arith, length-append, length-take-le, ltb-true, ltb-false, ne_eqb}
 use Rattle.std.specs.Prelude.{slice_get, slice_set}
 use Rattle.std.proofs.lemmas.Bool.{eqb-false, eqb-true}
-use Rattle.channel_core.specs.Wire.{end_of_stream}
 use Rattle.value_node.specs.Value.{awaits, connected as value_connected, ended, new_value, turned as value_turned}
 use Rattle.value_node.specs.ValueValue.{ValueValue}
 use Rattle.value_node.specs.declared.states.Side.{Side}
@@ -12,7 +11,7 @@ use Rattle.value_node.specs.declared.states.ValueTurn.TheVariants.{Nothing, Took
 use Rattle.chain_route.specs.Hop as hop
 use Rattle.chain_route.specs.Hop.{connected as hop_connected}
 use Rattle.chain_route.specs.Passing.{Pair, carried, delivered, emptied, pair}
-use Rattle.chain_route.specs.Route.{add_put, beside, connected, connected_after, cut, delivered_at, ended_below, hop_put, is_live, joined, last_of, made_at, on_add, on_hop, on_pair, pair_put, peer_of, reached, refused, turn_put, turned, with_carried, with_upper}
+use Rattle.chain_route.specs.Route.{add_put, beside, connected, connected_after, cut, delivered_at, ended_below, hop_put, is_live, joined, last_of, made_at, on_add, on_hop, on_pair, pair_put, peer_of, reached, refused, turn_put, turned, upper_below, with_carried, with_upper}
 use Rattle.chain_route.specs.RouteValue.{RouteValue}
 use Rattle.chain_route.specs.declared.hop.Hop.{Hop}
 use Rattle.chain_route.proofs.Settled.{Settled, connected_settled, emptied_above, emptied_below, ended_settled, new_settled, same_place, weaker, with_low, with_up, without_low, without_up}
@@ -133,11 +132,12 @@ upper_settled at low r all =
 abbrev place_below : ℕ → Option ℕ
 place_below at = cond (at == 0) None (Some (at - 1))
 
-joined_settled : (at : ℕ) (low : Option ℕ) (r : RouteValue) → AllSettled low None (place_below at) r → AllSettled low None None (joined at r)
-joined_settled at low r all = by_flag (at == 0) (hop_settled low None (place_below at) (λ h. hop_connected []) at r all)
+-- a hop begins anew, as this one
+begun_settled : (begun : Hop) (at : ℕ) (low : Option ℕ) (r : RouteValue) → AllSettled low None (place_below at) r → AllSettled low None None (upper_below at (on_hop (λ h. begun) at r))
+begun_settled begun at low r all = by_flag (at == 0) (hop_settled low None (place_below at) (λ h. begun) at r all)
   where
     next : RouteValue
-    next = on_hop (λ h. hop_connected []) at r
+    next = on_hop (λ h. begun) at r
 
     by_flag : (flag : Bool) → AllSettled low None (cond flag None (Some (at - 1))) next → AllSettled low None None (cond flag next (with_upper (at - 1) next))
     by_flag true settled = settled
@@ -185,7 +185,7 @@ connects_settled at r most all = by_flag (nat_lt at (last_of r)) refl
     by_flag : (flag : Bool) → nat_lt at (last_of r) ≡ flag
         → AllSettled None None None (cond {A = Bool × RouteValue} flag (false, with_carried Below at (joined at (made_at at r))) (true, r)).1
     by_flag true is =
-        below_settled at None None (joined at (made_at at r)) (joined_settled at (Some at) (made_at at r) (made_settled at (place_below at) r (ltb-true at (last_of r) is) most all))
+        below_settled at None None (joined at (made_at at r)) (begun_settled (hop_connected []) at (Some at) (made_at at r) (made_settled at (place_below at) r (ltb-true at (last_of r) is) most all))
     by_flag false is = let least = ltb-false at (last_of r) is in last_settled at r (omega (arith, least)) all
 
 -- ---- The client connects, and the agent is reached
@@ -196,15 +196,12 @@ joins_settled r all = connects_settled 0 r (omega arith) all
 pub reaches_settled : (did : Bool) (r : RouteValue) → AllSettled None None None r → AllSettled None None None (reached did r)
 reaches_settled did r all = by_flag did
   where
-    next : RouteValue
-    next = joined (last_of r) r
+    waiting : AllSettled None None (place_below (last_of r)) r
+    waiting = weaker_all None None (place_below (last_of r)) r all
 
-    settled : AllSettled None None None next
-    settled = joined_settled (last_of r) None r (weaker_all None None (place_below (last_of r)) r all)
-
-    by_flag : (flag : Bool) → AllSettled None None None (cond flag next (refused (last_of r) next))
-    by_flag true = settled
-    by_flag false = hop_settled None None None (λ h. record h { down = h.down ++ end_of_stream ∷ [] }) (last_of r) next settled
+    by_flag : (flag : Bool) → AllSettled None None None (cond flag (joined (last_of r) r) (refused (last_of r) r))
+    by_flag true = begun_settled (hop_connected []) (last_of r) None r waiting
+    by_flag false = begun_settled hop.refused (last_of r) None r waiting
 
 -- ---- Bytes arrive
 

@@ -21,25 +21,40 @@ use Rattle.chain_route.specs.declared.hop.Hop.{Hop}
 use Rattle.list_laws.specs.Fronts.{IsFront}
 
 -- ---- one end of a hop: what its node gave, the bytes that came to it, with their marks, and whether these have ended without
--- the end of the stream
+-- the end of the stream; and whether it is a channel that the agent refused
 
 pub record End : Type 0 where
   pub gave : List Outgoing
   pub came : List Marked
   pub is_lost : Bool
+  pub is_refused : Bool
 
+-- the client's, and the agent's
 abbrev pub end_of : Talk → End
-end_of talk = record { gave = talk.gave; came = bytes_of talk.got; is_lost = talk.is_lost }
+end_of talk = record { gave = talk.gave; came = bytes_of talk.got; is_lost = talk.is_lost; is_refused = false }
+
+abbrev pub agent_end : Talk → End
+agent_end talk = record { gave = talk.gave; came = bytes_of talk.got; is_lost = talk.is_lost; is_refused = talk.is_refused }
 
 -- a value-add's, below it since it was made, and above it since its connection
 abbrev pub past_after : List ℕ → List value.Call → value.Past
 past_after peer calls = (value.after_all calls (value.no_calls peer)).past
 
 abbrev pub end_below : value.Past → End
-end_below p = record { gave = (below p).past.given; came = arrived (p.until_bound ++ p.since_bound); is_lost = list_any is_ending (p.until_bound ++ p.since_bound) }
+end_below p = record {
+  gave = (below p).past.given;
+  came = arrived (p.until_bound ++ p.since_bound);
+  is_lost = list_any is_ending (p.until_bound ++ p.since_bound);
+  is_refused = false;
+}
 
 abbrev pub end_above : value.Past → End
-end_above p = record { gave = (above p).past.given; came = arrived (unwrap_or p.connection []); is_lost = list_any is_ending (unwrap_or p.connection []) }
+end_above p = record {
+  gave = (above p).past.given;
+  came = arrived (unwrap_or p.connection []);
+  is_lost = list_any is_ending (unwrap_or p.connection []);
+  is_refused = false;
+}
 
 -- it gave nothing, and nothing came to it
 abbrev pub IsUnused : End → Type 0
@@ -47,10 +62,13 @@ IsUnused e = (e.gave ≡ []) × (e.came ≡ [])
 
 -- ---- a hop
 
--- on a live hop what one end gave is what came to the other and then what is in flight; else it came as far as it came
+-- on a live hop what one end gave is what came to the other and then what is in flight; else it came as far as it came. To a
+-- channel that the agent refused nothing goes up
 pub record HopCarries (hop : Hop) (lower upper : End) : Type 0 where
-  pub up : hop.is_live ≡ true → bytes_of lower.gave ≡ upper.came ++ bytes_of hop.up
+  pub up : hop.is_live ≡ true → upper.is_refused ≡ false → bytes_of lower.gave ≡ upper.came ++ bytes_of hop.up
   pub up_front : IsFront upper.came (bytes_of lower.gave)
+  pub refuses : hop.is_live ≡ true → hop.is_refused ≡ upper.is_refused
+  pub refused : upper.is_refused ≡ true → (upper.came ≡ []) × (hop.up ≡ [])
   pub down : hop.is_live ≡ true → bytes_of upper.gave ≡ lower.came ++ bytes_of hop.down
   pub down_front : IsFront lower.came (bytes_of upper.gave)
   pub dead : hop.is_live ≡ false → hop ≡ no_hop  -- nothing is in flight on one that isn't live
@@ -144,7 +162,7 @@ AllLoseByCuts calls at (m ∷ made) = LosesByCut calls at m × AllLoseByCuts cal
 pub record Carries (calls : List Call) (r : RouteRun) : Type 0 where
   pub made : List Made
   pub adds : r.route.adds ≡ map value_of made
-  pub hops : AllCarry (end_of r.past.client) r.route.hops made (end_of r.past.agent)
+  pub hops : AllCarry (end_of r.past.client) r.route.hops made (agent_end r.past.agent)
   pub connected : HaveConnected made r.past.is_reached
   pub reached : IsReachedLast made r.route.hops r.past
   pub earlier : AllByRecursion IsGoneBy r.past.earlier

@@ -1,5 +1,6 @@
 -- A hop: a connection, from its making until it is cut, and what is in flight on it in both directions.
-use Rattle.std.specs.Prelude.{ℕ, true, false, if◌then◌else◌, List, [], ◌++◌}
+use Rattle.std.specs.Prelude.{ℕ, Bool, true, false, not, ◌&&◌, if◌then◌else◌, List, [], ◌∷◌, ◌++◌}
+use Rattle.channel_core.specs.Wire.{end_of_stream}
 use Rattle.channel_core.specs.declared.held.Outgoing.{Outgoing}
 use Rattle.value_node.specs.declared.states.Side.{Side}
 use Rattle.value_node.specs.declared.states.Side.TheVariants.{Below, Above}
@@ -8,19 +9,28 @@ use Rattle.chain_route.specs.declared.hop.Hop.{Hop}
 
 -- no connection yet
 abbrev pub no_hop : Hop
-no_hop = record { is_live = false; up = []; down = [] }
+no_hop = record { is_live = false; is_refused = false; up = []; down = [] }
 
 -- a connection, on which this comes down
 abbrev pub connected : List Outgoing → Hop
-connected down = record { is_live = true; up = []; down = down }
+connected down = record { is_live = true; is_refused = false; up = []; down = down }
+
+-- a connection to the agent whose channel it refused: the end of the stream comes down
+abbrev pub refused : Hop
+refused = record { is_live = true; is_refused = true; up = []; down = end_of_stream ∷ [] }
 
 -- what is in flight is dropped
 abbrev pub cut : Hop → Hop
 cut hop = no_hop
 
--- what a node queues is in flight at once; what is queued for a hop that isn't live is dropped
+-- whether what is queued to go up does so: what is queued for a hop that isn't live is dropped, and so is what goes up to a
+-- channel that the agent refused
+abbrev pub goes_up : Hop → Bool
+goes_up hop = hop.is_live && not hop.is_refused
+
+-- what a node queues is in flight at once, or it is dropped
 abbrev pub sent_up : List Outgoing → Hop → Hop
-sent_up outs hop = if hop.is_live then record hop { up = hop.up ++ outs } else hop
+sent_up outs hop = if goes_up hop then record hop { up = hop.up ++ outs } else hop
 
 abbrev pub sent_down : List Outgoing → Hop → Hop
 sent_down outs hop = if hop.is_live then record hop { down = hop.down ++ outs } else hop

@@ -6,3 +6,4 @@ pub mod Route
 pub mod Runs
 pub mod Carrying
 pub mod Taking
+pub mod Until

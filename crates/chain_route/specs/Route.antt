@@ -1,7 +1,6 @@
 -- What happens on the way from a client to the agent.
 use Rattle.std.specs.Prelude.{ℕ, zero, suc, ◌+◌, ◌-◌, ◌==◌, nat_lt, Bool, true, false, ◌&&◌, if◌then◌else◌, List, [], ◌∷◌, ◌++◌, codes, decimal, length, take, slice_get, slice_set, Option, Some, None}
 use Rattle.std.specs.List.{list_all}
-use Rattle.channel_core.specs.Wire.{end_of_stream}
 use Rattle.channel_core.specs.declared.held.Outgoing.{Outgoing}
 use Rattle.value_node.specs.Value.{connected as value_connected, ended, new_value, turned as value_turned, waiting_at}
 use Rattle.value_node.specs.ValueValue.{ValueValue}
@@ -93,6 +92,10 @@ upper_below at r = if at == 0 then r else with_upper (at - 1) r
 abbrev pub joined : ℕ → RouteValue → RouteValue
 joined at r = upper_below at (on_hop (λ h. hop.connected []) at r)
 
+-- the agent refused the channel above the hop: it begins anew, but the end of the stream comes down, and nothing goes up
+abbrev pub refused : ℕ → RouteValue → RouteValue
+refused at r = upper_below at (on_hop (λ h. hop.refused) at r)
+
 -- the value-add above a hop is made anew, and those that an earlier one had above it are gone
 abbrev pub made_at : ℕ → RouteValue → RouteValue
 made_at at r = record r { adds = take at r.adds ++ new_value (peer_of at r) ∷ [] }
@@ -102,13 +105,9 @@ made_at at r = record r { adds = take at r.adds ++ new_value (peer_of at r) ∷ 
 abbrev pub connected : ℕ → RouteValue → Bool × RouteValue
 connected at r = if nat_lt at (last_of r) then (false, with_carried Below at (joined at (made_at at r))) else (true, r)
 
--- the end of the stream comes down a hop
-abbrev pub refused : ℕ → RouteValue → RouteValue
-refused at r = on_hop (λ h. record h { down = h.down ++ end_of_stream ∷ [] }) at r
-
 -- the agent opened a channel for the node below the last hop, or refused it
 abbrev pub reached : Bool → RouteValue → RouteValue
-reached did r = let next = joined (last_of r) r in if did then next else refused (last_of r) next
+reached did r = if did then joined (last_of r) r else refused (last_of r) r
 
 -- ---- a value-add takes an entry from a side, and connects where it is redirected
 

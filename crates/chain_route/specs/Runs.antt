@@ -1,5 +1,5 @@
 -- A way over any calls, and what its client and the agent gave it and got of it.
-use Rattle.std.specs.Prelude.{ℕ, ◌-◌, ◌==◌, Bool, true, false, ◌||◌, ◌&&◌, if◌then◌else◌, List, [], ◌∷◌, ◌++◌, slice_get, Option, Some, None}
+use Rattle.std.specs.Prelude.{ℕ, ◌-◌, ◌==◌, Bool, true, false, ◌||◌, ◌&&◌, not, if◌then◌else◌, List, [], ◌∷◌, ◌++◌, slice_get, Option, Some, None}
 use Rattle.channel_core.specs.Wire.{end_of_stream}
 use Rattle.channel_core.specs.declared.held.Outgoing.{Outgoing}
 use Rattle.value_node.specs.Value.{awaits}
@@ -22,14 +22,16 @@ pub data Call : Type 0 where
   turns : (side : Side) (at : ℕ) → Call  -- a value-add takes an entry
   cuts : (hop : ℕ) → Call
 
--- what the client, or the agent, gave its hop since that was connected, what came to it there, and whether it was lost
+-- what the client, or the agent, gave its hop since that was connected, what came to it there, and whether it was lost; and
+-- whether the agent refused the channel
 pub record Talk : Type 0 where
   pub gave : List Outgoing
   pub got : List Outgoing
   pub is_lost : Bool
+  pub is_refused : Bool
 
 abbrev pub no_talk : Talk
-no_talk = record { gave = []; got = []; is_lost = false }
+no_talk = record { gave = []; got = []; is_lost = false; is_refused = false }
 
 pub record Past : Type 0 where
   pub is_wanted : Bool  -- the client wants a channel of the agent, and no value-add is between them
@@ -77,7 +79,7 @@ reached_past did p = record p {
   is_wanted = false;
   is_joined = true;
   is_reached = true;
-  agent = record { gave = given_by did; got = []; is_lost = false };
+  agent = record { gave = given_by did; got = []; is_lost = false; is_refused = not did };
   earlier = earlier_of p;
 }
 

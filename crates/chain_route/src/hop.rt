@@ -1,6 +1,6 @@
 //! A hop between two nodes.
 ghost use Rattle.std.specs.Prelude.{◌≡◌, ◌∷◌, ◌==◌, [], length, IfOk, OnOk};
-ghost use Rattle.chain_route.specs.Hop.{arrived_at, connected, lane_to, no_hop, sent_down, sent_from, sent_up};
+ghost use Rattle.chain_route.specs.Hop.{arrived_at, connected, lane_to, no_hop, refused, sent_down, sent_from, sent_up};
 ghost use Rattle.chain_route.specs.Lane.{arriving};
 
 use crate::lane::Lane;
@@ -12,6 +12,8 @@ use value_node::Side;
 #[derive(Drop)]
 pub struct Hop {
     pub is_live: bool,
+    /// The agent refused the channel above it: nothing goes up.
+    pub is_refused: bool,
     pub up: Lane,
     pub down: Lane,
 }
@@ -23,6 +25,7 @@ impl Hop {
     {
         Hop {
             is_live: false,
+            is_refused: false,
             up: Lane::new(alloc),
             down: Lane::new(alloc),
         }
@@ -35,6 +38,17 @@ impl Hop {
         self.up.clear();
         self.down.clear();
         self.is_live = true;
+        self.is_refused = false;
+    }
+
+    /// A connection is made to the agent, which refused the channel: the end of the stream comes down, and what is queued to
+    /// go up is dropped.
+    pub fn refuse(&mut self) -> Result<(), AllocError>
+        ensures { OnOk result (self.new ≡ refused) }
+    {
+        self.connect();
+        self.is_refused = true;
+        self.down.queue_end()
     }
 
     /// The connection is lost, with all that is in flight.
@@ -44,13 +58,15 @@ impl Hop {
         self.up.clear();
         self.down.clear();
         self.is_live = false;
+        self.is_refused = false;
     }
 
-    /// What the lower node queues is in flight at once; it is dropped where the hop isn't live.
+    /// What the lower node queues is in flight at once; it is dropped where the hop isn't live, and where the agent refused
+    /// the channel.
     pub fn send_up(&mut self, out: Outgoing) -> Result<(), AllocError>
         ensures { OnOk result (self.new ≡ sent_up (out ∷ []) self.old) }
     {
-        if self.is_live {
+        if self.is_live && !self.is_refused {
             self.up.queue(out)?;
         }
         Ok(())

@@ -1,5 +1,6 @@
-//! The law of a way, over any calls and whatever bytes come.
+//! The laws of a way, over any calls and whatever bytes come.
 ghost use Rattle.chain_route.specs.Carrying.{CarriesAfterAllCalls};
+ghost use Rattle.chain_route.specs.Until.{AllArriveAtAdds};
 
 /// The law that each hop of a way carries what one of its nodes gave it to the other one, in order and with its marks, and
 /// that each value-add is what its calls make of a new one, whatever the calls of the way are. The bytes above a value-add end
@@ -10,4 +11,10 @@ ghost use Rattle.chain_route.specs.Carrying.{CarriesAfterAllCalls};
 /// reached.
 pub fn each_hop_carries()
     ensures { CarriesAfterAllCalls }
+{}
+
+/// The law of a round's delivery to a side of a value-add: when it is over nothing is in flight there, or 200 entries wait at
+/// that side, or the hop isn't live.
+pub fn all_arrive_at_adds()
+    ensures { AllArriveAtAdds }
 {}

@@ -9,6 +9,6 @@ mod route;
 
 pub use hop::Hop;
 pub use lane::Lane;
-pub use laws::each_hop_carries;
+pub use laws::{all_arrive_at_adds, each_hop_carries};
 pub use passing::{MOST_BYTES, MOST_WAITING};
 pub use route::Route;

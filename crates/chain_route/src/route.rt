@@ -4,7 +4,7 @@ ghost use Rattle.std.specs.List.{list_all};
 ghost use Rattle.value_node.specs.Value.{ended};
 ghost use Rattle.chain_route.specs.Hop.{cut as hop_cut};
 ghost use Rattle.chain_route.specs.Lane.{arriving};
-ghost use Rattle.chain_route.specs.Route.{all_delivered_at, arrived_down, arrived_up, beside, connected, cut, delivered_at, ended_below, flight_down, flight_up, hops_of, is_add_quiet, is_hop_quiet, is_live, is_quiet, joined, last_of, made_at, new_route, on_add, on_hop, peer_of, reached, refused, sent_down, sent_up, turned, waiting_in, with_carried, with_upper};
+ghost use Rattle.chain_route.specs.Route.{all_delivered_at, arrived_down, arrived_up, beside, connected, cut, delivered_at, ended_below, flight_down, flight_up, hops_of, is_add_quiet, is_hop_quiet, is_live, is_quiet, joined, last_of, made_at, new_route, on_add, on_hop, peer_of, reached, refused, sent_down, sent_up, turned, upper_below, waiting_in, with_carried, with_upper};
 
 use crate::hop::Hop;
 use crate::passing::{carry, deliver, deliver_all};
@@ -74,26 +74,27 @@ impl Route {
         Ok(())
     }
 
-    /// The agent opened a channel for the node below the last hop, or refused it: then the end of the stream comes down.
+    /// The agent opened a channel for the node below the last hop, or refused it: then the end of the stream comes down, and
+    /// nothing goes up.
     pub fn reach(&mut self, did: bool) -> Result<(), AllocError>
         ensures { OnOk result (self.new ≡ reached did self.old) }
     {
         let last = self.last();
-        self.join(last)?;
-        if !did {
-            self.refuse(last)?;
+        if did {
+            self.join(last)
+        } else {
+            self.refuse(last)
         }
-        Ok(())
     }
 
-    /// The end of the stream comes down this hop.
+    /// The hop begins anew with the end of the stream, which comes down, and so does the upper end of a value-add below it.
     fn refuse(&mut self, hop: usize) -> Result<(), AllocError>
         ensures { OnOk result (self.new ≡ refused hop self.old) }
     {
-        match self.hops.get_mut(hop) {
-            Some(hop) => hop.down.queue_end(),
-            None => Ok(()),
+        if let Some(hop) = self.hops.get_mut(hop) {
+            hop.refuse()?;
         }
+        self.begin_below(hop)
     }
 
     /// The hop begins anew with nothing in flight, and so does the upper end of a value-add below it, whose Hello goes up.
@@ -103,6 +104,13 @@ impl Route {
         if let Some(hop) = self.hops.get_mut(hop) {
             hop.connect();
         }
+        self.begin_below(hop)
+    }
+
+    /// The upper end of a value-add below a hop begins, and its Hello goes up.
+    fn begin_below(&mut self, hop: usize) -> Result<(), AllocError>
+        ensures { OnOk result (self.new ≡ upper_below hop self.old) }
+    {
         match hop.checked_sub(1) {
             Some(below) => self.begin_upper(below),
             None => Ok(()),

@@ -33,13 +33,17 @@ lost_gave : (last : Bool) (talk : Talk) → (loses_if last talk).gave ≡ talk.g
 lost_gave true talk = refl
 lost_gave false talk = refl
 
+lost_shut : (last : Bool) (talk : Talk) → (loses_if last talk).is_refused ≡ talk.is_refused
+lost_shut true talk = refl
+lost_shut false talk = refl
+
 lost_talks : (last : Bool) (past : Option Past) (talk : Talk) → Talking past talk → Talking (cut_if last past) (loses_if last talk)
 lost_talks true past talk t = talks_cut past talk t
 lost_talks false past talk t = t
 
 cut_talks : (channel : Option ℕ) (last : Bool) (p w : WayPast) (pasts after : List Past) → w.is_reached ≡ p.is_reached → w.agent ≡ loses_if last p.agent → ((k : ℕ) → channel ≡ Some k → past_at k after ≡ cut_if last (past_at k pasts))
     → TalkingOn channel p pasts → TalkingOn channel w after
-cut_talks None last p w pasts after reached agent is t = none_same p w reached (ap (λ talk. talk.gave) agent ∙ lost_gave last p.agent) t
+cut_talks None last p w pasts after reached agent is t = none_same p w reached (ap (λ talk. talk.gave) agent ∙ lost_gave last p.agent) (ap (λ talk. talk.is_refused) agent ∙ lost_shut last p.agent) t
 cut_talks (Some k) last p w pasts after reached agent is t =
     let here : Talking (cut_if last (past_at k pasts)) (loses_if last p.agent) = lost_talks last (past_at k pasts) p.agent t.1 in
     (reached ∙ t.0, subst (λ past. Talking past w.agent) (sym (is k refl)) (subst (Talking (cut_if last (past_at k pasts))) (sym agent) here))

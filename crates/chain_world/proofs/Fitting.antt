@@ -106,7 +106,7 @@ pub record GaveOut (pasts : List Past) (chain : ChainValue) : Type 0 where
   pub agent : (k : ℕ) → chain.channel ≡ Some k → IfSome (past_at k pasts) (λ p. (run_of p).end.queued ≡ [])
 
 talks_of : (past : Option Past) (talk : Talk) → IfSome past (λ p. (run_of p).end.queued ≡ []) → Talking past talk → Talks past talk
-talks_of past talk given t = record { gave = t.gave; given = given; lost = t.lost; came = t.came; front = t.front }
+talks_of past talk given t = record { refused = t.refused; gave = t.gave; given = given; lost = t.lost; came = t.came; front = t.front }
 
 talks_on : (channel : Option ℕ) (p : WayPast) (pasts : List Past) → ((k : ℕ) → channel ≡ Some k → IfSome (past_at k pasts) (λ p. (run_of p).end.queued ≡ [])) → TalkingOn channel p pasts → TalksOn channel p pasts
 talks_on None p pasts given t = t

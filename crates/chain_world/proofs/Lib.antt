@@ -34,4 +34,10 @@ mod Opening
 mod Gave
 mod Playing
 pub mod Counted
+mod Inboxes
+mod Until
+mod AddTurns
+mod AddsUntil
+mod AgentTurns
+mod AgentUntil
 pub mod TheLaws

@@ -49,8 +49,8 @@ unpast k numbers (past ∷ pasts) below owned =
 
 begins_by : (did : Bool) (k : ℕ) (a : AgentValue) (pasts : List Past) → past_at k pasts ≡ None → Talking (past_at k (pasts_opened did k a pasts)) (new_talk did)
 begins_by true k a pasts none =
-    subst (λ past. Talking past (new_talk true)) (sym (at_new k pasts (new_past k a) none (eq-eqb k k refl))) (record { gave = refl; lost = refl; came = λ takes. refl; front = ([], refl) })
-begins_by false k a pasts none = subst (λ past. Talking past (new_talk false)) (sym none) (record { gave = refl; lost = tt; came = λ takes. absurd cc; front = ([], refl) })
+    subst (λ past. Talking past (new_talk true)) (sym (at_new k pasts (new_past k a) none (eq-eqb k k refl))) (record { refused = refl; gave = refl; lost = refl; came = λ takes. refl; front = ([], refl) })
+begins_by false k a pasts none = subst (λ past. Talking past (new_talk false)) (sym none) (record { refused = refl; gave = refl; lost = tt; came = λ takes. absurd cc; front = ([], refl) })
 
 opened_keeps : (did : Bool) (k : ℕ) (a : AgentValue) (pasts : List Past) (j : ℕ) → j < k → Keeps j pasts (pasts_opened did k a pasts)
 opened_keeps true k a pasts j less =

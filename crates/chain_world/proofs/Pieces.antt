@@ -52,10 +52,10 @@ IsCarried chain = carried_up chain ≡ chain
 abbrev pub down_size : ChainValue → ℕ
 down_size chain = size_in (flight_down chain.route)
 
-down_taken : (count : ℕ) (chain : ChainValue) → takes_down chain ≡ true → delivered_down count chain ≡ carried_up (came_down count chain)
+pub down_taken : (count : ℕ) (chain : ChainValue) → takes_down chain ≡ true → delivered_down count chain ≡ carried_up (came_down count chain)
 down_taken count chain is = ap (λ b. cond b (carried_up (came_down count chain)) chain) is
 
-down_still : (count : ℕ) (chain : ChainValue) → takes_down chain ≡ false → delivered_down count chain ≡ chain
+pub down_still : (count : ℕ) (chain : ChainValue) → takes_down chain ≡ false → delivered_down count chain ≡ chain
 down_still count chain is = ap (λ b. cond b (carried_up (came_down count chain)) chain) is
 
 -- where a piece arrives, the queue is carried then, and less is in flight
@@ -90,7 +90,7 @@ down_goes count more chain carried = by_flag (takes_down chain) refl
     by_flag true takes = by_flight (flight_down chain.route) refl takes
     by_flag false takes = inl (down_still count chain takes)
 
-pieces_again : (n : ℕ) (chain : ChainValue) → pieces_down n chain ≡ again (delivered_down most_bytes) n chain
+pub pieces_again : (n : ℕ) (chain : ChainValue) → pieces_down n chain ≡ again (delivered_down most_bytes) n chain
 pieces_again zero chain = refl
 pieces_again (suc n) chain = pieces_again n (delivered_down most_bytes chain)
 
@@ -148,7 +148,7 @@ pub record IsCarriedDown (k : ℕ) (b : Both) : Type 0 where
   pub channel : b.chain.channel ≡ Some k
   pub same : carried_from (Some k) b.chain (all_dropped b.chain.earlier b.agent) ≡ b
 
-abbrev carried_both : ℕ → Both → Both
+abbrev pub carried_both : ℕ → Both → Both
 carried_both k b = carried_from (Some k) b.chain (all_dropped b.chain.earlier b.agent)
 
 pub carried_down_twice : (k : ℕ) (b : Both) → b.chain.channel ≡ Some k → IsCarriedDown k (carried_both k b)
@@ -166,17 +166,17 @@ carried_down_twice k b channel =
           ∙ ap (λ r. both (record chain { route = r }) a) (none_sent_down way);
     }
 
-abbrev up_came : ℕ → ℕ → Both → Both
+abbrev pub up_came : ℕ → ℕ → Both → Both
 up_came k count b =
     both (record b.chain { route = arrived_up count b.chain.route }) (parts_delivered k (arriving count (flight_up b.chain.route)) b.agent)
 
-up_taken : (k count : ℕ) (b : Both) → b.chain.channel ≡ Some k → takes_up k b.chain b.agent ≡ true → piece_up count b ≡ carried_both k (up_came k count b)
+pub up_taken : (k count : ℕ) (b : Both) → b.chain.channel ≡ Some k → takes_up k b.chain b.agent ≡ true → piece_up count b ≡ carried_both k (up_came k count b)
 up_taken k count b channel is =
     let came = up_came k count b in
     ap (λ o. delivered_to o count b.chain b.agent) channel ∙ ap (λ t. cond t (came_up k count b.chain b.agent) b) is
     ∙ ap (λ o. carried_from o came.chain (all_dropped came.chain.earlier came.agent)) channel
 
-up_still : (k count : ℕ) (b : Both) → b.chain.channel ≡ Some k → takes_up k b.chain b.agent ≡ false → piece_up count b ≡ b
+pub up_still : (k count : ℕ) (b : Both) → b.chain.channel ≡ Some k → takes_up k b.chain b.agent ≡ false → piece_up count b ≡ b
 up_still k count b channel is = ap (λ o. delivered_to o count b.chain b.agent) channel ∙ ap (λ t. cond t (came_up k count b.chain b.agent) b) is
 
 -- where a piece arrives, the queue is carried then, and less is in flight
@@ -212,7 +212,7 @@ up_goes k count more b carried = by_flag (takes_up k b.chain b.agent) refl
     by_flag true takes = by_flight (flight_up b.chain.route) refl takes
     by_flag false takes = inl (up_still k count b carried.channel takes)
 
-ups_again : (n : ℕ) (b : Both) → pieces_up n b ≡ again (piece_up most_bytes) n b
+pub ups_again : (n : ℕ) (b : Both) → pieces_up n b ≡ again (piece_up most_bytes) n b
 ups_again zero b = refl
 ups_again (suc n) b = ups_again n (piece_up most_bytes b)
 

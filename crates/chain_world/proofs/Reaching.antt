@@ -1,5 +1,5 @@
 -- A way that waits for a channel of the agent is given one, or is refused.
-use Rattle.std.proofs.Common.{◌≡◌, ℕ, Bool, true, false, cond, List, [], ◌∷◌, ◌++◌, Option, Some, None, refl, sym, ap, subst, inr}
+use Rattle.std.proofs.Common.{◌≡◌, ℕ, Bool, true, false, not, cond, List, [], ◌∷◌, ◌++◌, Option, Some, None, refl, sym, ap, subst, inr}
 use Rattle.std.specs.Prelude.{is_some, option_to_list}
 use Rattle.std.specs.List.{AllByRecursion, Contains}
 use Rattle.std.proofs.lemmas.List.Elements.{Contains-append_left, Contains-push}
@@ -49,7 +49,7 @@ all_earlier p did now pasts chain calls a =
 -- ---- The new channel
 
 abbrev pub new_talk : Bool → Talk
-new_talk did = record { gave = given_by did; got = []; is_lost = false }
+new_talk did = record { gave = given_by did; got = []; is_lost = false; is_refused = not did }
 
 -- what is said of it at once
 abbrev pub BeginsOn : Option ℕ → Bool → List Past → Type 0
@@ -57,7 +57,7 @@ BeginsOn None did pasts = did ≡ false
 BeginsOn (Some k) did pasts = Talking (past_at k pasts) (new_talk did)
 
 begins_so : (channel : Option ℕ) (did : Bool) (p : WayPast) (pasts : List Past) → BeginsOn channel did pasts → TalkingOn channel (reached_past did p) pasts
-begins_so None did p pasts is = inr (ap given_by is)
+begins_so None did p pasts is = inr (ap not is, ap given_by is)
 begins_so (Some k) did p pasts t = (refl, t)
 
 abbrev pub reached_chain : Option ℕ → Bool → ChainValue → ChainValue

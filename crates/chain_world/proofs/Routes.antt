@@ -60,59 +60,65 @@ hop_read read f at r same = put_read read f at r (slice_get r.hops at) refl same
 
 -- ---- What is sent
 
-up_parts : (live : Bool) (up down outs : List Outgoing) (out : Outgoing) → hop.sent_up outs (hop.sent_up (out ∷ []) (record { is_live = live; up = up; down = down })) ≡ hop.sent_up (out ∷ outs) (record { is_live = live; up = up; down = down })
-up_parts true up down outs out = let made : List Outgoing → Hop = λ xs. record { is_live = true; up = xs; down = down } in ap made (append_assoc up (out ∷ []) outs)
-up_parts false up down outs out = refl
+abbrev hop_of : (live shut : Bool) → List Outgoing → List Outgoing → Hop
+hop_of live shut up down = record { is_live = live; is_refused = shut; up = up; down = down }
 
-up_nothing : (live : Bool) (up down : List Outgoing) → hop.sent_up [] (record { is_live = live; up = up; down = down }) ≡ record { is_live = live; up = up; down = down }
-up_nothing true up down = let made : List Outgoing → Hop = λ xs. record { is_live = true; up = xs; down = down } in ap made (append-nil up)
-up_nothing false up down = refl
+up_parts : (live shut : Bool) (up down outs : List Outgoing) (out : Outgoing) → hop.sent_up outs (hop.sent_up (out ∷ []) (hop_of live shut up down)) ≡ hop.sent_up (out ∷ outs) (hop_of live shut up down)
+up_parts true true up down outs out = refl
+up_parts true false up down outs out = ap (λ xs. hop_of true false xs down) (append_assoc up (out ∷ []) outs)
+up_parts false shut up down outs out = refl
 
-down_parts : (live : Bool) (up down outs : List Outgoing) (out : Outgoing) → hop.sent_down outs (hop.sent_down (out ∷ []) (record { is_live = live; up = up; down = down })) ≡ hop.sent_down (out ∷ outs) (record { is_live = live; up = up; down = down })
-down_parts true up down outs out = let made : List Outgoing → Hop = λ xs. record { is_live = true; up = up; down = xs } in ap made (append_assoc down (out ∷ []) outs)
-down_parts false up down outs out = refl
+up_nothing : (live shut : Bool) (up down : List Outgoing) → hop.sent_up [] (hop_of live shut up down) ≡ hop_of live shut up down
+up_nothing true true up down = refl
+up_nothing true false up down = ap (λ xs. hop_of true false xs down) (append-nil up)
+up_nothing false shut up down = refl
 
-down_nothing : (live : Bool) (up down : List Outgoing) → hop.sent_down [] (record { is_live = live; up = up; down = down }) ≡ record { is_live = live; up = up; down = down }
-down_nothing true up down = let made : List Outgoing → Hop = λ xs. record { is_live = true; up = up; down = xs } in ap made (append-nil down)
-down_nothing false up down = refl
+down_parts : (live shut : Bool) (up down outs : List Outgoing) (out : Outgoing) → hop.sent_down outs (hop.sent_down (out ∷ []) (hop_of live shut up down)) ≡ hop.sent_down (out ∷ outs) (hop_of live shut up down)
+down_parts true shut up down outs out = ap (λ xs. hop_of true shut up xs) (append_assoc down (out ∷ []) outs)
+down_parts false shut up down outs out = refl
+
+down_nothing : (live shut : Bool) (up down : List Outgoing) → hop.sent_down [] (hop_of live shut up down) ≡ hop_of live shut up down
+down_nothing true shut up down = ap (λ xs. hop_of true shut up xs) (append-nil down)
+down_nothing false shut up down = refl
 
 -- one message and then the others
 pub sent_on : (out : Outgoing) (outs : List Outgoing) (r : RouteValue) → sent_up outs (sent_up (out ∷ []) r) ≡ sent_up (out ∷ outs) r
 sent_on out outs r =
     hop_twice (hop.sent_up outs) (hop.sent_up (out ∷ [])) 0 r
-    ∙ hop_alike (λ h. hop.sent_up outs (hop.sent_up (out ∷ []) h)) (hop.sent_up (out ∷ outs)) 0 r (λ h. up_parts h.is_live h.up h.down outs out)
+    ∙ hop_alike (λ h. hop.sent_up outs (hop.sent_up (out ∷ []) h)) (hop.sent_up (out ∷ outs)) 0 r (λ h. up_parts h.is_live h.is_refused h.up h.down outs out)
 
 pub none_sent : (r : RouteValue) → sent_up [] r ≡ r
-none_sent r = hop_still (hop.sent_up []) 0 r (λ h is. up_nothing h.is_live h.up h.down)
+none_sent r = hop_still (hop.sent_up []) 0 r (λ h is. up_nothing h.is_live h.is_refused h.up h.down)
 
 pub sent_down_on : (out : Outgoing) (outs : List Outgoing) (r : RouteValue) → sent_down outs (sent_down (out ∷ []) r) ≡ sent_down (out ∷ outs) r
 sent_down_on out outs r =
     let first = on_hop (hop.sent_down (out ∷ [])) (last_of r) r in
     ap (λ n. on_hop (hop.sent_down outs) n first) (hop_last (hop.sent_down (out ∷ [])) (last_of r) r)
     ∙ hop_twice (hop.sent_down outs) (hop.sent_down (out ∷ [])) (last_of r) r
-    ∙ hop_alike (λ h. hop.sent_down outs (hop.sent_down (out ∷ []) h)) (hop.sent_down (out ∷ outs)) (last_of r) r (λ h. down_parts h.is_live h.up h.down outs out)
+    ∙ hop_alike (λ h. hop.sent_down outs (hop.sent_down (out ∷ []) h)) (hop.sent_down (out ∷ outs)) (last_of r) r (λ h. down_parts h.is_live h.is_refused h.up h.down outs out)
 
 pub none_sent_down : (r : RouteValue) → sent_down [] r ≡ r
-none_sent_down r = hop_still (hop.sent_down []) (last_of r) r (λ h is. down_nothing h.is_live h.up h.down)
+none_sent_down r = hop_still (hop.sent_down []) (last_of r) r (λ h is. down_nothing h.is_live h.is_refused h.up h.down)
 
 -- ---- What is in flight the other way stays
 
-down_by : (live : Bool) (up down outs : List Outgoing) → (hop.sent_up outs (record { is_live = live; up = up; down = down })).down ≡ down
-down_by true up down outs = refl
-down_by false up down outs = refl
+down_by : (live shut : Bool) (up down outs : List Outgoing) → (hop.sent_up outs (hop_of live shut up down)).down ≡ down
+down_by true true up down outs = refl
+down_by true false up down outs = refl
+down_by false shut up down outs = refl
 
-up_by : (live : Bool) (up down outs : List Outgoing) → (hop.sent_down outs (record { is_live = live; up = up; down = down })).up ≡ up
-up_by true up down outs = refl
-up_by false up down outs = refl
+up_by : (live shut : Bool) (up down outs : List Outgoing) → (hop.sent_down outs (hop_of live shut up down)).up ≡ up
+up_by true shut up down outs = refl
+up_by false shut up down outs = refl
 
 pub down_kept : (outs : List Outgoing) (r : RouteValue) → flight_down (sent_up outs r) ≡ flight_down r
-down_kept outs r = hop_read down_of (hop.sent_up outs) 0 r (λ h. down_by h.is_live h.up h.down outs)
+down_kept outs r = hop_read down_of (hop.sent_up outs) 0 r (λ h. down_by h.is_live h.is_refused h.up h.down outs)
 
 pub up_kept : (outs : List Outgoing) (r : RouteValue) → flight_up (sent_down outs r) ≡ flight_up r
 up_kept outs r =
     let next = sent_down outs r in
     ap (λ n. up_of (slice_get next.hops n)) (hop_last (hop.sent_down outs) (last_of r) r)
-    ∙ hop_read up_of (hop.sent_down outs) (last_of r) r (λ h. up_by h.is_live h.up h.down outs)
+    ∙ hop_read up_of (hop.sent_down outs) (last_of r) r (λ h. up_by h.is_live h.is_refused h.up h.down outs)
 
 -- ---- What arrives
 

@@ -13,7 +13,7 @@ use Rattle.value_node.specs.declared.states.ValueTurn.TheVariants.{Nothing, Took
 use Rattle.chain_route.specs.Hop as hop
 use Rattle.chain_route.specs.Lane.{arriving}
 use Rattle.chain_route.specs.Passing.{Pair, carried, came, delivered, pair, takes}
-use Rattle.chain_route.specs.Route.{add_put, beside, connected, connected_after, cut, ended_below, hop_put, is_live, joined, last_of, live_of, made_at, on_add, on_hop, on_pair, pair_put, peer_of, reached, refused, turn_put, turned, upper_below, with_carried, with_upper}
+use Rattle.chain_route.specs.Route.{add_put, beside, connected, connected_after, cut, ended_below, hop_put, is_live, joined, last_of, live_of, made_at, on_add, on_hop, on_pair, pair_put, peer_of, reached, turn_put, turned, upper_below, with_carried, with_upper}
 use Rattle.chain_route.specs.RouteValue.{RouteValue}
 use Rattle.chain_route.specs.declared.hop.Hop.{Hop}
 use Rattle.chain_world.proofs.Lists.{all_at, all_set}
@@ -110,7 +110,7 @@ pair_quiet f side at r keeps = pair_put_quiet f side at (slice_get r.adds at) (s
 -- ---- What goes out and what arrives
 
 pub up_live : (outs : List Outgoing) (h : Hop) → (hop.sent_up outs h).is_live ≡ h.is_live
-up_live outs h = by_flag h.is_live
+up_live outs h = by_flag (hop.goes_up h)
   where
     by_flag : (flag : Bool) → (cond flag (record h { up = h.up ++ outs }) h).is_live ≡ h.is_live
     by_flag true = refl
@@ -162,14 +162,17 @@ below_steady at r = by_flag (at == 0)
     by_flag true = steady_none r
     by_flag false = upper_steady (at - 1) r
 
+-- a hop begins anew, as this one
+pub begun_steady : (begun : Hop) (at : ℕ) (r : RouteValue) → IsSteady r (upper_below at (on_hop (λ h. begun) at r))
+begun_steady begun at r =
+    let next = on_hop (λ h. begun) at r in steady_then r next (upper_below at next) (hop_steady (λ h. begun) at r) (below_steady at next)
+
 pub joined_steady : (at : ℕ) (r : RouteValue) → IsSteady r (joined at r)
-joined_steady at r =
-    let next = on_hop (λ h. hop.connected []) at r in steady_then r next (joined at r) (hop_steady (λ h. hop.connected []) at r) (below_steady at next)
+joined_steady at r = begun_steady (hop.connected []) at r
 
 pub reached_steady : (did : Bool) (r : RouteValue) → IsSteady r (reached did r)
 reached_steady true r = joined_steady (last_of r) r
-reached_steady false r =
-    let next = joined (last_of r) r in steady_then r next (refused (last_of r) next) (joined_steady (last_of r) r) (hop_steady _ (last_of r) next)
+reached_steady false r = begun_steady hop.refused (last_of r) r
 
 gone_quiet : (at : ℕ) (r : RouteValue) → IsQuiet r (ended_below at r)
 gone_quiet at r = by_flag (at == 0)

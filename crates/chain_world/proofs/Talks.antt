@@ -1,6 +1,6 @@
 -- What goes on between a way and the agent's channels: while only idle calls are added to a channel, nothing changes.
 use Rattle.std.proofs.Common.{◌≡◌, ℕ, Bool, true, false, not, ◌||◌, List, [], ◌∷◌, ◌++◌, Option, Some, None, refl, sym, ap, ◌∙◌, subst, append-nil, ◌⊎◌, inl, inr, cond}
-use Rattle.std.specs.Prelude.{option_map}
+use Rattle.std.specs.Prelude.{is_some, option_map}
 use Rattle.std.specs.List.{AllByRecursion, Contains, list_any}
 use Rattle.channel_core.specs.Arrivals.{Marked, arrived}
 use Rattle.channel_core.specs.Closing.{is_closed}
@@ -29,16 +29,21 @@ use Rattle.list_laws.proofs.Contained.{contains_first as here}
 -- ---- What is said of a channel, also while the agent has something queued for it
 
 pub record Talking (past : Option Past) (talk : Talk) : Type 0 where
+  pub refused : talk.is_refused ≡ not (is_some past)
   pub gave : talk.gave ≡ given_to past
   pub lost : Loses past talk
   pub came : is_taking past ≡ true → unmarked talk.got ≡ came_to past
   pub front : IsFront (came_to past) (unmarked talk.got)
 
 abbrev pub TalkingOn : Option ℕ → WayPast → List Past → Type 0
-TalkingOn None p pasts = ((p.is_reached ≡ false) × (p.agent.gave ≡ [])) ⊎ (p.agent.gave ≡ end_of_stream ∷ [])
+TalkingOn None p pasts = ((p.is_reached ≡ false) × (p.agent.gave ≡ [])) ⊎ ((p.agent.is_refused ≡ true) × (p.agent.gave ≡ end_of_stream ∷ []))
 TalkingOn (Some k) p pasts = (p.is_reached ≡ true) × Talking (past_at k pasts) p.agent
 
 -- ---- Idle calls are added
+
+refused_more : (calls : List (EndCall Unit)) (before : Option Past) (talk : Talk) → talk.is_refused ≡ not (is_some before) → talk.is_refused ≡ not (is_some (option_map (with_calls calls) before))
+refused_more calls None talk is = is
+refused_more calls (Some past) talk is = is
 
 given_idle : (calls : List (EndCall Unit)) → AreIdle calls → (before : Option Past) → given_to (option_map (with_calls calls) before) ≡ given_to before
 given_idle calls idle None = refl
@@ -75,6 +80,7 @@ pub talks_grown : (before after : Option Past) (talk : Talk) → Grows before af
 talks_grown before after talk grows t =
     subst (λ past. Talking past talk) (sym grows.2)
     (record {
+      refused = refused_more grows.0 before talk t.refused;
       gave = t.gave ∙ sym (given_idle grows.0 grows.1 before);
       lost = lost_more grows.0 before talk talk (idle_endless grows.0 grows.1) refl t.lost;
       came = λ takes. t.came (taking_before grows.0 before takes) ∙ sym (came_more grows.0 (idle_arrived grows.0 grows.1) before);
@@ -106,6 +112,7 @@ put_given queue (Some past) is = ap (λ r. r.past.given) (run_more (putting queu
 
 pub talks_put : (queue : List Outgoing) (before : Option Past) (talk : Talk) → HasQueued before queue → Talking before talk → Talking (option_map (with_calls (putting queue)) before) (gives queue talk)
 talks_put queue before talk is t = record {
+  refused = refused_more (putting queue) before talk t.refused;
   gave = ap (λ outs. outs ++ queue) t.gave ∙ sym (put_given queue before is);
   lost = lost_more (putting queue) before talk (gives queue talk) (putting_endless Unit queue) refl t.lost;
   came = λ takes. t.came (sym (put_taking queue before) ∙ takes) ∙ sym (came_put queue before);
@@ -124,7 +131,13 @@ lost_same (Some past) talk later same lost = same ∙ lost
 
 -- a closed end, or none, takes nothing
 pub talks_dropped : (parts : List Outgoing) (past : Option Past) (talk : Talk) → is_taking past ≡ false → Talking past talk → Talking past (gets parts talk)
-talks_dropped parts past talk shut t = record { gave = t.gave; lost = lost_same past talk (gets parts talk) refl t.lost; came = λ takes. absurd cc; front = front_got (came_to past) talk parts t.front }
+talks_dropped parts past talk shut t = record {
+  refused = t.refused;
+  gave = t.gave;
+  lost = lost_same past talk (gets parts talk) refl t.lost;
+  came = λ takes. absurd cc;
+  front = front_got (came_to past) talk parts t.front;
+}
 
 delivered_gave : (parts : List Outgoing) (r : Run Unit) → (after_calls (delivering_all parts) r).past.given ≡ r.past.given
 delivered_gave [] r = refl
@@ -141,6 +154,7 @@ talks_taken parts past talk takes t =
     unmarked_more talk.got parts ∙ ap (λ bs. bs ++ unmarked parts) before ∙ ap (λ bs. arrived past.calls ++ bs) (sym (delivering_arrived parts))
     ∙ sym (arrived_more past.calls (delivering_all parts)) in
     record {
+      refused = t.refused;
       gave = t.gave ∙ sym (ap (λ r. r.past.given) (run_more (delivering_all parts) past) ∙ delivered_gave parts (run_of past));
       lost = lost_more (delivering_all parts) (Some past) talk (gets parts talk) (delivered_endless parts) refl t.lost;
       came = λ _. all;
@@ -160,8 +174,9 @@ pub came_cut : (before : Option Past) → came_to (option_map (with_calls (endin
 came_cut before = came_more (ending ∷ []) refl before
 
 pub talks_cut : (before : Option Past) (talk : Talk) → Talking before talk → Talking (option_map (with_calls (ending ∷ [])) before) (record talk { is_lost = true })
-talks_cut None talk t = record { gave = t.gave; lost = tt; came = t.came; front = t.front }
+talks_cut None talk t = record { refused = t.refused; gave = t.gave; lost = tt; came = t.came; front = t.front }
 talks_cut (Some past) talk t = record {
+  refused = t.refused;
   gave = t.gave ∙ sym (ap (λ r. r.past.given) (run_more (ending ∷ []) past));
   lost = sym (endings_more past.calls (ending ∷ []) ∙ or_yes (list_any is_ending past.calls));
   came = λ takes. t.came (sym (ap (λ r. not (is_closed r.end.state)) (run_more (ending ∷ []) past) ∙ ap not (cut_state (run_of past))) ∙ takes) ∙ sym (came_cut (Some past));
@@ -180,12 +195,12 @@ pub same_above : (p : WayPast) → IsSameAbove p p
 same_above p = record { reached = refl; agent = refl; earlier = refl }
 
 -- to no channel nothing was given, or the end of the stream
-pub none_same : (p q : WayPast) → q.is_reached ≡ p.is_reached → q.agent.gave ≡ p.agent.gave → TalkingOn None p [] → TalkingOn None q []
-none_same p q reached gave (inl none) = inl (reached ∙ none.0, gave ∙ none.1)
-none_same p q reached gave (inr refused) = inr (gave ∙ refused)
+pub none_same : (p q : WayPast) → q.is_reached ≡ p.is_reached → q.agent.gave ≡ p.agent.gave → q.agent.is_refused ≡ p.agent.is_refused → TalkingOn None p [] → TalkingOn None q []
+none_same p q reached gave shut (inl none) = inl (reached ∙ none.0, gave ∙ none.1)
+none_same p q reached gave shut (inr refused) = inr (shut ∙ refused.0, gave ∙ refused.1)
 
 pub talks_same : (channel : Option ℕ) (p q : WayPast) (pasts : List Past) → IsSameAbove p q → TalkingOn channel p pasts → TalkingOn channel q pasts
-talks_same None p q pasts same t = none_same p q same.reached (ap (λ talk. talk.gave) same.agent) t
+talks_same None p q pasts same t = none_same p q same.reached (ap (λ talk. talk.gave) same.agent) (ap (λ talk. talk.is_refused) same.agent) t
 talks_same (Some k) p q pasts same t = (same.reached ∙ t.0, subst (Talking (past_at k pasts)) (sym same.agent) t.1)
 
 pub talks_kept : (channel : Option ℕ) (p q : WayPast) (pasts after : List Past) → IsSameAbove p q → ((j : ℕ) → channel ≡ Some j → Keeps j pasts after) → TalkingOn channel p pasts → TalkingOn channel q after

@@ -126,10 +126,11 @@ upper_settles at i r first others = by_flag (at == 0) refl
     by_flag true is = first is
     by_flag false is = (carried_settles Above (at - 1) (on_add value_connected (at - 1) r)).adds i (connected_at (at - 1) i r others)
 
-joined_settles : (at i : ℕ) (r : RouteValue) → ((at == 0) ≡ true → IsSettledAt r.adds i) → ((i ≡ at - 1 → ⊥) → IsSettledAt r.adds i) → IsSettledAt (joined at r).adds i
-joined_settles at i r first others =
-    let h = hop_settles (λ h. hop.connected []) at r in
-    upper_settles at i (on_hop (λ h. hop.connected []) at r) (λ is. h.adds i (first is)) (λ apart. h.adds i (others apart))
+-- a hop begins anew, as this one
+begun_settles : (begun : Hop) (at i : ℕ) (r : RouteValue) → ((at == 0) ≡ true → IsSettledAt r.adds i) → ((i ≡ at - 1 → ⊥) → IsSettledAt r.adds i) → IsSettledAt (upper_below at (on_hop (λ h. begun) at r)).adds i
+begun_settles begun at i r first others =
+    let h = hop_settles (λ h. begun) at r in
+    upper_settles at i (on_hop (λ h. begun) at r) (λ is. h.adds i (first is)) (λ apart. h.adds i (others apart))
 
 abbrev next_of : ℕ → RouteValue → RouteValue
 next_of at r = with_carried Below at (joined at (made_at at r))
@@ -140,7 +141,7 @@ next_last at r = (carried_settles Below at (joined at (made_at at r))).last ∙ 
 next_settles : (at i : ℕ) (r : RouteValue) → ((at == 0) ≡ true → IsSettledAt r.adds i) → ((i ≡ at - 1 → ⊥) → IsSettledAt r.adds i) → IsSettledAt (next_of at r).adds i
 next_settles at i r first others =
     let m = made_settles at r in
-    (carried_settles Below at (joined at (made_at at r))).adds i (joined_settles at i (made_at at r) (λ is. m.adds i (first is)) (λ apart. m.adds i (others apart)))
+    (carried_settles Below at (joined at (made_at at r))).adds i (begun_settles (hop.connected []) at i (made_at at r) (λ is. m.adds i (first is)) (λ apart. m.adds i (others apart)))
 
 -- ---- A way that waits for none
 
@@ -255,8 +256,8 @@ turned_unawaited side at x isnt s = settled_after x (turned side at x.route).1 x
 -- ---- The way has reached the agent
 
 reached_place : (did : Bool) (r : RouteValue) → (last_of r == 0) ≡ false → IsSettledAt (reached did r).adds (last_of r - 1)
-reached_place true r some = joined_settles (last_of r) (last_of r - 1) r (λ none. absurd cc) (λ apart. absurd (apart refl))
-reached_place false r some = (hop_settles _ (last_of r) (joined (last_of r) r)).adds (last_of r - 1) (joined_settles (last_of r) (last_of r - 1) r (λ none. absurd cc) (λ apart. absurd (apart refl)))
+reached_place true r some = begun_settles (hop.connected []) (last_of r) (last_of r - 1) r (λ none. absurd cc) (λ apart. absurd (apart refl))
+reached_place false r some = begun_settles hop.refused (last_of r) (last_of r - 1) r (λ none. absurd cc) (λ apart. absurd (apart refl))
 
 pub reached_unawaited : (did : Bool) (x : RouteRun) → is_waiting (record { route = reached did x.route; past = reached_past did x.past }) ≡ false
 reached_unawaited did x = by_flag (last_of x.route == 0) refl

@@ -3,3 +3,4 @@ pub mod Chain
 pub mod WorldValue
 pub mod World
 pub mod Standing
+pub mod Until

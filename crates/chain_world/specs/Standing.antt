@@ -54,8 +54,9 @@ Loses None talk = Unit {0}
 Loses (Some past) talk = talk.is_lost ≡ list_any is_ending past.calls
 
 -- What the agent gave to the channel went down the way, all that it queued. What came up the way is what came to the channel, for
--- as long as that takes.
+-- as long as that takes. One that it didn't open it refused.
 pub record Talks (past : Option Past) (talk : Talk) : Type 0 where
+  pub refused : talk.is_refused ≡ not (is_some past)
   pub gave : talk.gave ≡ given_to past
   pub given : IfSome past (λ p. (run_of p).end.queued ≡ [])
   pub lost : Loses past talk
@@ -64,7 +65,7 @@ pub record Talks (past : Option Past) (talk : Talk) : Type 0 where
 
 -- where no channel has a number, none was reached, or none was left and it was refused
 abbrev pub TalksOn : Option ℕ → WayPast → List Past → Type 0
-TalksOn None p pasts = ((p.is_reached ≡ false) × (p.agent.gave ≡ [])) ⊎ (p.agent.gave ≡ end_of_stream ∷ [])
+TalksOn None p pasts = ((p.is_reached ≡ false) × (p.agent.gave ≡ [])) ⊎ ((p.agent.is_refused ≡ true) × (p.agent.gave ≡ end_of_stream ∷ []))
 TalksOn (Some k) p pasts = (p.is_reached ≡ true) × Talks (past_at k pasts) p.agent
 
 -- what came to an earlier channel came up the way then

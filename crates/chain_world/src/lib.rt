@@ -6,5 +6,5 @@ pub mod laws;
 mod world;
 
 pub use chain::Chain;
-pub use laws::a_world_stands;
+pub use laws::{a_round_goes_on, a_world_stands};
 pub use world::World;

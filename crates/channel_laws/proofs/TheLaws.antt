@@ -3,6 +3,7 @@ use Rattle.channel_core.specs.ReceivingLaws.{WhereAQueueComes}
 use Rattle.channel_core.specs.RunLaws.{AfterAllCalls}
 use Rattle.channel_laws.specs.Asking.{AsksNothingWaitsForNothing}
 use Rattle.channel_laws.specs.Faults.{EndsByItsCalls, FaultsAreThere}
+use Rattle.channel_laws.specs.Filling.{EachPieceFillsSo}
 use Rattle.channel_laws.specs.Hop.{LiveHopsStand}
 use Rattle.channel_laws.specs.Meeting.{WhereAllIsAnswered, WhereNothingIsUnderWay}
 use Rattle.channel_laws.specs.Numbering.{WhatComesIsNumbered}
@@ -10,6 +11,7 @@ use Rattle.channel_laws.specs.Redirects.{HoldsBehindRedirects}
 use Rattle.channel_laws.specs.Rest.{HearsTheEnd, IsOverAtItsEnd, TakesAsSaid}
 use Rattle.channel_laws.proofs.Faults.Calling.{all_by_calls}
 use Rattle.channel_laws.proofs.Faults.Faulty.{all_are_there}
+use Rattle.channel_laws.proofs.Filling.{fills_so}
 use Rattle.channel_laws.proofs.Hop.Standing.{all_hops_stand}
 use Rattle.channel_laws.proofs.Redirects.AllCalls.{all_hold_back}
 use Rattle.channel_laws.proofs.Rest.Answering.{all_free}
@@ -51,3 +53,6 @@ asks_nothing_waits_for_nothing = all_wait_for_nothing
 
 pub live_hops_stand : {T U : Type 0} → LiveHopsStand T U
 live_hops_stand = all_hops_stand
+
+pub each_piece_fills_so : {T : Type 0} → EachPieceFillsSo T
+each_piece_fills_so = fills_so

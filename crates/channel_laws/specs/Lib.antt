@@ -5,3 +5,4 @@ pub mod Meeting
 pub mod Numbering
 pub mod Asking
 pub mod Hop
+pub mod Filling

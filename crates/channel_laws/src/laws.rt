@@ -2,6 +2,7 @@
 ghost use Rattle.channel_core.specs.ReceivingLaws.{WhereAQueueComes};
 ghost use Rattle.channel_core.specs.RunLaws.{AfterAllCalls};
 ghost use Rattle.channel_laws.specs.Faults.{EndsByItsCalls, FaultsAreThere};
+ghost use Rattle.channel_laws.specs.Filling.{EachPieceFillsSo};
 ghost use Rattle.channel_laws.specs.Hop.{LiveHopsStand};
 ghost use Rattle.channel_laws.specs.Redirects.{HoldsBehindRedirects};
 ghost use Rattle.channel_laws.specs.Asking.{AsksNothingWaitsForNothing};
@@ -84,4 +85,10 @@ pub fn who_asks_nothing_waits_for_nothing<T>()
 /// is Live, and wasn't told a level above 0 last, holds nothing.
 pub fn a_live_hop_stands<T, U>()
     ensures { LiveHopsStand T U }
+{}
+
+/// The law that a piece of bytes puts into an end's inbox at most one entry for each message that ends in it, with
+/// the piece's mark, and one last entry, and none behind a last entry or where the end is closed.
+pub fn each_piece_fills_an_inbox_so<T>()
+    ensures { EachPieceFillsSo T }
 {}

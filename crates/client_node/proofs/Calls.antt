@@ -239,8 +239,8 @@ pub new_holds : Holds new_client
 new_holds = record { standing = standing_at_first; unclosed = tt }
 
 once_held : (channel : Option (EndValue ℕ)) (log : List LogLine) → Stands channel log → Once false log
-once_held None log old = once_of log old.standing.lawful old.unclosed
-once_held (Some e) log (under_way last rows open_end old) = once_of log old.standing.lawful old.unclosed
+once_held None log old = once_of 0 log old.standing.numbered old.standing.lawful old.unclosed
+once_held (Some e) log (under_way last rows open_end old) = once_of last log old.standing.numbered old.standing.lawful old.unclosed
 once_held (Some e) log (over ended old) = old.once
 
 pub once_after : OnceAfterAnyCalls

@@ -1,12 +1,13 @@
 -- What holds of a log whose channel hasn't ended, and what one more line makes of it.
-use Rattle.std.proofs.Common.{◌≡◌, ℕ, ◌+◌, ◌<◌, ◌≤◌, List, [], ◌∷◌, ◌++◌, map, refl, ap, ◌∙◌, subst, inl, inr, ◌⊎◌, false, arith}
+use Rattle.std.proofs.Common.{◌≡◌, ℕ, ◌+◌, ◌<◌, ◌≤◌, List, [], ◌∷◌, ◌++◌, length, map, refl, ap, sym, ◌∙◌, subst, inl, inr, ◌⊎◌, false, arith}
 use Rattle.std.specs.Prelude.{Option, Some, None}
 use Rattle.std.specs.List.{Contains, last_or, list_any, range_with_len}
-use Rattle.std.proofs.lemmas.List.{append_assoc, map-append}
+use Rattle.std.proofs.lemmas.List.{append_assoc, length-map, map-append}
 use Rattle.std.proofs.lemmas.List.Elements.{Contains-append_left, Contains-push, Contains-push_cases}
+use Rattle.std.proofs.lemmas.List.FromFn.{length-range_with_len}
 use Rattle.tcf_text.specs.Each.{Each}
 use Rattle.tcf_text.specs.Lines.{Accepted, accepted, accepted_by, final_of, finals}
-use Rattle.tcf_text.specs.Once.{AllAnswered, AnswersPending, CanStandAfterEnd, ClosesBeforeEnd, EndsAll, GoesOnFrom, IsNoClosed, IsPending, NothingAfterEnd, Once, is_end, numbers}
+use Rattle.tcf_text.specs.Once.{AllAnswered, AnswersPending, AreCounted, CanStandAfterEnd, ClosesBeforeEnd, EndsAll, GoesOnFrom, IsNoClosed, IsPending, NothingAfterEnd, Once, is_end, numbers}
 use Rattle.tcf_text.specs.declared.log.EndWhy.{EndWhy}
 use Rattle.tcf_text.specs.declared.log.LogLine.{LogLine}
 use Rattle.tcf_text.specs.declared.log.LogLine.TheVariants.{Closed, Ended, Sent}
@@ -222,9 +223,16 @@ behind_all low (Some x) none = tt
 just_closed : (number : ℕ) → IsBehind number (Some (Closed number))
 just_closed number = refl
 
-pub once_of : (log : List LogLine) → Lawful log → IsNoClosed (last_or None log) → Once false log
-once_of log lawful last =
+-- the numbers of as many commands as there are
+pub counted_to : (last : ℕ) (commands : List Accepted) → numbers commands ≡ range_with_len 1 last → AreCounted commands
+counted_to last commands are =
+    let many : length commands ≡ last = sym (length-map commands (λ (c : Accepted). c.number)) ∙ ap length are ∙ length-range_with_len 1 last in
+    are ∙ ap (range_with_len 1) (sym many)
+
+pub once_of : (last : ℕ) (log : List LogLine) → numbers (accepted log) ≡ range_with_len 1 last → Lawful log → IsNoClosed (last_or None log) → Once false log
+once_of count log numbered lawful last =
     record {
+      counted = counted_to count (accepted log) numbered;
       answers = lawful.answers;
       all_at_end = lawful.all_at_end;
       nothing_after = lawful.nothing_after;
@@ -242,11 +250,8 @@ closing [] low last log why standing behind =
     let x : LogLine = Ended why in
     let all : AllAnswered log = λ number there. answered number (standing.accounted number there) in
     let lawful : Lawful (log ++ x ∷ []) = lawful_push log x standing.lawful tt all (not_after log x standing.open_yet) (end_follows why (last_or None log)) in
-    record {
-      once = once_of (log ++ x ∷ []) lawful (rw (last_push None log x) tt);
-      last = last;
-      numbered = ap numbers (same_accepted log x refl) ∙ standing.numbered;
-    }
+    let numbered : numbers (accepted (log ++ x ∷ [])) ≡ range_with_len 1 last = ap numbers (same_accepted log x refl) ∙ standing.numbered in
+    record { once = once_of last (log ++ x ∷ []) numbered lawful (rw (last_push None log x) tt); last = last; numbered = numbered }
   where
     answered : (number : ℕ) → Contains (finals log) number ⊎ Contains [] number → Contains (finals log) number
     answered number (inl there) = there
@@ -270,8 +275,5 @@ over_push log x over plain after unclosed =
     } in
     let lawful : Lawful (log ++ x ∷ []) =
     lawful_push log x before plain.answers (no_end log x plain.ends) (λ ended. after) (in_order log x over.once.closed_then_end) in
-    record {
-      once = once_of (log ++ x ∷ []) lawful (rw (last_push None log x) unclosed);
-      last = over.last;
-      numbered = ap numbers (same_accepted log x plain.accepts) ∙ over.numbered;
-    }
+    let numbered : numbers (accepted (log ++ x ∷ [])) ≡ range_with_len 1 over.last = ap numbers (same_accepted log x plain.accepts) ∙ over.numbered in
+    record { once = once_of over.last (log ++ x ∷ []) numbered lawful (rw (last_push None log x) unclosed); last = over.last; numbered = numbered }

@@ -2,10 +2,9 @@
 use Rattle.std.proofs.Common.{◌≡◌, ℕ, ◌+◌, Bool, true, false, List, [], ◌∷◌, ◌++◌, length, map, Option, Some, None, Result, Ok, refl, ap, sym, ◌∙◌, filter, filter_map}
 use Rattle.std.specs.Prelude.{if◌then◌else◌, option_to_list}
 use Rattle.std.specs.List.{AllByRecursion, range_with_len}
-use Rattle.std.proofs.lemmas.List.{append-nil, length-map}
+use Rattle.std.proofs.lemmas.List.{append-nil}
 use Rattle.std.proofs.lemmas.List.Concat.{flat_map-append}
 use Rattle.std.proofs.lemmas.List.Elements.{filter-append, filter_map-append}
-use Rattle.std.proofs.lemmas.List.FromFn.{length-range_with_len}
 use Rattle.tcf_message.specs.Message.{MessageValue, event, final, not_known, progress, reading}
 use Rattle.tcf_message.specs.declared.message.MessageFault.{MessageFault}
 use Rattle.tcf_text.specs.Lines.{Accepted, accepted, accepted_by}
@@ -32,6 +31,7 @@ use Rattle.client_node.specs.Lines.{end_of, event_line, final_line, hello_line, 
 use Rattle.client_node.specs.Runs.{Call, FitsMessage, LogTellsPast, Past, asks, bytes_end, called, closes, comes, commands_in, gives, line_of, no_past, opens, past_of, remembered, run, sends, taken_by, taken_on, tells, turns, unless_refused}
 use Rattle.client_node.proofs.Calls.{Holds, Stands, call_kept, new_holds, over, under_way, client}
 use Rattle.client_node.proofs.Ends.{nothing_taken}
+use Rattle.client_node.proofs.Standing.{counted_to}
 use Rattle.client_node.proofs.Taken.{Outcome, next_gives}
 use Rattle.list_laws.proofs.AllLists.{all_append}
 
@@ -218,16 +218,10 @@ same_client : (calls : List Call) (p : Past) → (past_of calls p).client ≡ ru
 same_client [] p = refl
 same_client (call ∷ calls) p = same_client calls (remembered call p)
 
--- the numbers of as many commands as there are
-counted_to : (last : ℕ) (commands : List Accepted) → numbers commands ≡ range_with_len 1 last → numbers commands ≡ range_with_len 1 (length commands)
-counted_to last commands are =
-    let many : length commands ≡ last = sym (length-map commands (λ (c : Accepted). c.number)) ∙ ap length are ∙ length-range_with_len 1 last in
-    are ∙ ap (range_with_len 1) (sym many)
-
 counted : (channel : Option (EndValue ℕ)) (log : List LogLine) → Stands channel log → numbers (accepted log) ≡ range_with_len 1 (length (accepted log))
 counted None log old = counted_to 0 (accepted log) old.standing.numbered
 counted (Some e) log (under_way last rows open_end old) = counted_to last (accepted log) old.standing.numbered
-counted (Some e) log (over ended old) = counted_to old.last (accepted log) old.numbered
+counted (Some e) log (over ended old) = old.once.counted
 
 pub tells_past : LogTellsPast
 tells_past calls =

@@ -20,8 +20,8 @@ use tcf_message::{Message, read};
 use tcf_text::{LogLine, RefusedWhy};
 
 /// A client, whose commands are numbered from 1 as they are accepted. Contracts see its end of the channel, its log, and
-/// whether memory was wanting in a call: then the client is spent, and each later call that may take memory answers want of
-/// it again. What its end had queued can still be taken out, unless memory was wanting at that end.
+/// whether memory was wanting in a call: then the client is spent and has no channel any more, each later call that may take
+/// memory answers want of it again, and no call changes anything.
 #[derive(Drop)]
 pub struct ClientNode {
     alloc: Global,
@@ -57,17 +57,28 @@ impl ClientNode {
     }
 
     /// Opens the channel: the client's Hello is to be sent.
-    #[tactic(auto, unfolding(crate::specs::Client::client_services))]
     pub fn opened(&mut self) -> Result<(), AllocError>
         requires { self.old.channel ≡ None }
         ensures opened { OnOk result (self.new ≡ opened self.old) }
         ensures fresh { OnOk result (self.old.is_spent ≡ false) }
         ensures spent { OnErr result (self.new.is_spent ≡ true) }
+        ensures silent { OnErr result (self.new.channel ≡ None) }
+        ensures kept { self.old.is_spent ≡ true → self.new ≡ record self.old { channel = None } }
     {
         self.begin()?;
+        let answer = self.try_open();
+        self.settle(answer)
+    }
+
+    #[tactic(auto, unfolding(crate::specs::Client::client_services))]
+    fn try_open(&mut self) -> Result<(), AllocError>
+        requires begun { self.old.is_spent ≡ true }
+        ensures opened { OnOk result (self.new ≡ opened self.old) }
+        ensures usable { OnOk result (IsUsable self.new.channel) }
+        ensures spent { self.new.is_spent ≡ true }
+    {
         let end = End::new(self.alloc, b"[\"Locator\"]\0", None)?;
         self.channel = Some(end);
-        self.spent = false;
         Ok(())
     }
 
@@ -80,11 +91,12 @@ impl ClientNode {
         ensures sent { OnOk result (self.new ≡ sent service.now name.now body.now self.old) }
         ensures fresh { OnOk result (self.old.is_spent ≡ false) }
         ensures spent { OnErr result (self.new.is_spent ≡ true) }
+        ensures silent { OnErr result (self.new.channel ≡ None) }
+        ensures kept { self.old.is_spent ≡ true → self.new ≡ record self.old { channel = None } }
     {
         self.begin()?;
-        self.try_send(service, name, body)?;
-        self.spent = false;
-        Ok(())
+        let answer = self.try_send(service, name, body);
+        self.settle(answer)
     }
 
     fn try_send(&mut self, service: &[u8], name: &[u8], body: &[u8]) -> Result<(), AllocError>
@@ -118,11 +130,12 @@ impl ClientNode {
         ensures asked { OnOk result (self.new ≡ asked what.now self.old) }
         ensures fresh { OnOk result (self.old.is_spent ≡ false) }
         ensures spent { OnErr result (self.new.is_spent ≡ true) }
+        ensures silent { OnErr result (self.new.channel ≡ None) }
+        ensures kept { self.old.is_spent ≡ true → self.new ≡ record self.old { channel = None } }
     {
         self.begin()?;
-        self.log.ask(what)?;
-        self.spent = false;
-        Ok(())
+        let answer = self.log.ask(what);
+        self.settle(answer)
     }
 
     /// Takes the oldest entry of the inbox, with a line in the log: answers whether there was one. A command of the other
@@ -132,11 +145,12 @@ impl ClientNode {
         ensures turned { IfOk result (λ some. (some, self.new) ≡ turned self.old) }
         ensures fresh { OnOk result (self.old.is_spent ≡ false) }
         ensures spent { OnErr result (self.new.is_spent ≡ true) }
+        ensures silent { OnErr result (self.new.channel ≡ None) }
+        ensures kept { self.old.is_spent ≡ true → self.new ≡ record self.old { channel = None } }
     {
         self.begin()?;
-        let some = self.try_turn()?;
-        self.spent = false;
-        Ok(some)
+        let answer = self.try_turn();
+        self.settle(answer)
     }
 
     fn try_turn(&mut self) -> Result<bool, AllocError>
@@ -220,11 +234,12 @@ impl ClientNode {
         ensures closed { OnOk result (self.new ≡ closed self.old) }
         ensures fresh { OnOk result (self.old.is_spent ≡ false) }
         ensures spent { OnErr result (self.new.is_spent ≡ true) }
+        ensures silent { OnErr result (self.new.channel ≡ None) }
+        ensures kept { self.old.is_spent ≡ true → self.new ≡ record self.old { channel = None } }
     {
         self.begin()?;
-        self.try_close()?;
-        self.spent = false;
-        Ok(())
+        let answer = self.try_close();
+        self.settle(answer)
     }
 
     fn try_close(&mut self) -> Result<(), AllocError>
@@ -249,11 +264,12 @@ impl ClientNode {
         ensures came { OnOk result (self.new ≡ came piece.now mark self.old) }
         ensures fresh { OnOk result (self.old.is_spent ≡ false) }
         ensures spent { OnErr result (self.new.is_spent ≡ true) }
+        ensures silent { OnErr result (self.new.channel ≡ None) }
+        ensures kept { self.old.is_spent ≡ true → self.new ≡ record self.old { channel = None } }
     {
         self.begin()?;
-        self.try_deliver(piece, mark)?;
-        self.spent = false;
-        Ok(())
+        let answer = self.try_deliver(piece, mark);
+        self.settle(answer)
     }
 
     fn try_deliver(&mut self, piece: &[u8], mark: Option<u64>) -> Result<(), AllocError>
@@ -279,7 +295,7 @@ impl ClientNode {
     }
 
     /// Takes the next message that is to be sent, or the end of the stream, escaped; `None` exactly where nothing is
-    /// queued, or memory was wanting at the client's end.
+    /// queued, and so before the opening and where the client is spent.
     pub fn take_out(&mut self) -> Option<Outgoing>
         ensures given { result ≡ given self.old }
         ensures after { self.new ≡ after_giving self.old }
@@ -315,7 +331,7 @@ impl ClientNode {
         }
     }
 
-    /// Where the client's end of the channel stands; `None` before the opening.
+    /// Where the client's end of the channel stands; `None` before the opening, and where the client is spent.
     pub fn state(&self) -> Option<EndState>
         ensures { result ≡ option_map (λ e. e.state) self.now.channel }
     {
@@ -341,12 +357,35 @@ impl ClientNode {
         ensures usable { OnOk result (IsUsable self.new.channel) }
         ensures fresh { OnOk result (self.old.is_spent ≡ false) }
         ensures spent { self.new.is_spent ≡ true }
+        ensures silent { OnErr result (self.new ≡ record self.old { channel = None }) }
+        ensures met { OnErr result (self.old.is_spent ≡ true) }
     {
         if self.spent {
+            self.channel = None;
             return Err(AllocError);
         }
         self.spent = true;
         Ok(())
+    }
+
+    /// Ends a call that may have met want of memory: then the client stays spent, and its channel is gone.
+    fn settle<A>(&mut self, answer: Result<A, AllocError>) -> Result<A, AllocError>
+        requires { OnOk answer (IsUsable self.old.channel) }
+        ensures same { result ≡ answer }
+        ensures done { OnOk answer (self.new ≡ record self.old { is_spent = false }) }
+        ensures silent { OnErr answer (self.new ≡ record self.old { channel = None; is_spent = true }) }
+    {
+        match answer {
+            Ok(given) => {
+                self.spent = false;
+                Ok(given)
+            }
+            Err(AllocError) => {
+                self.channel = None;
+                self.spent = true;
+                Err(AllocError)
+            }
+        }
     }
 }
 

@@ -5,6 +5,7 @@ mod Saying
 mod Apart
 pub mod Gathering
 mod Served
+mod NothingLeft
 mod Placing
 mod Running
 mod Putting

@@ -20,7 +20,7 @@ use Rattle.list_laws.proofs.Flags.{or_false}
 new_is_open : (body : List ℕ) (mark : Option ℕ) → IsOpenEnd (new_end body mark)
 new_is_open body mark = record { pending = refl; staying = refl; stop = tt }
 
-begun_stands : (channel : ℕ) (script : List ScriptLine) → Stands (begun channel script) false
+pub begun_stands : (channel : ℕ) (script : List ScriptLine) → Stands (begun channel script) false
 begun_stands channel script =
     gathered_stands (went_on (opened_with channel script)) false (went_on_stands (opened_with channel script) (new_is_open client_services None))
 

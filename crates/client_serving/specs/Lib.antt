@@ -2,5 +2,6 @@ pub mod ServingValue
 pub mod Lines
 pub mod Serving
 pub mod Client
+pub mod Left
 pub mod Turn
 pub mod Run

@@ -1,5 +1,6 @@
 //! The laws of a client's run.
 ghost use Rattle.client_serving.specs.Client.{ServesAClient};
+ghost use Rattle.client_serving.specs.Left.{LeavesNothing};
 ghost use Rattle.client_serving.specs.Run.{EndsSaySo};
 
 /// The law that a run is done exactly where no line is left, nothing is pending and the client closed its channel itself;
@@ -13,4 +14,11 @@ pub fn an_end_is_what_it_says()
 /// and what is queued for its wire is what it gave out in them.
 pub fn what_is_served_is_a_client()
     ensures { ServesAClient }
+{}
+
+/// The law that a client takes messages and does lines until it can't: after any events that wires can give, while
+/// the run has no end, it can take no message, its inbox has no entry, the first line that is left of its script
+/// waits, so that doing the lines once more changes nothing, and a command is pending.
+pub fn nothing_is_left_to_take()
+    ensures { LeavesNothing }
 {}

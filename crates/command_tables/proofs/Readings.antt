@@ -1,11 +1,11 @@
 -- What the data of a command is read as is a reading of its names.
-use Rattle.std.proofs.Common.{◌≡◌, ℕ, ◌+◌, Bool, true, false, cond, List, drop, Option, Some, None, Result, Ok, Err, refl, sym, subst}
+use Rattle.std.proofs.Common.{◌≡◌, ℕ, ◌+◌, Bool, true, false, cond, List, drop, Option, Some, None, Result, Ok, Err, refl, sym, ap, ◌∙◌, subst}
 use Rattle.std.specs.Prelude.{ℤ, IfOk, IsSome, slice_get}
 use Rattle.std.specs.List.{AllByRecursion}
 use Rattle.json_args.specs.Kinds.{IsWhole, whole_in}
 use Rattle.json_args.specs.Parts.{parts_of}
 use Rattle.json_args.specs.declared.fault.ArgFault.{ArgFault}
-use Rattle.json_args.specs.declared.fault.ArgFault.TheVariants.{NotEnded}
+use Rattle.json_args.specs.declared.fault.ArgFault.TheVariants.{NotEnded, Missing, Syntax, Shape, Base64, NoMemory}
 use Rattle.json_values.specs.Lists.{list_in}
 use Rattle.json_values.specs.Locations.{IsLocation, location_in}
 use Rattle.json_values.specs.Props.{bp_in, is_bp}
@@ -32,9 +32,10 @@ use Rattle.tcf_values.specs.declared.values.BpProps.{BpProps}
 use Rattle.tcf_values.specs.declared.values.Location.{Location}
 use Rattle.command_tables.specs.Arguments.{blob_part, bp_part, flag_part, locations_part, props_part, text_part, texts_part, whole_part}
 use Rattle.command_tables.specs.Canonical.{AreBytes, IsReadable}
-use Rattle.command_tables.specs.Reading.{IsReading, bad_of, is_unended, reading_by, reading_in}
-use Rattle.command_tables.specs.ReadingLaws.{ReadingsAreLegal}
+use Rattle.command_tables.specs.Reading.{IsReading, bad_of, is_unended, reading_by, reading_in, reading_of}
+use Rattle.command_tables.specs.ReadingLaws.{KnownAreReadable, ReadingsAreLegal}
 use Rattle.command_tables.specs.Rows.{Row, arg, breakpoints_row, locator_row, made, memory_row, processes_row, registers_row, row_of, run_control_row, then_read, trace_row}
+use Rattle.command_tables.specs.declared.reading.Reading.TheVariants.{Known}
 use Rattle.command_tables.proofs.Decoded.{blob_within}
 use Rattle.command_tables.proofs.Legal.{bad_is_reading}
 use Rattle.command_tables.proofs.Within.{bp_within, list_within, location_within, part_has, whole_within}
@@ -148,21 +149,54 @@ row_within : (command : CommandName) (parts : List (List ℕ)) → IfOk (row_of 
 unfolding Reads
 row_within command parts = row_reads command 0 parts
 
--- ---- The law
+-- ---- a known command is readable
 
-by_legal : (service name : List ℕ) (command : CommandName) (r : Result Command ArgFault) → name_in service name ≡ Some command → IfOk r (IsNamed command) → IsReading service name (reading_by r)
-by_legal service name command (Ok made) named is =
-    let P : CommandName → Type 0 = λ c. name_in service name ≡ Some c in (subst P (sym is.0) named, is.1)
-by_legal service name command (Err fault) named is = bad_is_reading service name fault (subst IsSome (sym named) refl)
+bad_not_known : (fault : ArgFault) (command : Command) → bad_of fault ≡ Known command → ⊥
+bad_not_known NotEnded command is = cc
+bad_not_known (Missing index) command is = cc
+bad_not_known (Syntax index) command is = cc
+bad_not_known (Shape index) command is = cc
+bad_not_known (Base64 index) command is = cc
+bad_not_known NoMemory command is = cc
 
-ended_legal : (unended : Bool) (service name : List ℕ) (command : CommandName) (r : Result Command ArgFault) → name_in service name ≡ Some command → IfOk r (IsNamed command) → IsReading service name (cond unended (bad_of NotEnded) (reading_by r))
-ended_legal true service name command r named is = bad_is_reading service name NotEnded (subst IsSome (sym named) refl)
-ended_legal false service name command r named is = by_legal service name command r named is
+-- the command that is read under this name
+by_known : (service name : List ℕ) (found : CommandName) (command : Command) (r : Result Command ArgFault) → name_in service name ≡ Some found → IfOk r (IsNamed found)
+    → reading_by r ≡ Known command → (name_in service name ≡ Some (named_as command)) × IsReadable command
+by_known service name found command (Ok made) named within is =
+    let same : made ≡ command = cc in
+    subst (λ (c : Command). (name_in service name ≡ Some (named_as c)) × IsReadable c) same (named ∙ sym (ap Some within.0), within.1)
+by_known service name found command (Err fault) named within is = absurd (bad_not_known fault command is)
+
+ended_known : (unended : Bool) (service name : List ℕ) (found : CommandName) (command : Command) (r : Result Command ArgFault) → name_in service name ≡ Some found → IfOk r (IsNamed found)
+    → cond unended (bad_of NotEnded) (reading_by r) ≡ Known command → (name_in service name ≡ Some (named_as command)) × IsReadable command
+ended_known true service name found command r named within is = absurd (bad_not_known NotEnded command is)
+ended_known false service name found command r named within is = by_known service name found command r named within is
+
+in_known : (service name body : List ℕ) (found : Option CommandName) (command : Command) → name_in service name ≡ found → reading_in body found ≡ Known command
+    → (name_in service name ≡ Some (named_as command)) × IsReadable command
+in_known service name body None command named is = absurd cc
+in_known service name body (Some found) command named is =
+    ended_known (is_unended body) service name found command (row_of found 0 (parts_of body)) named (row_within found (parts_of body)) is
+
+pub known_readable : KnownAreReadable
+known_readable service name command (body, is) = in_known service name body (name_in service name) command refl is
+
+-- ---- what is read is a reading
+
+by_legal : (service name body : List ℕ) (command : CommandName) (r : Result Command ArgFault) → name_in service name ≡ Some command → reading_of service name body ≡ reading_by r
+    → IsReading service name (reading_by r)
+by_legal service name body command (Ok made) named is = (body, is)
+by_legal service name body command (Err fault) named is = bad_is_reading service name fault (subst IsSome (sym named) refl)
+
+ended_legal : (unended : Bool) (service name body : List ℕ) (command : CommandName) (r : Result Command ArgFault) → name_in service name ≡ Some command
+    → reading_of service name body ≡ cond unended (bad_of NotEnded) (reading_by r) → IsReading service name (cond unended (bad_of NotEnded) (reading_by r))
+ended_legal true service name body command r named is = bad_is_reading service name NotEnded (subst IsSome (sym named) refl)
+ended_legal false service name body command r named is = by_legal service name body command r named is
 
 in_legal : (service name body : List ℕ) (found : Option CommandName) → name_in service name ≡ found → IsReading service name (reading_in body found)
 in_legal service name body None named = named
 in_legal service name body (Some command) named =
-    ended_legal (is_unended body) service name command (row_of command 0 (parts_of body)) named (row_within command (parts_of body))
+    ended_legal (is_unended body) service name body command (row_of command 0 (parts_of body)) named (ap (reading_in body) named)
 
 pub readings_legal : ReadingsAreLegal
 readings_legal service name body = in_legal service name body (name_in service name) refl

@@ -3,8 +3,7 @@ use Rattle.std.specs.Prelude.{ℕ, ◌≡◌, Bool, false, not, ◌==◌, List, 
 use Rattle.json_args.specs.Parts.{parts_of}
 use Rattle.json_args.specs.declared.fault.ArgFault.{ArgFault}
 use Rattle.json_args.specs.declared.fault.ArgFault.TheVariants.{NotEnded, Missing, Syntax, Shape, Base64, NoMemory}
-use Rattle.command_tables.specs.Canonical.{IsReadable}
-use Rattle.service_names.specs.Commands.{name_in, named_as}
+use Rattle.service_names.specs.Commands.{name_in}
 use Rattle.command_tables.specs.Rows.{row_of}
 use Rattle.service_names.specs.declared.commands.CommandName.{CommandName}
 use Rattle.command_tables.specs.declared.reading.Reading.{Reading}
@@ -39,9 +38,9 @@ reading_in body (Some command) = if is_unended body then bad_of NotEnded else re
 abbrev pub reading_of : List ℕ → List ℕ → List ℕ → Reading
 reading_of service name body = reading_in body (name_in service name)
 
--- what data of this service and name is read as: a known command has that name and is within the limits of what is
--- read, and what is bad is a fault of an argument
+-- what data of this service and name is read as: a known command is what some data is read as, and what is bad is a
+-- fault of an argument
 abbrev pub IsReading : List ℕ → List ℕ → Reading → Type 0
-IsReading service name (Known command) = (name_in service name ≡ Some (named_as command)) × IsReadable command
+IsReading service name (Known command) = (body : List ℕ) × (reading_of service name body ≡ Known command)
 IsReading service name Unknown = name_in service name ≡ None
 IsReading service name (Bad index code) = IsSome (name_in service name) × ((fault : ArgFault) × (bad_of fault ≡ Bad index code))

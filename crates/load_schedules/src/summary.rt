@@ -81,9 +81,8 @@ fn push_events(log: &[LogLine], out: &mut Octets) -> Result<(), AllocError>
     push_count(b"event", count, out)
 }
 
-/// Appends the line that sums up the log of the chain of this name, `NAME sent N result N unknown N closed N event N`,
-/// with how many such lines the log has, and the byte that ends it. A Hello is no event here.
-pub fn write_summary(name: &[u8], log: &[LogLine], out: &mut Octets) -> Result<(), AllocError>
+/// Appends the line of this name and this log.
+fn push_summary(name: &[u8], log: &[LogLine], out: &mut Octets) -> Result<(), AllocError>
     ensures ok { OnOk result (out.new ≡ out.old ++ summary_line name.now log.now) }
     ensures err { OnErr result (Grows out.old out.new) }
 {
@@ -94,4 +93,20 @@ pub fn write_summary(name: &[u8], log: &[LogLine], out: &mut Octets) -> Result<(
     push_closed(log, out)?;
     push_events(log, out)?;
     out.push(b'\n')
+}
+
+/// Appends the line that sums up the log of the chain of this name, `NAME sent N result N unknown N closed N event N`,
+/// with how many such lines the log has, and the byte that ends it. A Hello is no event here. Where memory runs out
+/// nothing is appended.
+#[tactic(auto, using(tcf_text::proofs::Growth::taken_back))]
+pub fn write_summary(name: &[u8], log: &[LogLine], out: &mut Octets) -> Result<(), AllocError>
+    ensures ok { OnOk result (out.new ≡ out.old ++ summary_line name.now log.now) }
+    ensures err { OnErr result (out.new ≡ out.old) }
+{
+    let length = out.len();
+    if let Err(error) = push_summary(name, log, out) {
+        out.truncate(length);
+        return Err(error);
+    }
+    Ok(())
 }

@@ -32,6 +32,7 @@ use Rattle.target_hub.specs.declared.input.Input.{Input}
 use Rattle.target_hub.specs.declared.input.Input.TheVariants.{Opened, Executed, Ticked, Closed}
 use Rattle.target_hub.specs.declared.target.Target.{Target}
 use Rattle.breakpoints.proofs.TheLaws.{list_stays_orderly}
+use Rattle.command_tables.proofs.TheLaws.{known_are_readable}
 use Rattle.data_services.proofs.TheLaws.{order_stays, threads_stay}
 use Rattle.run_control.proofs.TheLaws.{commands_keep_order, commands_keep_sound, ticks_keep_order, ticks_keep_sound}
 use Rattle.target_hub.proofs.Kept.{after_readable, others_readable}
@@ -186,7 +187,7 @@ kept_after : (before : List Input) (input : Input) (target : Target) → IsAllow
 kept_after before (Opened channel) target allowed kept = same_kept before (Opened channel) target.breakpoints (λ _. refl) kept
 kept_after before (Executed channel (Known c) service name) target allowed kept =
     exec_kept before (Executed channel (Known c) service name) channel c target (λ _. refl)
-    (not_closed (was_opened channel before) (was_closed channel before) allowed.0) allowed.1.1 kept
+    (not_closed (was_opened channel before) (was_closed channel before) allowed.0) (known_are_readable service name c allowed.1).1 kept
 kept_after before (Executed channel Unknown service name) target allowed kept = same_kept before (Executed channel Unknown service name) target.breakpoints (λ _. refl) kept
 kept_after before (Executed channel (Bad index code) service name) target allowed kept =
     same_kept before (Executed channel (Bad index code) service name) target.breakpoints (λ _. refl) kept

@@ -24,6 +24,7 @@ use Rattle.target_hub.specs.Answering.{refusal}
 use Rattle.target_hub.specs.Execution.{after_in, effect_in, exec_after, exec_effect}
 use Rattle.target_hub.specs.Sendable.{AnswersAreSendable, AreSendable, ClosingsTellSendable, CommandsKeepShort, CommandsTellSendable, HasNoZero, IsBounded, IsSendable, IsSendableEvent, TicksKeepShort, TicksTellSendable}
 use Rattle.target_hub.specs.declared.target.Target.{Target}
+use Rattle.command_tables.proofs.TheLaws.{known_are_readable}
 use Rattle.data_services.proofs.TheLaws.{short_stays}
 use Rattle.reply_tables.proofs.TheLaws.{answers_fit, events_fit, refusals_fit}
 use Rattle.run_control.proofs.TheLaws.{commands_keep_order, commands_keep_short, ticks_keep_order, ticks_keep_short}
@@ -127,7 +128,7 @@ exec_sendable channel command target readable bounded =
     sendable (exec_effect channel command target).events (told_in (named_as command) channel command target readable bounded)
 
 pub commands_sendable : CommandsTellSendable
-commands_sendable channel service name (Known command) target is bounded = exec_sendable channel command target is.1 bounded
+commands_sendable channel service name (Known command) target is bounded = exec_sendable channel command target (known_are_readable service name command is).1 bounded
 commands_sendable channel service name Unknown target is bounded = tt
 commands_sendable channel service name (Bad index code) target is bounded = tt
 

@@ -1,5 +1,5 @@
 -- An answer that a peer may give from what it keeps is never stale.
-use Rattle.std.specs.Prelude.{ℕ, ◌≡◌, ◌≤◌, Bool, true, ◌&&◌, nat_lt, min, List, filter, length, take, Some}
+use Rattle.std.specs.Prelude.{ℕ, ◌≡◌, ◌+◌, ◌<◌, ◌≤◌, Bool, true, List, ◌∷◌, ◌++◌, filter, length, map, take, Some}
 use Rattle.std.specs.List.{All, Contains}
 use Rattle.command_tables.specs.declared.reading.Reading.{Reading}
 use Rattle.command_tables.specs.declared.reading.Reading.TheVariants as readings
@@ -16,8 +16,9 @@ use Rattle.target_hub.specs.HubValue.{new_target}
 use Rattle.tcf_text.specs.Lines.{Accepted, accepted}
 use Rattle.target_hub.specs.Received.{read}
 use Rattle.target_hub.specs.Ordered.{IsChannelOf, through}
-use Rattle.target_hub.specs.Sent.{executed_on}
+use Rattle.target_hub.specs.Sent.{executed_on, is_through}
 use Rattle.target_hub.specs.declared.input.Input.{Input}
+use Rattle.target_hub.specs.declared.input.Input.TheVariants.{Executed}
 use Rattle.target_hub.specs.declared.target.Target.{Target}
 
 -- the target after so many inputs
@@ -35,18 +36,24 @@ is_barrier (readings.Known command) = changes command
 is_barrier readings.Unknown = true
 is_barrier (readings.Bad index code) = true
 
--- how many barriers k executes in this history
-abbrev pub barriers_on : ℕ → List Input → ℕ
-barriers_on k history = length (filter (λ c. is_barrier c.reading) (executed_on k history))
+-- The history executes this command of the log on k at this position: it is the last of so many inputs, and the
+-- through commands that k executed before it are those that went through before it.
+pub record IsExecutedAt (log : List LogLine) (history : List Input) (k : ℕ) (c : Accepted) (position : ℕ) : Type 0 where
+  pub first : List Accepted
+  pub later : List Accepted
+  pub among : through log ≡ first ++ c ∷ later
+  pub before : List Input
+  pub after : List Input
+  pub split : history ≡ before ++ Executed k (read c).reading c.service c.name ∷ after
+  pub place : position ≡ length before + 1
+  pub same : filter (λ d. is_through d.reading) (executed_on k before) ≡ map read first
 
--- how many barriers that went through have a smaller number
-abbrev pub barriers_below : ℕ → List LogLine → ℕ
-barriers_below number log = length (filter (λ c. is_barrier (read c).reading && nat_lt c.number number) (through log))
-
--- Each barrier with a smaller number that k executes stands at the position or before it: they are executed in the order
--- of their numbers, so it is enough to count them.
+-- Each barrier of the log with a smaller number that the history executes on k stands there at this position
+-- or before it.
 abbrev pub AreBehind : List LogLine → List Input → ℕ → ℕ → ℕ → Type 0
-AreBehind log history number position k = min (barriers_below number log) (barriers_on k history) ≤ barriers_on k (take position history)
+AreBehind log history number position k =
+    (c : Accepted) (place : ℕ) → IsExecutedAt log history k c place →
+    is_barrier (read c).reading ≡ true → c.number < number → place ≤ position
 
 -- an answer to a storable command is that of the target at the answer's position, which the history has reached
 pub record IsFresh (log : List LogLine) (images : List Image) (history : List Input) (number position : ℕ) (command : Command) (body : List ℕ) : Type 0 where

@@ -19,7 +19,6 @@ use Rattle.tcf_values.specs.declared.command.Command.TheVariants.{GetContext, Ge
 use Rattle.tcf_values.specs.declared.effect.Effect.{Effect}
 use Rattle.tcf_values.specs.declared.errors.ErrorReport.{ErrorReport}
 use Rattle.tcf_values.specs.declared.faults.Fault.{Fault}
-use Rattle.tcf_values.specs.declared.faults.Fault.TheVariants as faults
 use Rattle.target_hub.proofs.Rows.{code_small}
 
 pub record IsTrueAnswer (target : Target) (command : Command) (answer : Answer) : Type 0 where

@@ -9,6 +9,7 @@ use Rattle.target_hub.specs.History.{IsAllowed, IsLegal, input_after, inputs_aft
 use Rattle.target_hub.specs.HubValue.{new_target}
 use Rattle.target_hub.specs.declared.input.Input.{Input}
 use Rattle.target_hub.specs.declared.input.Input.TheVariants.{Opened, Executed, Ticked, Closed}
+use Rattle.command_tables.proofs.TheLaws.{known_are_readable}
 use Rattle.target_hub.specs.declared.target.Target.{Target}
 
 pub inputs_append : (some more : List Input) (target : Target) → inputs_after (some ++ more) target ≡ inputs_after more (inputs_after some target)
@@ -31,7 +32,7 @@ IsReadInput (Closed channel) = Unit {0}
 
 read_input : (before : List Input) (target : Target) (input : Input) → IsAllowed before target input → IsReadInput input
 read_input before target (Opened channel) allowed = tt
-read_input before target (Executed channel (Known command) service name) allowed = allowed.1.1
+read_input before target (Executed channel (Known command) service name) allowed = (known_are_readable service name command allowed.1).1
 read_input before target (Executed channel Unknown service name) allowed = tt
 read_input before target (Executed channel (Bad index code) service name) allowed = tt
 read_input before target (Ticked thread) allowed = tt

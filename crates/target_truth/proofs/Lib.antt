@@ -51,8 +51,10 @@ pub mod RowsBreakpoints
 pub mod Rows
 pub mod Decoding
 pub mod Messages
+pub mod Hearing
 pub mod Positions
 pub mod Lives
 pub mod Truth
+pub mod Later
 pub mod Stored
 pub mod TheLaws

@@ -58,12 +58,12 @@ nowhere [] rest last is = cc
 nowhere (told ∷ front) rest last is = cc
 
 pub in_part : (some more front rest : List Told) (last : Told) → some ++ more ≡ front ++ last ∷ rest
-    → ((left : List Told) × (some ≡ front ++ last ∷ left)) ⊎ ((later : List Told) × (front ≡ some ++ later) × (more ≡ later ++ last ∷ rest))
+    → ((left : List Told) × (some ≡ front ++ last ∷ left) × (left ++ more ≡ rest)) ⊎ ((later : List Told) × (front ≡ some ++ later) × (more ≡ later ++ last ∷ rest))
 in_part [] more front rest last is = inr (front, refl, is)
-in_part (told ∷ some) more [] rest last is = inl (some, cc)
+in_part (told ∷ some) more [] rest last is = inl (some, cc, cc)
 in_part (told ∷ some) more (first ∷ front) rest last is =
     let tails : some ++ more ≡ front ++ last ∷ rest = cc in
     elim (in_part some more front rest last tails) [
-      | inl found ↦ let there = found.1 in inl (found.0, cc)
+      | inl found ↦ let there = found.1 in inl (found.0, cc, found.2)
       | inr found ↦ let there = found.1 in inr (found.0, cc, found.2)
     ]

@@ -21,7 +21,9 @@ use Rattle.target_hub.specs.declared.input.Input.{Input}
 use Rattle.target_hub.specs.declared.input.Input.TheVariants.{Opened, Executed, Ticked, Closed}
 use Rattle.target_hub.specs.declared.target.Target.{Target}
 use Rattle.target_truth.specs.Holds.{Holds}
-use Rattle.target_truth.specs.Taught.{event_message, message_of, open_after, taught}
+use Rattle.target_truth.specs.Listening.{is_event, left_after}
+use Rattle.target_truth.specs.Taught.{event_message, message_of, taught}
+use Rattle.command_tables.proofs.TheLaws.{known_are_readable}
 use Rattle.target_truth.proofs.Changes.{Moves, bad_moves, event_moves, moved, moves_after, other_moves, rested}
 use Rattle.target_truth.proofs.Decoding.{event_back}
 use Rattle.target_truth.proofs.Rows.{answers_so, events_tell}
@@ -39,7 +41,7 @@ Lead before now (message ∷ messages) = Moves before now message × AllByRecurs
 
 -- ---- what is known holds after them
 
-stays : (target : Target) (messages : List Message) → AllByRecursion (Moves target target) messages → Lead target target messages
+pub stays : (target : Target) (messages : List Message) → AllByRecursion (Moves target target) messages → Lead target target messages
 stays target [] all = λ fact knows. knows
 stays target (message ∷ messages) all = all
 
@@ -56,20 +58,7 @@ all_kept before now [] known lead holds = rested before now known lead holds
 all_kept before now (message ∷ messages) known lead holds =
     all_kept now now messages (learn message known) (stays now messages lead.1) (moved before now message known lead.0 holds)
 
--- ---- the messages of what is told in two parts
-
--- the commands that are left without an answer
-abbrev pub left_after : List Told → List ReadCommand → List ReadCommand
-left_after [] commands = commands
-left_after (told ∷ rest) commands = left_after rest (open_after told commands)
-
-pub taught_append : (commands : List ReadCommand) (some more : List Told) → taught commands (some ++ more) ≡ taught commands some ++ taught (left_after some commands) more
-taught_append commands [] more = refl
-taught_append commands (told ∷ some) more = ap (λ (messages : List Message). message_of commands told ∷ messages) (taught_append (open_after told commands) some more)
-
-left_append : (some more : List Told) (commands : List ReadCommand) → left_after (some ++ more) commands ≡ left_after more (left_after some commands)
-left_append [] more commands = refl
-left_append (told ∷ some) more commands = left_append some more (open_after told commands)
+-- ---- the messages of what is told
 
 -- events answer nothing
 events_apart : (position : ℕ) (events : List EventData) (commands : List ReadCommand) (more : List Told)
@@ -110,7 +99,7 @@ all_append : (target : Target) (some more : List Message) → AllByRecursion (Mo
 all_append target [] more all also = also
 all_append target (message ∷ some) more all also = (all.0, all_append target some more all.1 also)
 
-lead_append : (before now : Target) (some more : List Message) → Lead before now some → AllByRecursion (Moves now now) more
+pub lead_append : (before now : Target) (some more : List Message) → Lead before now some → AllByRecursion (Moves now now) more
     → Lead before now (some ++ more)
 lead_append before now [] [] lead all = lead
 lead_append before now [] (message ∷ more) lead all = (moves_after before now message lead all.0, all.1)
@@ -212,8 +201,8 @@ pub input_leads : (k : ℕ) (before : List Input) (target : Target) (input : Inp
 input_leads k before target (Opened channel) commands good allowed other = opened_leads (channel == k) target (length before + 1) commands other
 input_leads k before target (Executed channel (readings.Known command) service name) commands good allowed other =
     executed_leads k (length before + 1) channel (readings.Known command) service name (written command (exec_effect channel command target)) target (exec_after channel command target) commands
-    (events_tell channel command target good allowed.1.1)
-    (answers_so channel command target good allowed.1.1)
+    (events_tell channel command target good (known_are_readable service name command allowed.1).1)
+    (answers_so channel command target good (known_are_readable service name command allowed.1).1)
 input_leads k before target (Executed channel readings.Unknown service name) commands good allowed other =
     executed_leads k (length before + 1) channel readings.Unknown service name (only answered.Unknown) target target commands (same target) (other_moves target)
 input_leads k before target (Executed channel (readings.Bad index code) service name) commands good allowed other =
@@ -223,3 +212,43 @@ input_leads k before target (Ticked thread) commands good allowed other =
     tick_leads target (ticked thread target) (length before + 1) (tick_told thread target) commands allowed (λ events is. tick thread target events good is)
 input_leads k before target (Closed channel) commands good allowed other =
     events_lead target (closed channel target) (closed_told channel target) (length before + 1) commands (close channel target good)
+
+-- ---- one that tells no event first changes nothing that could be known
+
+abbrev pub IsSilentFirst : Target → Target → List Told → Type 0
+IsSilentFirst before now [] = Unit {0}
+IsSilentFirst before now (told ∷ rest) = is_event told ≡ false → IsPart (seen before) (seen now)
+
+silent : (before now : Target) (told : List Told) → IsPart (seen before) (seen now) → IsSilentFirst before now told
+silent before now [] part = tt
+silent before now (told ∷ rest) part = λ other. part
+
+events_silent : (before now : Target) (position : ℕ) (events : List EventData) → Tell before now events → IsSilentFirst before now (events_told position events)
+events_silent before now position [] tell = tt
+events_silent before now position (event ∷ events) tell = λ other. absurd (true≢false other)
+
+then_silent : (before now : Target) (position : ℕ) (events : List EventData) (more : List Told) → Tell before now events
+    → IsSilentFirst before now (events_told position events ++ more)
+then_silent before now position [] more tell = silent before now more tell
+then_silent before now position (event ∷ events) more tell = λ other. absurd (true≢false other)
+
+tick_silent : (before now : Target) (position : ℕ) (found : Option (List EventData)) → ((events : List EventData) → found ≡ Some events → Tell before now events)
+    → IsSilentFirst before now (tick_events_told position found)
+tick_silent before now position None tell = tt
+tick_silent before now position (Some events) tell = events_silent before now position events (tell events refl)
+
+pub input_silent : (k : ℕ) (before : List Input) (target : Target) (input : Input) → IsGood target → IsAllowed before target input
+    → IsSilentFirst target (input_after input target) (told_by k (length before + 1) target input)
+input_silent k before target (Opened channel) good allowed = silent target target (told_by k (length before + 1) target (Opened channel)) (same target)
+input_silent k before target (Executed channel (readings.Known command) service name) good allowed =
+    then_silent target (exec_after channel command target) (length before + 1) (written command (exec_effect channel command target)).events
+    (cond (channel == k) (caller_told (length before + 1) (readings.Known command) (written command (exec_effect channel command target))) [])
+    (events_tell channel command target good (known_are_readable service name command allowed.1).1)
+input_silent k before target (Executed channel readings.Unknown service name) good allowed =
+    silent target target (told_by k (length before + 1) target (Executed channel readings.Unknown service name)) (same target)
+input_silent k before target (Executed channel (readings.Bad index code) service name) good allowed =
+    silent target target (told_by k (length before + 1) target (Executed channel (readings.Bad index code) service name)) (same target)
+input_silent k before target (Ticked thread) good allowed =
+    tick_silent target (ticked thread target) (length before + 1) (tick_told thread target) (λ events is. tick thread target events good is)
+input_silent k before target (Closed channel) good allowed =
+    events_silent target (closed channel target) (length before + 1) (closed_told channel target) (close channel target good)

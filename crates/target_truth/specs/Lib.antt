@@ -2,4 +2,5 @@ pub mod Holds
 pub mod Taught
 pub mod Typed
 pub mod Laws
+pub mod Listening
 pub mod StoredLaws

@@ -3,4 +3,6 @@
 
 pub mod laws;
 
-pub use laws::{a_stored_answer_is_what_the_target_answers, what_is_told_is_true};
+pub use laws::{
+    a_stored_answer_is_what_the_target_answers, each_input_keeps_truth, what_is_told_is_true,
+};

@@ -31,7 +31,7 @@ use Rattle.tcf_app.specs.Words.{OrderValue, chain, show, load, agent, value, cli
 use Rattle.tcf_app.specs.Heard.{Heard, whole, longer, failed, Agrees, Hears, heard_in}
 use Rattle.tcf_app.specs.Ending.{Ending, Ends, IsEnding, IsRanEnding, served_ending, exit_of, ran_ending, wire_ending}
 use Rattle.tcf_app.specs.Run.{RunsBy, serves_peers, is_early, SparesWires, ends_run, AreHeeded, IsReadHeeded, PutsFront, IsFrontPut, ExitsOver, IsDecided}
-use Rattle.tcf_app.proofs.Hearing.{heard_of_held}
+use Rattle.tcf_app.proofs.Hearing.{heard_of_held, fails_last}
 use Rattle.tcf_app.proofs.Tells.{Seen, Tells, given_up_tells, ending_tells}
 
 -- ---- where no call is made
@@ -144,11 +144,13 @@ heeded (Some (client address name turns)) (whole (file ∷ other ∷ more)) call
 -- ---- where a read failed
 
 reads_heeded : (order : Option OrderValue) (exit : Exit) (files files' : FilesSeen) (before after : SinkSeen) (heard : Heard) (calls : List WireCall) (ending : Ending)
-    → Hears (names_of order) files files' heard → IsEnding order heard calls ending → Ends ending exit before after → IsReadHeeded exit files files' before after
+    → Hears (names_of order) files files' heard → IsEnding order heard calls ending → Ends ending exit before after
+    → IsReadHeeded (names_of order) exit files files' before after
 reads_heeded order exit files files' before after (whole contents) calls ending hears its e = inl hears.counts
 reads_heeded order exit files files' before after (longer count) calls ending hears its e = inl hears.counts
 reads_heeded None exit files files' before after (failed count) calls ending hears its e = absurd (omega (arith, hears.is_of))
-reads_heeded (Some order) exit files files' before after (failed count) calls ending hears its e = inr (subst (λ x. Ends x exit before after) its.1 e)
+reads_heeded (Some order) exit files files' before after (failed count) calls ending hears its e =
+    inr (fails_last (names_of (Some order)) count files files' hears, subst (λ x. Ends x exit before after) its.1 e)
 
 -- ---- what is heard where no read fails
 
@@ -156,7 +158,8 @@ calm_heard : (names : List (List ℕ)) (held : List HeldFile) (files files' : Fi
     → (Rose files.faults files'.faults → ⊥) → heard ≡ heard_in names held
 calm_heard names held files files' (whole contents) is hears calm = heard_of_held names (whole contents) held (subst (λ h. IfSome h (Agrees names (whole contents))) is hears.agrees) tt
 calm_heard names held files files' (longer count) is hears calm = heard_of_held names (longer count) held (subst (λ h. IfSome h (Agrees names (longer count))) is hears.agrees) tt
-calm_heard names held files files' (failed count) is hears calm = absurd (calm hears.counts)
+calm_heard names held files files' (failed count) is hears calm =
+    absurd (calm (subst (Rose files.faults) (sym hears.counts) (rose_raised files.faults files.faults (inl (omega arith)))))
 
 -- ---- each clause
 
@@ -184,7 +187,7 @@ module _ (order : Option OrderValue) (exit : Exit) (files files' : FilesSeen) (w
       ]
       by_order (Some o) none r = cc
 
-  pub files_unharmed_of : IsReadHeeded exit files files' before after
+  pub files_unharmed_of : IsReadHeeded (names_of order) exit files files' before after
   files_unharmed_of = let r = made.fits in reads_heeded order exit files files' before after r.heard made.calls r.ends.0 r.hears r.ends.1 r.ends.2
 
   pub heeded_of : Makes (AreHeeded order exit before after) wires wires'

@@ -1,6 +1,7 @@
 -- What is heard of files that are read from the left.
-use Rattle.std.proofs.Common.{◌≡◌, ℕ, suc, ◌+◌, ◌<◌, ◌≤◌, List, [], ◌∷◌, ◌++◌, length, take, Bool, true, false, refl, sym, ap, ◌∙◌, subst, arith, length-append, zero-add, add-zero, add-one}
+use Rattle.std.proofs.Common.{◌≡◌, ℕ, zero, suc, ◌+◌, ◌<◌, ◌≤◌, List, [], ◌∷◌, ◌++◌, length, take, Bool, true, false, refl, sym, ap, ◌∙◌, subst, arith, length-append, zero-add, add-zero, add-one}
 use Rattle.std.specs.Prelude.{Option, None, Some, IfSome, map, nat_lt, if◌then◌else◌}
+use Rattle.std.specs.List.{AllByRecursion}
 use Rattle.std.proofs.lemmas.Bool.{ltb-true, ltb-false}
 use Rattle.std.proofs.lemmas.List.{take_all}
 use Rattle.tcf_outside.specs.Files.{FilesSeen, content_of, read_of}
@@ -9,8 +10,8 @@ use Rattle.tcf_outside.specs.declared.files.FileRead.TheVariants.{Whole, Longer}
 use Rattle.tcf_outside.specs.declared.files.HeldFile.{HeldFile}
 use Rattle.tcf_app.specs.declared.reading.Unread.{Unread}
 use Rattle.tcf_app.specs.declared.reading.Unread.TheVariants as unread
-use Rattle.tcf_app.specs.Heard.{Heard, whole, longer, failed, most_file, heard_first, heard_in, IsOf, Agrees, Counts, Hears, HearsPart, IsHeld, AreHeld, IsFirstLong}
-use Rattle.tcf_app.specs.Reading.{IsWholly, IsUnread, CountsUnread}
+use Rattle.tcf_app.specs.Heard.{Heard, whole, longer, failed, most_file, heard_first, heard_in, IsOf, Agrees, Counts, AreNoted, IsLastRead, Hears, HearsPart, IsHeld, AreHeld, IsFirstLong, FailsLast}
+use Rattle.tcf_app.specs.Reading.{IsWholly, IsUnread, CountsUnread, NotesFailed}
 
 -- ---- where something is told
 
@@ -68,6 +69,7 @@ one_whole name before after bytes is calm =
       is_of = refl;
       agrees = some_so (λ fs. Whole bytes ≡ read_of (content_of name fs) most_file) (Agrees (name ∷ []) (whole (bytes ∷ []))) before.held (λ fs e. one_whole_in name bytes fs e) is;
       counts = calm;
+      last = tt;
     }
 
 -- ---- files so far
@@ -109,6 +111,7 @@ far_all names count before after contents so_far all calm =
           some_so (λ fs. whole contents ≡ heard_in (take count names) fs) (Agrees names (whole contents)) before.held
           (λ fs e. e ∙ ap (λ ns. heard_in ns fs) (take_all count names (omega arith))) so_far.agrees;
       counts = calm;
+      last = tt;
     }
 
 longer_at : (names : List (List ℕ)) (count : ℕ) (files : List HeldFile) (contents : List (List ℕ)) (name : List ℕ) (rest : List (List ℕ)) → names ≡ take count names ++ name ∷ rest
@@ -123,8 +126,8 @@ longer_at names count files contents name rest parts size first is =
 -- the next one wasn't read whole
 pub far_part : (names : List (List ℕ)) (count : ℕ) (before after : FilesSeen) (contents : List (List ℕ)) (name : List ℕ) (rest : List (List ℕ)) (u : Unread)
     → SoFar names count before.held contents → names ≡ take count names ++ name ∷ rest → count < length names → IsUnread name count before.held u
-    → CountsUnread before.faults after.faults u → HearsPart names before after u
-far_part names count before after contents name rest (unread.Longer at) so_far parts below is counts =
+    → CountsUnread before.faults after.faults u → NotesFailed (take (count + 1) names) before after u → HearsPart names before after u
+far_part names count before after contents name rest (unread.Longer at) so_far parts below is counts noted =
     subst (λ k. Hears names before after (longer k)) (sym is.place)
     (record {
       is_of = below;
@@ -133,22 +136,25 @@ far_part names count before after contents name rest (unread.Longer at) so_far p
           (λ fs first e. longer_at names count fs contents name rest parts so_far.size first e)
           so_far.agrees is.why;
       counts = counts;
+      last = tt;
     })
-far_part names count before after contents name rest (unread.Failed at) so_far parts below is counts =
+far_part names count before after contents name rest (unread.Failed at) so_far parts below is counts noted =
     subst (λ k. Hears names before after (failed k)) (sym is)
     (record {
       is_of = below;
       agrees = some_so (λ fs. whole contents ≡ heard_in (take count names) fs) (Agrees names (failed count)) before.held (λ fs e. (contents, e)) so_far.agrees;
       counts = counts;
+      last = noted;
     })
-far_part names count before after contents name rest unread.NoMemory so_far parts below is counts = counts
+far_part names count before after contents name rest unread.NoMemory so_far parts below is counts noted = counts
 
 -- memory was wanting behind a file that was read
 pub far_wanting : (names : List (List ℕ)) (before after : FilesSeen) (u : Unread) → u ≡ unread.NoMemory → after.faults ≡ before.faults → HearsPart names before after u
 far_wanting names before after u is calm = subst (HearsPart names before after) (sym is) calm
 
-pub one_part : (name : List ℕ) (before after : FilesSeen) (u : Unread) → IsUnread name 0 before.held u → CountsUnread before.faults after.faults u → HearsPart (name ∷ []) before after u
-one_part name before after u is counts = far_part (name ∷ []) 0 before after [] name [] u (far_none (name ∷ []) before.held) refl (omega arith) is counts
+pub one_part : (name : List ℕ) (before after : FilesSeen) (u : Unread) → IsUnread name 0 before.held u → CountsUnread before.faults after.faults u → NotesFailed (name ∷ []) before after u
+    → HearsPart (name ∷ []) before after u
+one_part name before after u is counts noted = far_part (name ∷ []) 0 before after [] name [] u (far_none (name ∷ []) before.held) refl (omega arith) is counts noted
 
 -- ---- what that says of the files
 
@@ -189,6 +195,11 @@ counts_itself (whole contents) n m good calm = calm
 counts_itself (longer before) n m good calm = calm
 counts_itself (failed before) n m good calm = absurd good
 
+last_itself : (names : List (List ℕ)) (heard : Heard) (before after : FilesSeen) → NotFailed heard → IsLastRead names heard before after
+last_itself names (whole contents) before after good = tt
+last_itself names (longer place) before after good = tt
+last_itself names (failed place) before after good = absurd good
+
 -- what is heard where no read fails, and the files are told or not
 abbrev heard_over : List (List ℕ) → Option (List HeldFile) → Heard
 heard_over names None = heard_in names []
@@ -218,7 +229,12 @@ can_hear names before after calm =
     let good = over_not_failed names before.held in
     record {
       heard = heard;
-      hears = record { is_of = over_is_of names before.held; agrees = over_agrees names before.held; counts = counts_itself heard before.faults after.faults good calm };
+      hears = record {
+        is_of = over_is_of names before.held;
+        agrees = over_agrees names before.held;
+        counts = counts_itself heard before.faults after.faults good calm;
+        last = last_itself names heard before after good;
+      };
       good = good;
     }
 
@@ -284,6 +300,49 @@ first_long (name ∷ names) before files is =
           long = f.long;
         }
     by_first (Whole bytes) (failed k) read rest e = cc
+
+-- files that were read whole are within the limit
+all_within : (names contents : List (List ℕ)) (files : List HeldFile) → whole contents ≡ heard_in names files → AllByRecursion (λ n. length (content_of n files) ≤ most_file) names
+all_within [] contents files is = tt
+all_within (name ∷ names) contents files is =
+    by_first (read_of (content_of name files) most_file) (heard_in names files) (read_is (content_of name files)) (λ cs e. all_within names cs files e) is
+  where
+    by_first : (answer : FileRead) (later : Heard) → IsRead (content_of name files) answer
+        → ((cs : List (List ℕ)) → whole cs ≡ later → AllByRecursion (λ n. length (content_of n files) ≤ most_file) names)
+        → whole contents ≡ heard_first answer later → AllByRecursion (λ n. length (content_of n files) ≤ most_file) (name ∷ names)
+    by_first Longer later read rest e = cc
+    by_first (Whole bytes) (whole cs) read rest e = (read.1, rest cs refl)
+    by_first (Whole bytes) (longer k) read rest e = cc
+    by_first (Whole bytes) (failed k) read rest e = cc
+
+-- the name at a place, and those before it
+record Placed (names : List (List ℕ)) (i : ℕ) : Type 0 where
+  name : List ℕ
+  later : List (List ℕ)
+  parts : names ≡ take i names ++ name ∷ later
+  next : take (suc i) names ≡ take i names ++ name ∷ []
+
+placed : (names : List (List ℕ)) (i : ℕ) → i < length names → Placed names i
+placed [] i below = absurd (omega (arith, below))
+placed (name ∷ names) zero below = record { name = name; later = names; parts = refl; next = refl }
+placed (name ∷ names) (suc i) below =
+    let p = placed names i (omega (arith, below)) in
+    record { name = p.name; later = p.later; parts = ap (λ ns. name ∷ ns) p.parts; next = ap (λ ns. name ∷ ns) p.next }
+
+pub fails_last : (names : List (List ℕ)) (count : ℕ) (before after : FilesSeen) → Hears names before after (failed count) → FailsLast names before after
+fails_last names count before after h =
+    let p = placed names count h.is_of in
+    record {
+      earlier = take count names;
+      name = p.name;
+      later = p.later;
+      parts = p.parts;
+      within =
+          some_so (Agrees names (failed count)) (λ fs. AllByRecursion (λ n. length (content_of n fs) ≤ most_file) (take count names)) before.held
+          (λ fs e. all_within (take count names) e.0 fs e.1) h.agrees;
+      told = subst (λ read. AreNoted read before after) (ap (λ n. take n names) (add-one count) ∙ p.next) h.last;
+      counts = h.counts;
+    }
 
 -- what was heard where no read failed is what the files hold
 pub heard_of_held : (names : List (List ℕ)) (heard : Heard) (files : List HeldFile) → Agrees names heard files → NotFailed heard → heard ≡ heard_in names files

@@ -6,9 +6,10 @@ use Rattle.tcf_outside.specs.Files.{FilesSeen}
 use Rattle.tcf_outside.specs.declared.files.HeldFile.{HeldFile}
 use Rattle.target_contexts.specs.declared.process.Image.{Image}
 use Rattle.tcf_app.specs.declared.reading.Unread.{Unread}
+use Rattle.tcf_app.specs.declared.reading.Unread.TheVariants as unread
 use Rattle.tcf_app.specs.Words.{NamedFile}
 use Rattle.tcf_app.specs.Heard.{AreNoted, HearsPart}
-use Rattle.tcf_app.specs.Reading.{IsWholly, IsUnread, CountsUnread}
+use Rattle.tcf_app.specs.Reading.{IsWholly, IsUnread, CountsUnread, NotesFailed}
 use Rattle.tcf_app.specs.Ending.{images_with, contents_of}
 use Rattle.tcf_app.proofs.Hearing.{SoFar, far_more, far_part}
 use Rattle.tcf_app.proofs.Noting.{told_more, told_both}
@@ -70,11 +71,19 @@ told_step names i first now after name own next named so_far noted =
 
 -- ---- the next file wasn't read whole
 
+failed_step : (names : List (List ℕ)) (i : ℕ) (first now after : FilesSeen) (name own : List ℕ) (u : Unread) → take (i + 1) names ≡ take i names ++ name ∷ [] → own ≡ name
+    → AreNoted (take i names) first now → NotesFailed (own ∷ []) now after u → NotesFailed (take (i + 1) names) first after u
+failed_step names i first now after name own (unread.Longer count) next named so_far noted = tt
+failed_step names i first now after name own (unread.Failed count) next named so_far noted = told_step names i first now after name own next named so_far noted
+failed_step names i first now after name own unread.NoMemory next named so_far noted = tt
+
 pub part_step : (names : List (List ℕ)) (i size : ℕ) (first now after : FilesSeen) (items : List Image) (name own : List ℕ) (rest : List (List ℕ)) (u : Unread)
     → SoFar names i first.held (contents_of items) → names ≡ take i names ++ name ∷ rest → i < length names → own ≡ name → size ≡ length items
-    → now.held ≡ first.held → now.faults ≡ first.faults → IsUnread own size now.held u → CountsUnread now.faults after.faults u → HearsPart names first after u
-part_step names i size first now after items name own rest u so_far parts below named sized kept calm is counts =
+    → now.held ≡ first.held → now.faults ≡ first.faults → IsUnread own size now.held u → CountsUnread now.faults after.faults u
+    → take (i + 1) names ≡ take i names ++ name ∷ [] → AreNoted (take i names) first now → NotesFailed (own ∷ []) now after u → HearsPart names first after u
+part_step names i size first now after items name own rest u so_far parts below named sized kept calm is counts next told noted =
     let place : size ≡ i = sized ∙ sym (contents_count items) ∙ so_far.size in
     let here : IsUnread name i first.held u =
     subst (λ h. IsUnread name i h u) kept (subst (λ s. IsUnread name s now.held u) place (subst (λ x. IsUnread x size now.held u) named is)) in
     far_part names i first after (contents_of items) name rest u so_far parts below here (subst (λ c. CountsUnread c after.faults u) calm counts)
+    (failed_step names i first now after name own u next named told noted)

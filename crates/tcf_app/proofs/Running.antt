@@ -15,7 +15,9 @@ use Rattle.tcf_wires.specs.declared.event.WireRefusal.TheVariants as refusals
 use Rattle.serving_wires.specs.Calls.{Makes}
 use Rattle.serving_wires.proofs.Making.{makes_none, makes_so}
 use Rattle.agent_serving.specs.Serve.{ServesAgent}
+use Rattle.agent_serving.specs.Served.{wire_of}
 use Rattle.agent_serving.specs.Serving.{served_by}
+use Rattle.agent_serving.proofs.TheLaws.{served_is_an_agent}
 use Rattle.serving_wires.specs.declared.end.ServeEnd.{ServeEnd}
 use Rattle.serving_wires.specs.declared.end.ServeEnd.TheVariants as serve_ends
 use Rattle.value_serving.specs.Serve.{ServesValueAdds}
@@ -75,6 +77,7 @@ none_served images address turns =
       serves = λ before after call parts. absurd (nothing_in before after call parts);
       fronts = λ channel. ((served_by images).served [] channel, refl);
       settled = λ other some. absurd (other refl);
+      agent = let served = served_is_an_agent images [] in record { served = served; taken = λ k. (wire_of images served.calls k, refl) };
       ends = refl;
     }
   where
@@ -163,7 +166,7 @@ script_runs address name file turns exit files files' before after wires wires' 
 -- ---- no file is named
 
 hears_none : (files : FilesSeen) → Hears [] files files (whole [])
-hears_none files = record { is_of = refl; agrees = some_each (λ fs. whole [] ≡ whole []) files.held (λ fs. refl); counts = refl }
+hears_none files = record { is_of = refl; agrees = some_each (λ fs. whole [] ≡ whole []) files.held (λ fs. refl); counts = refl; last = tt }
 
 pub load_runs : (number : ℕ) (files : FilesSeen) (exit : Exit) (before after : SinkSeen)
     → Ends (summed_ending number) exit before after → RunsBy (Some (load number)) exit files files before after []

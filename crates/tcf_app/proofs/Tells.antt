@@ -8,7 +8,7 @@ use Rattle.tcf_schedules.specs.Refusal.{BadLine}
 use Rattle.tcf_schedules.specs.Schedule.{ScheduleValue, schedule_of}
 use Rattle.tcf_schedules.specs.Script.{script_of}
 use Rattle.tcf_schedules.specs.declared.script.ScriptLine.{ScriptLine}
-use Rattle.world_laws.proofs.TheLaws.{file_coherent, file_ends, file_faithful, file_fresh, file_unstuck}
+use Rattle.world_laws.proofs.TheLaws.{file_coherent, file_ends, file_faithful, file_fresh, file_steps, file_unstuck}
 use Rattle.tcf_text.specs.Once.{Once}
 use Rattle.tcf_wires.specs.Told.{WiresSeen}
 use Rattle.tcf_wires.specs.declared.call.WireCall.{WireCall}
@@ -37,12 +37,12 @@ use Rattle.tcf_app.specs.Exit.{IsGivenUp}
 use Rattle.tcf_app.specs.Words.{NamedFile, OrderValue, chain, show, load, agent, value, client, files_in, files_named, first_place, names_of}
 use Rattle.tcf_app.specs.Texts.{usage_text, file_fault_text, turns_text}
 use Rattle.tcf_app.specs.Played.{client_text, numbered}
-use Rattle.tcf_app.specs.Heard.{Heard, whole, longer, failed, Agrees, Hears, IsFirstLong}
+use Rattle.tcf_app.specs.Heard.{Heard, whole, longer, failed, Agrees, Hears, IsFirstLong, FailsLast}
 use Rattle.tcf_app.specs.Show.{IsShown}
 use Rattle.tcf_app.specs.Ending.{Ending, IsEnding, IsRanEnding, images_with, usage_ending, fault_ending, long_ending, bad_ending, played_ending, lines_ending, summed_ending, served_ending, exit_of, ran_ending, wire_ending}
 use Rattle.tcf_app.specs.Run.{IsServed, AreServed, IsDone, AreTaken, HasEnded, HaveFailed, IsBadText, IsBadStream, IsTooLong}
 use Rattle.tcf_app.proofs.Items.{shown_as}
-use Rattle.tcf_app.proofs.Hearing.{are_held, content_is, first_long, some_so}
+use Rattle.tcf_app.proofs.Hearing.{are_held, content_is, fails_last, first_long, some_so}
 use Rattle.serving_wires.proofs.Rising.{last_rises}
 
 -- in the log of a client that was run each command is answered once
@@ -86,7 +86,7 @@ abbrev pub Tells : Seen → Option OrderValue → Exit → Type 0
 Tells s order Done = IsDone order s.files s.wires s.wires_after s.before s.after
 Tells s order Usage = (order ≡ None) × Took usage_text s.before s.after
 Tells s order (BadText line what) = IsBadText order s.files (record { line = line; what = what }) s.before s.after
-Tells s order FileFault = Rose s.files.faults s.files_after.faults × Took file_fault_text s.before s.after
+Tells s order FileFault = FailsLast (names_of order) s.files s.files_after × Took file_fault_text s.before s.after
 Tells s order SinkFault = Unit {0}
 Tells s order WireFault = Rose s.wires.faults s.wires_after.faults × HaveFailed order s.files s.wires s.wires_after s.before s.after
 Tells s order Turns = AreTaken order s.files s.wires s.wires_after s.before s.after
@@ -119,6 +119,7 @@ chain_tells s name file ending hears its = by_schedule (schedule_of file) refl i
       put = put;
       faithful = file_faithful file schedule is;
       ends = file_ends file schedule is;
+      steps = file_steps file schedule is;
       coherent = file_coherent file schedule is;
       fresh = file_fresh file schedule is;
       unstuck = file_unstuck file schedule is;
@@ -163,6 +164,7 @@ load_tells s number ending e =
       put = put;
       faithful = file_faithful said.0 (numbered number) said.1;
       ends = file_ends said.0 (numbered number) said.1;
+      steps = file_steps said.0 (numbered number) said.1;
       coherent = file_coherent said.0 (numbered number) said.1;
       fresh = file_fresh said.0 (numbered number) said.1;
       unstuck = file_unstuck said.0 (numbered number) said.1;
@@ -302,7 +304,7 @@ ending_tells s (Some order) (longer count) calls ending hears told counted its =
       place = refl;
       put = put;
     })
-ending_tells s (Some order) (failed count) calls ending hears told counted its = told_at s (Some order) ending fault_ending its.1 (λ put. (hears.counts, put))
+ending_tells s (Some order) (failed count) calls ending hears told counted its = told_at s (Some order) ending fault_ending its.1 (λ put. (fails_last (files_named order) count s.files s.files_after hears, put))
 ending_tells s (Some (chain name)) (whole []) calls ending hears told counted its = absurd its
 ending_tells s (Some (chain name)) (whole (file ∷ [])) calls ending hears told counted its = chain_tells s name file ending hears its.1
 ending_tells s (Some (chain name)) (whole (file ∷ other ∷ more)) calls ending hears told counted its = absurd its

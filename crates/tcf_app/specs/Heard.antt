@@ -1,7 +1,7 @@
 -- What is heard of files that are read from the left.
 use Rattle.std.specs.Prelude.{ℕ, ◌≡◌, ◌+◌, ◌<◌, ◌≤◌, List, [], ◌∷◌, ◌++◌, length, map, take, option_map, IfSome}
 use Rattle.std.specs.List.{AllByRecursion}
-use Rattle.tcf_outside.specs.Faults.{Rose}
+use Rattle.tcf_outside.specs.Faults.{raised}
 use Rattle.tcf_outside.specs.Files.{FilesSeen, content_of, read_of}
 use Rattle.tcf_outside.specs.declared.files.FileRead.{FileRead}
 use Rattle.tcf_outside.specs.declared.files.FileRead.TheVariants.{Whole, Longer}
@@ -45,27 +45,34 @@ Agrees names (whole contents) files = whole contents ≡ heard_in names files
 Agrees names (longer before) files = longer before ≡ heard_in names files
 Agrees names (failed before) files = (contents : List (List ℕ)) × (whole contents ≡ heard_in (take before names) files)
 
--- the count of faults rose where a read failed, and else stands still
+-- the count of faults rose by one where a read failed, and else stands still
 abbrev pub Counts : Heard → ℕ → ℕ → Type 0
 Counts (whole contents) before after = after ≡ before
 Counts (longer place) before after = after ≡ before
-Counts (failed place) before after = Rose before after
+Counts (failed place) before after = after ≡ raised before
+
+-- these names were told, one read behind the other
+abbrev pub AreNoted : List (List ℕ) → FilesSeen → FilesSeen → Type 0
+AreNoted read before after = after.names ≡ option_map (λ so_far. so_far ++ read) before.names
+
+-- a read that failed is the last one: the names that were told are those up to its file
+abbrev pub IsLastRead : List (List ℕ) → Heard → FilesSeen → FilesSeen → Type 0
+IsLastRead names (whole contents) before after = Unit {0}
+IsLastRead names (longer place) before after = Unit {0}
+IsLastRead names (failed place) before after = AreNoted (take (place + 1) names) before after
 
 -- This was heard of the files of these names.
 pub record Hears (names : List (List ℕ)) (before after : FilesSeen) (heard : Heard) : Type 0 where
   pub is_of : IsOf (length names) heard
   pub agrees : IfSome before.held (Agrees names heard)
   pub counts : Counts heard before.faults after.faults
+  pub last : IsLastRead names heard before after
 
 -- This was heard where not all files were read whole: nothing where memory was wanting.
 abbrev pub HearsPart : List (List ℕ) → FilesSeen → FilesSeen → Unread → Type 0
 HearsPart names before after (unread.Longer count) = Hears names before after (longer count)
 HearsPart names before after (unread.Failed count) = Hears names before after (failed count)
 HearsPart names before after unread.NoMemory = after.faults ≡ before.faults
-
--- these names were told, one read behind the other
-abbrev pub AreNoted : List (List ℕ) → FilesSeen → FilesSeen → Type 0
-AreNoted read before after = after.names ≡ option_map (λ so_far. so_far ++ read) before.names
 
 -- as many of these names as were read were told, from the left
 pub record ReadsInOrder (names : List (List ℕ)) (before after : FilesSeen) : Type 0 where
@@ -93,3 +100,15 @@ pub record IsFirstLong (names : List (List ℕ)) (before : ℕ) (files : List He
   pub place : before ≡ length earlier
   pub within : AllByRecursion (λ n. length (content_of n files) ≤ most_file) earlier
   pub long : most_file < length (content_of name files)
+
+-- The read of this file failed, behind others that are within the limit. It was the last read: the names that were
+-- told are those of the files up to it, and the count of faults rose by one.
+pub record FailsLast (names : List (List ℕ)) (before after : FilesSeen) : Type 0 where
+  pub earlier : List (List ℕ)
+  pub name : List ℕ
+  pub later : List (List ℕ)
+  pub parts : names ≡ earlier ++ name ∷ later
+  pub within : IfSome before.held (λ held.
+      AllByRecursion (λ n. length (content_of n held) ≤ most_file) earlier)
+  pub told : AreNoted (earlier ++ name ∷ []) before after
+  pub counts : after.faults ≡ raised before.faults

@@ -26,6 +26,7 @@ use Rattle.client_serving.specs.declared.end.ClientEnd.TheVariants as client_end
 use Rattle.client_serving.specs.declared.end.ClientRun.{ClientRun}
 use Rattle.world_laws.specs.EndLaws.{EndsAllRightly}
 use Rattle.chain_world.specs.World.{images_of}
+use Rattle.world_laws.specs.StepLaws.{AllSaySteps}
 use Rattle.world_laws.specs.WorldLaws.{AreCoherent, AreFresh, IsFaithful, NothingIsStuck}
 use Rattle.tcf_app.specs.declared.exit.BadPlace.{BadPlace}
 use Rattle.tcf_app.specs.declared.exit.Exit.{Exit}
@@ -33,7 +34,7 @@ use Rattle.tcf_app.specs.declared.exit.Exit.TheVariants.{Done, Usage, BadText, F
 use Rattle.tcf_app.specs.Words.{NamedFile, OrderValue, chain, show, load, agent, value, client, first_place, files_in, files_named, names_of}
 use Rattle.tcf_app.specs.Texts.{wire_fault_text, turns_text, bad_line_text, bad_stream_text, too_long_text}
 use Rattle.tcf_app.specs.Played.{printed, numbered, summed, client_text, world_of}
-use Rattle.tcf_app.specs.Heard.{Heard, Hears, heard_in, IsHeld, AreHeld, IsFirstLong}
+use Rattle.tcf_app.specs.Heard.{Heard, Hears, heard_in, IsHeld, AreHeld, IsFirstLong, FailsLast}
 use Rattle.tcf_app.specs.Show.{IsShown}
 use Rattle.tcf_app.specs.Ending.{Ending, Ends, EndsIn, IsEnding, images_with, fault_ending, wire_ending}
 
@@ -52,10 +53,10 @@ Runs order exit files files' wires wires' before after = Makes (RunsBy order exi
 -- ---- chain, load and show
 
 -- The file says a schedule. Exactly its text was put: each chain with the log that playing the schedule gives, and
--- the length of the history. Each log is true to that history, and ends only as the steps say; what each client keeps,
--- and shows where its cache is asked, and what each bound value-add knows, is true of the target at the position of the last
--- message; each answer to a command that a value-add may answer is what the target answers at its position; and nothing is
--- stuck.
+-- the length of the history. Each log is true to that history, ends only as the steps say, and has one line for each step
+-- that asks something of its client, in their order; what each client keeps, and shows where its cache is asked, and what each
+-- bound value-add knows, is true of the target at the position of the last message; each answer to a command that a value-add
+-- may answer is what the target answers at its position; and nothing is stuck.
 pub record IsPlayed (name : List ℕ) (files : FilesSeen) (before after : SinkSeen) : Type 0 where
   pub file : List ℕ
   pub held : IsHeld name file files
@@ -64,6 +65,7 @@ pub record IsPlayed (name : List ℕ) (files : FilesSeen) (before after : SinkSe
   pub put : Took (printed schedule) before after
   pub faithful : IsFaithful (images_of schedule.images) (world_of schedule)
   pub ends : EndsAllRightly schedule.plans (world_of schedule)
+  pub steps : AllSaySteps schedule.plans (world_of schedule)
   pub coherent : AreCoherent (images_of schedule.images) (world_of schedule)
   pub fresh : AreFresh (images_of schedule.images) (world_of schedule)
   pub unstuck : NothingIsStuck (world_of schedule)
@@ -74,6 +76,7 @@ pub record IsSummed (number : ℕ) (before after : SinkSeen) : Type 0 where
   pub put : Took (summed (numbered number)) before after
   pub faithful : IsFaithful (images_of (numbered number).images) (world_of (numbered number))
   pub ends : EndsAllRightly (numbered number).plans (world_of (numbered number))
+  pub steps : AllSaySteps (numbered number).plans (world_of (numbered number))
   pub coherent : AreCoherent (images_of (numbered number).images) (world_of (numbered number))
   pub fresh : AreFresh (images_of (numbered number).images) (world_of (numbered number))
   pub unstuck : NothingIsStuck (world_of (numbered number))
@@ -234,9 +237,11 @@ ends_run order = fails
 abbrev pub AreHeeded : Option OrderValue → Exit → SinkSeen → SinkSeen → List WireCall → Type 0
 AreHeeded order exit before after calls = (list_any (ends_run order) calls ≡ false) ⊎ Ends wire_ending exit before after
 
--- a read that failed ends the run with the line that says so, or while that is put
-abbrev pub IsReadHeeded : Exit → FilesSeen → FilesSeen → SinkSeen → SinkSeen → Type 0
-IsReadHeeded exit files files' before after = (files'.faults ≡ files.faults) ⊎ Ends fault_ending exit before after
+-- a read that failed, of a file with one of these names, is the last one, is counted once, and ends the run with
+-- the line that says so, or while that is put
+abbrev pub IsReadHeeded : List (List ℕ) → Exit → FilesSeen → FilesSeen → SinkSeen → SinkSeen → Type 0
+IsReadHeeded names exit files files' before after =
+    (files'.faults ≡ files.faults) ⊎ (FailsLast names files files' × Ends fault_ending exit before after)
 
 -- ---- given up, and complete
 

@@ -2,7 +2,7 @@
 ghost use Rattle.std.specs.Prelude.{◌≡◌, ◌∷◌, [], IfOk, IfErr, OnOk, OnErr};
 ghost use Rattle.tcf_app.specs.Words.{image_in, images_given, files_in};
 ghost use Rattle.tcf_app.specs.Heard.{whole, Hears, HearsPart, AreNoted, ReadsInOrder};
-ghost use Rattle.tcf_app.specs.Reading.{IsWholly, IsUnread, CountsUnread, HasRoom};
+ghost use Rattle.tcf_app.specs.Reading.{IsWholly, IsUnread, CountsUnread, NotesFailed, HasRoom};
 ghost use Rattle.tcf_app.specs.Ending.{images_with, contents_of};
 
 use crate::order::image_in;
@@ -52,6 +52,7 @@ fn read_next<F: Files>(files: &mut F, name: &str, before: usize) -> Result<Octet
     ensures part { IfErr result (IsUnread name.now before (F.seen files.old).held) }
     ensures counts { IfErr result (CountsUnread (F.seen files.old).faults (F.seen files.new).faults) }
     ensures part_noted { OnErr result (ReadsInOrder (name.now ∷ []) (F.seen files.old) (F.seen files.new)) }
+    ensures failed_noted { IfErr result (NotesFailed (name.now ∷ []) (F.seen files.old) (F.seen files.new)) }
     ensures kept { (F.seen files.new).held ≡ (F.seen files.old).held }
 {
     match files.read(name, FILE_LIMIT) {
@@ -87,6 +88,8 @@ fn read_image<F: Files>(
     ensures part { IfErr result (IsUnread (image_in word.now).file before (F.seen files.old).held) }
     ensures counts { IfErr result (CountsUnread (F.seen files.old).faults (F.seen files.new).faults) }
     ensures part_noted { OnErr result (ReadsInOrder ((image_in word.now).file ∷ [])
+        (F.seen files.old) (F.seen files.new)) }
+    ensures failed_noted { IfErr result (NotesFailed ((image_in word.now).file ∷ [])
         (F.seen files.old) (F.seen files.new)) }
     ensures kept { (F.seen files.new).held ≡ (F.seen files.old).held }
 {

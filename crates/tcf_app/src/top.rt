@@ -1,6 +1,6 @@
 //! The top call.
 ghost use Rattle.std.specs.Prelude.{◌≡◌, ◌⊎◌, ◌∷◌, [], ℕ, None, Some};
-ghost use Rattle.tcf_outside.specs.Faults.{Rose};
+ghost use Rattle.tcf_outside.specs.Faults.{Rose, raised};
 ghost use Rattle.tcf_outside.specs.Sink.{Took};
 ghost use Rattle.channel_core.specs.declared.states.Cause.{Cause};
 ghost use Rattle.tcf_schedules.specs.Refusal.{BadLine};
@@ -9,7 +9,7 @@ ghost use Rattle.tcf_app.specs.declared.exit.BadPlace.{BadPlace};
 ghost use Rattle.tcf_app.specs.Exit.{IsGivenUp, TellsFault};
 ghost use Rattle.tcf_app.specs.Words.{agent, chain, client, show, files_in, images_given, order_in, order_value, names_of};
 ghost use Rattle.tcf_app.specs.Texts.{usage_text, file_fault_text};
-ghost use Rattle.tcf_app.specs.Heard.{ReadsInOrder};
+ghost use Rattle.tcf_app.specs.Heard.{ReadsInOrder, FailsLast};
 ghost use Rattle.tcf_app.specs.Run.{RunsBy, Runs, IsDone, AreTaken, HasEnded, HaveFailed, IsBadText, IsBadStream, IsTooLong, SparesWires, AreHeeded, IsReadHeeded, IsFrontPut, IsDecided};
 
 use crate::agent::serve_images;
@@ -205,14 +205,18 @@ pub fn tcf<F: Files, S: Sink, W: Wires>(
         → IsBadStream (order_in words.now) (F.seen files.old) bad (S.seen out.old) (S.seen out.new) }
     ensures too_long { (word : ℕ) → result ≡ Exit.TooLong word
         → IsTooLong (order_in words.now) (F.seen files.old) word (S.seen out.old) (S.seen out.new) }
-    ensures file_fault { result ≡ Exit.FileFault → Rose (F.seen files.old).faults (F.seen files.new).faults }
+    ensures file_fault { result ≡ Exit.FileFault
+        → (F.seen files.new).faults ≡ raised (F.seen files.old).faults }
+    ensures file_fault_last { result ≡ Exit.FileFault → FailsLast (names_of (order_in words.now))
+        (F.seen files.old) (F.seen files.new) }
     ensures file_fault_text { result ≡ Exit.FileFault → Took file_fault_text (S.seen out.old) (S.seen out.new) }
 
-    // A put that failed is always answered as such, so never as want of memory. A read that failed ends the run with
-    // the line that says so, or while that is put, and so does a call of the wires.
+    // A put that failed is always answered as such, so never as want of memory, and is counted once. A read that
+    // failed is the last one, is counted once, and ends the run with the line that says so, or while that is put. A
+    // call of the wires that failed ends it so too.
     ensures sink_fault { TellsFault result (S.seen out.old) (S.seen out.new) }
-    ensures files_unharmed { IsReadHeeded result (F.seen files.old) (F.seen files.new)
-        (S.seen out.old) (S.seen out.new) }
+    ensures files_unharmed { IsReadHeeded (names_of (order_in words.now)) result
+        (F.seen files.old) (F.seen files.new) (S.seen out.old) (S.seen out.new) }
     ensures wires_heeded { Makes (AreHeeded (order_in words.now) result (S.seen out.old) (S.seen out.new))
         (W.seen wires.old) (W.seen wires.new) }
 

@@ -1,5 +1,5 @@
 //! One list for every element type: contracts see a `Sequence<T>` as the list of its items.
-ghost use Rattle.std.specs.Prelude.{◌≡◌, ◌++◌, ◌∷◌, [], length, IfOk, OnOk, OnErr, IsTrue, ◌↔◌};
+ghost use Rattle.std.specs.Prelude.{◌≡◌, ◌++◌, ◌∷◌, [], length, take, IfOk, OnOk, OnErr, IsTrue, ◌↔◌};
 ghost use Rattle.std.specs.Slice.Iter.{iter_rest};
 
 use std::alloc::{AllocError, Global};
@@ -117,6 +117,13 @@ impl Sequence<u8> {
         ensures err { OnErr result (self.new ≡ self.old) }
     {
         self.inner.extend_from_slice(bytes)
+    }
+
+    /// Keeps the first so many bytes, all where there are no more, and the room that the others had.
+    pub fn truncate(&mut self, length: usize)
+        ensures { self.new ≡ take length self.old }
+    {
+        self.inner.truncate(length);
     }
 
     /// Takes all bytes out, and keeps the room that they had.

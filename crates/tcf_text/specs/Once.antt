@@ -1,6 +1,6 @@
 -- Each command is answered once.
-use Rattle.std.specs.Prelude.{ℕ, ◌≡◌, ◌<◌, List, Option, None, Some, Bool, true, false, map}
-use Rattle.std.specs.List.{Contains, list_any, last_or}
+use Rattle.std.specs.Prelude.{ℕ, ◌≡◌, ◌<◌, List, length, Option, None, Some, Bool, true, false, map}
+use Rattle.std.specs.List.{Contains, list_any, last_or, range_with_len}
 use Rattle.tcf_text.specs.declared.log.LogLine.{LogLine}
 use Rattle.tcf_text.specs.declared.log.LogLine.TheVariants.{Refused, Progress, Final, Unknown, Closed, Ended, Cached}
 use Rattle.tcf_text.specs.declared.log.RefusedWhy.TheVariants.{NotOpen}
@@ -10,6 +10,10 @@ use Rattle.tcf_text.specs.Lines.{Accepted, accepted, finals}
 -- the numbers of accepted commands
 abbrev pub numbers : List Accepted → List ℕ
 numbers commands = map (λ c. c.number) commands
+
+-- the accepted commands have the numbers 1, 2, 3 and so on, in order
+abbrev pub AreCounted : List Accepted → Type 0
+AreCounted commands = numbers commands ≡ range_with_len 1 (length commands)
 
 -- a command of this number was accepted, and has no final answer
 pub record IsPending (log : List LogLine) (number : ℕ) : Type 0 where
@@ -61,9 +65,11 @@ abbrev pub IsNoClosed : Option LogLine → Type 0
 IsNoClosed (Some (Closed number)) = ⊥
 IsNoClosed last = Unit {0}
 
--- Each accepted command has at most one final answer, which stands after its `sent` line, with its progress between
--- the two; once the log has its end, each has exactly one, and so it is where nothing is under way.
+-- The `sent` lines number the accepted commands from 1 on. Each of these has at most one final answer, which
+-- stands after its `sent` line, with its progress between the two; once the log has its end, each has exactly
+-- one, and so it is where nothing is under way.
 pub record Once (quiet : Bool) (log : List LogLine) : Type 0 where
+  pub counted : AreCounted (accepted log)
   pub answers : Each AnswersPending log
   pub all_at_end : Each EndsAll log
   pub nothing_after : Each NothingAfterEnd log

@@ -88,17 +88,31 @@ fn show_message(message: &Message<'_>, out: &mut Octets) -> Result<(), AllocErro
     }
 }
 
+/// Appends the message's line and the byte that ends it.
+fn push_line(message: &Message<'_>, out: &mut Octets) -> Result<(), AllocError>
+    ensures shown { OnOk result (out.new ≡ out.old ++ message_line (value_of message.now)) }
+    ensures part { OnErr result (Grows out.old out.new) }
+{
+    show_message(message, out)?;
+    out.push(b'\n')
+}
+
 /// Appends the message's line and the byte that ends it:
 ///
 /// - `C TOKEN SERVICE COMMAND ARGS` for a command,
 /// - `R TOKEN ARGS` for a final result, `P TOKEN ARGS` for progress, `N TOKEN` for a command that isn't recognised,
 /// - `E SERVICE EVENT ARGS` for an event, and `F LEVEL` for flow control.
 ///
-/// Where memory runs out a part of the line may be there.
+/// Where memory runs out nothing is appended.
+#[tactic(auto, using(crate::proofs::Growth::taken_back))]
 pub fn show_line(message: &Message<'_>, out: &mut Octets) -> Result<(), AllocError>
     ensures ok { OnOk result (out.new ≡ out.old ++ message_line (value_of message.now)) }
-    ensures err { OnErr result (Grows out.old out.new) }
+    ensures err { OnErr result (out.new ≡ out.old) }
 {
-    show_message(message, out)?;
-    out.push(b'\n')
+    let length = out.len();
+    if let Err(error) = push_line(message, out) {
+        out.truncate(length);
+        return Err(error);
+    }
+    Ok(())
 }

@@ -42,10 +42,8 @@ fn show_byte(byte: u8, out: &mut Octets) -> Result<(), AllocError>
     }
 }
 
-/// Appends a word, or a part of data, as it is shown: `-` where it is empty, else each byte as it is, but for blanks,
-/// control bytes, `%` and DEL, which are shown as `%` and two upper-case hexadecimal digits. Where memory runs out a
-/// part of it may be there.
-pub fn show_part(part: &[u8], out: &mut Octets) -> Result<(), AllocError>
+/// Appends a word, or a part of data, as it is shown.
+fn push_part(part: &[u8], out: &mut Octets) -> Result<(), AllocError>
     ensures shown { OnOk result (out.new ≡ out.old ++ shown part.now) }
     ensures part { OnErr result (Grows out.old out.new) }
 {
@@ -58,13 +56,29 @@ pub fn show_part(part: &[u8], out: &mut Octets) -> Result<(), AllocError>
     Ok(())
 }
 
+/// Appends a word, or a part of data, as it is shown: `-` where it is empty, else each byte as it is, but for blanks,
+/// control bytes, `%` and DEL, which are shown as `%` and two upper-case hexadecimal digits. Where memory runs out
+/// nothing is appended.
+#[tactic(auto, using(crate::proofs::Growth::taken_back))]
+pub fn show_part(part: &[u8], out: &mut Octets) -> Result<(), AllocError>
+    ensures shown { OnOk result (out.new ≡ out.old ++ shown part.now) }
+    ensures err { OnErr result (out.new ≡ out.old) }
+{
+    let length = out.len();
+    if let Err(error) = push_part(part, out) {
+        out.truncate(length);
+        return Err(error);
+    }
+    Ok(())
+}
+
 /// Appends a blank and the word.
 pub(crate) fn show_word(word: &[u8], out: &mut Octets) -> Result<(), AllocError>
     ensures shown { OnOk result (out.new ≡ out.old ++ word_text word.now) }
     ensures part { OnErr result (Grows out.old out.new) }
 {
     out.push(b' ')?;
-    show_part(word, out)
+    push_part(word, out)
 }
 
 /// Appends what stands behind the last zero, where something does.
@@ -76,7 +90,7 @@ fn show_rest(rest: &[u8], out: &mut Octets) -> Result<(), AllocError>
         return Ok(());
     }
     out.extend(b" !")?;
-    show_part(rest, out)
+    push_part(rest, out)
 }
 
 /// Appends the parts of the data, each behind a blank.
@@ -358,22 +372,50 @@ fn write_words(line: &LogLine, out: &mut Octets) -> Result<(), AllocError>
     }
 }
 
-/// Appends the line's text and the byte that ends it. Where memory runs out a part of them may be there.
-pub fn write_line(line: &LogLine, out: &mut Octets) -> Result<(), AllocError>
-    ensures ok { OnOk result (out.new ≡ out.old ++ line_text line.now) }
-    ensures err { OnErr result (Grows out.old out.new) }
+/// Appends the line's text and the byte that ends it.
+fn push_line(line: &LogLine, out: &mut Octets) -> Result<(), AllocError>
+    ensures shown { OnOk result (out.new ≡ out.old ++ line_text line.now) }
+    ensures part { OnErr result (Grows out.old out.new) }
 {
     write_words(line, out)?;
     out.push(b'\n')
 }
 
-/// Appends the text of the log. Where memory runs out a part of it may be there.
-pub fn write_log(lines: &[LogLine], out: &mut Octets) -> Result<(), AllocError>
-    ensures ok { OnOk result (out.new ≡ out.old ++ log_text lines.now) }
-    ensures err { OnErr result (Grows out.old out.new) }
+/// Appends the lines' texts.
+fn push_log(lines: &[LogLine], out: &mut Octets) -> Result<(), AllocError>
+    ensures shown { OnOk result (out.new ≡ out.old ++ log_text lines.now) }
+    ensures part { OnErr result (Grows out.old out.new) }
 {
     for line in lines {
-        write_line(line, out)?;
+        push_line(line, out)?;
+    }
+    Ok(())
+}
+
+/// Appends the line's text and the byte that ends it. Where memory runs out nothing is appended.
+#[tactic(auto, using(crate::proofs::Growth::taken_back))]
+pub fn write_line(line: &LogLine, out: &mut Octets) -> Result<(), AllocError>
+    ensures ok { OnOk result (out.new ≡ out.old ++ line_text line.now) }
+    ensures err { OnErr result (out.new ≡ out.old) }
+{
+    let length = out.len();
+    if let Err(error) = push_line(line, out) {
+        out.truncate(length);
+        return Err(error);
+    }
+    Ok(())
+}
+
+/// Appends the text of the log. Where memory runs out nothing is appended.
+#[tactic(auto, using(crate::proofs::Growth::taken_back))]
+pub fn write_log(lines: &[LogLine], out: &mut Octets) -> Result<(), AllocError>
+    ensures ok { OnOk result (out.new ≡ out.old ++ log_text lines.now) }
+    ensures err { OnErr result (out.new ≡ out.old) }
+{
+    let length = out.len();
+    if let Err(error) = push_log(lines, out) {
+        out.truncate(length);
+        return Err(error);
     }
     Ok(())
 }

@@ -6,12 +6,13 @@ ghost use Rattle.tcf_wires.specs.Event.{can_come, faults_after, unused_after_nex
 
 use crate::event::{Put, WireEvent, WireRefusal};
 use crate::wires::Wires;
+use mio::event::Event;
 use mio::net::{TcpListener, TcpStream};
 use mio::{Events, Interest, Poll, Token};
 use std::alloc::{AllocError, Global};
 use std::io;
 use std::io::{ErrorKind, Read, Write};
-use std::net::{Net, SocketAddr};
+use std::net::{Net, Shutdown, SocketAddr};
 use std::time::Duration;
 use tcf_outside::Octets;
 
@@ -27,14 +28,51 @@ const WAITS: u32 = 500;
 /// The token by which a wait tells of peers that are to be let in; that of a connection is its channel's number.
 const PEERS: Token = Token(usize::MAX);
 
-/// A connection: the number of its channel, whether anything can still come on it, and whether something may be there that
-/// wasn't read.
+/// The most connections that are kept once they are shut.
+const MOST_ENDING: usize = 64;
+
+/// How long such a connection is kept at most, in turns of `next`. A wait that brought nothing, and a read that brought
+/// something on it, count as `LONG` turns each: so it is kept for 2 seconds where nothing comes at all, and 13 MB are
+/// read on it at most.
+const PATIENCE: u64 = 20_000;
+
+/// What a wait that brought nothing counts, in turns.
+const LONG: u64 = 100;
+
+/// What may be there on a connection that wasn't read yet.
+#[derive(Clone, Copy)]
+enum Input {
+    /// Something may be there: the connection is new, or the system told so.
+    Told,
+    /// The end of the peer's stream, or a failure, is there, perhaps behind other bytes.
+    End,
+    /// The last read brought less than it could, so most likely nothing is there. It is tried again once a wait brought
+    /// nothing.
+    Little,
+    /// A read found nothing.
+    Nothing,
+    /// The end of the peer's stream, or a failure, was read: nothing comes any more.
+    Over,
+}
+
+/// A connection: the number of its channel, and what may be there to be read.
 #[derive(Drop)]
 struct Line {
     channel: u64,
     stream: TcpStream,
-    is_heard: bool,
+    input: Input,
+}
+
+/// A connection that was shut, whose peer may still send. If it were closed while something that came isn't read, the
+/// system would take from the peer what was put last.
+#[derive(Drop)]
+struct Ending {
+    channel: u64,
+    stream: TcpStream,
+    /// Whether something may be there that wasn't read.
     is_ready: bool,
+    /// The turn at which it is closed at the latest.
+    until: u64,
 }
 
 /// The connections that the runtime reaches. A peer that is gone is told by `Lost`, and never ends the program. An
@@ -49,6 +87,10 @@ pub struct RealWires<R: Net + Drop> {
     /// Whether a peer may wait to be let in.
     has_peer: bool,
     lines: Vec<Line>,
+    /// Connections that were shut, the earliest first.
+    ending: Vec<Ending>,
+    /// The turns so far, by which those are closed in the end.
+    now: u64,
     /// Into which all pieces are read. Each is given out at its own size, so that many small ones that wait take little
     /// room.
     room: Vec<u8>,
@@ -61,20 +103,7 @@ pub struct RealWires<R: Net + Drop> {
 /// Nothing can be had or given now, which is no failure.
 fn is_passing(error: &io::Error) -> bool {
     match error.kind() {
-        ErrorKind::WouldBlock | ErrorKind::Interrupted => true,
-        _ => false,
-    }
-}
-
-/// A peer was gone before it was let in, which is no failure of the listening.
-fn is_of_peer(error: &io::Error) -> bool {
-    match error.kind() {
-        ErrorKind::ConnectionAborted
-        | ErrorKind::ConnectionReset
-        | ErrorKind::HostUnreachable
-        | ErrorKind::NetworkUnreachable
-        | ErrorKind::NetworkDown
-        | ErrorKind::TimedOut => true,
+        ErrorKind::WouldBlock | ErrorKind::Interrupted | ErrorKind::OutOfMemory => true,
         _ => false,
     }
 }
@@ -94,6 +123,8 @@ impl<R: Net + Drop> RealWires<R> {
             listener: None,
             has_peer: false,
             lines: Vec::new(alloc),
+            ending: Vec::new(alloc),
+            now: 0,
             room: Vec::new(alloc),
             turn: 0,
             unused: 0,
@@ -132,15 +163,14 @@ impl<R: Net + Drop> RealWires<R> {
         Ok(listener)
     }
 
-    /// A connection to the peer, which is waited for.
-    fn stream(&self, peer: SocketAddr) -> io::Result<TcpStream> {
+    /// A connection to the peer, which is waited for, with room for one event.
+    fn stream(&self, peer: SocketAddr, events: &mut Events) -> io::Result<TcpStream> {
         let mut stream = TcpStream::connect(&self.runtime, peer)?;
         let mut poll = Poll::new(&self.runtime)?;
-        let mut events = Events::with_capacity(self.alloc, 1)?;
         poll.registry()
             .register(&mut stream, Token(0), Interest::WRITABLE)?;
         for _ in 0..WAITS {
-            poll.poll(&mut events, Some(Duration::from_millis(WAIT)))?;
+            poll.poll(events, Some(Duration::from_millis(WAIT)))?;
             if !events.is_empty() {
                 break;
             }
@@ -149,11 +179,20 @@ impl<R: Net + Drop> RealWires<R> {
             return Err(error);
         }
         stream.peer_addr()?;
+        self.register(&mut stream)?;
         Ok(stream)
     }
 
-    /// Gives the connection a number, and has it wake a wait. What is put on it goes out at once.
-    fn admit(&mut self, mut stream: TcpStream) -> Result<u64, WireRefusal>
+    /// Has the connection that gets the next number wake a wait by that, and send each put without a delay.
+    fn register(&self, stream: &mut TcpStream) -> io::Result<()> {
+        stream.set_nodelay(true)?;
+        self.poll
+            .registry()
+            .register(stream, Token(self.unused as usize), Interest::READABLE)
+    }
+
+    /// Gives the connection the next number.
+    fn admit(&mut self, stream: TcpStream) -> Result<u64, WireRefusal>
         ensures new { IfOk result (λ channel. channel ≡ self.old.unused) }
         ensures numbers { self.new.unused ≡ unused_after_connect result self.old.unused }
         ensures cause { self.new.faults ≡ faults_after result self.old.faults }
@@ -162,28 +201,18 @@ impl<R: Net + Drop> RealWires<R> {
         let Some(unused) = channel.checked_add(1) else {
             return Err(self.failed());
         };
-        if let Err(error) = self.register(&mut stream, channel) {
-            return Err(self.refused(&error));
-        }
         self.lines.push(Line {
             channel,
             stream,
-            is_heard: true,
-            is_ready: true,
+            input: Input::Told,
         })?;
         self.unused = unused;
         Ok(channel)
     }
 
-    /// Has a connection wake a wait by its channel's number, and send each put without a delay.
-    fn register(&self, stream: &mut TcpStream, channel: u64) -> io::Result<()> {
-        stream.set_nodelay(true)?;
-        self.poll
-            .registry()
-            .register(stream, Token(channel as usize), Interest::READABLE)
-    }
-
-    /// Lets a peer in that waits; `Idle` where there is none.
+    /// Lets a peer in that waits; `Idle` where there is none. A connection that can't be had or set up, since the
+    /// system has no room for it or the peer has gone, is as if it had never come. The listener is asked again the next
+    /// time, since the system may not tell again of a peer that waits already.
     fn accept(&mut self) -> Result<WireEvent, WireRefusal>
         ensures can { IfOk result (λ event. IsTrue (can_come self.old.unused event)) }
         ensures goes_on { result ≡ Ok WireEvent.Stop → ⊥ }
@@ -198,13 +227,18 @@ impl<R: Net + Drop> RealWires<R> {
             return Ok(WireEvent::Idle);
         };
         match listener.accept() {
-            Ok((stream, _)) => Ok(WireEvent::Opened(self.admit(stream)?)),
+            Ok((mut stream, _)) => match self.register(&mut stream) {
+                Ok(()) => Ok(WireEvent::Opened(self.admit(stream)?)),
+                Err(_) => Ok(WireEvent::Idle),
+            },
             Err(error) if error.kind() == ErrorKind::WouldBlock => {
                 self.has_peer = false;
                 Ok(WireEvent::Idle)
             }
-            Err(error) if is_passing(&error) || is_of_peer(&error) => Ok(WireEvent::Idle),
-            Err(error) => Err(self.refused(&error)),
+            Err(_) => {
+                make_room(&mut self.ending);
+                Ok(WireEvent::Idle)
+            }
         }
     }
 
@@ -218,29 +252,30 @@ impl<R: Net + Drop> RealWires<R> {
         let Some(line) = self.lines.get_mut(at) else {
             return Ok(WireEvent::Idle);
         };
-        if !line.is_heard || !line.is_ready {
-            return Ok(WireEvent::Idle);
+        match line.input {
+            Input::Told | Input::End => {}
+            _ => return Ok(WireEvent::Idle),
         }
         self.room.resize(MOST, 0)?;
         let mut reader = &line.stream;
         match reader.read(&mut self.room) {
             Ok(0) => {
-                line.is_heard = false;
+                line.input = Input::Over;
                 Ok(WireEvent::Ended(line.channel))
             }
             Ok(count) => {
+                line.input = line.input.after(count);
                 let bytes = self.room.as_slice().get(..count).unwrap_or(&[]);
                 let piece = Octets::from_slice(self.alloc, bytes)?;
                 Ok(WireEvent::Piece(line.channel, piece))
             }
             Err(error) if error.kind() == ErrorKind::WouldBlock => {
-                line.is_ready = false;
+                line.input = Input::Nothing;
                 Ok(WireEvent::Idle)
             }
             Err(error) if is_passing(&error) => Ok(WireEvent::Idle),
-            Err(error) if error.kind() == ErrorKind::OutOfMemory => Err(WireRefusal::NoMemory),
             Err(_) => {
-                line.is_heard = false;
+                line.input = Input::Over;
                 Ok(WireEvent::Lost(line.channel))
             }
         }
@@ -284,21 +319,117 @@ impl<R: Net + Drop> RealWires<R> {
                     if event.token() == PEERS {
                         self.has_peer = true;
                     }
-                    wake(&mut self.lines, event.token());
+                    wake(&mut self.lines, event);
+                    wake_ending(&mut self.ending, event);
                 }
-                Ok(!self.events.is_empty())
+                let has_come = !self.events.is_empty();
+                if !has_come {
+                    self.now = self.now.saturating_add(LONG);
+                    look_again(&mut self.lines);
+                }
+                Ok(has_come)
             }
             Err(error) if is_passing(&error) => Ok(false),
             Err(error) => Err(self.refused(&error)),
         }
     }
+
+    /// Ends the stream of a connection that is shut. It is kept until its peer has ended too, unless nothing can be
+    /// had of it any more or there is no memory for it.
+    fn end(&mut self, line: Line)
+        ensures numbers { self.new.unused ≡ self.old.unused }
+        ensures cause { self.new.faults ≡ self.old.faults }
+    {
+        if let Input::Over = line.input {
+            return;
+        }
+        if line.stream.shutdown(Shutdown::Write).is_err() || self.room.resize(MOST, 0).is_err() {
+            return;
+        }
+        if self.ending.len() >= MOST_ENDING {
+            make_room(&mut self.ending);
+        }
+        let ending = Ending {
+            channel: line.channel,
+            stream: line.stream,
+            is_ready: true,
+            until: self.now.saturating_add(PATIENCE),
+        };
+        drop(self.ending.push(ending));
+    }
 }
 
-/// Something may have come on the connection of this token.
-fn wake(lines: &mut [Line], token: Token) {
+impl Input {
+    /// What may be there after a read of so many bytes. The system tells again of what comes later, but not of an end
+    /// that it has told of.
+    fn after(self, count: usize) -> Input {
+        match self {
+            Input::Told if count < MOST => Input::Little,
+            input => input,
+        }
+    }
+}
+
+impl Ending {
+    /// Reads once what came, and drops it.
+    fn drain(&mut self, room: &mut [u8]) {
+        if !self.is_ready {
+            return;
+        }
+        let mut reader = &self.stream;
+        match reader.read(room) {
+            Ok(0) => self.until = 0,
+            Ok(_) => self.until = self.until.saturating_sub(LONG),
+            Err(error) if error.kind() == ErrorKind::WouldBlock => self.is_ready = false,
+            Err(error) if is_passing(&error) => {}
+            Err(_) => self.until = 0,
+        }
+    }
+}
+
+/// Drops what came on connections that were shut, and closes those whose peer has ended or that were kept long enough.
+fn drain(ending: &mut Vec<Ending>, room: &mut [u8], now: u64) {
+    for one in ending.iter_mut() {
+        one.drain(room);
+    }
+    ending.retain(|one| now < one.until);
+}
+
+/// Closes the connection that was shut first.
+fn make_room(ending: &mut Vec<Ending>) {
+    if !ending.is_empty() {
+        drop(ending.remove(0));
+    }
+}
+
+/// Something may have come on the connection of this event's token.
+fn wake(lines: &mut [Line], event: &Event) {
     for line in lines {
-        if Token(line.channel as usize) == token {
-            line.is_ready = true;
+        if Token(line.channel as usize) == event.token() {
+            line.input = match line.input {
+                Input::Over => Input::Over,
+                _ if event.is_read_closed() || event.is_error() => Input::End,
+                Input::End => Input::End,
+                _ => Input::Told,
+            };
+        }
+    }
+}
+
+/// The same of connections that were shut.
+fn wake_ending(ending: &mut [Ending], event: &Event) {
+    for one in ending {
+        if Token(one.channel as usize) == event.token() {
+            one.is_ready = true;
+        }
+    }
+}
+
+/// Connections whose last read brought less than it could are read once more, in case that something was left.
+fn look_again(lines: &mut [Line]) {
+    for line in lines {
+        if let Input::Little = line.input {
+            line.input = Input::Told;
         }
     }
 }
@@ -340,9 +471,10 @@ impl<R: Net + Drop> Wires for RealWires<R> {
             return Err(self.failed());
         };
         self.lines.try_reserve(1)?;
-        match self.stream(peer) {
+        let mut events = Events::with_capacity(self.alloc, 1)?;
+        match self.stream(peer, &mut events) {
             Ok(stream) => self.admit(stream),
-            Err(error) => Err(self.refused(&error)),
+            Err(_) => Err(self.failed()),
         }
     }
 
@@ -353,6 +485,8 @@ impl<R: Net + Drop> Wires for RealWires<R> {
         ensures numbers { self.new.unused ≡ unused_after_next result self.old.unused }
         ensures cause { self.new.faults ≡ faults_after result self.old.faults }
     {
+        self.now = self.now.saturating_add(1);
+        drain(&mut self.ending, &mut self.room, self.now);
         let most = self.lines.len().saturating_add(2);
         for _ in 0..most {
             match self.ready()? {
@@ -377,7 +511,6 @@ impl<R: Net + Drop> Wires for RealWires<R> {
         match written {
             Ok(count) => Put::Took(count),
             Err(error) if is_passing(&error) => Put::Took(0),
-            Err(error) if error.kind() == ErrorKind::OutOfMemory => Put::NoMemory,
             Err(_) => {
                 self.faults = self.faults.saturating_add(1);
                 Put::Lost
@@ -385,8 +518,13 @@ impl<R: Net + Drop> Wires for RealWires<R> {
         }
     }
 
+    /// The peer is sent what was put and then the end. What it still sends is dropped, for 2 seconds at most where
+    /// nothing else comes.
     fn shut(&mut self, channel: u64) -> Result<(), AllocError> {
-        self.lines.retain(|line| line.channel != channel);
+        if let Some(at) = self.lines.iter().position(|line| line.channel == channel) {
+            let line = self.lines.remove(at);
+            self.end(line);
+        }
         Ok(())
     }
 }

@@ -18,7 +18,7 @@ use Rattle.tcf_values.specs.declared.command.Command.TheVariants.{Sync, GetPeers
 use Rattle.value_node.specs.Own.{is_peer, own_by as own_of, own_named, own_reply, own_to, unknown_peer}
 use Rattle.value_node.specs.declared.own.Own.{Own}
 use Rattle.value_node.specs.declared.own.Own.TheVariants as own
-use Rattle.command_tables.proofs.TheLaws.{readings_are_legal}
+use Rattle.command_tables.proofs.TheLaws.{known_are_readable, readings_are_legal}
 use Rattle.service_names.proofs.TheLaws.{names_are_exact}
 
 abbrev pub IsReplyTo : List ℕ → List ℕ → Own → Type 0
@@ -56,7 +56,7 @@ reply_to peer service name c at is = tt
 
 reply_by : (peer service name : List ℕ) (command : CommandName) (reading : Reading) → service ≡ locator → IsReading service name reading → IsReplyTo service name (own_of peer command reading)
 unfolding own_of
-reply_by peer service name command (Known c) at read = reply_to peer service name c at read.0
+reply_by peer service name command (Known c) at read = reply_to peer service name c at (known_are_readable service name c read).0
 reply_by peer service name command IsUnknown at read = tt
 reply_by peer service name command (Bad index code) at read = at
 

@@ -19,9 +19,9 @@ above_with spent upper v = record { relay = record v.relay { upper = upper }; is
 abbrev with_queue : List Outgoing → Upper → Upper
 with_queue queue e = record e { queued = queue }
 
-record IsNext (side : Side) (v next : ValueValue) (out : Outgoing) : Type 0 where
-  queue : queue_on side v ≡ out ∷ queue_on side next
-  same : emptied side next ≡ emptied side v
+pub record IsNext (side : Side) (v next : ValueValue) (out : Outgoing) : Type 0 where
+  pub queue : queue_on side v ≡ out ∷ queue_on side next
+  pub same : emptied side next ≡ emptied side v
 
 below_next : (spent : Bool) (queue : List Outgoing) (v : ValueValue) (out : Outgoing) → given Below (below_with spent queue v) ≡ Some out
     → IsNext Below (below_with spent queue v) (after_giving Below (below_with spent queue v)) out
@@ -42,14 +42,14 @@ above_next true upper v out is = absurd (none-some out is)
 above_next false None v out is = absurd (none-some out is)
 above_next false (Some e) v out is = upper_next e.queued e v out is
 
-next_of : (side : Side) (v : ValueValue) (out : Outgoing) → given side v ≡ Some out → IsNext side v (after_giving side v) out
+pub next_of : (side : Side) (v : ValueValue) (out : Outgoing) → given side v ≡ Some out → IsNext side v (after_giving side v) out
 next_of Below v out is = below_next v.is_spent v.relay.lower.queued v out is
 next_of Above v out is = above_next v.is_spent v.relay.upper v out is
 
 -- one that gives nothing has nothing to send
-record IsLast (side : Side) (v next : ValueValue) : Type 0 where
-  queue : queue_on side v ≡ []
-  same : next ≡ emptied side v
+pub record IsLast (side : Side) (v next : ValueValue) : Type 0 where
+  pub queue : queue_on side v ≡ []
+  pub same : next ≡ emptied side v
 
 below_last : (spent : Bool) (queue : List Outgoing) (v : ValueValue) → given Below (below_with spent queue v) ≡ None
     → IsLast Below (below_with spent queue v) (after_giving Below (below_with spent queue v))
@@ -71,7 +71,7 @@ above_last true upper v is = record { queue = refl; same = refl }
 above_last false None v is = record { queue = refl; same = refl }
 above_last false (Some e) v is = upper_last e.queued e v is
 
-last_of : (side : Side) (v : ValueValue) → given side v ≡ None → IsLast side v (after_giving side v)
+pub last_of : (side : Side) (v : ValueValue) → given side v ≡ None → IsLast side v (after_giving side v)
 last_of Below v is = below_last v.is_spent v.relay.lower.queued v is
 last_of Above v is = above_last v.is_spent v.relay.upper v is
 

@@ -19,6 +19,7 @@ use Rattle.value_serving.specs.Following.{BreaksOff, Goes}
 use Rattle.value_serving.specs.Process.{done}
 use Rattle.value_serving.specs.Sending.{opened_by}
 use Rattle.value_serving.specs.Serve.{IsInPlace, Serves, ServesValueAdds}
+use Rattle.value_serving.specs.Served.{AreValueAdds}
 use Rattle.value_serving.specs.Serving.{handled}
 use Rattle.value_serving.specs.ServingValue.{ServingValue}
 use Rattle.value_serving.specs.Standing.{State, nodes_in, state_after}
@@ -34,6 +35,7 @@ use Rattle.serving_wires.proofs.Flushed.{flushed_more, gives_up}
 use Rattle.value_serving.proofs.Landed.{event_keeps, goes_keeps, holds_more, landed_fronts}
 use Rattle.value_serving.proofs.Placed.{ArePuts, puts_heard, puts_placed, state_stays}
 use Rattle.value_serving.proofs.Running.{Heeding, Resting, Running, event_in_place, heeded, heeding, heeds_more, listens_on, no_breaking_in, no_listening_in, rests_fronts, rests_so, runs_fronts, served_so, settled, settles, turn_split, turned, with_event}
+use Rattle.value_serving.proofs.Separate.{landed_served, rests_served}
 use Rattle.value_serving.proofs.Standing.{by_wires, wires_keep}
 
 pub stopped : WireLaws → (peer address : List ℕ) (turns count : ℕ) (real new : ServingValue) (unused unused_then : ℕ) (calls more : List WireCall) → count < turns
@@ -44,6 +46,7 @@ stopped laws peer address turns count real new unused unused_then calls more wit
       listens = inl then.listens;
       serves = then.serves;
       fronts = rests_fronts laws peer new.adds new.sending unused_then (calls ++ more) then.stands;
+      served = rests_served peer new.adds new.sending unused_then (calls ++ more) then.stands;
       rests = λ other. rests_so peer new.adds new.sending unused_then (calls ++ more) then.stands;
       settled = λ other some. settled laws peer new.adds new.sending unused_then (calls ++ more) then.stands then.flushed then.rises;
       ends = record {
@@ -63,6 +66,7 @@ all_taken laws peer address turns count real unused calls all r =
       listens = inl r.listens;
       serves = r.serves;
       fronts = runs_fronts laws peer address count real unused calls r;
+      served = rests_served peer real.adds real.sending unused calls r.stands;
       rests = λ other. rests_so peer real.adds real.sending unused calls r.stands;
       settled = λ other some. settles laws peer address count real unused calls r some;
       ends = record { counted = r.counted ∙ all; goes_on = r.goes_on; sound = r.sound };
@@ -83,6 +87,7 @@ broken laws peer address turns count real unused calls within r =
       listens = inl (listens_on address calls failed refl r.listens);
       serves = each_more (IsInPlace peer) calls failed r.serves (event_in_place laws peer address count real unused calls (Err refusals.Failed) r);
       fronts = rests_fronts laws peer real.adds real.sending unused now stands;
+      served = rests_served peer real.adds real.sending unused now stands;
       rests = λ other. rests_so peer real.adds real.sending unused now stands;
       settled = λ other some.
           settled laws peer real.adds real.sending unused now stands
@@ -101,12 +106,13 @@ broken laws peer address turns count real unused calls within r =
 -- ---- memory was wanting
 
 wanting : (peer address : List ℕ) (turns : ℕ) (event : WireEvent) (calls now : List WireCall) → Heeding peer address event calls now → AreFronts (nodes_in (state_after peer now)) now
-    → ServesValueAdds peer address turns NoMemory now
-wanting peer address turns event calls now h fronts =
+    → AreValueAdds peer (state_after peer now) → ServesValueAdds peer address turns NoMemory now
+wanting peer address turns event calls now h fronts served =
     record {
       listens = inl h.listens;
       serves = h.serves;
       fronts = fronts;
+      served = served;
       rests = λ other. absurd (other refl);
       settled = λ other some. absurd (other refl);
       ends = h.sound;
@@ -119,6 +125,7 @@ nothing_more laws peer address turns count real unused calls r =
       listens = inl r.listens;
       serves = r.serves;
       fronts = runs_fronts laws peer address count real unused calls r;
+      served = rests_served peer real.adds real.sending unused calls r.stands;
       rests = λ other. absurd (other refl);
       settled = λ other some. absurd (other refl);
       ends = r.sound;
@@ -134,12 +141,14 @@ cut_at_event laws peer address turns count real unused calls event connects can 
     wanting peer address turns event calls (with_event calls event connects)
     (heeds_more peer address event calls at connects h.in_place h.no_event h.sound h.inside h.puts (heeding laws peer address count real unused calls event r))
     (landed_fronts laws peer real.adds b.news b.later (with_event calls event connects) b.to h.landed)
+    (landed_served peer real.adds b.news b.later (with_event calls event connects) b.to h.landed)
 
 -- in the puts
 record PutsInPart (peer address : List ℕ) (now : List WireCall) : Type 0 where
   listens : ListensFirst address now
   serves : Serves peer now
   fronts : AreFronts (nodes_in (state_after peer now)) now
+  served : AreValueAdds peer (state_after peer now)
   sound : list_any breaks now ≡ false
 
 puts_in_part : WireLaws → (peer address : List ℕ) (event : WireEvent) (adds : List (Row Add)) (sending : List (Row OutboxValue)) (unused : ℕ) (calls at puts : List WireCall)
@@ -153,12 +162,13 @@ puts_in_part laws peer address event adds sending unused calls at puts h st up =
       serves = each_more (IsInPlace peer) at puts h.serves (puts_placed peer at puts are (rests_so peer adds sending unused at st) u.in_place);
       fronts = subst (λ (s : State). AreFronts (nodes_in s) (at ++ puts)) (sym (state_stays peer at puts (puts_heard puts are)))
           (fronts_behind nodes at puts u.in_place u.no_event (rests_fronts laws peer adds sending unused at st));
+      served = subst (λ (s : State). AreValueAdds peer s) (sym (state_stays peer at puts (puts_heard puts are))) (rests_served peer adds sending unused at st);
       sound = none_of_both breaks at puts h.sound (no_breaking_in puts u.sound);
     }
 
 given_up : (peer address : List ℕ) (turns : ℕ) (now : List WireCall) → PutsInPart peer address now → ServesValueAdds peer address turns NoMemory now
 given_up peer address turns now p =
-    record { listens = inl p.listens; serves = p.serves; fronts = p.fronts; rests = λ other. absurd (other refl); settled = λ other some. absurd (other refl); ends = p.sound }
+    record { listens = inl p.listens; serves = p.serves; fronts = p.fronts; served = p.served; rests = λ other. absurd (other refl); settled = λ other some. absurd (other refl); ends = p.sound }
 
 pub cut_short : WireLaws → (peer address : List ℕ) (turns count : ℕ) (real : ServingValue) (unused : ℕ) (calls more : List WireCall)
     → Running peer address count real unused calls → IsCutShort real unused more → ServesValueAdds peer address turns NoMemory (calls ++ more)

@@ -14,3 +14,14 @@ pub mod Connecting
 mod Rounds
 mod Results
 mod Hearing
+mod Wires
+mod Giving
+mod Making
+mod Working
+mod Rested
+mod ServedAdds
+mod Separate
+mod Idle
+mod UntilNothing
+mod NothingLeft
+mod Crowd

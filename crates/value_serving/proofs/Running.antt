@@ -96,6 +96,7 @@ nothing_yet peer address turns =
       listens = inr (refl, refl);
       serves = each_none (IsInPlace peer) [];
       fronts = λ channel. ((nodes_in (state_after peer [])).served [] channel, refl);
+      served = tt;
       rests = λ other. absurd (other refl);
       settled = λ other some. absurd (other refl);
       ends = refl;
@@ -107,6 +108,7 @@ no_listener peer address turns =
       listens = inl (record { answer = Err refusals.Failed; later = []; first = refl; once = refl });
       serves = each_one (IsInPlace peer) [] (Listened address (Err refusals.Failed)) refl;
       fronts = λ channel. ((nodes_in (state_after peer [])).served [] channel, refl);
+      served = tt;
       rests = λ other. refl;
       settled = λ other some. absurd (some refl);
       ends = record { earlier = []; last = Listened address (Err refusals.Failed); split = refl; fails_last = no_listening address refl; goes_on = refl; sound = refl };

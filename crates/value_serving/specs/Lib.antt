@@ -7,5 +7,8 @@ pub mod ServingValue
 pub mod Serving
 pub mod Following
 pub mod Standing
+pub mod Served
+pub mod Left
+pub mod Limits
 pub mod Serve
 pub mod Turn

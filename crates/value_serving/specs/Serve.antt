@@ -7,6 +7,7 @@ use Rattle.tcf_wires.specs.declared.call.WireCall.TheVariants.{Listened, Connect
 use Rattle.serving_wires.specs.Calls.{channels_put, events_in, shut_count}
 use Rattle.serving_wires.specs.Serving.{AreFronts, Each, IsCarried, IsOffer, ListensFirst, breaks}
 use Rattle.serving_wires.specs.Ends.{EndsSo}
+use Rattle.value_serving.specs.Served.{AreValueAdds}
 use Rattle.value_serving.specs.Standing.{Sent, is_resting, nodes_in, state_after, wire_on}
 use Rattle.serving_wires.specs.declared.end.ServeEnd.{ServeEnd}
 use Rattle.serving_wires.specs.declared.end.ServeEnd.TheVariants.{NoMemory}
@@ -72,6 +73,8 @@ pub record ServesValueAdds (peer address : List ℕ) (turns : ℕ) (end : ServeE
   pub listens : ListensFirst address calls ⊎ ((calls ≡ []) × (end ≡ NoMemory))
   pub serves : Serves peer calls
   pub fronts : AreFronts (nodes_in (state_after peer calls)) calls
+  -- what is served are value-adds, and what is queued for their wires is what they gave out
+  pub served : AreValueAdds peer (state_after peer calls)
   pub rests : end ≢ NoMemory → Rests peer calls
   pub settled : end ≢ NoMemory → events_in calls ≢ [] → IsSettled peer calls
   pub ends : EndsSo breaks turns end calls

@@ -2,10 +2,12 @@
 #![tactic(auto)]
 
 mod add;
+pub mod laws;
 mod passing;
 mod sending;
 pub mod serve;
 mod serving;
 
+pub use laws::{no_more_than_64_stand, nothing_is_left_to_do, what_is_served_are_value_adds};
 pub use serve::serve_value;
 pub use serving_wires::ServeEnd;

@@ -9,7 +9,7 @@ use Rattle.list_laws.proofs.AllLists.{all_map_then}
 use Rattle.list_laws.specs.Fronts.{IsFront}
 use Rattle.list_laws.proofs.Fronts.{front_none, front_same}
 use Rattle.chain_heard.specs.Heard.{Heard, HeardAll, HeardNoTarget, asked_as}
-use Rattle.chain_route.specs.Carrying.{Carries, End, end_of, value_of}
+use Rattle.chain_route.specs.Carrying.{Carries, End, agent_end, end_of, value_of}
 use Rattle.chain_route.specs.Runs.{RouteRun}
 use Rattle.chain_through.specs.Calling.{Calls, entering}
 use Rattle.chain_through.specs.Through.{AllTold, KnowsTruth, Through, top_end}
@@ -73,7 +73,7 @@ module _ (images : List Image) (r : AgentRun) (follows : AgentFollowsHistory ima
   lower = end_of run.past.client
 
   abbrev pub agent : End
-  agent = end_of run.past.agent
+  agent = agent_end run.past.agent
 
   abbrev pub commands : List Asked
   commands = map asked_as (sent_commands s.calls s.names)
@@ -196,7 +196,7 @@ module _ (images : List Image) (r : AgentRun) (follows : AgentFollowsHistory ima
 
       by_channel : (channel : Option ℕ) → chain.channel ≡ channel → TalksOn channel run.past r.channels → Hears
       by_channel None is (inl never) = unreached is (inl never.1)
-      by_channel None is (inr gave) = unreached is (inr gave)
+      by_channel None is (inr refused) = unreached is (inr refused.1)
       by_channel (Some k) is talks = by_past k is talks.0 (past_at k r.channels) refl talks.1
 
   -- what the agent says, whether it opened the channel or not
@@ -217,7 +217,7 @@ module _ (images : List Image) (r : AgentRun) (follows : AgentFollowsHistory ima
       by_channel : (channel : Option ℕ) → chain.channel ≡ channel → TalksOn channel run.past r.channels
           → AgentSpeaks images r.history (told_on images r.history (past_on channel r.channels)) agent.gave (top_end lower carries.made).gave
       by_channel None is (inl never) = nothing_said (inl never.1)
-      by_channel None is (inr gave) = nothing_said (inr gave)
+      by_channel None is (inr refused) = nothing_said (inr refused.1)
       by_channel (Some k) is talks = by_past k is talks.0 (past_at k r.channels) refl talks.1
 
   -- all that is said down the way is told rightly

@@ -135,7 +135,7 @@ module _ (images : List Image) (r : AgentRun) (follows : AgentFollowsHistory ima
 
         by_channel : (channel : Option ℕ) → chain.channel ≡ channel → TalksOn channel way_is.past r.channels → IsSoundWay
         by_channel None is (inl never) = sound_way [] (speaks_nothing images r.history high.gave above (inl never.1)) tt (λ yes. refl) (λ yes. subst (IsRefusedUnder r.history) (sym is) tt)
-        by_channel None is (inr gave) = sound_way [] (speaks_nothing images r.history high.gave above (inr gave)) tt (λ yes. refl) (λ yes. subst (IsRefusedUnder r.history) (sym is) tt)
+        by_channel None is (inr refused) = sound_way [] (speaks_nothing images r.history high.gave above (inr refused.1)) tt (λ yes. refl) (λ yes. subst (IsRefusedUnder r.history) (sym is) tt)
         by_channel (Some k) is talks = by_past k is talks.0 (past_at k r.channels) refl talks.1
 
     -- ---- Its value-adds

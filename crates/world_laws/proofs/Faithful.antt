@@ -98,6 +98,7 @@ module _ (images : List Image) (r : AgentRun) (follows : AgentFollowsHistory ima
 
     once_each : Once (is_quiet chain r.agent) chain.client.log
     once_each = record {
+      counted = once.counted;
       answers = once.answers;
       all_at_end = once.all_at_end;
       nothing_after = once.nothing_after;

@@ -28,5 +28,6 @@ pub mod EndsOfClients
 pub mod EndsOfAdds
 pub mod EndsOfAgents
 pub mod Ends
+pub mod StepLines
 pub mod Playable
 pub mod TheLaws

@@ -14,10 +14,11 @@ use Rattle.tcf_schedules.specs.Schedule.{ScheduleValue, images_in, schedule_of}
 use Rattle.tcf_schedules.specs.Words.{bytes_of, bytes_or_none, dash_word}
 use Rattle.tcf_schedules.specs.declared.schedule.ChainHead.{ChainHead}
 use Rattle.tcf_schedules.specs.declared.schedule.NamedImage.{NamedImage}
-use Rattle.world_laws.specs.Playing.{CoherentOfEveryFile, EndsOfEveryFile, FreshOfEveryFile, HoldsOfEveryFile, ReadIsPlayable, UnstuckOfEveryFile}
+use Rattle.world_laws.specs.Playing.{CoherentOfEveryFile, EndsOfEveryFile, FreshOfEveryFile, HoldsOfEveryFile, ReadIsPlayable, StepsOfEveryFile, UnstuckOfEveryFile}
 use Rattle.tcf_schedules.proofs.TheLaws.{reads_what_is_said, reads_within}
 use Rattle.world_laws.proofs.Ends.{ends_rightly}
 use Rattle.world_laws.proofs.Faithful.{coherent, faithful, fresh, unstuck}
+use Rattle.world_laws.proofs.StepLines.{log_says_steps}
 
 -- ---- The steps
 
@@ -81,6 +82,9 @@ file_faithful file s read = faithful (images_of s.images) (adds_of s.chains) s.p
 
 pub file_ends : EndsOfEveryFile
 file_ends file s read = ends_rightly (images_of s.images) (adds_of s.chains) s.plans (read_playable file s read)
+
+pub file_steps : StepsOfEveryFile
+file_steps file s read = log_says_steps (images_of s.images) (adds_of s.chains) s.plans (read_playable file s read)
 
 file_typed : (file : List ℕ) (s : ScheduleValue) → schedule_of file ≡ Ok s → AreTyped (images_of s.images)
 file_typed file s read =

@@ -36,9 +36,9 @@ module _ (images : List Image) (r : AgentRun) (follows : AgentFollowsHistory ima
           record { queued = given; inbox = ap (λ e. e.inbox) (sym end) ∙ taken.inbox; stop = ap (λ e. e.stop) (sym end) ∙ taken.stop }
 
   pub channel_served : (channel : Option ℕ) (talk : Talk) → is_last_quiet channel r.agent ≡ true → IsAgentSide (option_map side_of_channel (past_on channel r.channels)) talk → IsServedOrRefused talk
-  channel_served None talk quiet gave = inr gave
+  channel_served None talk quiet refused = inr refused.1
   channel_served (Some k) talk quiet is = by_past (past_at k r.channels) refl is
     where
       by_past : (there : Option Past) → past_at k r.channels ≡ there → IsAgentSide (option_map side_of_channel there) talk → IsServedOrRefused talk
-      by_past None none gave = inr gave
+      by_past None none refused = inr refused.1
       by_past (Some past) some channel = inl (side_of_channel past, record { channel = channel; still = end_still k past some quiet channel.given })

@@ -6,7 +6,7 @@ use Rattle.node_answers.specs.AgentAnswering.{ServesAll}
 use Rattle.chain_quiet.specs.Hops.{IsAgentSide}
 use Rattle.chain_quiet.proofs.Hops.Connections.{last_lives}
 use Rattle.chain_quiet.specs.Stuck.{IsChannel, IsReadable, end_of_side, last_is_live}
-use Rattle.chain_route.specs.Carrying.{AllCarry, Carries, end_of, value_of}
+use Rattle.chain_route.specs.Carrying.{AllCarry, Carries, agent_end, end_of, value_of}
 use Rattle.chain_route.specs.Route.{is_live, last_of}
 use Rattle.chain_route.specs.Runs.{Past as WayPast, RouteRun, Talk, after_all as way_after, no_calls as way_begun}
 use Rattle.chain_world.proofs.Pasts.{at_all}
@@ -32,6 +32,7 @@ past_on (Some k) pasts = past_at k pasts
 
 is_channel : (past : Past) (talk : Talk) → ServesAll past → Talks (Some past) talk → IsChannel (side_of_channel past) talk
 is_channel past talk all talks = record {
+  opened = talks.refused;
   gave = talks.gave;
   given = talks.given;
   came = λ opened. talks.came (ap not opened);
@@ -58,7 +59,7 @@ agent_by pasts serves None p live (inr gave) unreached is = gave
 agent_by pasts serves (Some k) p live talks unreached is = by_past (past_at k pasts) talks.1 (channel_by pasts serves (Some k) p talks)
   where
     by_past : (there : Option Past) → Talks there p.agent → IfSome (option_map side_of_channel there) (λ a. IsChannel a p.agent) → IsAgentSide (option_map side_of_channel there) p.agent
-    by_past None talk opened = talk.gave
+    by_past None talk opened = (talk.refused, talk.gave)
     by_past (Some past) talk opened = opened
 
 -- ---- The chain at this moment
@@ -78,9 +79,9 @@ module _ (pasts : List Past) (plans : List Plan) (at adds : ℕ) (chain : ChainV
   client_is =
       let talk = way.past.client in
       let gave : talk.gave ≡ (run_of client_side).past.given = s.gave ∙ (clients_end_is_a_run s.calls).given in
-      ap (λ (outs : List Outgoing). record { gave = outs; came = bytes_of talk.got; is_lost = talk.is_lost }) gave
-      ∙ ap (λ (bytes : List Marked). record { gave = (run_of client_side).past.given; came = bytes; is_lost = talk.is_lost }) s.got
-      ∙ ap (λ (lost : Bool). record { gave = (run_of client_side).past.given; came = arrived (end_calls s.calls new_client); is_lost = lost }) s.lost
+      ap (λ (outs : List Outgoing). record { gave = outs; came = bytes_of talk.got; is_lost = talk.is_lost; is_refused = false }) gave
+      ∙ ap (λ (bytes : List Marked). record { gave = (run_of client_side).past.given; came = bytes; is_lost = talk.is_lost; is_refused = false }) s.got
+      ∙ ap (λ (lost : Bool). record { gave = (run_of client_side).past.given; came = arrived (end_calls s.calls new_client); is_lost = lost; is_refused = false }) s.lost
 
   pub client_readable : IsReadable client_side
   client_readable = record { formed = client_hello; readable = all_readable (end_calls s.calls new_client) (clients_end_is_a_run s.calls).sendings }
@@ -91,8 +92,8 @@ module _ (pasts : List Past) (plans : List Plan) (at adds : ℕ) (chain : ChainV
   pub adds_are : chain.route.adds ≡ map value_of way_carries.made
   adds_are = ap (λ route. route.adds) s.way ∙ way_carries.adds
 
-  pub hops_carry : AllCarry (end_of_side client_side) way.route.hops way_carries.made (end_of way.past.agent)
-  hops_carry = subst (λ e. AllCarry e way.route.hops way_carries.made (end_of way.past.agent)) client_is way_carries.hops
+  pub hops_carry : AllCarry (end_of_side client_side) way.route.hops way_carries.made (agent_end way.past.agent)
+  hops_carry = subst (λ e. AllCarry e way.route.hops way_carries.made (agent_end way.past.agent)) client_is way_carries.hops
 
   pub agent_channel : AllByRecursion ServesAll pasts → IfSome (option_map side_of_channel (past_on chain.channel pasts)) (λ a. IsChannel a way.past.agent)
   agent_channel serves = channel_by pasts serves chain.channel way.past s.talks

@@ -1,5 +1,5 @@
 -- The laws of every schedule and of every file, as terms.
-use Rattle.world_laws.specs.Playing.{CoherentOfEveryFile, EndsOfEveryFile, FreshOfEveryFile, HoldsOfEveryFile, ReadIsPlayable, UnstuckOfEveryFile}
+use Rattle.world_laws.specs.Playing.{CoherentOfEveryFile, EndsOfEveryFile, FreshOfEveryFile, HoldsOfEveryFile, ReadIsPlayable, StepsOfEveryFile, UnstuckOfEveryFile}
 use Rattle.world_laws.proofs.Playable as playable
 
 pub read_playable : ReadIsPlayable
@@ -10,6 +10,9 @@ file_faithful = playable.file_faithful
 
 pub file_ends : EndsOfEveryFile
 file_ends = playable.file_ends
+
+pub file_steps : StepsOfEveryFile
+file_steps = playable.file_steps
 
 pub file_coherent : CoherentOfEveryFile
 file_coherent = playable.file_coherent

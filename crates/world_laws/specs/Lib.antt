@@ -1,4 +1,5 @@
 pub mod WorldLaws
 pub mod EndLaws
+pub mod StepLaws
 pub mod Playing
 pub mod HopLaws

@@ -1,7 +1,8 @@
 //! The laws of whole chains, over every schedule.
 ghost use Rattle.world_laws.specs.EndLaws.{EndsRightlyAfterEverySchedule};
 ghost use Rattle.world_laws.specs.HopLaws.{HopsStandAfterEverySchedule};
-ghost use Rattle.world_laws.specs.Playing.{CoherentOfEveryFile, EndsOfEveryFile, FreshOfEveryFile, HoldsOfEveryFile, ReadIsPlayable, UnstuckOfEveryFile};
+ghost use Rattle.world_laws.specs.Playing.{CoherentOfEveryFile, EndsOfEveryFile, FreshOfEveryFile, HoldsOfEveryFile, ReadIsPlayable, StepsOfEveryFile, UnstuckOfEveryFile};
+ghost use Rattle.world_laws.specs.StepLaws.{LogSaysSteps};
 ghost use Rattle.world_laws.specs.WorldLaws.{CoherentAfterEverySchedule, FaithfulAfterEverySchedule, FreshAfterEverySchedule, NothingStuckAfterEverySchedule};
 
 /// The law that after every schedule of so many chains, of any length, the history of the target is legal, and that the log
@@ -10,7 +11,9 @@ ghost use Rattle.world_laws.specs.WorldLaws.{CoherentAfterEverySchedule, Faithfu
 /// so: a log ends by its own closing or by the loss of the connection only where a step closes the chain or cuts its first
 /// hop, by the end of the other side's stream only where a step cuts another hop, or where the agent refused the channel of
 /// a chain without value-adds, and never by a fault of the other side; an end of a value-add closes by no such fault, and
-/// one of the agent only since the bytes that came have ended or their stream has. And that what each client keeps is true:
+/// one of the agent only since the bytes that came have ended or their stream has. And that the lines `sent`, `refused` and
+/// `cached` of a log are, in order, those of the schedule's steps that ask something of its client, one for each.
+/// And that what each client keeps is true:
 /// after each line of its log, of the target at the position of the last message; and so is what each bound value-add
 /// knows, at the position of the last message that it took. And that each answer with a position, of the target or from a
 /// store on the way, to a command that may be answered from a store is what the target answers at that position. And that
@@ -22,6 +25,7 @@ ghost use Rattle.world_laws.specs.WorldLaws.{CoherentAfterEverySchedule, Faithfu
 pub fn every_schedule()
     ensures faithful { FaithfulAfterEverySchedule }
     ensures ends { EndsRightlyAfterEverySchedule }
+    ensures steps { LogSaysSteps }
     ensures coherent { CoherentAfterEverySchedule }
     ensures fresh { FreshAfterEverySchedule }
     ensures unstuck { NothingStuckAfterEverySchedule }
@@ -34,11 +38,12 @@ pub fn read_is_playable()
 {}
 
 /// The law that the world is faithful that playing the schedule of a file brings about, that its ends close only as the
-/// schedule's steps say, that what its clients keep and its value-adds know is true, that the answers are fresh, and that
-/// nothing is stuck in it.
+/// schedule's steps say, that its logs say what the steps asked of the clients, that what its clients keep and its
+/// value-adds know is true, that the answers are fresh, and that nothing is stuck in it.
 pub fn every_file()
     ensures faithful { HoldsOfEveryFile }
     ensures ends { EndsOfEveryFile }
+    ensures steps { StepsOfEveryFile }
     ensures coherent { CoherentOfEveryFile }
     ensures fresh { FreshOfEveryFile }
     ensures unstuck { UnstuckOfEveryFile }

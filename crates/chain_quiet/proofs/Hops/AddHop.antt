@@ -1,5 +1,5 @@
 -- The hop to a value-add.
-use Rattle.std.proofs.Common.{◌≡◌, true, List, [], Option, Some, None, sym, ap, ◌∙◌, true≢false}
+use Rattle.std.proofs.Common.{◌≡◌, true, List, [], Option, Some, None, refl, sym, ap, ◌∙◌, true≢false}
 use Rattle.std.specs.Prelude.{IsSome, option_map, unwrap_or}
 use Rattle.channel_core.specs.Arrivals.{bytes_of}
 use Rattle.channel_core.specs.Closing.{is_closed}
@@ -46,7 +46,7 @@ module _ {T : Type 0} (s : Side T) (hop : Hop) (m : Made) (sends : IsReadable s)
   falls = record { given = sym (ap (λ e. e.queued) facts.lower) ∙ gives.below; front = carries.down_front; gave = λ opens. carries.down live }
 
   rises : Carries true (side_below m) s (bytes_of hop.up)
-  rises = record { given = given; front = carries.up_front; gave = λ opens. carries.up live }
+  rises = record { given = given; front = carries.up_front; gave = λ opens. carries.up live refl }
 
   numbered : TakesNumbered (below (past_of m))
   numbered = what_comes_is_numbered true (side_below m) s sends.formed sends.readable carries.up_front

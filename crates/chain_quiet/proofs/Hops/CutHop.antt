@@ -13,7 +13,7 @@ use Rattle.channel_core.proofs.TheLaws.{queues_readable}
 use Rattle.channel_laws.proofs.TheLaws.{over_at_its_end}
 use Rattle.value_node.proofs.TheLaws.{ends_are_runs}
 use Rattle.chain_quiet.proofs.Rest.Marks.{unmarked_same}
-use Rattle.chain_route.specs.Carrying.{HopCarries, IsUnused, Made, end_below, end_of, past_of}
+use Rattle.chain_route.specs.Carrying.{HopCarries, IsUnused, Made, agent_end, end_below, past_of}
 use Rattle.chain_route.specs.Runs.{Talk}
 use Rattle.chain_route.specs.declared.hop.Hop.{Hop}
 use Rattle.chain_route.proofs.Unheard.{value_hello}
@@ -69,7 +69,7 @@ cut_to_add s hop m sends carries dead = record {
 
 -- ---- To the agent
 
-module _ {T : Type 0} (s : Side T) (hop : Hop) (talk : Talk) (sends : IsReadable s) (carries : HopCarries hop (end_of_side s) (end_of talk)) (dead : hop.is_live ≡ false) where
+module _ {T : Type 0} (s : Side T) (hop : Hop) (talk : Talk) (sends : IsReadable s) (carries : HopCarries hop (end_of_side s) (agent_end talk)) (dead : hop.is_live ≡ false) where
   module _ (a : Side Unit) (channel : IsChannel a talk) where
     down : IsFront (arrived s.calls) (bytes_of (run_of a).past.given)
     down = front_same (arrived s.calls) (bytes_of talk.gave) (bytes_of (run_of a).past.given) (ap bytes_of channel.gave) carries.down_front
@@ -81,7 +81,7 @@ module _ {T : Type 0} (s : Side T) (hop : Hop) (talk : Talk) (sends : IsReadable
         front_then (arrived a.calls) (unmarked talk.got) (unmarked r.past.queued) channel.front
         (front_unmarked talk.got r.past.queued (front_then (bytes_of talk.got) (bytes_of r.past.given) (bytes_of r.past.queued) carries.up_front (gave_front s)))
 
-    lost : IsUnused (end_of talk) ⊎ (talk.is_lost ≡ true) → IsUnused (end_of_side a) ⊎ (list_any is_ending a.calls ≡ true)
+    lost : IsUnused (agent_end talk) ⊎ (talk.is_lost ≡ true) → IsUnused (end_of_side a) ⊎ (list_any is_ending a.calls ≡ true)
     lost (inl unused) = inl (
       sym channel.gave ∙ unused.0,
       front_none (arrived a.calls) (front_same (arrived a.calls) (unmarked talk.got) [] (unmarked_same talk.got [] unused.1) channel.front),

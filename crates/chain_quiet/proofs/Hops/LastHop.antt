@@ -10,7 +10,7 @@ use Rattle.channel_laws.specs.Meeting.{IsLasting, Side, run_of}
 use Rattle.channel_laws.specs.Numbering.{TakesNumbered}
 use Rattle.chain_quiet.specs.Hops.{HopOfAgent, HopRefused, HopToAgent, IsAgentSide}
 use Rattle.chain_quiet.specs.Stuck.{IsChannel, IsReadable, end_of_side, unmarked}
-use Rattle.chain_route.specs.Carrying.{HopCarries, end_of}
+use Rattle.chain_route.specs.Carrying.{HopCarries, agent_end}
 use Rattle.chain_route.specs.Runs.{Talk}
 use Rattle.chain_route.specs.declared.hop.Hop.{Hop}
 use Rattle.channel_laws.proofs.TheLaws.{hears_the_end, live_hops_stand, what_comes_is_numbered}
@@ -18,7 +18,7 @@ use Rattle.chain_quiet.proofs.Hops.Facts.{took_front}
 use Rattle.chain_quiet.proofs.Hops.Marks.{unmarked_parts}
 use Rattle.list_laws.proofs.Fronts.{front_none}
 
-module _ {T : Type 0} (s : Side T) (hop : Hop) (talk : Talk) (sends : IsReadable s) (carries : HopCarries hop (end_of_side s) (end_of talk))
+module _ {T : Type 0} (s : Side T) (hop : Hop) (talk : Talk) (sends : IsReadable s) (carries : HopCarries hop (end_of_side s) (agent_end talk))
     (given : (run_of s).end.queued ≡ []) (live : hop.is_live ≡ true) where
   lasting : IsLasting s
   lasting = record { formed = sends.formed; readable = sends.readable; lasting = (carries.lasting live).0 }
@@ -36,7 +36,7 @@ module _ {T : Type 0} (s : Side T) (hop : Hop) (talk : Talk) (sends : IsReadable
 
     -- bytes come to the agent without marks
     bare : unmarked (run_of s).past.given ≡ unmarked talk.got ++ unmarked hop.up
-    bare = unmarked_parts (run_of s).past.given talk.got hop.up (carries.up live)
+    bare = unmarked_parts (run_of s).past.given talk.got hop.up (carries.up live channel.opened)
 
     rises : Carries false a s (unmarked hop.up)
     rises = record {
@@ -55,7 +55,7 @@ module _ {T : Type 0} (s : Side T) (hop : Hop) (talk : Talk) (sends : IsReadable
     agent_hop = record { stands = live_hops_stand true false s a (bytes_of hop.down) (unmarked hop.up) lasting agent_lasts falls rises; answers = channel.answers numbered }
 
   -- all that comes of a channel that was refused is the end of the stream
-  module _ (refused : talk.gave ≡ end_of_stream ∷ []) where
+  module _ (refused : talk.gave ≡ end_of_stream ∷ []) (shut : talk.is_refused ≡ true) where
     comes : bytes_of (end_of_stream ∷ []) ≡ arrived s.calls ++ bytes_of hop.down
     comes = sym (ap bytes_of refused) ∙ carries.down live
 
@@ -67,11 +67,12 @@ module _ {T : Type 0} (s : Side T) (hop : Hop) (talk : Talk) (sends : IsReadable
 
     refused_hop : HopRefused hop s
     refused_hop = record {
+      dropped = (carries.refused shut).1;
       gave = comes;
       silent = front_none (flat_map incoming_of (run_of s).past.taken) (took_front s [] true tt (bytes_of hop.down, comes));
       closes = closes_by (bytes_of hop.down) refl;
     }
 
   pub last_hop : (agent : Option (Side Unit)) → IsAgentSide agent talk → HopToAgent hop s agent
-  last_hop None is = refused_hop is
+  last_hop None is = refused_hop is.1 is.0
   last_hop (Some a) is = agent_hop a is

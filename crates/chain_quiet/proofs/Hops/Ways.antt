@@ -5,7 +5,7 @@ use Rattle.channel_laws.specs.Meeting.{Side}
 use Rattle.chain_quiet.specs.Hops.{EachHopStands, IsWay}
 use Rattle.chain_quiet.proofs.Rest.AddHop.{above_readable}
 use Rattle.chain_quiet.specs.Stuck.{last_is_live, side_above}
-use Rattle.chain_route.specs.Carrying.{Made, end_above, end_of, past_of}
+use Rattle.chain_route.specs.Carrying.{Made, agent_end, end_above, past_of}
 use Rattle.chain_route.specs.Runs.{Talk}
 use Rattle.chain_route.specs.declared.hop.Hop.{Hop}
 use Rattle.chain_quiet.proofs.Hops.AddHop.{above_given, add_hop}
@@ -21,7 +21,7 @@ way_above : {T : Type 0} → (s : Side T) (hop next : Hop) (hops : List Hop) (m 
     → IsWay (side_above m) (next ∷ hops) made agent talk
 way_above s hop next hops m made agent talk way = record {
   sends = above_readable m;
-  given = λ live. above_given m way.adds.0 (connected_above m made (next ∷ hops) (end_above (past_of m)) (end_of talk) way.carries.1 way.connected live);
+  given = λ live. above_given m way.adds.0 (connected_above m made (next ∷ hops) (end_above (past_of m)) (agent_end talk) way.carries.1 way.connected live);
   adds = way.adds.1;
   carries = way.carries.1;
   connected = connected_later m made (last_is_live (next ∷ hops)) way.connected;

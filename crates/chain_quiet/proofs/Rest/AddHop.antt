@@ -59,7 +59,7 @@ module _ {T : Type 0} (s : Side T) (hop : Hop) (m : Made) (sends : IsReadable s)
   down = sym (carries.down live ∙ ap (λ outs. arrived s.calls ++ bytes_of outs) hop_is.down ∙ append-nil (arrived s.calls))
 
   up : arrived (side_below m).calls ≡ bytes_of (run_of s).past.given
-  up = sym (carries.up live ∙ ap (λ outs. arrived (side_below m).calls ++ bytes_of outs) hop_is.up ∙ append-nil (arrived (side_below m).calls))
+  up = sym (carries.up live refl ∙ ap (λ outs. arrived (side_below m).calls ++ bytes_of outs) hop_is.up ∙ append-nil (arrived (side_below m).calls))
 
   pub meets : Meet true s (side_below m)
   meets = record {

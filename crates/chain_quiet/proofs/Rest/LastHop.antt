@@ -6,7 +6,7 @@ use Rattle.channel_core.specs.QueueLaws.{is_message}
 use Rattle.channel_core.specs.Wire.{end_of_stream}
 use Rattle.channel_laws.specs.Meeting.{HasAll, IsLasting, Side, run_of}
 use Rattle.chain_quiet.specs.Stuck.{HopIsStill, IsReadable, IsServed, IsServedOrRefused, IsStill, end_of_side, unmarked}
-use Rattle.chain_route.specs.Carrying.{HopCarries, end_of}
+use Rattle.chain_route.specs.Carrying.{HopCarries, agent_end}
 use Rattle.chain_route.specs.Runs.{Talk}
 use Rattle.chain_route.specs.declared.hop.Hop.{Hop}
 use Rattle.chain_route.specs.Taking.{TakesAll}
@@ -16,16 +16,13 @@ use Rattle.chain_quiet.proofs.Rest.Marks.{unmarked_same}
 use Rattle.chain_quiet.proofs.Rest.Meeting.{Meet, meet_at_rest, meet_free}
 use Rattle.chain_quiet.proofs.Rest.Resting.{Rests}
 
-module _ {T : Type 0} (s : Side T) (hop : Hop) (talk : Talk) (sends : IsReadable s) (hop_is : HopIsStill hop) (carries : HopCarries hop (end_of_side s) (end_of talk))
+module _ {T : Type 0} (s : Side T) (hop : Hop) (talk : Talk) (sends : IsReadable s) (hop_is : HopIsStill hop) (carries : HopCarries hop (end_of_side s) (agent_end talk))
     (still : IsStill (run_of s)) (opened : is_closed (run_of s).end.state ≡ false) where
   live : hop.is_live ≡ true
-  live = live_above s hop (end_of talk) carries still opened
+  live = live_above s hop (agent_end talk) carries still opened
 
   down : bytes_of talk.gave ≡ arrived s.calls
   down = carries.down live ∙ ap (λ outs. arrived s.calls ++ bytes_of outs) hop_is.down ∙ append-nil (arrived s.calls)
-
-  up : bytes_of (run_of s).past.given ≡ bytes_of talk.got
-  up = carries.up live ∙ ap (λ outs. bytes_of talk.got ++ bytes_of outs) hop_is.up ∙ append-nil (bytes_of talk.got)
 
   lasting : IsLasting s
   lasting = record { formed = sends.formed; readable = sends.readable; lasting = (carries.lasting live).0 }
@@ -37,6 +34,9 @@ module _ {T : Type 0} (s : Side T) (hop : Hop) (talk : Talk) (sends : IsReadable
       not_over (run_of s) still opened (hears_the_end s.hello s.mark s.calls [] true tt ([], sym came ∙ sym (append-nil (arrived s.calls))) refl came)
 
   module _ (a : Side Unit) (served : IsServed a talk) where
+    up : bytes_of (run_of s).past.given ≡ bytes_of talk.got
+    up = carries.up live served.channel.opened ∙ ap (λ outs. bytes_of talk.got ++ bytes_of outs) hop_is.up ∙ append-nil (bytes_of talk.got)
+
     agent_lasts : IsLasting a
     agent_lasts = record { formed = served.channel.sends.formed; readable = served.channel.sends.readable; lasting = sym served.channel.lost ∙ (carries.lasting live).1 }
 
@@ -75,7 +75,7 @@ module _ {T : Type 0} (s : Side T) (hop : Hop) (talk : Talk) (sends : IsReadable
       by_cases (inl served) = served
       by_cases (inr refused) = absurd (not_refused refused)
 
-pub last_rests : {T : Type 0} → (s : Side T) (hop : Hop) (talk : Talk) → IsReadable s → HopIsStill hop → HopCarries hop (end_of_side s) (end_of talk)
+pub last_rests : {T : Type 0} → (s : Side T) (hop : Hop) (talk : Talk) → IsReadable s → HopIsStill hop → HopCarries hop (end_of_side s) (agent_end talk)
     → (hop.is_live ≡ true → IsServedOrRefused talk) → Rests s [] talk
 last_rests s hop talk sends hop_is carries of =
     let served = λ (still : IsStill (run_of s)) (opened : is_closed (run_of s).end.state ≡ false). served_of s hop talk sends hop_is carries still opened of in

@@ -13,7 +13,7 @@ use Rattle.tcf_values.specs.declared.command.Command.TheVariants.{Redirect, GetC
 use Rattle.value_node.specs.Asked.{Asked}
 use Rattle.value_node.specs.Barriers.{command_in}
 use Rattle.value_node.specs.Deeds.{command_asked}
-use Rattle.command_tables.proofs.TheLaws.{readings_are_legal}
+use Rattle.command_tables.proofs.TheLaws.{known_are_readable, readings_are_legal}
 use Rattle.node_answers.proofs.Adds.Failing.{redirect_read}
 
 stores_none : (command : Command) → named_as command ≡ named.Locator commands.Redirect → stores command ≡ true → ⊥
@@ -29,7 +29,7 @@ stores_none command is stored = absurd cc
 
 -- a reading of these names is that of a redirect
 read_so : (service name : List ℕ) (reading : Reading) (command : Command) → IsReading service name reading → command_in reading ≡ Some command → name_in service name ≡ Some (named_as command)
-read_so service name (Known c) command is some = let same : c ≡ command = cc in is.0 ∙ ap (λ x. Some (named_as x)) same
+read_so service name (Known c) command is some = let same : c ≡ command = cc in (known_are_readable service name c is).0 ∙ ap (λ x. Some (named_as x)) same
 read_so service name Unknown command is some = absurd cc
 read_so service name (Bad index code) command is some = absurd cc
 

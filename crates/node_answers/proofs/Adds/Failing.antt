@@ -19,7 +19,7 @@ use Rattle.tcf_values.specs.declared.command.Command.TheVariants.{Sync, GetPeers
 use Rattle.value_node.specs.Own.{is_peer, own_by, own_named, own_reply, own_to, redirect_failed, unknown_peer}
 use Rattle.value_node.specs.declared.own.Own.{Own}
 use Rattle.value_node.specs.declared.own.Own.TheVariants as own
-use Rattle.command_tables.proofs.TheLaws.{readings_are_legal}
+use Rattle.command_tables.proofs.TheLaws.{known_are_readable, readings_are_legal}
 use Rattle.service_names.proofs.TheLaws.{names_are_exact}
 
 abbrev pub IsFailed : Own → Type 0
@@ -46,7 +46,7 @@ failed_to peer c is = tt
 failed_by : (peer service name : List ℕ) (reading : Reading) → name_in service name ≡ Some (named.Locator commands.Redirect) → IsReading service name reading
     → IsFailed (own_by peer (named.Locator commands.Redirect) reading)
 unfolding own_by
-failed_by peer service name (Known c) is read = failed_to peer c (sym read.0 ∙ is)
+failed_by peer service name (Known c) is read = failed_to peer c (sym (known_are_readable service name c read).0 ∙ is)
 failed_by peer service name IsUnknown is read = tt
 failed_by peer service name (Bad index code) is read = refl
 

@@ -19,6 +19,7 @@ use Rattle.target_hub.specs.Execution.{exec_effect}
 use Rattle.target_hub.specs.declared.done.Answered.{Answered}
 use Rattle.target_hub.specs.declared.done.Answered.TheVariants.{Result, Unknown}
 use Rattle.target_hub.specs.declared.target.Target.{Target}
+use Rattle.command_tables.proofs.TheLaws.{known_are_readable}
 use Rattle.list_laws.proofs.Flags.{and_parts}
 use Rattle.service_names.proofs.TheLaws.{names_are_exact}
 
@@ -48,7 +49,7 @@ refusal_undone named code is = subst (λ n. Refuses (refusal n code)) (sym is) (
 pub redirect_refused : (channel : ℕ) (service_is name : List ℕ) (reading : Reading) (target : Target) → IsReading service_is name reading → is_redirect service_is name ≡ true
     → Refuses (executed channel service_is name reading target).answer
 redirect_refused channel service_is name (readings.Known command) target read is =
-    let both : Some (named_as command) ≡ Some (service.Locator commands.Redirect) = sym read.0 ∙ names_redirect service_is name is in
+    let both : Some (named_as command) ≡ Some (service.Locator commands.Redirect) = sym (known_are_readable service_is name command read).0 ∙ names_redirect service_is name is in
     let same : named_as command ≡ service.Locator commands.Redirect = cc in
     known_undone channel command target same
 redirect_refused channel service_is name readings.Unknown target read is = tt

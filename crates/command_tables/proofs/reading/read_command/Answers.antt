@@ -34,6 +34,15 @@ returns-in-Err-clause-reading c =
     fault_reading c.bad-in-Err.result c.in-Err.unended (reading_of c.args.service.now c.args.name.now c.args.body.now) c.bad-in-Err.ensures.ok c.bad-in-Err.ensures.known
     (λ known. unended_reading c.args.service.now c.args.name.now c.args.body.now c.in-Some.command named some ∙ sym (ap bad_of c.in-Err.ensures.refusal))
 
+pub returns-in-Ok-read_arguments-clause-legal : goal.returns-in-Ok-read_arguments-clause-legal
+returns-in-Ok-read_arguments-clause-legal c =
+    let named : name_in c.args.service.now c.args.name.now ≡ Some c.in-Some.command = sym c.command_named.ensures ∙ c.in-Some.is in
+    let ended : IsUnended c.args.body.now → ⊥ = λ some. let err = c.split.ensures.unended.1 some in let ok = c.in-Ok.is in cc in (
+      c.args.body.now,
+      ended_reading c.args.service.now c.args.name.now c.args.body.now c.in-Some.command named ended
+          ∙ ap reading_by (ap (row_of c.in-Some.command 0) (sym c.in-Ok.ensures.value) ∙ c.in-Ok-read_arguments.ensures.ok),
+    )
+
 pub returns-in-Err-read_arguments-clause-legal : goal.returns-in-Err-read_arguments-clause-legal
 returns-in-Err-read_arguments-clause-legal c =
     let named : name_in c.args.service.now c.args.name.now ≡ Some c.in-Some.command = sym c.command_named.ensures ∙ c.in-Some.is in

@@ -15,7 +15,9 @@ returns-in_err-image-clause-part g c =
     (part_step names c.loop-word.word-index c.len.result (g.F.Files.seen c.args.files.now) (g.F.Files.seen c.loop-word.files) (g.F.Files.seen c.read_image.new.files) c.loop-word.images.items _ _ _ c.in_err-image.field-0.0 c.loop-word.invariant.far
     (files_at string_bytes words c.loop-word.word-index c.word-item.result c.loop-word-test.true c.word-item.is) below
     (ap (λ (t : List ℕ). (image_in t).file) c.as_str.ensures.value) (c.len.ensures ∙ c.loop-word.images.ok.0) c.loop-word.invariant.kept c.loop-word.invariant.calm
-    c.in_err-image.ensures.part c.in_err-image.ensures.counts))
+    c.in_err-image.ensures.part c.in_err-image.ensures.counts
+    (files_next string_bytes words c.loop-word.word-index c.word-item.result c.loop-word-test.true c.word-item.is) c.loop-word.invariant.told
+    c.in_err-image.ensures.failed_noted))
 
 pub returns-in_err-image-clause-reads : goal.returns-in_err-image-clause-reads
 returns-in_err-image-clause-reads g c =

@@ -9,3 +9,6 @@ returns-in-Err-Failed-clause-part_noted g c = reads_one _ _ _ (rw c.in-Err-Faile
 
 pub returns-in-Err-NoMemory-clause-part_noted : goal.returns-in-Err-NoMemory-clause-part_noted
 returns-in-Err-NoMemory-clause-part_noted g c = reads_still _ _ _ (rw c.in-Err-NoMemory.field-0-is at c.in-Err-NoMemory.ensures.noted)
+
+pub returns-in-Err-Failed-clause-failed_noted : goal.returns-in-Err-Failed-clause-failed_noted
+returns-in-Err-Failed-clause-failed_noted g c = rw c.in-Err-Failed.field-0-is at c.in-Err-Failed.ensures.noted

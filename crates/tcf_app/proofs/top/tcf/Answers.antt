@@ -44,6 +44,10 @@ returns-clause-too_long g c =
 
 pub returns-clause-file_fault : goal.returns-clause-file_fault
 returns-clause-file_fault g c =
+    λ is. (tells_at _ _ _ _ _ _ _ _ c.run_words.ensures.runs FileFault is).0.counts
+
+pub returns-clause-file_fault_last : goal.returns-clause-file_fault_last
+returns-clause-file_fault_last g c =
     λ is. (tells_at _ _ _ _ _ _ _ _ c.run_words.ensures.runs FileFault is).0
 
 pub returns-clause-file_fault_text : goal.returns-clause-file_fault_text

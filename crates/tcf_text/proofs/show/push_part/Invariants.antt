@@ -1,7 +1,7 @@
 use Rattle.std.proofs.Common.{◌≡◌, ◌++◌, drop}
 use Rattle.std.specs.List.{flat_map}
 use Rattle.tcf_text.specs.Log.{shown_byte, Grows}
-use Rattle.tcf_text.proofs.show.show_part.Given as goal
+use Rattle.tcf_text.proofs.show.push_part.Given as goal
 
 abbrev pub invariant-loop-byte : goal.invariant-loop-byte
 invariant-loop-byte l =

@@ -1,6 +1,6 @@
 use Rattle.std.proofs.Common.{◌≡◌, ◌++◌, drop}
 use Rattle.tcf_text.specs.Log.{log_text, Grows}
-use Rattle.tcf_text.proofs.show.write_log.Given as goal
+use Rattle.tcf_text.proofs.show.push_log.Given as goal
 
 abbrev pub invariant-loop-line : goal.invariant-loop-line
 invariant-loop-line l =

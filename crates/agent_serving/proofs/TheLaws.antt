@@ -1,0 +1,15 @@
+-- The laws of a served agent, as terms.
+use Rattle.agent_serving.specs.Left.{GoesOnWhileIdle, LeavesNothing}
+use Rattle.agent_serving.specs.Served.{ServesAnAgent}
+use Rattle.agent_serving.proofs.Idling.{goes_on_while_idle}
+use Rattle.agent_serving.proofs.Leaving.{leaves_nothing}
+use Rattle.agent_serving.proofs.ServedSo.{serves_an_agent}
+
+pub served_is_an_agent : ServesAnAgent
+served_is_an_agent = serves_an_agent
+
+pub nothing_is_left : LeavesNothing
+nothing_is_left = leaves_nothing
+
+pub goes_on_when_idle : GoesOnWhileIdle
+goes_on_when_idle = goes_on_while_idle

@@ -1,0 +1,9 @@
+pub mod Both
+pub mod Stored
+pub mod Tokens
+pub mod Standing
+pub mod Containing
+pub mod Joined
+pub mod Moments
+pub mod Value
+pub mod TheLaws

@@ -1,0 +1,3 @@
+pub mod Relay
+pub mod Contained
+pub mod ValueTraffic

@@ -1,0 +1,5 @@
+//! Tests of `elf_image`.
+#![tactic(auto)]
+
+#[cfg(test)]
+mod reading;

@@ -15,8 +15,7 @@ use Rattle.channel_core.specs.declared.held.Incoming.{Incoming}
 use Rattle.channel_core.specs.declared.states.Cause.{Cause}
 use Rattle.channel_core.specs.declared.states.Cause.TheVariants.{Ended, Stream}
 use Rattle.channel_core.specs.declared.states.EndState.TheVariants.{Live}
-use Rattle.channel_core.specs.declared.taking.Judged.{Judged}
-use Rattle.channel_core.specs.declared.taking.Judged.TheVariants.{TooEarly, Stray, Greets, Tells, Asks, GoesOn, Answers}
+use Rattle.channel_core.specs.Judged.{Judged, TooEarly, Stray, Greets, Tells, Asks, GoesOn, Answers}
 use Rattle.stream_escape.specs.Fed.{ByteRead, byte_read, course, course_of, escape_read, fed, followed, put, refused, taken}
 use Rattle.stream_escape.specs.Stream.{Ending, ended, most_message, partly}
 use Rattle.stream_escape.specs.Value.{UnescapeValue, capped}

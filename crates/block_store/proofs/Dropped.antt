@@ -1,13 +1,14 @@
 -- What a range that was dropped leaves.
-use Rattle.std.proofs.Common.{◌≡◌, ℕ, ◌+◌, ◌<◌, ◌≤◌, Bool, true, false, cond, not, None, Some, List, [], ◌∷◌, filter, find, option_map, refl, ap, ◌∙◌, arith}
+use Rattle.std.proofs.Common.{◌≡◌, ℕ, ◌+◌, ◌<◌, ◌≤◌, Bool, true, false, not, List, filter, option_map, ap, arith}
 use Rattle.std.specs.List.{All}
 use Rattle.std.proofs.lemmas.Bool.{and_from, and_parts, both_ways, false_from_ne_true, leb-true, lt-ltb, not-true}
-use Rattle.std.proofs.lemmas.List.Elements.{All-head, All-tail, All-weaker, filter_passes}
+use Rattle.std.proofs.lemmas.List.Elements.{All-weaker, filter_passes, recursion_from_All}
 use Rattle.std.proofs.lemmas.List.Folds.{list_any_none}
 use Rattle.block_store.specs.Blocks.{end_of, has_range, overlaps, part}
 use Rattle.block_store.specs.Laws.{DroppedIsGone, DroppedIsUnread}
 use Rattle.block_store.specs.Store.{without_range}
 use Rattle.block_store.specs.declared.block.Block.{Block}
+use Rattle.block_store.proofs.Found.{find_none}
 
 -- no block that is left has a byte of the range
 none_overlaps : (process addr size : ℕ) (blocks : List Block) → All (λ block. overlaps process addr size block ≡ false) (without_range process addr size blocks)
@@ -19,12 +20,6 @@ none_overlaps process addr size blocks =
 pub dropped_is_gone : DroppedIsGone
 dropped_is_gone process addr size blocks =
     list_any_none (overlaps process addr size) (without_range process addr size blocks) (none_overlaps process addr size blocks)
-
-find_none : (p : Block → Bool) (blocks : List Block) → All (λ block. p block ≡ false) blocks → find p blocks ≡ None
-find_none p [] all = refl
-find_none p (block ∷ blocks) all =
-    ap (λ b. cond b (Some block) (find p blocks)) (All-head (λ b. p b ≡ false) block blocks all)
-    ∙ find_none p blocks (All-tail (λ b. p b ≡ false) block blocks all)
 
 -- a block that has a byte's range overlaps each range with that byte
 has_overlaps : (process addr size first count byte : ℕ) (block : Block) → addr ≤ byte → byte < addr + size → first ≤ byte → byte < first + count
@@ -39,6 +34,7 @@ has_overlaps process addr size first count byte block low high start end has =
 pub dropped_is_unread : DroppedIsUnread
 dropped_is_unread process addr size blocks first count byte low high start end =
     ap (option_map (part first count)) (find_none (has_range process first count) (without_range process addr size blocks)
+    (recursion_from_All (λ block. has_range process first count block ≡ false) (without_range process addr size blocks)
     (All-weaker (λ block. overlaps process addr size block ≡ false) (λ block. has_range process first count block ≡ false)
     (λ block apart. false_from_ne_true _ (λ has. both_ways (overlaps process addr size block) apart (has_overlaps process addr size first count byte block low high start end has)))
-    (without_range process addr size blocks) (none_overlaps process addr size blocks)))
+    (without_range process addr size blocks) (none_overlaps process addr size blocks))))

@@ -1,44 +1,51 @@
--- The first block that has a range, by its place and as it is found.
-use Rattle.std.proofs.Common.{◌≡◌, ℕ, zero, suc, ◌<◌, nat_lt, Bool, true, false, cond, Option, None, Some, List, [], ◌∷◌, length, get_or, is_some, option_map, option_and_then, position, find, slice_get, refl, ap, ◌∙◌, arith}
-use Rattle.std.specs.List.{position_or_len}
-use Rattle.std.proofs.lemmas.Bool.{ltb-false}
-use Rattle.std.proofs.lemmas.List.Folds.{find_at}
-use Rattle.std.proofs.lemmas.List.Quantifiers.{position-Some}
-use Rattle.std.proofs.lemmas.Option.{slice_get_past, slice_get_read}
+-- The first block of a list that passes, where it stands behind others that fail.
+use Rattle.std.proofs.Common.{◌≡◌, suc, ◌+◌, nat_lt, Bool, true, false, cond, not, None, Some, List, [], ◌∷◌, ◌++◌, length, take, drop, find, position, refl, ap, ◌∙◌, arith}
+use Rattle.std.specs.List.{AllByRecursion, position_or_len, remove}
+use Rattle.std.proofs.lemmas.Bool.{le-ltb, lt-ltb}
+use Rattle.std.proofs.lemmas.List.{drop_at, length-append, take_at}
+use Rattle.block_store.specs.Store.{moved_first}
+use Rattle.block_store.specs.declared.block.Block.{Block}
 
-found_by : {A : Type 0} (xs : List A) (n : ℕ) (b : Bool) → nat_lt n (length xs) ≡ b → slice_get xs n ≡ option_and_then (slice_get xs) (cond b (Some n) None)
-found_by xs n true is = refl
-found_by xs n false is = slice_get_past xs n (ltb-false n (length xs) is)
+module _ {A : Type 0} where
+  pub find_none : (test : A → Bool) (xs : List A) → AllByRecursion (λ x. test x ≡ false) xs → find test xs ≡ None
+  find_none test [] none = refl
+  find_none test (x ∷ xs) none = ap (λ b. cond b (Some x) (find test xs)) none.0 ∙ find_none test xs none.1
 
--- what is found stands at its place
-find_placed : {A : Type 0} (p : A → Bool) (xs : List A) → find p xs ≡ option_and_then (slice_get xs) (position p xs)
-find_placed p xs = find_at p xs ∙ found_by xs (position_or_len p xs) (nat_lt (position_or_len p xs) (length xs)) refl
+  pub find_behind : (test : A → Bool) (xs : List A) (x : A) (ys : List A) → AllByRecursion (λ x. test x ≡ false) xs → test x ≡ true → find test (xs ++ x ∷ ys) ≡ Some x
+  find_behind test [] x ys none passes = ap (λ b. cond b (Some x) (find test ys)) passes
+  find_behind test (z ∷ xs) x ys none passes =
+      ap (λ b. cond b (Some z) (find test (xs ++ x ∷ ys))) none.0 ∙ find_behind test xs x ys none.1 passes
 
--- without a place nothing is found
-pub find_nowhere : {A : Type 0} (p : A → Bool) (xs : List A) → position p xs ≡ None → find p xs ≡ None
-find_nowhere p xs none = find_placed p xs ∙ ap (option_and_then (slice_get xs)) none
+  nowhere_len : (test : A → Bool) (xs : List A) → AllByRecursion (λ x. test x ≡ false) xs → position_or_len test xs ≡ length xs
+  nowhere_len test [] none = refl
+  nowhere_len test (x ∷ xs) none =
+      let rest = nowhere_len test xs none.1 in
+      ap (λ b. cond (not b) (1 + position_or_len test xs) 0) none.0 ∙ omega (arith, rest)
 
--- what stands at the place is found, and passes the test
-pub find_there : {A : Type 0} (p : A → Bool) (xs : List A) (at : ℕ) (x : A) → position p xs ≡ Some at → x ≡ get_or xs at x → find p xs ≡ Some x
-find_there p xs at x place read =
-    find_placed p xs ∙ ap (option_and_then (slice_get xs)) place ∙ slice_get_read xs (length xs) at x refl (position-Some p xs at x place).0 read
+  place_len : (test : A → Bool) (xs : List A) (x : A) (ys : List A) → AllByRecursion (λ x. test x ≡ false) xs → test x ≡ true → position_or_len test (xs ++ x ∷ ys) ≡ length xs
+  place_len test [] x ys none passes = ap (λ b. cond (not b) (1 + position_or_len test ys) 0) passes
+  place_len test (z ∷ xs) x ys none passes =
+      let rest = place_len test xs x ys none.1 passes in
+      ap (λ b. cond (not b) (1 + position_or_len test (xs ++ x ∷ ys)) 0) none.0 ∙ omega (arith, rest)
 
-pub passes_there : {A : Type 0} (p : A → Bool) (xs : List A) (at : ℕ) (x : A) → position p xs ≡ Some at → x ≡ get_or xs at x → p x ≡ true
-passes_there p xs at x place read = ap p read ∙ (position-Some p xs at x place).1
+  pub place_behind : (test : A → Bool) (xs : List A) (x : A) (ys : List A) → AllByRecursion (λ x. test x ≡ false) xs → test x ≡ true → position test (xs ++ x ∷ ys) ≡ Some (length xs)
+  place_behind test xs x ys none passes =
+      let many = length-append xs (x ∷ ys) in
+      ap (λ n. cond (nat_lt n (length (xs ++ x ∷ ys))) (Some n) None) (place_len test xs x ys none passes)
+      ∙ ap (λ b. cond b (Some (length xs)) None) (lt-ltb (length xs) (length (xs ++ x ∷ ys)) (omega (arith, many)))
 
-some_get : {A : Type 0} (xs : List A) (i : ℕ) → i < length xs → is_some (slice_get xs i) ≡ true
-some_get [] i within = absurd (omega arith)
-some_get (x ∷ xs) zero within = refl
-some_get (x ∷ xs) (suc i) within = some_get xs i (omega arith)
+  pub place_nowhere : (test : A → Bool) (xs : List A) → AllByRecursion (λ x. test x ≡ false) xs → position test xs ≡ None
+  place_nowhere test xs none =
+      ap (λ n. cond (nat_lt n (length xs)) (Some n) None) (nowhere_len test xs none)
+      ∙ ap (λ b. cond b (Some (length xs)) None) (le-ltb (length xs) (length xs) (omega arith))
 
-some_map : {A B : Type 0} (f : A → B) (found : Option A) → is_some (option_map f found) ≡ is_some found
-some_map f None = refl
-some_map f (Some x) = refl
+  past_one : (xs : List A) (x : A) (ys : List A) → drop (suc (length xs)) (xs ++ x ∷ ys) ≡ ys
+  past_one [] x ys = refl
+  past_one (z ∷ xs) x ys = past_one xs x ys
 
--- something is found exactly where there is a place
-pub something_there : {A B : Type 0} (f : A → B) (p : A → Bool) (xs : List A) (at : ℕ) → at < length xs → position p xs ≡ Some at → is_some (option_map f (find p xs)) ≡ true
-something_there f p xs at within place =
-    some_map f (find p xs) ∙ ap is_some (find_placed p xs) ∙ ap (λ o. is_some (option_and_then (slice_get xs) o)) place ∙ some_get xs at within
-
-pub nothing_there : {A B : Type 0} (f : A → B) (p : A → Bool) (xs : List A) → position p xs ≡ None → is_some (option_map f (find p xs)) ≡ false
-nothing_there f p xs none = some_map f (find p xs) ∙ ap is_some (find_nowhere p xs none)
+-- a block is moved before those that stand in front of it
+pub moved_behind : (xs : List Block) (x : Block) (ys : List Block) → moved_first (Some (length xs)) (xs ++ x ∷ ys) ≡ x ∷ (xs ++ ys)
+moved_behind xs x ys =
+    ap (λ rest. take 1 rest ++ remove (xs ++ x ∷ ys) (length xs)) (drop_at xs (x ∷ ys) (length xs) refl)
+    ∙ ap (λ front. x ∷ (front ++ drop (suc (length xs)) (xs ++ x ∷ ys))) (take_at xs (x ∷ ys) (length xs) refl)
+    ∙ ap (λ back. x ∷ (xs ++ back)) (past_one xs x ys)

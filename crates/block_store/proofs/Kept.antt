@@ -78,7 +78,7 @@ eq_swap m n = by (nat_eq m n) refl
     by true is = sym (eq-eqb n m (sym (eqb-true m n is)))
     by false is = sym (false_from_ne_true _ (λ same. let there : nat_eq m n ≡ true = eq-eqb m n (sym (eqb-true n m same)) in cc))
 
-same_swap : (one other : Block) → is_same one other ≡ is_same other one
+pub same_swap : (one other : Block) → is_same one other ≡ is_same other one
 same_swap one other =
     ap (λ b. b && nat_eq one.addr other.addr && nat_eq (length one.bytes) (length other.bytes)) (eq_swap one.process other.process)
     ∙ ap (λ b. nat_eq other.process one.process && b && nat_eq (length one.bytes) (length other.bytes)) (eq_swap one.addr other.addr)
@@ -129,7 +129,7 @@ small_placed p blocks (Some at) is small = small_moved blocks at (placed_within 
 
 -- ---- any steps
 
-nothing_small : IsSmall []
+pub nothing_small : IsSmall []
 nothing_small = record { few = omega arith; differ = λ i j d below within. absurd (omega arith) }
 
 small_after : (step : Step) (blocks : List Block) → IsSmall blocks → IsSmall (blocks_after step blocks)

@@ -1,3 +1,10 @@
 pub mod Kept
 pub mod Found
 pub mod Dropped
+pub mod Rows
+pub mod Owned
+pub mod Spare
+pub mod Walked
+pub mod Sweeps
+pub mod Turned
+pub mod Stored

@@ -1,6 +1,7 @@
 //! A block of a process's memory, and how it lies to a range of addresses.
 ghost use Rattle.std.specs.Prelude.{◌≡◌, ◌≤◌, ◌+◌};
-ghost use Rattle.block_store.specs.Blocks.{end_of, has_range, is_same, overlaps, part};
+ghost use Rattle.block_store.specs.Blocks.{end_of, has_range, overlaps, part};
+ghost use Rattle.block_store.specs.Likeness.{is_like};
 
 use tcf_values::Bytes;
 
@@ -33,13 +34,11 @@ impl Block {
             && (addr < self.addr || ((addr - self.addr) as usize) < self.bytes.len())
     }
 
-    /// Whether both are of the same process, address and length.
-    pub(crate) fn is_same(&self, other: &Block) -> bool
-        ensures { result ≡ is_same self.now other.now }
+    /// Whether the block is of this process, and has so many bytes from this address on.
+    pub(crate) fn is_like(&self, process: u32, addr: u32, len: usize) -> bool
+        ensures { result ≡ is_like process addr len self.now }
     {
-        self.process == other.process
-            && self.addr == other.addr
-            && self.bytes.len() == other.bytes.len()
+        process == self.process && addr == self.addr && len == self.bytes.len()
     }
 
     /// The bytes of a range that the block has.

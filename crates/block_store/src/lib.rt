@@ -2,6 +2,7 @@
 #![tactic(auto)]
 
 pub mod block;
+mod filing;
 pub mod laws;
 pub mod store;
 

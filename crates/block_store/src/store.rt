@@ -1,34 +1,38 @@
 //! The store of blocks, the most recently used first.
-ghost use Rattle.std.specs.Prelude.{◌≡◌, ◌<◌, ◌≤◌, ◌==◌, ◌∷◌, [], not, length, filter, position, option_map, is_some, IfOk, IsOk, vec_len};
-ghost use Rattle.std.specs.Vec.{vec_capacity};
-ghost use Rattle.block_store.specs.Blocks.{has_range, is_same, overlaps};
-ghost use Rattle.block_store.specs.Store.{IsKept, added, covered, moved_first, touched, without_process, without_range};
+ghost use Rattle.std.specs.Prelude.{◌≡◌, ◌<◌, ◌≤◌, [], length, reverse, option_map, is_some, IfOk, IsOk};
+ghost use Rattle.link_pool.specs.Lists.{rows_of};
+ghost use Rattle.block_store.specs.Filed.{IsFiled, blocks_of};
+ghost use Rattle.block_store.specs.Store.{IsKept, added, covered, touched, without_process, without_range};
 
 use crate::block::Block;
+use crate::filing::{
+    BY_USE, LISTS, ROOM, count_after, displaced, list_for, list_of, place_of, replace,
+    take_out_range,
+};
+use link_pool::Pool;
 use std::alloc::{AllocError, Global};
 use std::marker::Model;
 use tcf_values::Bytes;
 
-/// How many blocks a store keeps.
-const MOST: usize = 64;
-
-/// At most 64 blocks, each with at least one byte. Contracts see the list of blocks, the most recently used first.
+/// At most 64 blocks, each with at least one byte. Contracts see the list of blocks, the most recently used first. What
+/// is asked of a process is looked for among its blocks alone.
 #[derive(Drop)]
 pub struct BlockStore {
-    blocks: Vec<Block>,
+    pool: Pool<Block>,
+    count: usize,
 }
 
 impl Model for BlockStore {
-    ghost use Rattle.std.specs.Prelude.{List, ◌≤◌};
-    ghost use Rattle.std.specs.Vec.{vec_capacity};
+    ghost use Rattle.std.specs.Prelude.{List};
+    ghost use Rattle.link_pool.specs.Lists.{rows_of};
     ghost use Rattle.block_store.specs.declared.block.Block.{Block};
-    ghost use Rattle.block_store.specs.Store.{IsKept};
+    ghost use Rattle.block_store.specs.Owners.{IsStored, turned};
 
     ghost Value = { List Block };
 
-    ghost view = { λ s. s.blocks.items };
+    ghost view = { λ s. turned (rows_of 0 s.pool.lists) };
 
-    ghost invariant = { λ s. IsKept s.blocks.items × (65 ≤ vec_capacity s.blocks) };
+    ghost invariant = { λ s. IsStored s.pool.lists s.pool.room s.count };
 }
 
 impl BlockStore {
@@ -36,9 +40,9 @@ impl BlockStore {
     pub fn new(alloc: Global) -> Result<BlockStore, AllocError>
         ensures { IfOk result (λ store. store ≡ []) }
     {
-        Ok(BlockStore {
-            blocks: Vec::with_capacity(alloc, MOST + 1)?,
-        })
+        let mut pool = Pool::new(alloc, LISTS)?;
+        pool.reserve(ROOM)?;
+        Ok(BlockStore { pool, count: 0 })
     }
 
     /// Puts a block first, in place of one of the same process, address and length, and drops the last past 64. It
@@ -53,9 +57,10 @@ impl BlockStore {
             addr,
             bytes,
         };
-        drop_same(&mut self.blocks, &block);
-        put_first(&mut self.blocks, block);
-        self.blocks.truncate(MOST);
+        let list = list_for(&self.pool, process);
+        let gone = displaced(&self.pool, list, &block, self.count);
+        let _key = replace(&mut self.pool, list, block, gone);
+        self.count = count_after(self.count, gone);
         Ok(())
     }
 
@@ -66,8 +71,9 @@ impl BlockStore {
         ensures value { option_map (λ bytes. bytes.now) result ≡ covered process addr size self.now }
         ensures kept { IsKept self.now }
     {
-        let at = self.place_of(process, addr, size)?;
-        Some(self.blocks[at].part(addr, size))
+        let place = place_of(&self.pool, process, addr, size)?;
+        let block = self.pool.item(place.key)?;
+        Some(block.part(addr, size))
     }
 
     /// Moves the first block that has the whole range to the front; false exactly where no single block has it, and
@@ -77,9 +83,10 @@ impl BlockStore {
         ensures there { result ≡ is_some (covered process addr size self.old) }
         ensures moved { self.new ≡ touched process addr size self.old }
     {
-        match self.place_of(process, addr, size) {
-            Some(at) => {
-                move_first(&mut self.blocks, at);
+        match place_of(&self.pool, process, addr, size) {
+            Some(place) => {
+                self.pool.move_last(BY_USE, place.key);
+                self.pool.move_last(place.list, place.key);
                 true
             }
             None => false,
@@ -90,11 +97,9 @@ impl BlockStore {
     pub fn drop_process(&mut self, process: u32)
         ensures { self.new ≡ without_process process self.old }
     {
-        self.blocks.retain(
-            |block: &Block| -> bool
-                ensures { result ≡ not (block.now.process == process) }
-            { block.process != process },
-        );
+        if let Some(list) = list_of(&self.pool, process) {
+            self.count -= self.pool.unlink_list(list);
+        }
     }
 
     /// Drops every block of the process that has a byte of the range.
@@ -102,59 +107,25 @@ impl BlockStore {
         requires { 1 ≤ size }
         ensures { self.new ≡ without_range process addr size self.old }
     {
-        self.blocks.retain(
-            |block: &Block| -> bool
-                ensures { result ≡ not (overlaps process addr size block.now) }
-            { !block.overlaps(process, addr, size) },
-        );
+        if let Some(list) = list_of(&self.pool, process) {
+            self.count -= take_out_range(&mut self.pool, list, process, addr, size);
+        }
     }
 
     /// Drops every block.
     pub fn clear(&mut self)
         ensures { self.new ≡ [] }
     {
-        self.blocks.clear();
+        self.pool.unlink_list(BY_USE);
+        self.count = 0;
     }
 
-    /// Where the first block stands that has the whole range.
-    fn place_of(&self, process: u32, addr: u32, size: u32) -> Option<usize>
-        ensures place { result ≡ position (has_range process addr size) self.now }
-        ensures kept { IsKept self.now }
+    /// The pool that keeps the blocks: all of them in list 0, the least recently used first, and each once more in the
+    /// list of its process.
+    pub fn pool(&self) -> &Pool<Block>
+        ensures by_use { blocks_of (rows_of 0 result.now.lists) ≡ reverse self.now }
+        ensures filed { IsFiled result.now.lists }
     {
-        self.blocks
-            .iter()
-            .position(|block| block.has_range(process, addr, size))
+        &self.pool
     }
-}
-
-/// Drops a block of the same process, address and length.
-fn drop_same(blocks: &mut Vec<Block>, block: &Block)
-    ensures items { blocks.new.items ≡ filter (λ other. not (is_same block.now other)) blocks.old.items }
-    ensures fewer { vec_len blocks.new ≤ vec_len blocks.old }
-    ensures room { vec_capacity blocks.new ≡ vec_capacity blocks.old }
-{
-    blocks.retain(
-        |other: &Block| -> bool
-            ensures { result ≡ not (is_same block.entry.now other.now) }
-        { !block.is_same(other) },
-    );
-}
-
-/// Puts a block first, where there is room for it.
-fn put_first(blocks: &mut Vec<Block>, block: Block)
-    requires { vec_len blocks.old < vec_capacity blocks.old }
-    ensures items { blocks.new.items ≡ block ∷ blocks.old.items }
-    ensures room { vec_capacity blocks.old ≤ vec_capacity blocks.new }
-{
-    blocks.insert(0, block).unwrap();
-}
-
-/// Moves the block at a place to the front.
-fn move_first(blocks: &mut Vec<Block>, at: usize)
-    requires { at < vec_len blocks.old }
-    ensures items { blocks.new.items ≡ moved_first (Some at) blocks.old.items }
-    ensures room { vec_capacity blocks.old ≤ vec_capacity blocks.new }
-{
-    let block = blocks.remove(at);
-    put_first(blocks, block);
 }

@@ -15,8 +15,8 @@ use Rattle.channel_core.specs.Wire.{Said, answers, asks, goes_on, greets, said_i
 use Rattle.channel_core.specs.declared.held.Arrived.{Arrived}
 use Rattle.channel_core.specs.declared.held.Incoming.{Incoming}
 use Rattle.channel_core.specs.declared.states.Cause.{Cause}
-use Rattle.channel_core.specs.declared.taking.Judged.{Judged}
-use Rattle.channel_core.specs.declared.taking.Judged.TheVariants as judgements
+use Rattle.channel_core.specs.Judged.{Judged}
+use Rattle.channel_core.specs.Judged as judgements
 use Rattle.channel_core.specs.declared.taking.Taken.{Taken}
 use Rattle.channel_core.specs.declared.taking.Taken.TheVariants as taken
 use Rattle.value_node.specs.Asked.{Asked}

@@ -15,8 +15,7 @@ use Rattle.channel_core.specs.declared.held.Incoming.{Incoming}
 use Rattle.channel_core.specs.declared.states.Cause.{Cause}
 use Rattle.channel_core.specs.declared.states.Cause.TheVariants.{Own}
 use Rattle.channel_core.specs.declared.states.EndState.TheVariants.{Live}
-use Rattle.channel_core.specs.declared.taking.Judged.{Judged}
-use Rattle.channel_core.specs.declared.taking.Judged.TheVariants.{TooEarly, Stray, Greets, Tells, Asks, GoesOn, Answers}
+use Rattle.channel_core.specs.Judged.{Judged, TooEarly, Stray, Greets, Tells, Asks, GoesOn, Answers}
 use Rattle.channel_core.specs.declared.taking.Taken.{Taken}
 use Rattle.tcf_message.specs.Message.{MessageValue}
 

@@ -24,8 +24,7 @@ use Rattle.channel_core.specs.declared.states.Cause.TheVariants.{Own, Eos, Ended
 use Rattle.channel_core.specs.declared.states.EndState.{EndState}
 use Rattle.channel_core.specs.declared.states.EndState.TheVariants.{Opening, Live, Reopening, Closed}
 use Rattle.channel_core.specs.declared.states.Reason.TheVariants.{Grammar, Early, Token}
-use Rattle.channel_core.specs.declared.taking.Judged.{Judged}
-use Rattle.channel_core.specs.declared.taking.Judged.TheVariants.{TooEarly, Stray, Greets, Tells, Asks, GoesOn, Answers}
+use Rattle.channel_core.specs.Judged.{Judged, TooEarly, Stray, Greets, Tells, Asks, GoesOn, Answers}
 
 -- each step of a call keeps it
 pub record Keeps {T : Type 0} (I : EndValue T → Type 0) : Type 0 where

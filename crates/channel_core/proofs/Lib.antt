@@ -24,4 +24,7 @@ pub mod Received
 pub mod Sent
 pub mod ClosingSo
 pub mod Waiting
+pub mod Idle
 pub mod TheLaws
+pub mod Naming
+pub mod HeldTokens

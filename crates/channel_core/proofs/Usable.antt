@@ -1,6 +1,6 @@
 -- No step spends an end: only want of memory does.
-use Rattle.std.proofs.Common.{◌≡◌, ℕ, ℤ, Bool, true, false, List, [], ◌∷◌, Option, Some, None, Result, Ok, Err, refl, ◌∙◌}
-use Rattle.std.specs.Prelude.{if◌then◌else◌, length, ◌++◌, remove, slice_get}
+use Rattle.std.proofs.Common.{◌≡◌, ℕ, ℤ, Bool, true, false, List, [], ◌∷◌, Option, Some, None, Result, Ok, Err, refl, ap, ◌∙◌}
+use Rattle.std.specs.Prelude.{if◌then◌else◌, length, ◌++◌, remove, slice_get, OnOk}
 use Rattle.stream_escape.specs.Fed.{fed}
 use Rattle.stream_escape.specs.declared.stream.Item.{Item}
 use Rattle.stream_escape.specs.declared.stream.Item.TheVariants as items
@@ -20,8 +20,7 @@ use Rattle.channel_core.specs.declared.held.Held.{Held}
 use Rattle.channel_core.specs.declared.held.Incoming.{Incoming}
 use Rattle.channel_core.specs.declared.states.Cause.{Cause}
 use Rattle.channel_core.specs.declared.states.EndState.TheVariants.{Live}
-use Rattle.channel_core.specs.declared.taking.Judged.{Judged}
-use Rattle.channel_core.specs.declared.taking.Judged.TheVariants.{TooEarly, Stray, Greets, Tells, Asks, GoesOn, Answers}
+use Rattle.channel_core.specs.Judged.{Judged, TooEarly, Stray, Greets, Tells, Asks, GoesOn, Answers}
 
 abbrev IsKept : {T : Type 0} → EndValue T → EndValue T → Type 0
 IsKept old new = new.is_spent ≡ old.is_spent
@@ -56,6 +55,11 @@ sent_or_held_kept h e = by_flag (is_free e) e _ _ (sent_out_kept h e) refl
 
 pub commanded_kept : {T : Type 0} → (service name body : List ℕ) (tag : T) (mark : Option ℕ) (e : EndValue T) → IsKept e (commanded service name body tag mark e)
 commanded_kept service name body tag mark e = sent_or_held_kept _ e
+
+pub command_kept : {T V E : Type 0} → (answer : Result V E) (old new : EndValue T) (service name body : List ℕ) (tag : T) (mark : Option ℕ) → old.is_spent ≡ false
+    → OnOk answer (new ≡ commanded service name body tag mark old) → OnOk answer (new.is_spent ≡ false)
+command_kept (Ok token) old new service name body tag mark fresh sent = ap (λ e. e.is_spent) sent ∙ commanded_kept service name body tag mark old ∙ fresh
+command_kept (Err refused) old new service name body tag mark fresh sent = tt
 
 pub queued_kept : {T : Type 0} → (message : MessageValue) (mark : Option ℕ) (e : EndValue T) → IsKept e (queued message mark e)
 queued_kept message mark e = by_flag (is_closed e.state) e _ _ refl refl

@@ -8,7 +8,9 @@ pub mod Farewell
 pub mod Heard
 pub mod Receiving
 pub mod Said
+pub mod Judged
 pub mod Taking
+pub mod Naming
 pub mod Sending
 pub mod Laws
 pub mod Runs

@@ -4,6 +4,7 @@ use Rattle.std.specs.List.{list_any}
 use Rattle.channel_core.specs.Closing.{closed_for}
 use Rattle.channel_core.specs.EndValue.{EndValue}
 use Rattle.channel_core.specs.Holding.{released}
+use Rattle.channel_core.specs.Judged.{Judged, TooEarly, Stray, Greets, Tells, Asks, GoesOn, Answers}
 use Rattle.channel_core.specs.Level.{leveled}
 use Rattle.channel_core.specs.Wire.{Said, greets, tells, asks, goes_on, answers, said_in}
 use Rattle.channel_core.specs.declared.held.Arrived.{Arrived}
@@ -15,8 +16,6 @@ use Rattle.channel_core.specs.declared.states.EndState.{EndState}
 use Rattle.channel_core.specs.declared.states.EndState.TheVariants.{Opening, Live, Reopening, Closed as IsClosed}
 use Rattle.channel_core.specs.declared.states.Reason.{Reason}
 use Rattle.channel_core.specs.declared.states.Reason.TheVariants.{Early, Token}
-use Rattle.channel_core.specs.declared.taking.Judged.{Judged}
-use Rattle.channel_core.specs.declared.taking.Judged.TheVariants.{TooEarly, Stray, Greets, Tells, Asks, GoesOn, Answers}
 use Rattle.channel_core.specs.declared.taking.Taken.{Taken}
 use Rattle.channel_core.specs.declared.taking.Taken.TheVariants.{Hello, Command, Event, Progress, Final, Closed}
 

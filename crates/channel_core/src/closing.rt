@@ -57,6 +57,7 @@ impl<T: Drop> End<T> {
 
     /// Takes the first pending command of a closed end, and answers its tag; `None` exactly where none is left, or where
     /// the end isn't closed.
+    #[tactic(auto, using(crate::proofs::Naming::issued_first))]
     pub fn drain(&mut self) -> Option<T>
         ensures tag { result ≡ unless_spent self.old None (drained self.old) }
         ensures after { self.new ≡ unless_spent self.old self.old (after_drain self.old) }
@@ -64,7 +65,7 @@ impl<T: Drop> End<T> {
         if self.spent || !self.state.is_closed() {
             return None;
         }
-        let (_token, tag) = self.pending.pop_front()?;
+        let (_token, tag) = self.pending.take_first()?;
         Some(tag)
     }
 

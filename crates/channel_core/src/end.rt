@@ -9,6 +9,7 @@ ghost use Rattle.channel_core.specs.Wire.{said};
 use crate::congestion::level;
 use crate::held::{Arrived, Held, Outgoing};
 use crate::states::{Cause, EndState};
+use link_pool::{Pending, new_pending};
 use std::alloc::{AllocError, Global};
 use std::collections::VecDeque;
 use std::marker::Model;
@@ -26,7 +27,7 @@ pub struct End<T> {
     pub(crate) inbox: VecDeque<Arrived>,
     pub(crate) stop: Option<Cause>,
     pub(crate) came: u64,
-    pub(crate) pending: VecDeque<(u64, T)>,
+    pub(crate) pending: Pending<T>,
     pub(crate) last: u64,
     pub(crate) held: VecDeque<Held>,
     pub(crate) queued: VecDeque<Outgoing>,
@@ -44,12 +45,12 @@ impl<T> Model for End<T> {
 
     ghost Value = { EndValue T };
 
-    ghost use Rattle.std.specs.Prelude.{◌++◌, length};
+    ghost use Rattle.std.specs.Prelude.{◌++◌};
     ghost use Rattle.channel_core.specs.Farewell.{IsReady, leaving_behind};
 
-    ghost view = { λ e. record { state = e.state; redirect = e.redirect; stream = e.stream; inbox = e.inbox.items; stop = e.stop; came = e.came; pending = e.pending.items; last = e.last; held = e.held.items; queued = e.queued.items ++ leaving_behind e.is_leaving; told = e.told; is_loud = e.is_loud; is_spent = e.spent } };
+    ghost view = { λ e. record { state = e.state; redirect = e.redirect; stream = e.stream; inbox = e.inbox.items; stop = e.stop; came = e.came; pending = e.pending; last = e.last; held = e.held.items; queued = e.queued.items ++ leaving_behind e.is_leaving; told = e.told; is_loud = e.is_loud; is_spent = e.spent } };
 
-    ghost invariant = { λ e. IsReady e.state e.inbox.items e.stop e.is_leaving e.ready (length e.pending.items) };
+    ghost invariant = { λ e. IsReady e.state e.inbox.items e.stop e.is_leaving e.ready e.pending e.last e.held.items };
 }
 
 impl<T> End<T> {
@@ -58,7 +59,7 @@ impl<T> End<T> {
 
     /// Begins in Opening, with its Hello to be sent, whose data is `hello` and whose mark is this one: so many bytes at
     /// most that the event is within the limit of a message.
-    #[tactic(auto, unfolding(crate::specs::Wire::locator, crate::specs::Wire::hello))]
+    #[tactic(auto, using(crate::proofs::Naming::none_issued, crate::proofs::HeldTokens::none_rising, crate::proofs::HeldTokens::none_within), unfolding(crate::specs::Wire::locator, crate::specs::Wire::hello))]
     pub fn new(alloc: Global, hello: &[u8], mark: Option<u64>) -> Result<End<T>, AllocError>
         requires { 12 + length hello.now ≤ most_body }
         ensures { IfOk result (λ e. e ≡ new_end hello.now mark) }
@@ -80,7 +81,7 @@ impl<T> End<T> {
             inbox: VecDeque::new(alloc),
             stop: None,
             came: 0,
-            pending: VecDeque::new(alloc),
+            pending: new_pending(alloc)?,
             last: 0,
             held: VecDeque::new(alloc),
             queued,
@@ -96,8 +97,14 @@ impl<T> End<T> {
     pub fn tag(&self, token: u64) -> Option<&T>
         ensures { option_map (λ tag. tag.now) result ≡ tag_of token self.now.pending }
     {
-        let row = self.pending.iter().find(|row| row.0 == token)?;
-        Some(&row.1)
+        self.pending.find(token)
+    }
+
+    /// The commands that are pending, those that are held among them, by their tokens, in order of issue.
+    pub fn commands(&self) -> &Pending<T>
+        ensures { result.now ≡ self.now.pending }
+    {
+        &self.pending
     }
 
     /// The token of the command that was accepted last; 0 before the first.

@@ -23,6 +23,7 @@ pub use laws::{
     only_what_is_sent_is_queued, the_held_go_out_up_to_a_redirect, the_level_told_fits_the_inbox,
     what_is_queued_can_be_read, what_is_queued_goes_out_in_order, what_was_queued_is_received,
 };
+pub use link_pool::Pending;
 pub use sending::{Refused, SendRefusal};
 pub use states::{Cause, EndState, Reason};
-pub use taking::{Judged, Taken};
+pub use taking::Taken;

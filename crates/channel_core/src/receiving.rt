@@ -166,6 +166,7 @@ impl<T: Drop> End<T> {
     }
 
     /// What is held goes out in order, up to and with the first redirect.
+    #[tactic(auto, using(crate::proofs::HeldTokens::rising_rest, crate::proofs::HeldTokens::within_rest))]
     fn let_out(&mut self) -> Result<(), AllocError>
         requires { is_closed self.old.state ≡ false }
         ensures { OnOk result (self.new ≡ let_out self.old.held self.old) }

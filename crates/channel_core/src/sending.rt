@@ -1,5 +1,5 @@
 //! Commands, answers and events are sent.
-ghost use Rattle.std.specs.Prelude.{◌≡◌, ◌≢◌, ◌+◌, ◌++◌, ◌∷◌, [], ◌≤◌, ◌<◌, Some, None, true, false, decimal, length, nat_lt, IfErr, IfOk, IfSome, OnErr, OnOk};
+ghost use Rattle.std.specs.Prelude.{◌≡◌, ◌≢◌, ◌+◌, ◌++◌, ◌∷◌, [], ◌≤◌, Some, None, true, false, decimal, length, nat_lt, IfErr, IfOk, IfSome, OnErr, OnOk};
 ghost use Rattle.tcf_message.specs.Message.{HasNoZero, IsToken, IsWellFormed, event, final, most_body, not_known, progress, value_of};
 ghost use Rattle.channel_core.specs.Closing.{is_closed};
 ghost use Rattle.channel_core.specs.Holding.{is_free, is_live, sent_out};
@@ -97,7 +97,6 @@ impl<T: Drop> End<T> {
     /// Sends a command, and answers its token, a number from 1 to 2^64 - 1. Before the Hello, after a redirect and under a
     /// level above 0 it is held. Service and name have no zero, and with the data 1,048,576 bytes at most. A refused command changes nothing, but for want of memory, after which the end is spent. A refusal that is due is
     /// answered whatever the memory, unless the end is spent.
-    #[tactic(auto, using(crate::proofs::Usable::commanded_kept))]
     pub fn send_command(
         &mut self,
         service: &[u8],
@@ -189,7 +188,7 @@ impl<T: Drop> End<T> {
     /// A command that is accepted goes out, or is held.
     fn accept(&mut self, held: Held, tag: T) -> Result<u64, Refused<T>>
         requires open { is_closed self.old.state ≡ false }
-        requires room { length self.old.pending < 1024 }
+        requires next { held.token ≡ self.old.last + 1 }
         ensures sent { OnOk result (self.new ≡ accepted held tag (sent_or_held held self.old)) }
         ensures token { IfOk result (λ token. token ≡ held.token) }
         ensures tag { IfErr result (λ refused. refused.tag ≡ tag) }
@@ -212,22 +211,26 @@ impl<T: Drop> End<T> {
     }
 
     /// The command with this token is pending; without memory its tag comes back.
+    #[tactic(auto, using(crate::proofs::Naming::issued_more, crate::proofs::Naming::next_unissued, crate::proofs::HeldTokens::within_next))]
     fn remember(&mut self, token: u64, tag: T) -> Result<(), T>
-        requires { length self.old.pending < 1024 }
+        requires { token ≡ self.old.last + 1 }
         ensures pending { OnOk result (self.new ≡ record self.old { last = token; pending = self.old.pending ++ (token, tag) ∷ [] }) }
         ensures tag { IfErr result (λ back. back ≡ tag) }
     {
-        match self.pending.push_back((token, tag)) {
+        match self.pending.issue(token, tag) {
             Ok(()) => {
                 self.last = token;
                 Ok(())
             }
-            Err(failed) => Err(failed.value.1),
+            // For want of memory: that there are fewer than 1,024 was seen before the command was made.
+            Err((tag, _)) => Err(tag),
         }
     }
 
+    #[tactic(auto, using(crate::proofs::HeldTokens::rising_more, crate::proofs::HeldTokens::within_more))]
     fn put(&mut self, held: Held) -> Result<(), AllocError>
-        requires { is_closed self.old.state ≡ false }
+        requires open { is_closed self.old.state ≡ false }
+        requires next { held.token ≡ self.old.last + 1 }
         ensures { OnOk result (self.new ≡ sent_or_held held self.old) }
     {
         if self.is_free() {

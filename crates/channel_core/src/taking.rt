@@ -1,18 +1,25 @@
 //! One entry is taken from the inbox.
-ghost use Rattle.std.specs.Prelude.{◌≡◌, ◌&&◌, Some, true, false, decimal, bytes_eq, remove, slice_get, IfOk, IfNone, OnErr, OnOk, OnSome};
+ghost use Rattle.std.specs.Prelude.{◌≡◌, ◌≢◌, ◌<◌, ◌^◌, ◌↔◌, ◌&&◌, ℕ, [], None, Ok, Some, true, false, decimal, bytes_eq, IfOk, IfNone, IfSome, OnErr, OnOk};
 ghost use Rattle.std.specs.List.{list_any};
 ghost use Rattle.channel_core.specs.Closing.{is_closed};
+ghost use Rattle.channel_core.specs.Farewell.{AreRising};
 ghost use Rattle.channel_core.specs.Said.{view_of};
 ghost use Rattle.channel_core.specs.Wire.{hello, is_done, locator, said_by, said_in};
 ghost use Rattle.tcf_message.specs.Message.{value_of};
-ghost use Rattle.channel_core.specs.Taking.{answered, broken, closes, finished, greeted, is_held, judged, message_taken, next_taken, number_at, place_of, progressed, sent_place, stop_taken};
+ghost use Rattle.channel_core.specs.Naming.{AreIssued, finished_by, named, token_at};
+ghost use Rattle.channel_core.specs.Taking.{answered, broken, closes, greeted, is_held, judged, message_taken, next_taken, place_of, sent_at, sent_place, stop_taken};
+ghost use Rattle.link_pool.specs.Rows.{Distinct, item_at};
 ghost use Rattle.channel_core.specs.Level.{leveled};
+ghost use Rattle.channel_core.specs.Receiving.{waiting_in};
 
 use crate::end::End;
 use crate::held::{Arrived, Held, Incoming};
 use crate::states::{Cause, EndState, Reason};
 use itoa::Buffer;
+use link_pool::Pending;
 use std::alloc::AllocError;
+use std::collections::VecDeque;
+use std::str;
 use tcf_message::{Message, read};
 
 /// What was taken.
@@ -48,7 +55,7 @@ pub enum Said<'a> {
 
 /// What a message is to the end that it came to.
 #[derive(Clone, Copy)]
-pub enum Judged {
+pub enum Verdict {
     /// It came before the Hello.
     TooEarly,
     /// It answers no pending command that was sent.
@@ -56,10 +63,10 @@ pub enum Judged {
     Greets,
     Tells,
     Asks,
-    /// Progress of the pending command at this place.
-    GoesOn(usize),
-    /// The final answer to the pending command at this place, and whether a redirect is done by it.
-    Answers(usize, bool),
+    /// Progress of the pending command with this token.
+    GoesOn(u64),
+    /// The final answer to the pending command with this token, and whether a redirect is done by it.
+    Answers(u64, bool),
 }
 
 #[tactic(auto, unfolding(crate::specs::Wire::locator, crate::specs::Wire::hello))]
@@ -105,12 +112,66 @@ fn is_named(number: u64, token: &[u8]) -> bool
     token == Buffer::new().format(number).as_bytes()
 }
 
+/// The number whose digits these are, without a sign or a leading zero.
+fn number_in(digits: &[u8]) -> Option<u64>
+    ensures found { IfSome result (λ n. digits.now ≡ decimal n) }
+    ensures none { IfNone result ((n : ℕ) → n < 2 ^ 64 → digits.now ≢ decimal n) }
+{
+    let text = match str::from_utf8(digits) {
+        Ok(text) => text,
+        Err(_) => return None,
+    };
+    match text.parse::<u64>() {
+        Ok(number) if is_named(number, digits) => Some(number),
+        _ => None,
+    }
+}
+
+/// Whether the command with this token is held: none is whose token is below the first one's.
+#[tactic(auto, using(crate::proofs::HeldTokens::none_below, crate::proofs::HeldTokens::none_held))]
+fn is_held(token: u64, held: &VecDeque<Held>) -> bool
+    requires { AreRising 0 held.now.items }
+    ensures { result ≡ is_held token held.now.items }
+{
+    let Some(first) = held.front() else {
+        return false;
+    };
+    if token < first.token {
+        return false;
+    }
+    held.iter().any(|held| held.token == token)
+}
+
+/// The token of the pending command that these digits name, where it was sent.
+#[tactic(auto, using(crate::proofs::Naming::read_names_it, crate::proofs::Naming::read_names_none, crate::proofs::Naming::unread_names_none))]
+fn sent_token<T>(
+    digits: &[u8],
+    pending: &Pending<T>,
+    last: u64,
+    held: &VecDeque<Held>,
+) -> Option<u64>
+    requires issued { AreIssued last pending.now }
+    requires rising { AreRising 0 held.now.items }
+    ensures { result ≡ token_at (sent_at (place_of digits.now pending.now) pending.now held.now.items) pending.now }
+{
+    let token = match number_in(digits) {
+        Some(token) => token,
+        None => return None,
+    };
+    if pending.find(token).is_none() || is_held(token, held) {
+        return None;
+    }
+    Some(token)
+}
+
 impl<T: Drop> End<T> {
     /// Takes the oldest entry of the inbox; `None` exactly where there is none. A last entry closes the end, and so does
     /// a message other than a Hello before the Hello, and an answer to a command that isn't pending or wasn't sent yet.
-    #[tactic(auto, using(crate::proofs::Usable::next_kept, crate::proofs::ClosingTaken::next_closes))]
+    #[tactic(auto, using(crate::proofs::Usable::next_kept, crate::proofs::ClosingTaken::next_closes, crate::proofs::Idle::inbox_is_empty, crate::proofs::Idle::has_no_stop))]
     pub fn next_message(&mut self) -> Result<Option<Taken<T>>, AllocError>
         ensures taken { IfOk result (λ taken. (taken, self.new) ≡ next_taken self.old) }
+        ensures nothing { IfOk result (λ taken. (taken ≡ None) ↔ (waiting_in self.old ≡ 0)) }
+        ensures idle { self.old.is_spent ≡ false → waiting_in self.old ≡ 0 → result ≡ Ok None }
         ensures closed { IfOk result (λ taken. closes taken ≡ true → is_closed self.new.state ≡ true) }
         ensures usable { OnOk result (self.new.is_spent ≡ false) }
         ensures fresh { OnOk result (self.old.is_spent ≡ false) }
@@ -127,7 +188,8 @@ impl<T: Drop> End<T> {
     }
 
     fn take_next(&mut self) -> Result<Option<Taken<T>>, AllocError>
-        ensures { IfOk result (λ taken. (taken, self.new) ≡ next_taken self.old) }
+        ensures taken { IfOk result (λ taken. (taken, self.new) ≡ next_taken self.old) }
+        ensures idle { self.old.inbox ≡ [] → self.old.stop ≡ None → result ≡ Ok None }
     {
         match self.inbox.pop_front() {
             Some(Arrived { number, incoming }) => Ok(Some(self.take_message(number, incoming)?)),
@@ -144,71 +206,58 @@ impl<T: Drop> End<T> {
         Some(Taken::Closed(cause))
     }
 
+    #[tactic(auto, using(crate::proofs::Naming::as_early, crate::proofs::Naming::as_stray, crate::proofs::Naming::as_greets, crate::proofs::Naming::as_tells, crate::proofs::Naming::as_asks, crate::proofs::Naming::as_goes_on, crate::proofs::Naming::as_answers))]
     fn take_message(&mut self, number: u64, incoming: Incoming) -> Result<Taken<T>, AllocError>
         requires { is_closed self.old.state ≡ false }
         ensures { IfOk result (λ taken. (Some taken, self.new) ≡ message_taken number incoming (said_in incoming.raw) self.old) }
     {
         match self.judge(incoming.raw.as_slice()) {
-            Judged::TooEarly => Ok(self.break_off(number, Reason::Early)),
-            Judged::Stray => Ok(self.break_off(number, Reason::Token)),
-            Judged::Greets => {
+            Verdict::TooEarly => Ok(self.break_off(number, Reason::Early)),
+            Verdict::Stray => Ok(self.break_off(number, Reason::Token)),
+            Verdict::Greets => {
                 self.greet()?;
                 Ok(Taken::Hello(incoming))
             }
-            Judged::Tells => {
+            Verdict::Tells => {
                 self.tell_level()?;
                 Ok(Taken::Event(incoming))
             }
-            Judged::Asks => {
+            Verdict::Asks => {
                 self.tell_level()?;
                 Ok(Taken::Command(incoming))
             }
-            Judged::GoesOn(place) => self.progress(number, incoming, place),
-            Judged::Answers(place, done) => self.finish(number, incoming, place, done),
+            Verdict::GoesOn(token) => {
+                self.tell_level()?;
+                Ok(Taken::Progress(token, incoming))
+            }
+            Verdict::Answers(token, done) => self.finish(number, incoming, token, done),
         }
     }
 
-    fn judge(&self, raw: &[u8]) -> Judged
-        ensures { result ≡ judged (said_in raw.now) self.now }
+    fn judge(&self, raw: &[u8]) -> Verdict
+        ensures { result ≡ named (judged (said_in raw.now) self.now) self.now.pending }
     {
         match meaning(raw) {
-            Said::Greets => Judged::Greets,
-            _ if self.state == EndState::Opening => Judged::TooEarly,
-            Said::Tells => Judged::Tells,
-            Said::Asks => Judged::Asks,
-            Said::GoesOn(token) => match self.sent_place(token) {
-                Some(place) => Judged::GoesOn(place),
-                None => Judged::Stray,
+            Said::Greets => Verdict::Greets,
+            _ if self.state == EndState::Opening => Verdict::TooEarly,
+            Said::Tells => Verdict::Tells,
+            Said::Asks => Verdict::Asks,
+            Said::GoesOn(token) => match self.sent_token(token) {
+                Some(token) => Verdict::GoesOn(token),
+                None => Verdict::Stray,
             },
-            Said::Answers(token, done) => match self.sent_place(token) {
-                Some(place) => Judged::Answers(place, done),
-                None => Judged::Stray,
+            Said::Answers(token, done) => match self.sent_token(token) {
+                Some(token) => Verdict::Answers(token, done),
+                None => Verdict::Stray,
             },
         }
     }
 
-    /// The place of the pending command with this token, where it was sent.
-    fn sent_place(&self, token: &[u8]) -> Option<usize>
-        ensures { result ≡ sent_place token.now self.now }
+    /// The token of the pending command that these digits name, where it was sent.
+    fn sent_token(&self, digits: &[u8]) -> Option<u64>
+        ensures { result ≡ token_at (sent_place digits.now self.now) self.now.pending }
     {
-        let place = self.place_of(token)?;
-        let row = self.pending.get(place)?;
-        if self.is_held(row.0) {
-            return None;
-        }
-        Some(place)
-    }
-
-    fn place_of(&self, token: &[u8]) -> Option<usize>
-        ensures { result ≡ place_of token.now self.now.pending }
-    {
-        self.pending.iter().position(|row| is_named(row.0, token))
-    }
-
-    fn is_held(&self, token: u64) -> bool
-        ensures { result ≡ is_held token self.now.held }
-    {
-        self.held.iter().any(|held| held.token == token)
+        sent_token(digits, &self.pending, self.last, &self.held)
     }
 
     /// Closes the end, since the message of this number breaks the protocol.
@@ -236,61 +285,27 @@ impl<T: Drop> End<T> {
         self.release()
     }
 
-    fn progress(
-        &mut self,
-        number: u64,
-        incoming: Incoming,
-        place: usize,
-    ) -> Result<Taken<T>, AllocError>
-        requires { is_closed self.old.state ≡ false }
-        ensures { IfOk result (λ taken. (Some taken, self.new) ≡ progressed number incoming (number_at place self.old.pending) self.old) }
-    {
-        match self.number_at(place) {
-            Some(token) => {
-                self.tell_level()?;
-                Ok(Taken::Progress(token, incoming))
-            }
-            None => Ok(self.break_off(number, Reason::Token)),
-        }
-    }
-
-    /// The token of the pending command at this place.
-    fn number_at(&self, place: usize) -> Option<u64>
-        ensures { result ≡ number_at place self.now.pending }
-    {
-        match self.pending.get(place) {
-            Some(row) => Some(row.0),
-            None => None,
-        }
-    }
-
+    /// The command with this token has its final answer.
+    #[tactic(auto, using(crate::proofs::Naming::issued_without))]
     fn finish(
         &mut self,
         number: u64,
         incoming: Incoming,
-        place: usize,
+        token: u64,
         done: bool,
     ) -> Result<Taken<T>, AllocError>
         requires { is_closed self.old.state ≡ false }
-        ensures { IfOk result (λ taken. (Some taken, self.new) ≡ finished number incoming place done (slice_get self.old.pending place) self.old) }
+        ensures taken { IfOk result (λ taken. (Some taken, self.new) ≡ finished_by number incoming token done (item_at token self.old.pending) self.old) }
+        ensures differ { Distinct self.old.pending }
     {
-        match self.take_row(place) {
-            Some((token, tag)) => {
+        match self.pending.take(token) {
+            Some(tag) => {
                 self.tell_level()?;
                 self.hear_answer(token, done)?;
                 Ok(Taken::Final(tag, incoming))
             }
             None => Ok(self.break_off(number, Reason::Token)),
         }
-    }
-
-    /// Takes the command at this place out of the pending ones.
-    fn take_row(&mut self, place: usize) -> Option<(u64, T)>
-        ensures row { result ≡ slice_get self.old.pending place }
-        ensures left { OnSome result (self.new ≡ record self.old { pending = remove self.old.pending place }) }
-        ensures kept { IfNone result (self.new ≡ self.old) }
-    {
-        self.pending.remove(place)
     }
 
     /// The final answer to a redirect makes the end Live again, unless it is done.

@@ -23,8 +23,8 @@ use Rattle.channel_core.specs.declared.held.Outgoing.{Outgoing}
 use Rattle.channel_core.specs.declared.sending.SendRefusal.{SendRefusal}
 use Rattle.channel_core.specs.declared.states.Cause.{Cause}
 use Rattle.channel_core.specs.declared.states.Cause.TheVariants.{Own}
-use Rattle.channel_core.specs.declared.taking.Judged.{Judged}
-use Rattle.channel_core.specs.declared.taking.Judged.TheVariants as judges
+use Rattle.channel_core.specs.Judged.{Judged}
+use Rattle.channel_core.specs.Judged as judges
 use Rattle.channel_core.specs.declared.taking.Taken.{Taken}
 use Rattle.channel_core.specs.declared.taking.Taken.TheVariants as taken
 use Rattle.client_node.specs.Client.{client_services, closed_for, new_client, not_recognised, noted, refused_for, sent_or_refused, took, turned_by}

@@ -17,8 +17,8 @@ use Rattle.channel_core.specs.declared.held.Incoming.{Incoming}
 use Rattle.channel_core.specs.declared.states.Cause.{Cause}
 use Rattle.channel_core.specs.declared.states.Reason.{Reason}
 use Rattle.channel_core.specs.declared.states.Reason.TheVariants.{Token}
-use Rattle.channel_core.specs.declared.taking.Judged.{Judged}
-use Rattle.channel_core.specs.declared.taking.Judged.TheVariants as judges
+use Rattle.channel_core.specs.Judged.{Judged}
+use Rattle.channel_core.specs.Judged as judges
 use Rattle.channel_core.specs.declared.taking.Taken.{Taken}
 use Rattle.channel_core.specs.declared.taking.Taken.TheVariants as taken
 use Rattle.client_node.specs.Runs.{FitsMessage, IsAnswerTo, IsHello, IsOtherEvent, IsProgressOf, is_hello}

@@ -16,8 +16,8 @@ use Rattle.channel_core.specs.declared.held.Held.{Held}
 use Rattle.channel_core.specs.declared.held.Incoming.{Incoming}
 use Rattle.channel_core.specs.declared.states.Cause.{Cause}
 use Rattle.channel_core.specs.declared.states.EndState.TheVariants.{Opening}
-use Rattle.channel_core.specs.declared.taking.Judged.{Judged}
-use Rattle.channel_core.specs.declared.taking.Judged.TheVariants as judges
+use Rattle.channel_core.specs.Judged.{Judged}
+use Rattle.channel_core.specs.Judged as judges
 use Rattle.channel_core.specs.declared.taking.Taken.{Taken}
 use Rattle.channel_core.specs.declared.taking.Taken.TheVariants as taken
 use Rattle.list_laws.proofs.Lists.{get_at}

@@ -108,6 +108,7 @@ fn a_command_is_held_under_a_level_above_0(rt: HostRuntime) -> Result<(), Fail> 
     let mut end = live_end(&rt)?;
     end.deliver(b"F\x001\0\x03\x01", None)?;
     send(&mut end, b"sync", 5)?;
+    assert_eq!(rt; end.commands().find(1), Some(&5));
     assert_sent(&rt, &mut end, b"");
     end.deliver(b"F\0-50\0\x03\x01", None)?;
     assert_sent(&rt, &mut end, b"C\x001\0Locator\0sync\0\x03\x01");

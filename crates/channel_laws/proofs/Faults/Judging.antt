@@ -9,8 +9,7 @@ use Rattle.channel_core.specs.declared.states.EndState.{EndState}
 use Rattle.channel_core.specs.declared.states.EndState.TheVariants.{Closed, Live, Opening, Reopening}
 use Rattle.channel_core.specs.declared.states.Reason.{Reason}
 use Rattle.channel_core.specs.declared.states.Reason.TheVariants.{Early, Grammar, Token}
-use Rattle.channel_core.specs.declared.taking.Judged.{Judged}
-use Rattle.channel_core.specs.declared.taking.Judged.TheVariants.{Answers, Asks, GoesOn, Greets, Stray, Tells, TooEarly}
+use Rattle.channel_core.specs.Judged.{Judged, Answers, Asks, GoesOn, Greets, Stray, Tells, TooEarly}
 use Rattle.channel_laws.specs.Faults.{IsUnder}
 
 -- it breaks the protocol for this reason

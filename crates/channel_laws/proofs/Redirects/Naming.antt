@@ -7,7 +7,7 @@ use Rattle.channel_core.specs.EndValue.{EndValue}
 use Rattle.channel_core.specs.Taking.{is_early, is_held, judged, judged_by, place_of, sent_at, sent_place, unless_held}
 use Rattle.channel_core.specs.Wire.{Said, answers, asks, goes_on, greets, tells}
 use Rattle.channel_core.specs.declared.held.Held.{Held}
-use Rattle.channel_core.specs.declared.taking.Judged.TheVariants.{Answers, TooEarly}
+use Rattle.channel_core.specs.Judged.{Answers, TooEarly}
 use Rattle.channel_core.proofs.Finals.{no_progress, is_answer}
 use Rattle.channel_core.proofs.Rows.{names}
 

@@ -14,8 +14,7 @@ use Rattle.channel_core.specs.Wire.{Said, answers, asks, goes_on, greets, said_i
 use Rattle.channel_core.specs.declared.held.Arrived.{Arrived}
 use Rattle.channel_core.specs.declared.held.Incoming.{Incoming}
 use Rattle.channel_core.specs.declared.states.Cause.{Cause}
-use Rattle.channel_core.specs.declared.taking.Judged.{Judged}
-use Rattle.channel_core.specs.declared.taking.Judged.TheVariants.{Answers, Asks, GoesOn, Greets, Stray, Tells, TooEarly}
+use Rattle.channel_core.specs.Judged.{Judged, Answers, Asks, GoesOn, Greets, Stray, Tells, TooEarly}
 use Rattle.channel_core.specs.declared.taking.Taken.{Taken}
 use Rattle.channel_core.specs.declared.taking.Taken.TheVariants.{Closed, Command, Event, Final, Hello, Progress}
 use Rattle.channel_laws.proofs.Redirects.Naming.{names_its_command}

@@ -19,8 +19,7 @@ use Rattle.channel_core.specs.declared.states.Cause.{Cause}
 use Rattle.channel_core.specs.declared.states.Cause.TheVariants.{Protocol}
 use Rattle.channel_core.specs.declared.states.EndState.TheVariants.{Live, Opening}
 use Rattle.channel_core.specs.declared.states.Reason.TheVariants.{Early, Token}
-use Rattle.channel_core.specs.declared.taking.Judged.{Judged}
-use Rattle.channel_core.specs.declared.taking.Judged.TheVariants.{Answers, Asks, GoesOn, Greets, Stray, Tells, TooEarly}
+use Rattle.channel_core.specs.Judged.{Judged, Answers, Asks, GoesOn, Greets, Stray, Tells, TooEarly}
 use Rattle.channel_core.specs.declared.taking.Taken.{Taken}
 use Rattle.channel_core.specs.declared.taking.Taken.TheVariants.{Closed, Command, Event, Final, Hello, Progress}
 use Rattle.channel_core.proofs.Keeping.{leveled_state}

@@ -1,4 +1,4 @@
-use Rattle.std.proofs.Common.{arith}
+use Rattle.std.proofs.Common.{arith, refl}
 use Rattle.std.proofs.lemmas.Result.{err_from_is_err_and}
 use Rattle.value_serving.proofs.Hearing.{opens, sends_away}
 use Rattle.value_serving.proofs.Results.{on_ok_same}
@@ -9,6 +9,9 @@ returns-then-len-ge-MOST-clause-ok c =
     rw (← c.self.view_is)
     (λ unused. sends_away c.self.inside.peer unused c.args.channel c.self.inside.adds c.self.inside.sending c.begin.new.self c.queue.new.self c.close.new.self
     (omega (arith, c.if-len-ge-MOST.true, c.len.ensures)) c.in_ok-begin.ensures c.in_ok-queue.ensures c.close.ensures)
+
+pub returns-clause-peer : goal.returns-clause-peer
+returns-clause-peer c = rw (← c.self.view_is) (on_ok_same c.push.result _ _ (λ pushed. refl) c.push.ensures.ok)
 
 pub returns-clause-ok : goal.returns-clause-ok
 returns-clause-ok c =

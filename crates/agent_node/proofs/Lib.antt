@@ -13,4 +13,6 @@ pub mod Truth
 pub mod Told
 pub mod Strangers
 pub mod Openings
+pub mod Apart
+pub mod Sights
 pub mod TheLaws

@@ -7,3 +7,5 @@ pub mod Runs
 pub mod AgentLaws
 pub mod Strangers
 pub mod Openings
+pub mod Apart
+pub mod Sights

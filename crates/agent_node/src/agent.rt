@@ -35,6 +35,8 @@ pub enum Turned {
 /// An agent. Contracts see the target, the number of its inputs so far, the channels, and whether memory was wanting in a
 /// call: then the agent is spent and has no channels any more, each later call that may take memory answers want of it
 /// again, and no call changes anything.
+///
+/// Neither these contracts nor the laws of this crate ask anything of the bytes that come on a channel.
 #[derive(Drop)]
 pub struct AgentNode {
     alloc: Global,

@@ -36,7 +36,7 @@ use Rattle.agent_node.proofs.Truth.{HoldsRun, holds_all, holds_first}
 use Rattle.agent_serving.specs.Served.{GivesWhatIsTold, TellsItsHistory, given_by, given_out, run_by}
 
 -- what the first past of a number put out
-abbrev given_in : ℕ → List Past → List Outgoing
+abbrev pub given_in : ℕ → List Past → List Outgoing
 given_in k [] = []
 given_in k (past ∷ pasts) = cond (past.number == k) (run_of past).past.given (given_in k pasts)
 
@@ -253,7 +253,7 @@ by_call images k (ticks thread) r h =
     quiet_ticked (is_full r.agent) k (instruction_tells thread r.agent.target) r.agent r.channels ∙ sym (append-nil (given_in k r.channels))
 by_call images k (gives j) r h = given_there images (j == k) k j r refl h
 
-by_calls : (images : List Image) (k : ℕ) (calls : List Call) (r : AgentRun) → HoldsRun images r → given_in k (after_all calls r).channels ≡ given_in k r.channels ++ given_out k calls r.agent
+pub by_calls : (images : List Image) (k : ℕ) (calls : List Call) (r : AgentRun) → HoldsRun images r → given_in k (after_all calls r).channels ≡ given_in k r.channels ++ given_out k calls r.agent
 by_calls images k [] r h = sym (append-nil (given_in k r.channels))
 by_calls images k (call ∷ calls) r h =
     by_calls images k calls (after_call call r) (holds_all images (call ∷ []) r h)

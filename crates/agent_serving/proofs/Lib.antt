@@ -21,4 +21,5 @@ pub mod Gathering
 mod Given
 mod Taking
 mod Ending
+mod Apart
 pub mod TheLaws

@@ -4,6 +4,7 @@ pub mod Lines
 pub mod ServingValue
 pub mod Serving
 pub mod Served
+pub mod Apart
 pub mod Left
 pub mod Serve
 pub mod Turn

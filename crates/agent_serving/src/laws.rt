@@ -1,4 +1,5 @@
-//! The laws of a served agent.
+//! The laws of a served agent, whatever bytes come.
+ghost use Rattle.agent_serving.specs.Apart.{EachIsGivenItsOwn, OneHistoryServesTheSame};
 ghost use Rattle.agent_serving.specs.Left.{GoesOnWhileIdle, LeavesNothing};
 ghost use Rattle.agent_serving.specs.Served.{ServesAnAgent};
 
@@ -9,6 +10,20 @@ ghost use Rattle.agent_serving.specs.Served.{ServesAnAgent};
 /// answer under the token of its command.
 pub fn what_is_served_is_an_agent()
     ensures { ServesAnAgent }
+{}
+
+/// The laws that one wire touches another by the history of the target alone, whatever came over either.
+///
+/// `own`: in the calls that made what is served, what was given out on a channel and what is still to be given out, flow
+/// control and the end of the stream aside, is a function of the history and of the tokens of the commands that were taken
+/// from it.
+///
+/// `same`: of any two served agents with the same images, where the histories of these calls are the same, a channel is
+/// live in both or in neither, the same commands were taken from it, and where these had the same tokens the same is given
+/// out on it.
+pub fn wires_touch_by_the_history_alone()
+    ensures own { EachIsGivenItsOwn }
+    ensures same { OneHistoryServesTheSame }
 {}
 
 /// The law that after any events that can come, of each line that isn't closed, no message can be taken on its

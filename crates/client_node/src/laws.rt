@@ -3,7 +3,7 @@ ghost use Rattle.client_node.specs.Ends.{EndIsRunAfterAnyCalls};
 ghost use Rattle.client_node.specs.Runs.{LogTellsPast, OnceAfterAnyCalls, ShownAfterAnyCalls};
 
 /// The law that each command that was accepted has at most one final answer, its own, and exactly one once the channel has
-/// ended.
+/// ended. It asks nothing of the bytes that come, and neither do the other laws here.
 pub fn each_command_is_answered_once()
     ensures { OnceAfterAnyCalls }
 {}

@@ -1,5 +1,5 @@
 -- What the calls of a run say of its result: a fault has raised the count, and the log answers each command once.
-use Rattle.std.proofs.Common.{◌≡◌, ℕ, false, List, refl, sym, ap, ◌∙◌, subst, inl, arith}
+use Rattle.std.proofs.Common.{◌≡◌, ℕ, false, List, refl, sym, ap, subst, inl, arith}
 use Rattle.std.specs.Prelude.{Result, Ok, Err, IfOk, IsErrOf}
 use Rattle.tcf_outside.specs.Faults.{Rose}
 use Rattle.tcf_wires.specs.Told.{WiresSeen}
@@ -10,12 +10,11 @@ use Rattle.tcf_wires.specs.declared.call.WireCall.TheVariants.{Gave}
 use Rattle.tcf_wires.specs.declared.event.WireRefusal.{WireRefusal}
 use Rattle.tcf_wires.specs.declared.event.WireRefusal.TheVariants.{Failed}
 use Rattle.client_node.specs.ClientValue.{ClientValue}
-use Rattle.client_node.specs.Runs.{OnceAfterAnyCalls}
 use Rattle.serving_wires.specs.Calls.{Makes, events_in, faults_through}
 use Rattle.serving_wires.proofs.Rising.{last_rises, rose_raised}
+use Rattle.client_serving.specs.Client.{OnceWhateverCame}
 use Rattle.client_serving.specs.Run.{HasRun, IsBroken, RunsClient, connected, no_calls, not_connected}
 use Rattle.client_serving.specs.declared.end.ClientRun.{ClientRun}
-use Rattle.client_serving.proofs.Served.{serves_a_client}
 
 -- ---- a run that failed
 
@@ -35,15 +34,14 @@ fault_rises script address turns (Err refusal) seen_before seen_after m is =
 
 -- ---- a run and its log
 
-run_once : OnceAfterAnyCalls → (script : List ScriptLine) (address : List ℕ) (turns : ℕ) (run : ClientRun) (calls : List WireCall) → RunsClient script address turns (Ok run) calls → Once false run.client.log
+run_once : OnceWhateverCame → (script : List ScriptLine) (address : List ℕ) (turns : ℕ) (run : ClientRun) (calls : List WireCall) → RunsClient script address turns (Ok run) calls → Once false run.client.log
 run_once law script address turns run calls (no_calls is none) = cc
 run_once law script address turns run calls (not_connected is called) = cc
 run_once law script address turns run calls (connected channel later first alone served) =
     let has : HasRun channel script turns run calls = served.ends in
-    let client = serves_a_client channel script (events_in calls) in
-    subst (λ (c : ClientValue). Once false c.log) (sym (has.client ∙ client.client)) (law client.calls)
+    subst (λ (c : ClientValue). Once false c.log) (sym has.client) (law channel script (events_in calls))
 
-pub log_once : OnceAfterAnyCalls → (script : List ScriptLine) (address : List ℕ) (turns : ℕ) (result : Result ClientRun WireRefusal) (seen_before seen_after : WiresSeen)
+pub log_once : OnceWhateverCame → (script : List ScriptLine) (address : List ℕ) (turns : ℕ) (result : Result ClientRun WireRefusal) (seen_before seen_after : WiresSeen)
     → Makes (RunsClient script address turns result) seen_before seen_after → IfOk result (λ run. Once false run.client.log)
 log_once law script address turns (Ok run) seen_before seen_after m = run_once law script address turns run m.calls m.fits
 log_once law script address turns (Err refusal) seen_before seen_after m = tt

@@ -1,5 +1,5 @@
-//! The laws of a client's run.
-ghost use Rattle.client_serving.specs.Client.{ServesAClient};
+//! The laws of a client's run, whatever the script and whatever bytes come.
+ghost use Rattle.client_serving.specs.Client.{OnceWhateverCame, ServesAClient};
 ghost use Rattle.client_serving.specs.Left.{LeavesNothing};
 ghost use Rattle.client_serving.specs.Run.{EndsSaySo};
 
@@ -14,6 +14,13 @@ pub fn an_end_is_what_it_says()
 /// and what is queued for its wire is what it gave out in them.
 pub fn what_is_served_is_a_client()
     ensures { ServesAClient }
+{}
+
+/// The law that in the log of a served client, after any events, each command that was accepted has at most one final
+/// answer, its own, and exactly one once the channel has ended. It asks nothing of the bytes that come, of the order of
+/// events, or of the script.
+pub fn whatever_comes_each_command_is_answered_once()
+    ensures { OnceWhateverCame }
 {}
 
 /// The law that a client takes messages and does lines until it can't: after any events that wires can give, while

@@ -8,8 +8,8 @@ ghost use Rattle.serving_wires.specs.Calls.{Makes};
 ghost use Rattle.client_serving.specs.Run.{RunsClient};
 
 use crate::end::{ClientEnd, ClientRun};
+use crate::laws::whatever_comes_each_command_is_answered_once;
 use crate::serving::Serving;
-use client_node::each_command_is_answered_once;
 use serving_wires::each_wire_is_carried;
 use std::alloc::Global;
 use tcf_schedules::ScriptLine;
@@ -24,6 +24,9 @@ use tcf_wires::{WireRefusal, Wires};
 /// learns of it by an event alone. The wire is shut where the channel is closed and nothing is left to put.
 ///
 /// `Failed` where the address can't be connected to, or the wires give nothing any more.
+///
+/// Nothing is asked of the bytes that come: whatever they are, and however the run ends, each command of its log is
+/// answered once.
 pub fn run_client<W: Wires>(
     alloc: Global,
     wires: &mut W,
@@ -37,7 +40,7 @@ pub fn run_client<W: Wires>(
     ensures fault { IsErrOf result WireRefusal.Failed → Rose (W.seen wires.old).faults (W.seen wires.new).faults }
     ensures once { IfOk result (λ run. Once false run.client.log) }
 {
-    each_command_is_answered_once();
+    whatever_comes_each_command_is_answered_once();
     try_run(alloc, wires, address, script, turns)
 }
 

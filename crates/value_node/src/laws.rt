@@ -2,7 +2,8 @@
 ghost use Rattle.value_node.specs.OwnLaws.{AnswersItself, AsksNothingBelow, ConnectsWhenAsked};
 ghost use Rattle.value_node.specs.RelayLaws.{AfterAllCalls, AfterAllDeeds, AnswersRightly, EndsAreRuns, ForwardsInOrder, KnowsWhatItHeard, PassesAllOn, StopsAfterTheEnd};
 
-/// The laws of what a value-add relays.
+/// The laws of what a value-add relays. They ask nothing of the bytes that come, from below or from above, and neither do
+/// the other laws here.
 ///
 /// `runs`: its calls are runs of its ends. Each end is what the calls that it got make of a new one, the lower since the
 /// value-add was made, the upper since its connection. The lower end is open until the value-add is closed. An earlier

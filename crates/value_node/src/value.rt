@@ -13,6 +13,8 @@ use tcf_values::Text;
 /// A value-add, with its lower end and, from its first connection on, an upper one. Contracts see its peer, where it stands
 /// and both ends, and whether memory was wanting in a call: then the value-add is spent, each later call that may take
 /// memory answers want of it again, and the others do nothing.
+///
+/// Neither these contracts nor the laws of this crate ask anything of the bytes that come, from below or from above.
 #[derive(Drop)]
 pub struct ValueNode {
     alloc: Global,

@@ -1,7 +1,7 @@
 //! A case: what the top call is given, and what it is to make of it. `docs/CONFORMANCE.md` has the format.
 use crate::bytes::{cut, number, push_line};
 use crate::trouble::Trouble;
-use std::alloc::Global;
+use std::alloc::{AllocError, Global};
 use std::mem;
 use tcf_outside::{MemoryFiles, MemorySink, Octets};
 use tcf_wires::{WireEvent, WireScript};
@@ -11,6 +11,32 @@ use tcf_wires::{WireEvent, WireScript};
 pub struct Taken {
     pub channel: u64,
     pub bytes: Octets,
+}
+
+/// What can be made to fail: a read of a file, a put of the output, or a call of the wires.
+#[derive(Clone, Copy)]
+pub enum Kind {
+    Read,
+    Put,
+    Call,
+}
+
+impl Kind {
+    fn named(name: &str) -> Result<Kind, Trouble> {
+        match name {
+            "read" => Ok(Kind::Read),
+            "put" => Ok(Kind::Put),
+            "call" => Ok(Kind::Call),
+            _ => Err(Trouble::Form),
+        }
+    }
+}
+
+/// The statuses with which the run ends where all of a kind fail, each in a run of its own, in order.
+#[derive(Drop)]
+pub struct InTurn {
+    pub kind: Kind,
+    pub statuses: String,
 }
 
 /// What a run is to give: its status, its text, what some wires take, and, if that is said, which are shut and which
@@ -33,9 +59,12 @@ pub enum Start {
     NoMemory,
 }
 
-/// A run of the top call over objects in memory, and what is wanted of it.
+/// A run of the top call over objects in memory, and what is wanted of it. A case has one run, or one for each front of
+/// a piece; and then those in which something fails in its turn.
 #[derive(Drop)]
 pub struct Case {
+    pub runs: u64,
+    pub in_turn: Vec<InTurn>,
     pub start: Start,
     pub words: Vec<String>,
     pub files: MemoryFiles,
@@ -53,6 +82,8 @@ impl Case {
     /// A run of no words, without files and with nothing on the wires, that is to end well and to print nothing.
     fn new(alloc: Global) -> Self {
         Case {
+            runs: 1,
+            in_turn: Vec::new(alloc),
             start: Start::Whole,
             words: Vec::new(alloc),
             files: MemoryFiles::new(alloc),
@@ -108,17 +139,42 @@ impl Case {
         Ok(self.wires.give(event)?)
     }
 
+    /// Lets the first bytes come as one piece: of the first run so many as the range begins with, of each later one one
+    /// more.
+    fn add_front(&mut self, rest: &str, bytes: &Octets, run: u64) -> Result<(), Trouble> {
+        let (channel, range) = cut(rest);
+        let (least, most) = cut(range);
+        let least = number(least)?;
+        let more = number(most)?.checked_sub(least).ok_or(Trouble::Form)?;
+        self.runs = more.saturating_add(1);
+        let count = least.saturating_add(run) as usize;
+        let front = bytes.as_slice().get(..count).ok_or(Trouble::Form)?;
+        let piece = Octets::from_slice(bytes.allocator(), front)?;
+        Ok(self.wires.give(WireEvent::Piece(number(channel)?, piece))?)
+    }
+
+    /// Makes what stands at this place, counted from 0, fail.
+    pub fn fail_at(&mut self, kind: Kind, place: u64) -> Result<(), AllocError> {
+        match kind {
+            Kind::Read => self.files.fail_at(place as usize),
+            Kind::Put => self.out.fail_at(place as usize),
+            Kind::Call => self.wires.fail_at(place as usize),
+        }
+    }
+
     /// Makes the read, the put or the call of this number fail.
     fn add_fault(&mut self, rest: &str) -> Result<(), Trouble> {
         let (kind, number) = cut(rest);
-        let place = place_of(number)?;
-        match kind {
-            "read" => self.files.fail_at(place as usize)?,
-            "put" => self.out.fail_at(place as usize)?,
-            "call" => self.wires.fail_at(place as usize)?,
-            _ => return Err(Trouble::Form),
-        }
-        Ok(())
+        Ok(self.fail_at(Kind::named(kind)?, place_of(number)?)?)
+    }
+
+    /// Adds the statuses of the runs in which each of a kind fails in its turn.
+    fn add_in_turn(&mut self, rest: &str) -> Result<(), Trouble> {
+        let alloc = *self.words.allocator();
+        let (kind, statuses) = cut(rest);
+        let statuses = String::from_str(alloc, statuses)?;
+        let kind = Kind::named(kind)?;
+        Ok(self.in_turn.push(InTurn { kind, statuses })?)
     }
 
     /// Adds what a part says that is wanted.
@@ -139,13 +195,15 @@ impl Case {
         Ok(())
     }
 
-    /// Adds what a part says: a line, and the bytes that the lines behind it give.
-    fn add(&mut self, line: &str, bytes: Octets) -> Result<(), Trouble> {
+    /// Adds what a part says to this run of the case: a line, and the bytes that the lines behind it give.
+    fn add(&mut self, line: &str, bytes: Octets, run: u64) -> Result<(), Trouble> {
         match cut(line) {
             ("", _) => {}
             ("run", words) => self.push_words(words)?,
             ("file", name) => self.files.hold(name, bytes.as_slice())?,
             ("fails", what) => self.add_fault(what)?,
+            ("each", what) => self.add_in_turn(what)?,
+            ("front", range) => self.add_front(range, &bytes, run)?,
             ("puts", most) => self.out.take_at_most(number(most)? as usize),
             ("no", "wires") => self.start = Start::NoWires,
             ("no", "memory") => self.start = Start::NoMemory,
@@ -155,17 +213,17 @@ impl Case {
     }
 }
 
-/// Reads the lines of a case.
-pub fn read_case(alloc: Global, text: &str) -> Result<Case, Trouble> {
+/// Reads the lines of a case, for this one of its runs, which are counted from 0.
+pub fn read_case(alloc: Global, text: &str, run: u64) -> Result<Case, Trouble> {
     let mut case = Case::new(alloc);
     let mut part = "";
     let mut bytes = Octets::new(alloc);
     for line in text.lines() {
         if !push_line(line, &mut bytes)? {
-            case.add(part, mem::replace(&mut bytes, Octets::new(alloc)))?;
+            case.add(part, mem::replace(&mut bytes, Octets::new(alloc)), run)?;
             part = line;
         }
     }
-    case.add(part, bytes)?;
+    case.add(part, bytes, run)?;
     Ok(case)
 }

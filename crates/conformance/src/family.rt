@@ -1,8 +1,10 @@
 //! Families of cases: a file of cases, or a folder of schedules with what `tcf chain` is to print of each.
 use crate::bytes::{cut, number};
-use crate::case::{Case, read_case};
+use crate::case::Case;
 use crate::play::difference;
+use crate::runs::runs_difference;
 use crate::trouble::Trouble;
+use std::alloc::Global;
 use std::rt::Files;
 use std::{fmt, fs, io};
 use tcf_outside::Octets;
@@ -40,19 +42,17 @@ pub fn read_text<R: Files + AllocGlobal>(rt: &R, folder: &str, name: &str) -> io
     fs::read_to_string(rt, path.as_str())
 }
 
-/// Plays a case of this name, counts it, and prints how it differs, if it does.
-fn try_case<R: Print + AllocGlobal>(
+/// Counts a case of this name, and prints how it differs, if it does.
+fn count_case<R: Print>(
     rt: &R,
     name: &str,
-    case: Result<Case, Trouble>,
+    difference: Result<Option<String>, Trouble>,
     tally: &mut Tally,
 ) -> Result<(), Trouble> {
     tally.tried = tally.tried.saturating_add(1);
-    match case {
-        Ok(case) => match difference(rt.alloc(), case)? {
-            Some(found) => println!(rt; "{name}: {found}")?,
-            None => tally.right = tally.right.saturating_add(1),
-        },
+    match difference {
+        Ok(None) => tally.right = tally.right.saturating_add(1),
+        Ok(Some(found)) => println!(rt; "{name}: {found}")?,
         Err(trouble) => println!(rt; "{name}: {trouble:?}")?,
     }
     Ok(())
@@ -70,7 +70,7 @@ fn try_cases<R: Files + Print + AllocGlobal>(
     let _ = parts.next();
     for part in parts {
         let (name, lines) = part.split_once('\n').unwrap_or((part, ""));
-        try_case(rt, name, read_case(rt.alloc(), lines), &mut tally)?;
+        count_case(rt, name, runs_difference(rt.alloc(), lines), &mut tally)?;
     }
     Ok(tally)
 }
@@ -88,6 +88,14 @@ fn read_schedule<R: Files + AllocGlobal>(
     Case::of_schedule(rt.alloc(), schedule.as_slice(), number(status)?, text)
 }
 
+/// How the run of a schedule differs.
+fn schedule_difference(
+    alloc: Global,
+    case: Result<Case, Trouble>,
+) -> Result<Option<String>, Trouble> {
+    Ok(difference(alloc, case?)?)
+}
+
 /// Tries the schedules of a folder, whose file `status` has a line with a name and a status for each.
 fn try_schedules<R: Files + Print + AllocGlobal>(
     rt: &R,
@@ -100,7 +108,7 @@ fn try_schedules<R: Files + Print + AllocGlobal>(
     for line in statuses.lines() {
         let (name, status) = cut(line);
         let case = read_schedule(rt, folder.as_str(), name, status);
-        try_case(rt, name, case, &mut tally)?;
+        count_case(rt, name, schedule_difference(rt.alloc(), case), &mut tally)?;
     }
     Ok(tally)
 }

@@ -7,6 +7,7 @@ mod bytes;
 mod case;
 mod family;
 mod play;
+mod runs;
 mod trouble;
 
 use bytes::cut;

@@ -121,27 +121,82 @@ fn outside_difference(
     count_difference(alloc, wires.calls().len() as u64, wanted.calls, "calls")
 }
 
-/// Plays the case, and tells the first thing that isn't as wanted.
-pub fn difference(alloc: Global, case: Case) -> Result<Option<String>, AllocError> {
-    let Case {
-        start,
-        words,
-        mut files,
-        mut out,
-        mut wires,
-        wanted,
-    } = case;
-    let exit = match start {
-        Start::Whole => tcf(alloc, &words, &mut files, &mut out, &mut wires),
-        Start::NoWires => report_wire_fault(&mut out),
+/// Plays the case.
+fn play(alloc: Global, case: &mut Case) -> Exit {
+    match case.start {
+        Start::Whole => tcf(
+            alloc,
+            &case.words,
+            &mut case.files,
+            &mut case.out,
+            &mut case.wires,
+        ),
+        Start::NoWires => report_wire_fault(&mut case.out),
         Start::NoMemory => Exit::NoMemory,
-    };
-    let status = Some(wanted.status);
-    if let Some(found) = text_difference(alloc, out.told(), wanted.text.as_slice())? {
+    }
+}
+
+/// How the status of a run differs.
+fn status_difference(alloc: Global, exit: Exit, wanted: u64) -> Result<Option<String>, AllocError> {
+    count_difference(alloc, u64::from(exit.status()), Some(wanted), "status")
+}
+
+/// Plays the case, and tells the first thing that isn't as wanted.
+pub fn difference(alloc: Global, mut case: Case) -> Result<Option<String>, AllocError> {
+    let exit = play(alloc, &mut case);
+    let wanted = &case.wanted;
+    if let Some(found) = text_difference(alloc, case.out.told(), wanted.text.as_slice())? {
         return Ok(Some(found));
     }
-    if let Some(found) = count_difference(alloc, u64::from(exit.status()), status, "status")? {
+    if let Some(found) = status_difference(alloc, exit, wanted.status)? {
         return Ok(Some(found));
     }
-    outside_difference(alloc, &files, &wires, &wanted)
+    outside_difference(alloc, &case.files, &case.wires, wanted)
+}
+
+/// How the bytes that a wire took are no front of those that it takes where nothing fails.
+fn front_difference(
+    alloc: Global,
+    wires: &WireScript,
+    whole: &[Taken],
+) -> Result<Option<String>, AllocError> {
+    for Taken { channel, bytes } in whole {
+        let got = wires.taken(*channel)?;
+        if !bytes.as_slice().starts_with(got.as_slice()) {
+            let got = shown(alloc, got.as_slice())?;
+            return Ok(Some(format!(in alloc; "on wire {channel}: got {got}, no front")?));
+        }
+    }
+    Ok(None)
+}
+
+/// The text of a run with this exit in which something failed: the one line of a refusal, of the whole text as much as
+/// was put of this one where a put failed, and else all of it.
+fn text_with<'a>(exit: Exit, got: &'a [u8], whole: &'a [u8]) -> &'a [u8] {
+    match exit {
+        Exit::FileFault => b"file fault\n",
+        Exit::WireFault => b"wire fault\n",
+        Exit::SinkFault if whole.starts_with(got) => got,
+        _ => whole,
+    }
+}
+
+/// Plays the case, in which something fails that doesn't where it gives what is wanted of it. Tells how it isn't as it
+/// is to be then: it ends with this status, prints the line of a refusal alone or else a front of the text, and each
+/// wire takes a front of its bytes.
+pub fn failing_difference(
+    alloc: Global,
+    mut case: Case,
+    status: u64,
+) -> Result<Option<String>, AllocError> {
+    let exit = play(alloc, &mut case);
+    let got = case.out.told();
+    let text = text_with(exit, got, case.wanted.text.as_slice());
+    if let Some(found) = text_difference(alloc, got, text)? {
+        return Ok(Some(found));
+    }
+    if let Some(found) = status_difference(alloc, exit, status)? {
+        return Ok(Some(found));
+    }
+    front_difference(alloc, &case.wires, case.wanted.taken.as_slice())
 }

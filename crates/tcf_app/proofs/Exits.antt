@@ -51,7 +51,7 @@ served_calls turns calls end ending is early = by_end end (sym (ap (λ (e : Endi
 
 ran_calls : (said : Result (List ScriptLine) BadLine) (address : List ℕ) (turns : ℕ) (calls : List WireCall) (ending : Ending) → IsRanEnding said address turns calls ending → is_early ending.exit ≡ true → calls ≡ []
 ran_calls (Err bad) address turns calls ending its early = its.0
-ran_calls (Ok script) address turns calls ending its early = by_result its.0 (sym (ap (λ (e : Ending). is_early e.exit) its.2) ∙ early)
+ran_calls (Ok script) address turns calls ending its early = by_result its.result (sym (ap (λ (e : Ending). is_early e.exit) its.its) ∙ early)
   where
     by_end : (end : ClientEnd) → is_early (exit_of end) ≡ true → calls ≡ []
     by_end client_ends.Done e = cc
@@ -111,7 +111,7 @@ served_heeded ends_run turns calls serve_ends.NoMemory ending ends is = inl ends
 ran_heeded : (said : Result (List ScriptLine) BadLine) (address : List ℕ) (turns : ℕ) (calls : List WireCall) (ending : Ending) → IsRanEnding said address turns calls ending
     → (list_any fails calls ≡ false) ⊎ (ending ≡ wire_ending)
 ran_heeded (Err bad) address turns calls ending its = inl (ap (list_any fails) its.0)
-ran_heeded (Ok script) address turns calls ending its = by_result its.0 its.1 its.2
+ran_heeded (Ok script) address turns calls ending its = by_result its.result its.runs its.its
   where
     by_result : (result : Result ClientRun WireRefusal) → RunsClient script address turns result calls → ending ≡ ran_ending result → (list_any fails calls ≡ false) ⊎ (ending ≡ wire_ending)
     by_result (Ok run) (no_calls is none) e = inl (ap (list_any fails) none)

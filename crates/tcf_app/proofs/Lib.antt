@@ -13,3 +13,4 @@ pub mod Imaging
 pub mod Running
 pub mod Tells
 pub mod Exits
+pub mod Served

@@ -1,6 +1,6 @@
 -- How the run goes on from what was heard of the files.
-use Rattle.std.proofs.Common.{◌≡◌, ℕ, ◌+◌, List, [], ◌∷◌, ◌++◌, length, refl, sym, subst, inr, arith}
-use Rattle.std.specs.Prelude.{Option, None, Some, Result, Ok, Err}
+use Rattle.std.proofs.Common.{◌≡◌, ℕ, ◌+◌, false, List, [], ◌∷◌, ◌++◌, length, refl, sym, subst, inr, arith}
+use Rattle.std.specs.Prelude.{Option, None, Some, Result, Ok, Err, IfOk}
 use Rattle.tcf_outside.specs.Files.{FilesSeen}
 use Rattle.tcf_outside.specs.Sink.{SinkSeen}
 use Rattle.tcf_schedules.specs.Refusal.{BadLine}
@@ -8,6 +8,7 @@ use Rattle.tcf_schedules.specs.Schedule.{ScheduleValue, schedule_of}
 use Rattle.tcf_schedules.specs.Script.{script_of}
 use Rattle.tcf_schedules.specs.declared.script.ScriptLine.{ScriptLine}
 use Rattle.target_contexts.specs.declared.process.Image.{Image}
+use Rattle.tcf_text.specs.Once.{Once}
 use Rattle.tcf_wires.specs.Told.{WiresSeen}
 use Rattle.tcf_wires.specs.declared.call.WireCall.{WireCall}
 use Rattle.tcf_wires.specs.declared.event.WireRefusal.{WireRefusal}
@@ -98,7 +99,11 @@ record WantsScript (said : Result (List ScriptLine) BadLine) (address : List ℕ
 script_wants : (said : Result (List ScriptLine) BadLine) (address : List ℕ) (turns : ℕ) (sink : SinkSeen) → WantsScript said address turns sink
 script_wants (Err bad) address turns sink = record { ending = bad_ending bad; its = (refl, refl); ends = ends_early (bad_ending bad) sink (λ e. cc) }
 script_wants (Ok script) address turns sink =
-    record { ending = wanting_ending; its = (Err refusals.NoMemory, no_calls refl refl, refl); ends = ends_wanting sink }
+    record {
+      ending = wanting_ending;
+      its = record { result = Err refusals.NoMemory; runs = no_calls refl refl; once = tt; its = refl };
+      ends = ends_wanting sink;
+    }
 
 pub client_wants : (address name : List ℕ) (turns : ℕ) → CanWant (client address name turns)
 client_wants address name turns [] sink is = absurd (omega arith)
@@ -212,12 +217,12 @@ adds_ends peer address turns end exit before after wires wires' made ends =
     made
 
 pub ran_ends : (said : Result (List ScriptLine) BadLine) (script : List ScriptLine) (address : List ℕ) (turns : ℕ) (result : Result ClientRun WireRefusal) (exit : Exit) (before after : SinkSeen) (wires wires' : WiresSeen)
-    → said ≡ Ok script → Makes (RunsClient script address turns result) wires wires' → Ends (ran_ending result) exit before after
+    → said ≡ Ok script → Makes (RunsClient script address turns result) wires wires' → IfOk result (λ (run : ClientRun). Once false run.client.log) → Ends (ran_ending result) exit before after
     → Makes (λ calls. EndsIn (IsRanEnding said address turns calls) exit before after) wires wires'
-ran_ends said script address turns result exit before after wires wires' is made ends =
+ran_ends said script address turns result exit before after wires wires' is made once ends =
     subst (λ s. Makes (λ calls. EndsIn (IsRanEnding s address turns calls) exit before after) wires wires') (sym is)
     (makes_so (RunsClient script address turns result) (λ calls. EndsIn (IsRanEnding (Ok script) address turns calls) exit before after) wires wires'
-    (λ calls fits. (ran_ending result, (result, fits, refl), ends))
+    (λ calls fits. (ran_ending result, record { result = result; runs = fits; once = once; its = refl }, ends))
     made)
 
 -- no call was made, since a line is bad,

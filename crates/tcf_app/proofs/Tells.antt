@@ -1,6 +1,6 @@
 -- What each exit tells, by the ending that the run was to have.
-use Rattle.std.proofs.Common.{◌≡◌, ℕ, ◌+◌, Bool, false, List, [], ◌∷◌, ◌++◌, refl, sym, ◌∙◌, subst, inl, inr}
-use Rattle.std.specs.Prelude.{Option, None, Some, Result, Ok, Err}
+use Rattle.std.proofs.Common.{◌≡◌, ℕ, ◌+◌, Bool, false, List, [], ◌∷◌, ◌++◌, refl, sym, subst, inl, inr}
+use Rattle.std.specs.Prelude.{Option, None, Some, Result, Ok, Err, IfOk}
 use Rattle.tcf_outside.specs.Faults.{Rose}
 use Rattle.tcf_outside.specs.Files.{FilesSeen}
 use Rattle.tcf_outside.specs.Sink.{SinkSeen, Took}
@@ -15,17 +15,14 @@ use Rattle.tcf_wires.specs.declared.call.WireCall.{WireCall}
 use Rattle.tcf_wires.specs.declared.call.WireCall.TheVariants.{Connected, Gave, Listened}
 use Rattle.tcf_wires.specs.declared.event.WireRefusal.{WireRefusal}
 use Rattle.tcf_wires.specs.declared.event.WireRefusal.TheVariants as refusals
-use Rattle.client_node.specs.ClientValue.{ClientValue}
-use Rattle.client_node.proofs.TheLaws.{answered_once}
-use Rattle.serving_wires.specs.Calls.{events_in, faults_through, with_calls}
+use Rattle.serving_wires.specs.Calls.{faults_through, with_calls}
 use Rattle.serving_wires.specs.Serving.{breaks, fails}
 use Rattle.serving_wires.specs.Ends.{IsBroken, IsLastCall, no_listening, no_event}
 use Rattle.agent_serving.specs.Serve.{ServesAgent}
 use Rattle.serving_wires.specs.declared.end.ServeEnd.{ServeEnd}
 use Rattle.serving_wires.specs.declared.end.ServeEnd.TheVariants as serve_ends
 use Rattle.value_serving.specs.Serve.{ServesValueAdds}
-use Rattle.client_serving.proofs.TheLaws.{served_is_a_client}
-use Rattle.client_serving.specs.Run.{RunsClient, no_calls, not_connected, connected, HasRun as RunHas, IsBroken as RunBreaks}
+use Rattle.client_serving.specs.Run.{RunsClient, no_calls, not_connected, connected, IsBroken as RunBreaks}
 use Rattle.client_serving.specs.declared.end.ClientEnd.{ClientEnd}
 use Rattle.client_serving.specs.declared.end.ClientEnd.TheVariants as client_ends
 use Rattle.client_serving.specs.declared.end.ClientRun.{ClientRun}
@@ -44,15 +41,6 @@ use Rattle.tcf_app.specs.Run.{IsServed, AreServed, IsDone, AreTaken, HasEnded, H
 use Rattle.tcf_app.proofs.Items.{shown_as}
 use Rattle.tcf_app.proofs.Hearing.{are_held, content_is, fails_last, first_long, some_so}
 use Rattle.serving_wires.proofs.Rising.{last_rises}
-
--- in the log of a client that was run each command is answered once
-run_once : (script : List ScriptLine) (address : List ℕ) (turns : ℕ) (run : ClientRun) (calls : List WireCall) → RunsClient script address turns (Ok run) calls → Once false run.client.log
-run_once script address turns run calls (no_calls is none) = cc
-run_once script address turns run calls (not_connected is called) = cc
-run_once script address turns run calls (connected channel later first alone served) =
-    let has : RunHas channel script turns run calls = served.ends in
-    let client = served_is_a_client channel script (events_in calls) in
-    subst (λ (c : ClientValue). Once false c.log) (sym (has.client ∙ client.client)) (answered_once client.calls)
 
 -- ---- the count of faults rose where the wires failed
 
@@ -224,9 +212,9 @@ client_tells : (s : Seen) (address name file : List ℕ) (turns : ℕ) (calls : 
     → Took ending.text s.before s.after → Tells s (Some (client address name turns)) ending.exit
 client_tells s address name file turns calls ending hears told counted its = by_script (script_of file) refl its
   where
-    by_end : (script : List ScriptLine) (run : ClientRun) (end : ClientEnd) → script_of file ≡ Ok script → RunsClient script address turns (Ok run) calls → run.end ≡ end
+    by_end : (script : List ScriptLine) (run : ClientRun) (end : ClientEnd) → script_of file ≡ Ok script → RunsClient script address turns (Ok run) calls → Once false run.client.log → run.end ≡ end
         → ending ≡ record { exit = exit_of end; text = client_text run.client.log } → Took ending.text s.before s.after → Tells s (Some (client address name turns)) ending.exit
-    by_end script run client_ends.Done is fits so e = told_at s (Some (client address name turns)) ending (record { exit = Done; text = client_text run.client.log }) e (λ put. record {
+    by_end script run client_ends.Done is fits once so e = told_at s (Some (client address name turns)) ending (record { exit = Done; text = client_text run.client.log }) e (λ put. record {
       file = file;
       held = content_is name file s.files s.files_after hears;
       script = script;
@@ -234,10 +222,10 @@ client_tells s address name file turns calls ending hears told counted its = by_
       run = run;
       ended = so;
       runs = record { calls = calls; fits = fits; told = told; faults = counted };
-      once = run_once script address turns run calls fits;
+      once = once;
       put = put;
     })
-    by_end script run (client_ends.Ended cause) is fits so e = told_at s (Some (client address name turns)) ending (record { exit = Ended cause; text = client_text run.client.log }) e (λ put. record {
+    by_end script run (client_ends.Ended cause) is fits once so e = told_at s (Some (client address name turns)) ending (record { exit = Ended cause; text = client_text run.client.log }) e (λ put. record {
       file = file;
       held = content_is name file s.files s.files_after hears;
       script = script;
@@ -245,10 +233,10 @@ client_tells s address name file turns calls ending hears told counted its = by_
       run = run;
       ended = so;
       runs = record { calls = calls; fits = fits; told = told; faults = counted };
-      once = run_once script address turns run calls fits;
+      once = once;
       put = put;
     })
-    by_end script run client_ends.Turns is fits so e = told_at s (Some (client address name turns)) ending (record { exit = Turns; text = client_text run.client.log }) e (λ put. record {
+    by_end script run client_ends.Turns is fits once so e = told_at s (Some (client address name turns)) ending (record { exit = Turns; text = client_text run.client.log }) e (λ put. record {
       file = file;
       held = content_is name file s.files s.files_after hears;
       script = script;
@@ -256,14 +244,14 @@ client_tells s address name file turns calls ending hears told counted its = by_
       run = run;
       ended = so;
       runs = record { calls = calls; fits = fits; told = told; faults = counted };
-      once = run_once script address turns run calls fits;
+      once = once;
       put = put;
     })
 
-    by_result : (script : List ScriptLine) (result : Result ClientRun WireRefusal) → script_of file ≡ Ok script → RunsClient script address turns result calls → ending ≡ ran_ending result
-        → Took ending.text s.before s.after → Tells s (Some (client address name turns)) ending.exit
-    by_result script (Ok run) is fits e = by_end script run run.end is fits refl e
-    by_result script (Err refusals.Failed) is fits e = told_at s (Some (client address name turns)) ending wire_ending e (λ put. (
+    by_result : (script : List ScriptLine) (result : Result ClientRun WireRefusal) → script_of file ≡ Ok script → RunsClient script address turns result calls
+        → IfOk result (λ (run : ClientRun). Once false run.client.log) → ending ≡ ran_ending result → Took ending.text s.before s.after → Tells s (Some (client address name turns)) ending.exit
+    by_result script (Ok run) is fits once e = by_end script run run.end is fits once refl e
+    by_result script (Err refusals.Failed) is fits once e = told_at s (Some (client address name turns)) ending wire_ending e (λ put. (
       subst (Rose s.wires.faults) (sym counted) (running_rises script address turns s.wires.faults calls fits),
       record {
         file = file;
@@ -274,7 +262,7 @@ client_tells s address name file turns calls ending hears told counted its = by_
         put = put;
       },
     ))
-    by_result script (Err refusals.NoMemory) is fits e = told_at s (Some (client address name turns)) ending (ran_ending (Err refusals.NoMemory)) e (λ put. tt)
+    by_result script (Err refusals.NoMemory) is fits once e = told_at s (Some (client address name turns)) ending (ran_ending (Err refusals.NoMemory)) e (λ put. tt)
 
     by_script : (said : Result (List ScriptLine) BadLine) → script_of file ≡ said → IsRanEnding said address turns calls ending → Took ending.text s.before s.after
         → Tells s (Some (client address name turns)) ending.exit
@@ -286,7 +274,7 @@ client_tells s address name file turns calls ending hears told counted its = by_
       says = is;
       put = put;
     })
-    by_script (Ok script) is i = by_result script i.0 is i.1 i.2
+    by_script (Ok script) is i = by_result script i.result is i.runs i.once i.its
 
 -- ---- any run
 

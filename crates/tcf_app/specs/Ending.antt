@@ -1,11 +1,12 @@
 -- How a run is to end.
-use Rattle.std.specs.Prelude.{ℕ, ◌≡◌, ◌+◌, ◌⊎◌, List, [], ◌∷◌, ◌++◌, Option, None, Some, Result, Ok, Err, map}
+use Rattle.std.specs.Prelude.{ℕ, ◌≡◌, ◌+◌, ◌⊎◌, false, List, [], ◌∷◌, ◌++◌, Option, None, Some, Result, Ok, Err, IfOk, map}
 use Rattle.tcf_outside.specs.Sink.{SinkSeen, Took, TookFront}
 use Rattle.tcf_schedules.specs.Refusal.{BadLine}
 use Rattle.tcf_schedules.specs.Schedule.{ScheduleValue, schedule_of}
 use Rattle.tcf_schedules.specs.Script.{script_of}
 use Rattle.tcf_schedules.specs.declared.script.ScriptLine.{ScriptLine}
 use Rattle.target_contexts.specs.declared.process.Image.{Image}
+use Rattle.tcf_text.specs.Once.{Once}
 use Rattle.tcf_wires.specs.declared.call.WireCall.{WireCall}
 use Rattle.tcf_wires.specs.declared.event.WireRefusal.{WireRefusal}
 use Rattle.tcf_wires.specs.declared.event.WireRefusal.TheVariants as refusals
@@ -123,11 +124,18 @@ ran_ending (Ok run) = record { exit = exit_of run.end; text = client_text run.cl
 ran_ending (Err refusals.Failed) = wire_ending
 ran_ending (Err refusals.NoMemory) = wanting_ending
 
+-- A client does this script by these calls, and its run comes to this ending. Whatever bytes came, and on whatever exit: in
+-- the log of the run each command is answered once.
+pub record HasRanTo (script : List ScriptLine) (address : List ℕ) (turns : ℕ) (calls : List WireCall) (ending : Ending) : Type 0 where
+  pub result : Result ClientRun WireRefusal
+  pub runs : RunsClient script address turns result calls
+  pub once : IfOk result (λ (run : ClientRun). Once false run.client.log)
+  pub its : ending ≡ ran_ending result
+
 -- for what a script's file says, and the calls of the client that does it
 abbrev pub IsRanEnding : Result (List ScriptLine) BadLine → List ℕ → ℕ → List WireCall → Ending → Type 0
 IsRanEnding (Err bad) address turns calls ending = (calls ≡ []) × (ending ≡ bad_ending bad)
-IsRanEnding (Ok script) address turns calls ending =
-    (result : Result ClientRun WireRefusal) × RunsClient script address turns result calls × (ending ≡ ran_ending result)
+IsRanEnding (Ok script) address turns calls ending = HasRanTo script address turns calls ending
 
 -- ---- each order
 

@@ -2,7 +2,7 @@
 use Rattle.std.specs.Prelude.{ℕ, ◌≡◌, ◌+◌, ◌<◌, ◌⊎◌, Bool, true, false, List, [], ◌∷◌, ◌++◌, length, Option, None, Some, Ok, Err, IfSome}
 use Rattle.std.specs.List.{list_any}
 use Rattle.tcf_outside.specs.Faults.{Rose}
-use Rattle.tcf_outside.specs.Files.{FilesSeen}
+use Rattle.tcf_outside.specs.Files.{FilesSeen, content_of}
 use Rattle.tcf_outside.specs.Sink.{SinkSeen, Took, TookFront}
 use Rattle.tcf_outside.specs.declared.files.HeldFile.{HeldFile}
 use Rattle.channel_core.specs.declared.states.Cause.{Cause}
@@ -13,14 +13,16 @@ use Rattle.tcf_schedules.specs.declared.script.ScriptLine.{ScriptLine}
 use Rattle.tcf_text.specs.Once.{Once}
 use Rattle.tcf_wires.specs.Told.{WiresSeen}
 use Rattle.tcf_wires.specs.declared.call.WireCall.{WireCall}
+use Rattle.tcf_wires.specs.declared.call.WireCall.TheVariants.{Connected, Listened}
 use Rattle.tcf_wires.specs.declared.event.WireRefusal.TheVariants as refusals
-use Rattle.serving_wires.specs.Calls.{Makes}
-use Rattle.serving_wires.specs.Serving.{fails, breaks}
+use Rattle.serving_wires.specs.Calls.{Makes, events_in}
+use Rattle.serving_wires.specs.Serving.{fails, breaks, stops}
 use Rattle.agent_serving.specs.Serve.{ServesAgent}
 use Rattle.serving_wires.specs.declared.end.ServeEnd.{ServeEnd}
 use Rattle.serving_wires.specs.declared.end.ServeEnd.TheVariants as serve_ends
 use Rattle.value_serving.specs.Serve.{ServesValueAdds}
 use Rattle.client_serving.specs.Run.{RunsClient}
+use Rattle.client_serving.specs.Serving.{after_events}
 use Rattle.client_serving.specs.declared.end.ClientEnd.{ClientEnd}
 use Rattle.client_serving.specs.declared.end.ClientEnd.TheVariants as client_ends
 use Rattle.client_serving.specs.declared.end.ClientRun.{ClientRun}
@@ -28,6 +30,7 @@ use Rattle.world_laws.specs.EndLaws.{EndsAllRightly}
 use Rattle.chain_world.specs.World.{images_of}
 use Rattle.world_laws.specs.StepLaws.{AllSaySteps}
 use Rattle.world_laws.specs.WorldLaws.{AreCoherent, AreFresh, IsFaithful, NothingIsStuck}
+use Rattle.tcf_app.specs.Exit.{IsGivenUp}
 use Rattle.tcf_app.specs.declared.exit.BadPlace.{BadPlace}
 use Rattle.tcf_app.specs.declared.exit.Exit.{Exit}
 use Rattle.tcf_app.specs.declared.exit.Exit.TheVariants.{Done, Usage, BadText, FileFault, SinkFault, WireFault, Turns, NoMemory, BadStream, Ended, TooLong}
@@ -36,7 +39,7 @@ use Rattle.tcf_app.specs.Texts.{wire_fault_text, turns_text, bad_line_text, bad_
 use Rattle.tcf_app.specs.Played.{printed, numbered, summed, client_text, world_of}
 use Rattle.tcf_app.specs.Heard.{Heard, Hears, heard_in, IsHeld, AreHeld, IsFirstLong, FailsLast}
 use Rattle.tcf_app.specs.Show.{IsShown}
-use Rattle.tcf_app.specs.Ending.{Ending, Ends, EndsIn, IsEnding, images_with, fault_ending, wire_ending}
+use Rattle.tcf_app.specs.Ending.{Ending, Ends, EndsIn, IsEnding, exit_of, images_with, fault_ending, wire_ending}
 
 -- ---- the run as a whole
 
@@ -243,10 +246,48 @@ abbrev pub IsReadHeeded : List (List ℕ) → Exit → FilesSeen → FilesSeen �
 IsReadHeeded names exit files files' before after =
     (files'.faults ≡ files.faults) ⊎ (FailsLast names files files' × Ends fault_ending exit before after)
 
+-- ---- the one end of a serving command, by its calls
+
+-- the run ends so, or is given up
+abbrev pub EndsOnly : Exit → Exit → Type 0
+EndsOnly wanted exit = (exit ≡ wanted) ⊎ IsGivenUp exit
+
+-- Of an agent and of value-adds: where Stop came the run is done. Where the address was listened on, Stop didn't come, and
+-- as many events came as there are turns, they were taken.
+pub record IsEndOfServing (address : List ℕ) (turns : ℕ) (exit : Exit) (calls : List WireCall) : Type 0 where
+  pub stopped : stops calls ≡ true → EndsOnly Done exit
+  pub taken : (later : List WireCall) → calls ≡ Listened address (Ok tt) ∷ later → stops calls ≡ false
+      → length (events_in calls) ≡ turns → EndsOnly Turns exit
+
+-- the client connected, and by its script and what came its run has this end, or none
+pub record ComesTo (script : List ScriptLine) (address : List ℕ) (end : Option ClientEnd) (calls : List WireCall) : Type 0 where
+  pub channel : ℕ
+  pub later : List WireCall
+  pub connects : calls ≡ Connected address (Ok channel) ∷ later
+  pub end_is : (after_events channel script (events_in calls)).end ≡ end
+
+-- Of a client that connected: where its run has an end it ends so. Where it has none, and as many events came as there are
+-- turns, they were taken.
+pub record IsEndOfRun (script : List ScriptLine) (address : List ℕ) (turns : ℕ) (exit : Exit) (calls : List WireCall) : Type 0 where
+  pub ended : (end : ClientEnd) → ComesTo script address (Some end) calls → EndsOnly (exit_of end) exit
+  pub taken : ComesTo script address None calls → length (events_in calls) ≡ turns → EndsOnly Turns exit
+
+-- the same of a file that says the script
+abbrev pub IsEndOfScript : List ℕ → List ℕ → ℕ → Exit → List WireCall → Type 0
+IsEndOfScript file address turns exit calls = (script : List ScriptLine) → script_of file ≡ Ok script → IsEndOfRun script address turns exit calls
+
+-- where a command serves, by what was ordered; of a client where the files are told
+abbrev pub IsOneEnd : Option OrderValue → FilesSeen → Exit → List WireCall → Type 0
+IsOneEnd (Some (agent address turns images)) files exit calls = IsEndOfServing address turns exit calls
+IsOneEnd (Some (value address peer turns)) files exit calls = IsEndOfServing address turns exit calls
+IsOneEnd (Some (client address name turns)) files exit calls =
+    IfSome files.held (λ held. IsEndOfScript (content_of name held) address turns exit calls)
+IsOneEnd order files exit calls = Unit {0}
+
 -- ---- given up, and complete
 
 -- What was put is a front of the text of an ending that the order has for what was heard of its files and the calls that
--- were made.
+-- were made; of a client that ran, of the text of a log in which each command is answered once.
 pub record PutsFront (order : Option OrderValue) (files files' : FilesSeen) (before after : SinkSeen) (calls : List WireCall) : Type 0 where
   pub heard : Heard
   pub hears : Hears (names_of order) files files' heard

@@ -10,7 +10,7 @@ ghost use Rattle.tcf_app.specs.Exit.{IsGivenUp, TellsFault};
 ghost use Rattle.tcf_app.specs.Words.{agent, chain, client, show, files_in, images_given, order_in, order_value, names_of};
 ghost use Rattle.tcf_app.specs.Texts.{usage_text, file_fault_text};
 ghost use Rattle.tcf_app.specs.Heard.{ReadsInOrder, FailsLast};
-ghost use Rattle.tcf_app.specs.Run.{RunsBy, Runs, IsDone, AreTaken, HasEnded, HaveFailed, IsBadText, IsBadStream, IsTooLong, SparesWires, AreHeeded, IsReadHeeded, IsFrontPut, IsDecided};
+ghost use Rattle.tcf_app.specs.Run.{RunsBy, Runs, IsDone, AreTaken, HasEnded, HaveFailed, IsBadText, IsBadStream, IsTooLong, SparesWires, AreHeeded, IsReadHeeded, IsFrontPut, IsDecided, IsOneEnd};
 
 use crate::agent::serve_images;
 use crate::chain::play_file;
@@ -168,6 +168,8 @@ fn run_words<F: Files, S: Sink, W: Wires>(
 /// or a leading zero. NAME ends at the first `=`, isn't empty and isn't given twice. A FILE, and a SCRIPT, has at most
 /// 16,777,216 bytes.
 ///
+/// Nothing is asked of the bytes that the files hold or that the wires bring: each clause holds whatever they are.
+///
 /// A refusal puts one last line that says why. The first of these causes that holds is answered: the words are no
 /// form; a file, from the left, can't be read or is too long; a line of it or a place of its stream is bad; the wires
 /// fail. A fault of the sink ends the run where it comes. Want of memory may be answered at any point.
@@ -178,7 +180,8 @@ pub fn tcf<F: Files, S: Sink, W: Wires>(
     out: &mut S,
     wires: &mut W,
 ) -> Exit
-    // The run as a whole: what was heard of the files, and which calls of the wires were made, say how it ends.
+    // The run as a whole: what was heard of the files, and which calls of the wires were made, say how it ends. Of a client
+    // that ran, whatever bytes came, and on each exit: in its log each command is answered once.
     ensures runs { Runs (order_in words.now) result (F.seen files.old) (F.seen files.new)
         (W.seen wires.old) (W.seen wires.new) (S.seen out.old) (S.seen out.new) }
 
@@ -223,9 +226,14 @@ pub fn tcf<F: Files, S: Sink, W: Wires>(
     // The wires are used only where an order serves, and behind its files.
     ensures wires_spared { SparesWires (order_in words.now) result → W.seen wires.new ≡ W.seen wires.old }
 
-    // What was put of a run that was given up.
+    // What was put of a run that was given up: of a client that ran, a front of the text of such a log.
     ensures given_up { IsGivenUp result → IsFrontPut (order_in words.now) (F.seen files.old) (F.seen files.new)
         (W.seen wires.old) (W.seen wires.new) (S.seen out.old) (S.seen out.new) }
+
+    // A serving command ends in one way: Stop brings it to its end, as do all turns, and a client's script and events its
+    // own.
+    ensures served { Makes (IsOneEnd (order_in words.now) (F.seen files.old) result)
+        (W.seen wires.old) (W.seen wires.new) }
 
     // The files are read in the order of the words.
     ensures reads { ReadsInOrder (names_of (order_in words.now)) (F.seen files.old) (F.seen files.new) }

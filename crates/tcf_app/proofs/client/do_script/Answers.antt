@@ -4,7 +4,7 @@ use Rattle.tcf_app.proofs.client.do_script.Goals as goal
 pub returns-in-Ok-clause-ends : goal.returns-in-Ok-clause-ends
 returns-in-Ok-clause-ends g c =
     ran_ends _ c.in-Ok.script c.args.address.now c.args.turns c.run_client-ran.result _ _ _ _ _
-    c.in-Ok.ensures.ok (rw c.as_slice.ensures at c.run_client-ran.ensures.runs) c.report_run.ensures.ends
+    c.in-Ok.ensures.ok (rw c.as_slice.ensures at c.run_client-ran.ensures.runs) c.run_client-ran.ensures.once c.report_run.ensures.ends
 
 pub returns-in-Err-Bad-clause-ends : goal.returns-in-Err-Bad-clause-ends
 returns-in-Err-Bad-clause-ends g c =

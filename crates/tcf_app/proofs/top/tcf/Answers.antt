@@ -1,5 +1,6 @@
 use Rattle.tcf_app.specs.declared.exit.Exit.TheVariants.{Done, Usage, BadText, FileFault, WireFault, Turns, BadStream, Ended, TooLong}
 use Rattle.tcf_app.proofs.Exits.{tells_at, usage_only_of, files_unharmed_of, heeded_of, spared_of, front_of, complete_of}
+use Rattle.tcf_app.proofs.Served.{out_of}
 use Rattle.tcf_app.proofs.top.tcf.Goals as goal
 
 pub returns-clause-done : goal.returns-clause-done
@@ -77,3 +78,7 @@ returns-clause-usage_only g c =
 pub returns-clause-complete : goal.returns-clause-complete
 returns-clause-complete g c =
     complete_of _ _ _ _ _ _ _ _ c.run_words.ensures.runs c.run_words.ensures.fault
+
+pub returns-clause-served : goal.returns-clause-served
+returns-clause-served g c =
+    out_of _ _ _ _ _ _ _ _ c.run_words.ensures.runs

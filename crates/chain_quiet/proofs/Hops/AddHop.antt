@@ -7,6 +7,7 @@ use Rattle.channel_laws.specs.Hop.{Carries}
 use Rattle.channel_laws.specs.Meeting.{IsLasting, Side, run_of}
 use Rattle.channel_laws.specs.Numbering.{TakesNumbered}
 use Rattle.chain_quiet.specs.Hops.{HopOfAdd}
+use Rattle.chain_quiet.proofs.Hops.Facts.{tells_levels}
 use Rattle.chain_quiet.specs.Stuck.{IsReadable, end_of_side, side_above, side_below}
 use Rattle.chain_route.specs.Carrying.{GivesAll, HopCarries, Made, end_below, past_of, value_of}
 use Rattle.chain_route.specs.Passing.{queue_of}
@@ -54,5 +55,6 @@ module _ {T : Type 0} (s : Side T) (hop : Hop) (m : Made) (sends : IsReadable s)
   pub add_hop : HopOfAdd hop s m
   add_hop = record {
     stands = live_hops_stand true true s (side_below m) (bytes_of hop.down) (bytes_of hop.up) lasting others_last falls rises;
+    levels = record { first = tells_levels s; second = tells_levels (side_below m) };
     leaves = λ opened. answers_what_it_can m.peer m.calls (ap (λ e. is_closed e.state) facts.lower ∙ opened) numbered;
   }

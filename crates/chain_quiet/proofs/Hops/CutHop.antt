@@ -7,7 +7,7 @@ use Rattle.channel_core.specs.ReceivingLaws.{CanBeRead}
 use Rattle.channel_laws.specs.Faults.{is_ending}
 use Rattle.channel_laws.specs.Meeting.{Side, as_comes, run_of}
 use Rattle.channel_laws.proofs.Rest.Meeting.{formed_as, queue_as, said_as}
-use Rattle.chain_quiet.specs.Hops.{HopIsLost, IsLost, TakesFront}
+use Rattle.chain_quiet.specs.Hops.{HopIsLost, IsLost, ReceivesFront}
 use Rattle.chain_quiet.specs.Stuck.{IsChannel, IsReadable, end_of_side, side_below, unmarked}
 use Rattle.channel_core.proofs.TheLaws.{queues_readable}
 use Rattle.channel_laws.proofs.TheLaws.{over_at_its_end}
@@ -17,21 +17,21 @@ use Rattle.chain_route.specs.Carrying.{HopCarries, IsUnused, Made, agent_end, en
 use Rattle.chain_route.specs.Runs.{Talk}
 use Rattle.chain_route.specs.declared.hop.Hop.{Hop}
 use Rattle.chain_route.proofs.Unheard.{value_hello}
-use Rattle.chain_quiet.proofs.Hops.Facts.{gave_front, took_front}
+use Rattle.chain_quiet.proofs.Hops.Facts.{gave_front, received_front}
 use Rattle.chain_quiet.proofs.Hops.Marks.{front_unmarked}
 use Rattle.list_laws.specs.Fronts.{IsFront}
 use Rattle.list_laws.proofs.Fronts.{front_none, front_same, front_then}
 
 -- ---- Its ends
 
-takes_front : {T U : Type 0} → (is_marked : Bool) (s : Side T) (other : Side U) → IsReadable other
-    → IsFront (arrived s.calls) (bytes_of (as_comes is_marked (run_of other).past.queued)) → TakesFront is_marked s other
-takes_front is_marked s other sends came = record {
+receives_front : {T U : Type 0} → (is_marked : Bool) (s : Side T) (other : Side U) → IsReadable other
+    → IsFront (arrived s.calls) (bytes_of (as_comes is_marked (run_of other).past.queued)) → ReceivesFront is_marked s other
+receives_front is_marked s other sends came = record {
   spoken = comes;
   is_ended = q.is_ended;
   formed = formed;
   queued = queued;
-  front = took_front s comes q.is_ended formed (front_same (arrived s.calls) (bytes_of (as_comes is_marked (run_of other).past.queued)) (bytes_of (queue_of comes q.is_ended)) (ap bytes_of queued) came);
+  front = received_front s comes q.is_ended formed (front_same (arrived s.calls) (bytes_of (as_comes is_marked (run_of other).past.queued)) (bytes_of (queue_of comes q.is_ended)) (ap bytes_of queued) came);
 }
   where
     q : CanBeRead (run_of other)
@@ -47,10 +47,10 @@ takes_front is_marked s other sends came = record {
     queued = ap (as_comes is_marked) q.queue ∙ queue_as is_marked q.spoken q.is_ended
 
 -- where bytes came with their marks
-takes_marked : {T U : Type 0} → (s : Side T) (other : Side U) → IsReadable other → IsFront (arrived s.calls) (bytes_of (run_of other).past.given) → TakesFront true s other
-takes_marked s other sends came =
+receives_marked : {T U : Type 0} → (s : Side T) (other : Side U) → IsReadable other → IsFront (arrived s.calls) (bytes_of (run_of other).past.given) → ReceivesFront true s other
+receives_marked s other sends came =
     let r = run_of other in
-    takes_front true s other sends (front_then (arrived s.calls) (bytes_of r.past.given) (bytes_of r.past.queued) came (gave_front other))
+    receives_front true s other sends (front_then (arrived s.calls) (bytes_of r.past.given) (bytes_of r.past.queued) came (gave_front other))
 
 -- an end whose bytes have ended is over
 is_lost_of : {T : Type 0} → (s : Side T) → IsUnused (end_of_side s) ⊎ (list_any is_ending s.calls ≡ true) → IsLost s
@@ -61,8 +61,8 @@ is_lost_of s (inr ended) = inr (over_at_its_end s.hello s.mark s.calls ended)
 
 pub cut_to_add : {T : Type 0} → (s : Side T) (hop : Hop) (m : Made) → IsReadable s → HopCarries hop (end_of_side s) (end_below (past_of m)) → hop.is_live ≡ false → HopIsLost true s (side_below m)
 cut_to_add s hop m sends carries dead = record {
-  first = takes_marked s (side_below m) record { formed = value_hello; readable = (ends_are_runs m.peer m.calls).below_readable } carries.down_front;
-  second = takes_marked (side_below m) s sends carries.up_front;
+  first = receives_marked s (side_below m) record { formed = value_hello; readable = (ends_are_runs m.peer m.calls).below_readable } carries.down_front;
+  second = receives_marked (side_below m) s sends carries.up_front;
   lost_below = is_lost_of s (carries.lost dead);
   lost_above = is_lost_of (side_below m) (carries.lost_above dead);
 }
@@ -90,8 +90,8 @@ module _ {T : Type 0} (s : Side T) (hop : Hop) (talk : Talk) (sends : IsReadable
 
     lost_hop : HopIsLost false s a
     lost_hop = record {
-      first = takes_marked s a channel.sends down;
-      second = takes_front false a s sends up;
+      first = receives_marked s a channel.sends down;
+      second = receives_front false a s sends up;
       lost_below = is_lost_of s (carries.lost dead);
       lost_above = is_lost_of a (lost (carries.lost_above dead));
     }

@@ -1,12 +1,13 @@
 -- What the laws say of an end alone.
 use Rattle.std.proofs.Common.{List, refl, sym}
-use Rattle.std.specs.Prelude.{Bool, map}
-use Rattle.std.specs.List.{flat_map}
+use Rattle.std.specs.Prelude.{Bool}
 use Rattle.channel_core.specs.Arrivals.{AreSpoken, Spoken, arrived, bytes_of, marked, messages_in, queue_of}
-use Rattle.channel_core.specs.ReceivingLaws.{incoming_of, received}
+use Rattle.channel_core.specs.ReceivingLaws.{received}
+use Rattle.channel_core.specs.RunLaws.{IsLoudAsTold}
 use Rattle.channel_laws.specs.Meeting.{Side, run_of}
 use Rattle.list_laws.specs.Fronts.{IsFront}
-use Rattle.list_laws.proofs.Fronts.{front_flat, front_then}
+use Rattle.list_laws.proofs.Fronts.{front_flat}
+use Rattle.channel_core.proofs.Running.{all_loud_as_told}
 use Rattle.channel_core.proofs.TheLaws.{queues_in_order, receives_in_order}
 
 -- ---- An end alone
@@ -17,9 +18,11 @@ gave_front s =
     let r = run_of s in
     front_flat (λ o. marked o.bytes o.mark) r.past.given r.past.queued (r.end.queued, sym (queues_in_order s.hello s.mark s.calls))
 
--- what it took of a queue is a front of the messages
-pub took_front : {T : Type 0} → (s : Side T) (spoken : List Spoken) (is_ended : Bool) → AreSpoken spoken → IsFront (arrived s.calls) (bytes_of (queue_of spoken is_ended))
-    → IsFront (flat_map incoming_of (run_of s).past.taken) (messages_in spoken)
-took_front s spoken is_ended formed came =
-    let r = run_of s in
-    front_then (flat_map incoming_of r.past.taken) (received r) (messages_in spoken) (map (λ a. a.incoming) r.end.inbox, refl) (receives_in_order s.hello s.mark s.calls spoken is_ended formed came).front
+-- what it took of a queue, and what waits, is a front of the messages
+pub received_front : {T : Type 0} → (s : Side T) (spoken : List Spoken) (is_ended : Bool) → AreSpoken spoken → IsFront (arrived s.calls) (bytes_of (queue_of spoken is_ended))
+    → IsFront (received (run_of s)) (messages_in spoken)
+received_front s spoken is_ended formed came = (receives_in_order s.hello s.mark s.calls spoken is_ended formed came).front
+
+-- what it told last fits its inbox
+pub tells_levels : {T : Type 0} → (s : Side T) → IsLoudAsTold (run_of s)
+tells_levels s = all_loud_as_told s.hello s.mark s.calls

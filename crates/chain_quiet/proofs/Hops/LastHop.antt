@@ -1,9 +1,8 @@
 -- The hop to the agent.
 use Rattle.std.proofs.Common.{◌≡◌, true, false, List, [], ◌∷◌, ◌++◌, Option, None, Some, ◌⊎◌, inl, inr, refl, sym, ap, ◌∙◌, append_assoc, append-nil}
-use Rattle.std.specs.List.{flat_map}
 use Rattle.channel_core.specs.Arrivals.{Marked, arrived, bytes_of}
 use Rattle.channel_core.specs.Receiving.{is_over}
-use Rattle.channel_core.specs.ReceivingLaws.{incoming_of}
+use Rattle.channel_core.specs.ReceivingLaws.{received}
 use Rattle.channel_core.specs.Wire.{end_of_stream}
 use Rattle.channel_laws.specs.Hop.{Carries}
 use Rattle.channel_laws.specs.Meeting.{IsLasting, Side, run_of}
@@ -14,7 +13,7 @@ use Rattle.chain_route.specs.Carrying.{HopCarries, agent_end}
 use Rattle.chain_route.specs.Runs.{Talk}
 use Rattle.chain_route.specs.declared.hop.Hop.{Hop}
 use Rattle.channel_laws.proofs.TheLaws.{hears_the_end, live_hops_stand, what_comes_is_numbered}
-use Rattle.chain_quiet.proofs.Hops.Facts.{took_front}
+use Rattle.chain_quiet.proofs.Hops.Facts.{received_front, tells_levels}
 use Rattle.chain_quiet.proofs.Hops.Marks.{unmarked_parts}
 use Rattle.list_laws.proofs.Fronts.{front_none}
 
@@ -52,7 +51,11 @@ module _ {T : Type 0} (s : Side T) (hop : Hop) (talk : Talk) (sends : IsReadable
     numbered = what_comes_is_numbered false a s sends.formed sends.readable rises.front
 
     agent_hop : HopOfAgent hop s a
-    agent_hop = record { stands = live_hops_stand true false s a (bytes_of hop.down) (unmarked hop.up) lasting agent_lasts falls rises; answers = channel.answers numbered }
+    agent_hop = record {
+      stands = live_hops_stand true false s a (bytes_of hop.down) (unmarked hop.up) lasting agent_lasts falls rises;
+      levels = record { first = tells_levels s; second = tells_levels a };
+      answers = channel.answers numbered;
+    }
 
   -- all that comes of a channel that was refused is the end of the stream
   module _ (refused : talk.gave ≡ end_of_stream ∷ []) (shut : talk.is_refused ≡ true) where
@@ -69,7 +72,8 @@ module _ {T : Type 0} (s : Side T) (hop : Hop) (talk : Talk) (sends : IsReadable
     refused_hop = record {
       dropped = (carries.refused shut).1;
       gave = comes;
-      silent = front_none (flat_map incoming_of (run_of s).past.taken) (took_front s [] true tt (bytes_of hop.down, comes));
+      silent = front_none (received (run_of s)) (received_front s [] true tt (bytes_of hop.down, comes));
+      levels = tells_levels s;
       closes = closes_by (bytes_of hop.down) refl;
     }
 

@@ -1,11 +1,12 @@
 #!/usr/bin/env python3
-"""What an answer costs `tcf client` where 1,024 commands are pending and are answered in order, in reverse, or shuffled.
+"""What an answer costs where 1,024 commands are pending and are answered in order, in reverse, or shuffled.
 
     bench/out_of_order.py PROGRAM [TURNS]
 
 The peer is in this file and on the loopback. It lets 1,024 commands come, then puts all their answers at once, 40 times over.
-A line for each run: the order, and the client's whole processor time for each answer, in microseconds, with the sending of
-the command and its lines in the log.
+A line for each run: who was measured, the order, and its whole processor time for each answer, in microseconds. `tcf client`
+is asked itself (its time is for sending the command and its lines in the log too), and then a `tcf value` that stands
+between such a client and the peer (its time is for taking the command and sending it on too).
 """
 import os
 import random
@@ -13,10 +14,14 @@ import socket
 import subprocess
 import sys
 import tempfile
+import time
 
 ROUNDS, PENDING = 40, 1024
+LOOPBACK = "127.0.0.1"
 END = b"\x03\x01"
 HELLO = b'E\0Locator\0Hello\0["Locator"]\0' + END
+TURNS = "1000000"
+COMMANDS = ("send Locator sync\n" * PENDING + "wait\n") * ROUNDS + "close\n"
 
 
 def tokens_of(line, rest):
@@ -27,7 +32,7 @@ def tokens_of(line, rest):
         if not end:
             piece = line.recv(1 << 16)
             if not piece:
-                sys.exit("out_of_order.py: the client's stream ended early")
+                sys.exit("out_of_order.py: the stream ended early")
             rest += piece
             continue
         rest = behind
@@ -43,37 +48,75 @@ def in_order(order, tokens, draw):
     return draw.sample(tokens, len(tokens)) if order == "shuffled" else tokens
 
 
-def run(program, script, order):
-    """Answers the client's processor time for one answer, in microseconds."""
+def answer_all(listener, order):
+    """The peer: takes a connection, and answers all commands of each round in this order."""
     draw = random.Random(7)
-    with socket.create_server(("127.0.0.1", 0)) as listener:
-        address = "127.0.0.1:%d" % listener.getsockname()[1]
-        client = subprocess.Popen([program, "client", address, script, "1000000"], stdout=subprocess.DEVNULL)
-        line, _ = listener.accept()
-        with line:
-            line.settimeout(20)
-            line.sendall(HELLO)
-            rest = b""
-            for _ in range(ROUNDS):
-                tokens, rest = tokens_of(line, rest)
-                line.sendall(b"".join(b"R\0" + it + b"\0\0" + END for it in in_order(order, tokens, draw)))
-            while line.recv(1 << 16):
-                pass
-        _, status, used = os.wait4(client.pid, 0)
+    line, _ = listener.accept()
+    with line:
+        line.settimeout(20)
+        line.sendall(HELLO)
+        rest = b""
+        for _ in range(ROUNDS):
+            tokens, rest = tokens_of(line, rest)
+            line.sendall(b"".join(b"R\0" + it + b"\0\0" + END for it in in_order(order, tokens, draw)))
+        while line.recv(1 << 16):
+            pass
+
+
+def used_by(process):
+    """Waits for a process; answers its status, and its processor time for one answer in microseconds."""
+    _, status, used = os.wait4(process.pid, 0)
+    process.returncode = status
+    return status, 1e6 * (used.ru_utime + used.ru_stime) / (ROUNDS * PENDING)
+
+
+def started_client(program, port, commands):
+    with tempfile.NamedTemporaryFile("w", suffix=".script", delete=False) as script:
+        script.write(commands)
+    process = subprocess.Popen([program, "client", f"{LOOPBACK}:{port}", script.name, TURNS], stdout=subprocess.DEVNULL)
+    return process, script.name
+
+
+def ended(client, script):
+    status, used = used_by(client)
+    os.unlink(script)
     if status:
         sys.exit(f"out_of_order.py: the client ended with status {status >> 8}")
-    return 1e6 * (used.ru_utime + used.ru_stime) / (ROUNDS * PENDING)
+    return used
+
+
+def of_client(program, order):
+    with socket.create_server((LOOPBACK, 0)) as listener:
+        client = started_client(program, listener.getsockname()[1], COMMANDS)
+        answer_all(listener, order)
+        return ended(*client)
+
+
+def free_port():
+    with socket.create_server((LOOPBACK, 0)) as it:
+        return it.getsockname()[1]
+
+
+def of_value_add(program, order):
+    with socket.create_server((LOOPBACK, 0)) as listener:
+        peer = f"{LOOPBACK}:{listener.getsockname()[1]}"
+        port = free_port()
+        relay = subprocess.Popen([program, "value", f"{LOOPBACK}:{port}", peer, TURNS], stdout=subprocess.DEVNULL)
+        time.sleep(0.2)
+        client = started_client(program, port, f'send Locator redirect "{peer}"\nwait\n' + COMMANDS)
+        answer_all(listener, order)
+        ended(*client)
+        relay.kill()
+        return used_by(relay)[1]
 
 
 def main():
     if len(sys.argv) not in (2, 3):
         sys.exit(__doc__)
-    with tempfile.NamedTemporaryFile("w", suffix=".script") as script:
-        script.write(("send Locator sync\n" * PENDING + "wait\n") * ROUNDS + "close\n")
-        script.flush()
-        for _ in range(int(sys.argv[2]) if len(sys.argv) == 3 else 3):
+    for _ in range(int(sys.argv[2]) if len(sys.argv) == 3 else 3):
+        for name, measured in (("client", of_client), ("value-add", of_value_add)):
             for order in ("in order", "reverse", "shuffled"):
-                print(f"{order}: {run(sys.argv[1], script.name, order):.2f} microseconds for each answer", flush=True)
+                print(f"{name}, {order}: {measured(sys.argv[1], order):.2f} microseconds for each answer", flush=True)
 
 
 if __name__ == "__main__":

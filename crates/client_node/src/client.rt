@@ -1,5 +1,5 @@
 //! The client.
-ghost use Rattle.std.specs.Prelude.{◌≡◌, ◌+◌, ◌++◌, ◌∷◌, [], true, false, None, Some, IfOk, IfSome, IsSome, OnErr, OnOk, length, map, option_map};
+ghost use Rattle.std.specs.Prelude.{◌≡◌, ◌↔◌, ◌+◌, ◌++◌, ◌∷◌, [], true, false, None, Some, Ok, IfOk, IfSome, IsSome, OnErr, OnOk, length, map, option_map};
 ghost use Rattle.cached_lines.specs.Asked.{IsAsked};
 ghost use Rattle.channel_core.specs.EndValue.{EndValue, unless_spent};
 ghost use Rattle.channel_core.specs.Receiving.{waiting_in};
@@ -138,11 +138,14 @@ impl ClientNode {
         self.settle(answer)
     }
 
-    /// Takes the oldest entry of the inbox, with a line in the log: answers whether there was one. A command of the other
-    /// side is answered as one that isn't recognised, and has no line. Where the end closes, each command that is pending
-    /// has its line `closed`, in order of issue, and then the channel its line `end`.
+    /// Takes the oldest entry of the inbox, with a line in the log: answers whether there was one, which takes no memory
+    /// where there is none. A command of the other side is answered as one that isn't recognised, and has no line. Where
+    /// the end closes, each command that is pending has its line `closed`, in order of issue, and then the channel its
+    /// line `end`.
     pub fn turn(&mut self) -> Result<bool, AllocError>
         ensures turned { IfOk result (λ some. (some, self.new) ≡ turned self.old) }
+        ensures nothing { IfOk result (λ some. (some ≡ false) ↔ (waiting_on self.old.channel ≡ 0)) }
+        ensures idle { self.old.is_spent ≡ false → waiting_on self.old.channel ≡ 0 → result ≡ Ok false }
         ensures fresh { OnOk result (self.old.is_spent ≡ false) }
         ensures spent { OnErr result (self.new.is_spent ≡ true) }
         ensures silent { OnErr result (self.new.channel ≡ None) }
@@ -157,6 +160,7 @@ impl ClientNode {
         requires begun { self.old.is_spent ≡ true }
         requires usable { IsUsable self.old.channel }
         ensures turned { IfOk result (λ some. (some, self.new) ≡ turned self.old) }
+        ensures idle { waiting_on self.old.channel ≡ 0 → result ≡ Ok false }
         ensures usable { OnOk result (IsUsable self.new.channel) }
         ensures spent { self.new.is_spent ≡ true }
     {

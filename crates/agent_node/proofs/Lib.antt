@@ -16,3 +16,4 @@ pub mod Openings
 pub mod Apart
 pub mod Sights
 pub mod TheLaws
+pub mod Idle

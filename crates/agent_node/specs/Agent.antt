@@ -1,5 +1,5 @@
 -- What an agent does: each of its inputs goes to the one target, and what that tells goes to the channels.
-use Rattle.std.specs.Prelude.{ℕ, ◌+◌, ◌-◌, ◌^◌, ◌==◌, Bool, true, false, ◌||◌, if◌then◌else◌, nat_le, List, [], ◌∷◌, ◌++◌, drop, filter, slice_get, slice_set, Option, Some, None, Result, Ok}
+use Rattle.std.specs.Prelude.{ℕ, ◌≡◌, ◌⊎◌, ◌+◌, ◌-◌, ◌^◌, ◌==◌, Bool, true, false, ◌||◌, if◌then◌else◌, nat_le, List, [], ◌∷◌, ◌++◌, drop, filter, slice_get, slice_set, Option, Some, None, Result, Ok}
 use Rattle.channel_core.specs.EndValue.{unless_spent}
 use Rattle.channel_core.specs.Receiving.{delivered as end_delivered, ended as end_ended, waiting_in}
 use Rattle.channel_core.specs.Taking.{next_taken}
@@ -101,6 +101,15 @@ delivered k piece a = record a { channels = changed k (unless_closed (end_delive
 unfoldable pub ended : ℕ → AgentValue → AgentValue
 ended k a = record a { channels = changed k (λ end. unless_spent end end (end_ended end)) a.channels }
 
+-- ---- the channel of a number, and how many entries wait on it
+
+abbrev pub channel_of : ℕ → AgentValue → Option Channel
+channel_of k a = channel_at (place_of k a.channels) a.channels
+
+abbrev pub waiting_at : Option Channel → ℕ
+waiting_at None = 0
+waiting_at (Some channel) = waiting_in channel.end
+
 -- ---- taking: a command is executed, the end of a channel takes its breakpoints, and nothing else is an input
 
 unfoldable pub answered_to : ℕ → List ℕ → Done → AgentValue → AgentValue
@@ -150,6 +159,10 @@ turned_at k (Some place) a = turned_on k place (slice_get a.channels place) a
 unfoldable pub turned : ℕ → AgentValue → Turned × AgentValue
 turned k a = if is_full a then (Nothing, a) else turned_at k (place_of k a.channels) a
 
+-- nothing is taken of a channel exactly then: the position is at its limit, or no entry waits there
+abbrev pub TakesNothing : ℕ → AgentValue → Type 0
+TakesNothing k a = (is_full a ≡ true) ⊎ (waiting_at (channel_of k a) ≡ 0)
+
 -- ---- one instruction of a thread that lives and runs
 
 abbrev pub ticked_by : ContextId → Option (List EventData) → AgentValue → Bool × AgentValue
@@ -159,10 +172,11 @@ ticked_by thread (Some events) a = (true, after_input events (with_target (instr
 unfoldable pub ticked : ContextId → AgentValue → Bool × AgentValue
 ticked thread a = if is_full a then (false, a) else ticked_by thread (instruction_tells thread a.target) a
 
--- ---- what goes out
+-- no instruction is executed exactly then: the position is at its limit, or the thread doesn't live and run
+abbrev pub IsIdle : ContextId → AgentValue → Type 0
+IsIdle thread a = (is_full a ≡ true) ⊎ (instruction_tells thread a.target ≡ None)
 
-abbrev pub channel_of : ℕ → AgentValue → Option Channel
-channel_of k a = channel_at (place_of k a.channels) a.channels
+-- ---- what goes out
 
 abbrev pub first_of : Option Channel → Option Outgoing
 first_of None = None
@@ -173,7 +187,3 @@ given k a = first_of (channel_of k a)
 
 unfoldable pub after_giving : ℕ → AgentValue → AgentValue
 after_giving k a = record a { channels = changed k (λ end. unless_spent end end (record end { queued = drop 1 end.queued })) a.channels }
-
-abbrev pub waiting_at : Option Channel → ℕ
-waiting_at None = 0
-waiting_at (Some channel) = waiting_in channel.end

@@ -1,11 +1,11 @@
 //! The agent.
-ghost use Rattle.std.specs.Prelude.{◌≡◌, ◌+◌, ◌++◌, ◌∷◌, [], true, false, None, Some, filter, IfOk, IfSome, IsSome, OnErr, OnOk, length, slice_get};
+ghost use Rattle.std.specs.Prelude.{◌≡◌, ◌↔◌, ◌+◌, ◌++◌, ◌∷◌, [], true, false, None, Some, Ok, filter, IfOk, IfSome, IsSome, OnErr, OnOk, length, slice_get};
 ghost use Rattle.channel_core.specs.EndValue.{unless_spent};
 ghost use Rattle.tcf_message.specs.Message.{IsToken, reading};
 ghost use Rattle.target_hub.specs.Passing.{running_in};
 ghost use Rattle.target_hub.specs.Limits.{AreEvents};
 ghost use Rattle.target_hub.specs.Sendable.{AreSendable, IsSendable};
-ghost use Rattle.agent_node.specs.Agent.{IsRead, after_giving, after_input, answered_to, asked, begun, channel_of, delivered, ended, executed, executed_read, given, gone, heard, is_full, is_refused, new_agent, opened, ticked, took, took_any, turned, waiting_at};
+ghost use Rattle.agent_node.specs.Agent.{IsIdle, IsRead, TakesNothing, after_giving, after_input, answered_to, asked, begun, channel_of, delivered, ended, executed, executed_read, given, gone, heard, is_full, is_refused, new_agent, opened, ticked, took, took_any, turned, waiting_at};
 ghost use Rattle.agent_node.specs.Channels.{changed, is_kept, is_open, live_count, new_channel, place_of, told_all, with_end};
 
 use crate::channel::{Channel, new_channel};
@@ -71,9 +71,11 @@ impl AgentNode {
     }
 
     /// Opens a channel under this number, with the agent's Hello to be sent, and answers whether it did: not where the
-    /// number was given before, where 64 channels are live, or where the position is 2^64 - 1; then nothing changes.
+    /// number was given before, where 64 channels are live, or where the position is 2^64 - 1; then nothing changes, and that
+    /// takes no memory.
     pub fn opened(&mut self, k: u64) -> Result<bool, AllocError>
         ensures opened { IfOk result (λ did. (did, self.new) ≡ opened k self.old) }
+        ensures refused { self.old.is_spent ≡ false → is_refused k self.old ≡ true → result ≡ Ok false }
         ensures fresh { OnOk result (self.old.is_spent ≡ false) }
         ensures spent { OnErr result (self.new.is_spent ≡ true) }
         ensures silent { OnErr result (self.new.channels ≡ []) }
@@ -90,6 +92,7 @@ impl AgentNode {
     #[tactic(auto, unfolding(crate::specs::Agent::opened))]
     fn try_open(&mut self, k: u64) -> Result<bool, AllocError>
         ensures opened { IfOk result (λ did. (did, self.new) ≡ opened k self.old) }
+        ensures refused { is_refused k self.old ≡ true → result ≡ Ok false }
     {
         if self.is_refused(k) {
             return Ok(false);
@@ -162,6 +165,8 @@ impl AgentNode {
     /// empty, or the position is 2^64 - 1.
     pub fn turn(&mut self, k: u64) -> Result<Turned, AllocError>
         ensures turned { IfOk result (λ what. (what, self.new) ≡ turned k self.old) }
+        ensures nothing { IfOk result (λ what. (what ≡ Turned.Nothing) ↔ TakesNothing k self.old) }
+        ensures full { self.old.is_spent ≡ false → is_full self.old ≡ true → result ≡ Ok Turned.Nothing }
         ensures fresh { OnOk result (self.old.is_spent ≡ false) }
         ensures spent { OnErr result (self.new.is_spent ≡ true) }
         ensures silent { OnErr result (self.new.channels ≡ []) }
@@ -178,6 +183,7 @@ impl AgentNode {
     #[tactic(auto, unfolding(crate::specs::Agent::turned))]
     fn try_turn(&mut self, k: u64) -> Result<Turned, AllocError>
         ensures turned { IfOk result (λ what. (what, self.new) ≡ turned k self.old) }
+        ensures full { is_full self.old ≡ true → result ≡ Ok Turned.Nothing }
     {
         if self.position == u64::MAX {
             return Ok(Turned::Nothing);
@@ -324,6 +330,8 @@ impl AgentNode {
     /// where the position is 2^64 - 1; then nothing changes.
     pub fn tick(&mut self, thread: ContextId) -> Result<bool, AllocError>
         ensures ticked { IfOk result (λ did. (did, self.new) ≡ ticked thread self.old) }
+        ensures nothing { IfOk result (λ did. (did ≡ false) ↔ IsIdle thread self.old) }
+        ensures full { self.old.is_spent ≡ false → is_full self.old ≡ true → result ≡ Ok false }
         ensures fresh { OnOk result (self.old.is_spent ≡ false) }
         ensures spent { OnErr result (self.new.is_spent ≡ true) }
         ensures silent { OnErr result (self.new.channels ≡ []) }
@@ -340,6 +348,7 @@ impl AgentNode {
     #[tactic(auto, unfolding(crate::specs::Agent::ticked))]
     fn try_tick(&mut self, thread: ContextId) -> Result<bool, AllocError>
         ensures ticked { IfOk result (λ did. (did, self.new) ≡ ticked thread self.old) }
+        ensures full { is_full self.old ≡ true → result ≡ Ok false }
     {
         if self.position == u64::MAX {
             return Ok(false);

@@ -43,3 +43,4 @@ pub mod OwnStays
 pub mod Answering
 pub mod HoldsOwn
 pub mod TheLaws
+pub mod Idle

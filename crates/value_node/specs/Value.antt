@@ -1,6 +1,6 @@
 -- What a value-add does. Unbound, it answers itself; a redirect to its peer makes it Opening; the Hello from above binds it,
 -- and then it passes on all that comes, but for what it can answer from what it has learned, until either side ends.
-use Rattle.std.specs.Prelude.{ℕ, ◌+◌, nat_lt, Bool, true, false, not, ◌&&◌, if◌then◌else◌, List, [], ◌∷◌, ◌++◌, codes, drop, length, slice_get, Option, Some, None, option_map, option_and_then, Result, Ok}
+use Rattle.std.specs.Prelude.{ℕ, ◌≡◌, ◌⊎◌, ◌+◌, nat_lt, Bool, true, false, not, ◌&&◌, if◌then◌else◌, List, [], ◌∷◌, ◌++◌, codes, drop, length, slice_get, Option, Some, None, option_map, option_and_then, Result, Ok}
 use Rattle.channel_core.specs.Beginning.{new_end, tag_of}
 use Rattle.channel_core.specs.Closing.{closed_own, is_closed}
 use Rattle.channel_core.specs.EndValue.{EndValue}
@@ -221,6 +221,15 @@ abbrev pub turned_at : Side → Relay → ValueTurn × Relay
 turned_at Below v = turned_below v
 turned_at Above v = turned_above v
 
+abbrev pub waiting_on : Option Upper → ℕ
+waiting_on None = 0
+waiting_on (Some e) = waiting_in e
+
+-- nothing is taken of a side exactly then: it isn't taken from now, or no entry waits
+abbrev pub TakesNothing : Side → Relay → Type 0
+TakesNothing Below v = (takes_below v.bind v.upper ≡ false) ⊎ (waiting_in v.lower ≡ 0)
+TakesNothing Above v = (takes_above v.bind ≡ false) ⊎ (waiting_on v.upper ≡ 0)
+
 -- ---- the connection to the peer, or that there is none
 
 -- the upper end begins anew, and what an earlier one had to send is dropped
@@ -259,10 +268,6 @@ after_giving_at Below v = with_lower (without_first v.lower) v
 after_giving_at Above v = record v { upper = option_map without_first v.upper }
 
 -- ---- what can be asked
-
-abbrev pub waiting_on : Option Upper → ℕ
-waiting_on None = 0
-waiting_on (Some e) = waiting_in e
 
 abbrev pub waiting_at : Side → Relay → ℕ
 waiting_at Below v = waiting_in v.lower

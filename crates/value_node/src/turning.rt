@@ -1,10 +1,11 @@
 //! One entry is taken from a side of a value-add.
-ghost use Rattle.std.specs.Prelude.{◌≡◌, IfOk, OnOk, option_map};
+ghost use Rattle.std.specs.Prelude.{◌≡◌, IfOk, Ok, OnOk, option_map};
 ghost use Rattle.tcf_message.specs.Message.{HasNoZero, IsToken, IsWellFormed, command, reading};
 ghost use Rattle.value_node.specs.Own.{Fits, IsSendable};
 ghost use Rattle.value_node.specs.Passing.{not_recognised};
 ghost use Rattle.value_node.specs.Usable.{IsUsable};
-ghost use Rattle.value_node.specs.Value.{answered, asked, asked_bound, before_hello, command_of, ended_in, event_taken, final_taken, hello_taken, is_free_to_answer, progress_taken, redirect_answered, sent_above, takes_below, took_above, took_below, turned_above, turned_at, turned_below, unbound_again};
+ghost use Rattle.value_node.specs.Value.{TakesNothing, answered, asked, asked_bound, before_hello, command_of, ended_in, event_taken, final_taken, hello_taken, is_free_to_answer, progress_taken, redirect_answered, sent_above, takes_below, took_above, took_below, turned_above, turned_at, turned_below, unbound_again};
+ghost use Rattle.value_node.specs.declared.states.Side.TheVariants.{Above, Below};
 
 use crate::forwarded::Forwarded;
 use crate::own::{Own, own_reply, redirect_done, redirect_failed};
@@ -25,6 +26,7 @@ impl Relay {
     pub fn turn(&mut self, alloc: Global, side: Side) -> Result<ValueTurn, AllocError>
         requires usable { IsUsable self.old }
         ensures turned { IfOk result (λ turn. (turn, self.new) ≡ turned_at side self.old) }
+        ensures idle { TakesNothing side self.old → result ≡ Ok ValueTurn.Nothing }
         ensures usable { OnOk result (IsUsable self.new) }
     {
         match side {
@@ -39,6 +41,7 @@ impl Relay {
     fn turn_below(&mut self, alloc: Global) -> Result<ValueTurn, AllocError>
         requires usable { IsUsable self.old }
         ensures turned { IfOk result (λ turn. (turn, self.new) ≡ turned_below self.old) }
+        ensures idle { TakesNothing Below self.old → result ≡ Ok ValueTurn.Nothing }
         ensures usable { OnOk result (IsUsable self.new) }
     {
         if !self.takes_below() {
@@ -209,6 +212,7 @@ impl Relay {
     fn turn_above(&mut self, alloc: Global) -> Result<ValueTurn, AllocError>
         requires usable { IsUsable self.old }
         ensures turned { IfOk result (λ turn. (turn, self.new) ≡ turned_above self.old) }
+        ensures idle { TakesNothing Above self.old → result ≡ Ok ValueTurn.Nothing }
         ensures usable { OnOk result (IsUsable self.new) }
     {
         if self.bind == Bind::Closed {

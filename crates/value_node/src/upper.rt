@@ -1,5 +1,5 @@
 //! The upper end of a value-add, which knows how many barriers are pending.
-ghost use Rattle.std.specs.Prelude.{◌≡◌, ◌≢◌, ◌≤◌, ◌+◌, false, true, not, length, option_map, slice_get, drop, Some, None, IfErr, IfOk, IfSome, OnErr, OnOk};
+ghost use Rattle.std.specs.Prelude.{◌≡◌, ◌≢◌, ◌≤◌, ◌+◌, false, true, not, length, option_map, slice_get, drop, Some, None, Ok, IfErr, IfOk, IfSome, OnErr, OnOk};
 ghost use Rattle.channel_core.specs.Beginning.{new_end, tag_of};
 ghost use Rattle.channel_core.specs.Closing.{closed_own};
 ghost use Rattle.channel_core.specs.EndValue.{unless_spent};
@@ -148,6 +148,7 @@ impl Upper {
     /// Takes the oldest entry of its inbox.
     pub fn next_message(&mut self) -> Result<Option<Taken<Forwarded>>, AllocError>
         ensures taken { IfOk result (λ taken. (taken, self.new) ≡ next_taken self.old) }
+        ensures idle { self.old.is_spent ≡ false → waiting_in self.old ≡ 0 → result ≡ Ok None }
         ensures usable { OnOk result (self.new.is_spent ≡ false) }
     {
         let taken = self.end.next_message()?;

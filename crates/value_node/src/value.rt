@@ -1,7 +1,7 @@
 //! The value-add.
-ghost use Rattle.std.specs.Prelude.{◌≡◌, true, false, IfOk, OnErr, OnOk};
+ghost use Rattle.std.specs.Prelude.{◌≡◌, ◌↔◌, true, false, IfOk, Ok, OnErr, OnOk};
 ghost use Rattle.value_node.specs.Usable.{IsUsable};
-ghost use Rattle.value_node.specs.Value.{after_giving, awaits, came, connect_failed, connected, ended, given, new_value, pending_on, turned, waiting_at};
+ghost use Rattle.value_node.specs.Value.{TakesNothing, after_giving, awaits, came, connect_failed, connected, ended, given, new_value, pending_on, turned, waiting_at};
 
 use crate::relay::Relay;
 use crate::states::{Bind, Side, ValueTurn};
@@ -75,10 +75,12 @@ impl ValueNode {
     }
 
     /// Takes the oldest entry of the inbox of a side. `Nothing` exactly where there is none, where the value-add is closed,
-    /// and, below, while it is Opening or has 1,024 commands pending above. After `Connect` it waits for `connected` or
-    /// `connect_failed`.
+    /// and, below, while it is Opening or has 1,024 commands pending above; that takes no memory. After `Connect` it waits
+    /// for `connected` or `connect_failed`.
     pub fn turn(&mut self, side: Side) -> Result<ValueTurn, AllocError>
         ensures turned { IfOk result (λ turn. (turn, self.new) ≡ turned side self.old) }
+        ensures nothing { IfOk result (λ turn. (turn ≡ ValueTurn.Nothing) ↔ TakesNothing side self.old.relay) }
+        ensures idle { self.old.is_spent ≡ false → TakesNothing side self.old.relay → result ≡ Ok ValueTurn.Nothing }
         ensures fresh { OnOk result (self.old.is_spent ≡ false) }
         ensures spent { OnErr result (self.new.is_spent ≡ true) }
     {
@@ -163,6 +165,7 @@ impl ValueNode {
         ensures began { OnOk result (self.new ≡ record self.old { is_spent = true }) }
         ensures usable { OnOk result (IsUsable self.new.relay) }
         ensures fresh { OnOk result (self.old.is_spent ≡ false) }
+        ensures met { OnErr result (self.old.is_spent ≡ true) }
         ensures spent { self.new.is_spent ≡ true }
     {
         if self.spent {

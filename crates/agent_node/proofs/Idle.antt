@@ -5,14 +5,15 @@ use Rattle.std.specs.Prelude.{◌↔◌, if◌then◌else◌, IfOk, slice_get, s
 use Rattle.channel_core.specs.Taking.{next_taken}
 use Rattle.channel_core.specs.declared.taking.Taken.{Taken}
 use Rattle.channel_core.specs.declared.taking.Taken.TheVariants as taken
-use Rattle.channel_core.proofs.Idle.{none_is_taken}
+use Rattle.channel_core.proofs.Idle.{none_is_taken, nothing_taken}
+use Rattle.list_laws.proofs.Lists.{set_same}
 use Rattle.tcf_message.specs.Message.{MessageValue, command, event, final, flow, not_known, progress, reading}
 use Rattle.tcf_message.specs.declared.message.MessageFault.{MessageFault}
 use Rattle.tcf_values.specs.declared.event.EventData.{EventData}
 use Rattle.tcf_values.specs.declared.ids.ContextId.{ContextId}
-use Rattle.agent_node.specs.Agent.{IsIdle, TakesNothing, asked, executed, gone, instruction_tells, is_full, ticked, ticked_by, took, took_any, turned, turned_at, turned_on, waiting_at}
+use Rattle.agent_node.specs.Agent.{IsIdle, TakesNothing, asked, channel_of, executed, gone, instruction_tells, is_full, ticked, ticked_by, took, took_any, turned, turned_at, turned_on, waiting_at}
 use Rattle.agent_node.specs.AgentValue.{AgentValue}
-use Rattle.agent_node.specs.Channels.{channel_at, place_of, with_end}
+use Rattle.agent_node.specs.Channels.{End, channel_at, place_of, with_end}
 use Rattle.agent_node.specs.declared.agent.Turned.{Turned}
 use Rattle.agent_node.specs.declared.agent.Turned.TheVariants.{Nothing}
 use Rattle.agent_node.specs.declared.channel.Channel.{Channel}
@@ -73,6 +74,26 @@ turn_nothing k a = by_full (is_full a) refl
         | inr none ↦ so.1 none
       ],
     )
+
+-- where nothing waits the agent stays as it was
+
+stays_on : (k place : ℕ) (channel : Option Channel) (a : AgentValue) → slice_get a.channels place ≡ channel → waiting_at channel ≡ 0 → turned_on k place channel a ≡ (Nothing, a)
+stays_on k place None a there none = refl
+stays_on k place (Some channel) a there none =
+    ap (λ (t : Option (Taken Unit) × End). took_any k t.0 (record a { channels = slice_set a.channels place (with_end t.1 channel) })) (nothing_taken channel.end none)
+    ∙ ap {B = Turned × AgentValue} (λ (channels : List Channel). (Nothing, record a { channels = channels })) (set_same place a.channels channel there)
+
+stays_at : (k : ℕ) (place : Option ℕ) (a : AgentValue) → waiting_at (channel_at place a.channels) ≡ 0 → turned_at k place a ≡ (Nothing, a)
+stays_at k None a none = refl
+stays_at k (Some place) a none = stays_on k place (slice_get a.channels place) a refl none
+
+pub turn_stays : (k : ℕ) (a : AgentValue) → waiting_at (channel_of k a) ≡ 0 → turned k a ≡ (Nothing, a)
+unfolding turned
+turn_stays k a none = by_full (is_full a)
+  where
+    by_full : (full : Bool) → (if full then (Nothing, a) else turned_at k (place_of k a.channels) a) ≡ (Nothing, a)
+    by_full true = refl
+    by_full false = stays_at k (place_of k a.channels) a none
 
 -- of an answer, which may be want of memory, of an agent that is as it was before
 pub when_turn_is_nothing : {E : Type 0} → (answer : Result Turned E) (k : ℕ) (a begun next : AgentValue) → begun ≡ a → IfOk answer (λ what. (what, next) ≡ turned k begun)

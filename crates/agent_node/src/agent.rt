@@ -162,17 +162,21 @@ impl AgentNode {
 
     /// Takes the oldest entry of the channel's inbox. A command is executed, and the end of the channel takes its
     /// breakpoints with it: both are inputs, which come back. `Nothing` exactly where the channel isn't live, its inbox is
-    /// empty, or the position is 2^64 - 1.
+    /// empty, or the position is 2^64 - 1; that takes no memory.
+    #[tactic(auto, using(crate::proofs::Idle::turn_stays))]
     pub fn turn(&mut self, k: u64) -> Result<Turned, AllocError>
         ensures turned { IfOk result (λ what. (what, self.new) ≡ turned k self.old) }
         ensures nothing { IfOk result (λ what. (what ≡ Turned.Nothing) ↔ TakesNothing k self.old) }
-        ensures full { self.old.is_spent ≡ false → is_full self.old ≡ true → result ≡ Ok Turned.Nothing }
+        ensures idle { self.old.is_spent ≡ false → TakesNothing k self.old → result ≡ Ok Turned.Nothing }
         ensures fresh { OnOk result (self.old.is_spent ≡ false) }
         ensures spent { OnErr result (self.new.is_spent ≡ true) }
         ensures silent { OnErr result (self.new.channels ≡ []) }
         ensures kept { self.old.is_spent ≡ true → self.new ≡ record self.old { channels = [] } }
     {
         self.fresh()?;
+        if self.waiting(k) == 0 {
+            return Ok(Turned::Nothing);
+        }
         let answer = self.try_turn(k);
         if answer.is_err() {
             self.give_up();

@@ -1,11 +1,9 @@
-//! Tests that show of values and tables, of the target and of what a peer keeps what no clause says. Most cases are rows
-//! of the program `service_rows`.
+//! Tests that show of values, of the target and of what a peer keeps what no clause says. Most cases are rows of the
+//! program `service_rows`.
 #![tactic(auto)]
 
 #[cfg(test)]
 mod blocks;
-#[cfg(test)]
-mod commands;
 #[cfg(test)]
 mod data;
 #[cfg(test)]
@@ -14,7 +12,5 @@ mod hub;
 mod points;
 #[cfg(test)]
 mod processes;
-#[cfg(test)]
-mod processor;
 #[cfg(test)]
 mod values;

@@ -6,9 +6,9 @@ use anyhow::{Result, ensure};
 use cache_learning::{hear_event, hear_final};
 use json_values::{bp_value, context_value, status_value};
 use knowledge::{Knowledge, StateFact};
-use std::alloc::Global;
+use std::alloc::{AllocError, Global};
 use tcf_outside::Octets;
-use tcf_values::{ContextId, context_id, register_id};
+use tcf_values::{Command, ContextId, context_id, register_id};
 use value_store::Store;
 
 /// The cache of a client, and that of a value-add.
@@ -17,6 +17,43 @@ pub struct Caches {
     alloc: Global,
     known: Knowledge,
     store: Store,
+}
+
+fn client_hears(alloc: Global, known: &mut Knowledge, event: &Named) -> Result<(), AllocError> {
+    let (service, name) = (event.service.as_slice(), event.name.as_slice());
+    hear_event(alloc, known, service, name, event.data.as_slice())
+}
+
+fn value_add_hears(alloc: Global, store: &mut Store, event: &Named) -> Result<(), AllocError> {
+    let (service, name) = (event.service.as_slice(), event.name.as_slice());
+    store.hear_event(alloc, service, name, event.data.as_slice())
+}
+
+fn client_learns(
+    alloc: Global,
+    known: &mut Knowledge,
+    asked: &Named,
+    answer: &[u8],
+) -> Result<(), AllocError> {
+    let (service, name) = (asked.service.as_slice(), asked.name.as_slice());
+    hear_final(alloc, known, service, name, asked.data.as_slice(), answer)
+}
+
+fn value_add_learns(
+    alloc: Global,
+    store: &mut Store,
+    asked: &Option<Command>,
+    answer: &[u8],
+) -> Result<(), AllocError> {
+    store.hear_answer(alloc, asked, answer)
+}
+
+fn answer_of(
+    alloc: Global,
+    store: &mut Store,
+    asked: &Option<Command>,
+) -> Result<Option<Octets>, AllocError> {
+    store.answer(alloc, asked)
 }
 
 impl Caches {
@@ -37,10 +74,8 @@ impl Caches {
     /// Both take an event.
     fn hear(&mut self, words: &str) -> Result<()> {
         let named = Named::read(self.alloc, words)?;
-        let (service, name) = (named.service.as_slice(), named.name.as_slice());
-        let data = named.data.as_slice();
-        hear_event(self.alloc, &mut self.known, service, name, data)?;
-        self.store.hear_event(self.alloc, service, name, data)?;
+        client_hears(self.alloc, &mut self.known, &named)?;
+        value_add_hears(self.alloc, &mut self.store, &named)?;
         Ok(())
     }
 
@@ -49,24 +84,16 @@ impl Caches {
         let (asked, answered) = two(words);
         let named = Named::read(self.alloc, asked)?;
         let answer = data(self.alloc, answered)?;
-        hear_final(
-            self.alloc,
-            &mut self.known,
-            named.service.as_slice(),
-            named.name.as_slice(),
-            named.data.as_slice(),
-            answer.as_slice(),
-        )?;
+        client_learns(self.alloc, &mut self.known, &named, answer.as_slice())?;
         let command = command_of(self.alloc, asked)?;
-        self.store
-            .hear_answer(self.alloc, &command, answer.as_slice())?;
+        value_add_learns(self.alloc, &mut self.store, &command, answer.as_slice())?;
         Ok(())
     }
 
     /// What the value-add answers of a command.
     fn reply(&mut self, words: &str) -> Result<Option<Octets>> {
         let command = command_of(self.alloc, words)?;
-        Ok(self.store.answer(self.alloc, &command)?)
+        Ok(answer_of(self.alloc, &mut self.store, &command)?)
     }
 
     /// Puts what the value-add answers of a command.

@@ -39,7 +39,8 @@ fn is_copied<T: Duplicate + Debug>(alloc: Global, source: &T) -> Result<bool> {
     Ok(shown.as_str() == want.as_str())
 }
 
-fn read(alloc: Global, named: &Named) -> Result<Reading>
+/// What the data of a command is read as.
+pub fn read(alloc: Global, named: &Named) -> Result<Reading>
     ensures { IfOk result (IsReading named.now.service.items named.now.name.items) }
 {
     Ok(read_command(

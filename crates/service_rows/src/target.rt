@@ -1,12 +1,14 @@
 //! The rows of a target that several channels share.
+ghost use Rattle.std.specs.Prelude.{IfOk};
+ghost use Rattle.command_tables.specs.Reading.{IsReading};
 ghost use Rattle.target_hub.specs.Limits.{AreEvents};
 
 use crate::rows::Board;
-use crate::tables::{put_text, put_told};
+use crate::tables::{put_text, put_told, read};
 use crate::words::{Named, first, number};
 use anyhow::{Context, Result};
-use command_tables::read_command;
-use std::alloc::Global;
+use command_tables::Reading;
+use std::alloc::{AllocError, Global};
 use target_hub::{Answered, Done, Events, Hub, Image};
 use tcf_message::Message;
 use tcf_outside::Octets;
@@ -84,13 +86,30 @@ fn put_done(alloc: Global, channel: &[u8], done: &Done, out: &mut Octets) -> Res
     put_answer(channel, &done.answer, out)
 }
 
+/// What a channel's command comes to.
+fn done_of(
+    hub: &mut Hub,
+    channel: u64,
+    named: &Named,
+    reading: &Reading,
+) -> Result<Done, AllocError>
+    requires { IsReading named.now.service.items named.now.name.items reading.now }
+    ensures { IfOk result (λ done. AreEvents done.events) }
+{
+    hub.execute(
+        channel,
+        named.service.as_slice(),
+        named.name.as_slice(),
+        reading,
+    )
+}
+
 /// Executes a channel's command.
 fn execute(alloc: Global, hub: &mut Hub, words: &str, out: &mut Octets) -> Result<()> {
     let (channel, words) = first(words);
     let named = Named::read(alloc, words)?;
-    let (service, name) = (named.service.as_slice(), named.name.as_slice());
-    let reading = read_command(alloc, service, name, named.data.as_slice())?;
-    let done = hub.execute(number(channel)?, service, name, &reading)?;
+    let reading = read(alloc, &named)?;
+    let done = done_of(hub, number(channel)?, &named, &reading)?;
     put_done(alloc, channel.as_bytes(), &done, out)
 }
 

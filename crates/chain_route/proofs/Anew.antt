@@ -1,14 +1,10 @@
 -- A value-add is made anew above a hop: beyond it nothing is connected.
 use Rattle.std.proofs.Common.{ℕ, zero, suc, List, [], ◌∷◌, refl, sym, subst}
 use Rattle.std.specs.List.{AllByRecursion}
-use Rattle.chain_route.specs.Carrying.{IsDead, Made}
+use Rattle.chain_route.specs.Carrying.{IsDead}
 use Rattle.chain_route.specs.declared.hop.Hop.{Hop}
 use Rattle.chain_route.proofs.Each.{EachCarries}
 use Rattle.chain_route.proofs.Flows.{HopHolds, unused_tip}
-
--- one of which nothing was called
-abbrev pub fresh_made : List ℕ → Made
-fresh_made peer = record { peer = peer; calls = [] }
 
 -- there are hops behind this one, and all of them are dead
 abbrev pub AreDeadBehind : ℕ → List Hop → Type 0

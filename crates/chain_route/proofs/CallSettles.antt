@@ -6,9 +6,10 @@ use Rattle.value_node.specs.Value.{awaits, turned as value_turned}
 use Rattle.value_node.specs.ValueValue.{ValueValue}
 use Rattle.value_node.specs.declared.states.Side.{Side}
 use Rattle.value_node.specs.declared.states.ValueTurn.TheVariants.{Connect}
-use Rattle.chain_route.specs.Carrying.{Carries, GivesAll, NoneAwaits, value_of}
+use Rattle.chain_route.specs.Carrying.{GivesAll, Made, NoneAwaits, value_of}
 use Rattle.chain_route.specs.Hop as hop
 use Rattle.chain_route.specs.Lane.{staying}
+use Rattle.chain_route.specs.Making.{CarriesBy}
 use Rattle.chain_route.specs.Passing.{delivered, pair, parts_came}
 use Rattle.chain_route.specs.Route.{connected, last_of, live_of, reached, sent_down, sent_up}
 use Rattle.chain_route.specs.RouteValue.{RouteValue}
@@ -39,10 +40,10 @@ unless_settled false other r is same = is
 
 -- ---- Each call
 
-module _ {calls : List Call} (r : RouteRun) (h : Holds calls r) (all : IsSettled r) where
+module _ {calls : List Call} {made : List Made} (r : RouteRun) (h : Holds calls r made) (all : IsSettled r) where
   -- the value-add at a place is one that was made
-  made_at : (at : ℕ) (v : ValueValue) → slice_get r.route.adds at ≡ Some v → IsMapped value_of h.made at v
-  made_at at v is = get_mapped value_of at h.made v (sym (ap (λ vs. slice_get vs at) h.adds) ∙ is)
+  made_at : (at : ℕ) (v : ValueValue) → slice_get r.route.adds at ≡ Some v → IsMapped value_of made at v
+  made_at at v is = get_mapped value_of at made v (sym (ap (λ vs. slice_get vs at) h.adds) ∙ is)
 
   delivered_at : (side : Side) (count at : ℕ) (v : ValueValue) (x : Hop) → slice_get r.route.adds at ≡ Some v → Settled (length r.route.hops) None None None at v
       → Settled (length r.route.hops) None None None at (delivered side count (pair v x)).add
@@ -106,16 +107,19 @@ last_unlive (x ∷ hops) dead =
 
 -- ---- All that a way carries
 
-pub carries_of : (calls : List Call) (r : RouteRun) → Holds calls r → IsSettled r → Carries calls r
-carries_of calls r h all = record {
-  made = h.made;
-  adds = h.adds;
-  hops = all_carry (client_tip r.past) r.route.hops h.made (agent_tip r.past) (idle_client calls r h) (idle_agent calls r h) (unused_client calls r h) h.way.unconnected h.way.all;
-  connected = h.way.connected;
-  reached = h.way.reached;
-  earlier = h.earlier;
-  losses = h.losses;
-  given = all_given r all;
-  none_awaits = none_waits r all;
-  unreached = λ is. last_unlive r.route.hops (h.way.unreached is);
+pub carries_of : {made : List Made} → (calls : List Call) (r : RouteRun) → Holds calls r made → IsSettled r → CarriesBy made calls r
+carries_of {made = made} calls r h all = record {
+  carries = record {
+    made = made;
+    adds = h.adds;
+    hops = all_carry (client_tip r.past) r.route.hops made (agent_tip r.past) (idle_client calls r h) (idle_agent calls r h) (unused_client calls r h) h.way.unconnected h.way.all;
+    connected = h.way.connected;
+    reached = h.way.reached;
+    earlier = h.earlier;
+    losses = h.losses;
+    given = all_given r all;
+    none_awaits = none_waits r all;
+    unreached = λ is. last_unlive r.route.hops (h.way.unreached is);
+  };
+  are = refl;
 }

@@ -14,6 +14,8 @@ use Rattle.value_node.specs.declared.states.Side.TheVariants.{Below, Above}
 use Rattle.chain_route.specs.Carrying.{AllLoseByCuts, HaveConnected, IsDead, LosesByCut, Made, agent_end, end_below, end_of, is_cut_of, past_of, value_of}
 use Rattle.chain_route.specs.Hop as hop
 use Rattle.chain_route.specs.Hop.{no_hop}
+use Rattle.chain_route.specs.Making as making
+use Rattle.chain_route.specs.Making.{called_at}
 use Rattle.chain_route.specs.Route.{cut, ended_below, hop_put, last_of, live_of, on_add}
 use Rattle.chain_route.specs.RouteValue.{RouteValue}
 use Rattle.chain_route.specs.Runs.{Call as RouteCall, Past, RouteRun, cut_past, loses_if, no_talk}
@@ -64,8 +66,8 @@ none_above (suc at) lower (h ∷ hops) (m ∷ made) agent x there live none all 
     let rest = none_above at (tip_above m) hops made agent x there live none all.1 in omega (arith, rest)
 
 -- and then the agent was reached
-reached_live : {calls : List RouteCall} (at : ℕ) (hops : List Hop) (x : Hop) → at ≡ length hops - 1 → slice_get hops at ≡ Some x → x.is_live ≡ true
-    → (r : RouteRun) (h : Holds calls r) → r.route.hops ≡ hops → r.past.is_reached ≡ true
+reached_live : {calls : List RouteCall} {made : List Made} (at : ℕ) (hops : List Hop) (x : Hop) → at ≡ length hops - 1 → slice_get hops at ≡ Some x → x.is_live ≡ true
+    → (r : RouteRun) (h : Holds calls r made) → r.route.hops ≡ hops → r.past.is_reached ≡ true
 reached_live at [] x last there live r h is = absurd cc
 reached_live at (y ∷ hops) x last there live r h is = by_flag r.past.is_reached refl
   where
@@ -75,7 +77,7 @@ reached_live at (y ∷ hops) x last there live r h is = by_flag r.past.is_reache
         absurd (not_live x live (last_dead (y ∷ hops) x (sym (ap (slice_get (y ∷ hops)) (last ∙ last_is y hops)) ∙ there) (subst LastDead is (h.way.unreached unreached))))
 
 -- the client has connected
-joined_live : {calls : List RouteCall} (at : ℕ) (x : Hop) (r : RouteRun) (h : Holds calls r) → slice_get r.route.hops at ≡ Some x → x.is_live ≡ true → r.past.is_joined ≡ true
+joined_live : {calls : List RouteCall} {made : List Made} (at : ℕ) (x : Hop) (r : RouteRun) (h : Holds calls r made) → slice_get r.route.hops at ≡ Some x → x.is_live ≡ true → r.past.is_joined ≡ true
 joined_live at x r h there live = by_flag r.past.is_joined refl
   where
     by_flag : (flag : Bool) → r.past.is_joined ≡ flag → r.past.is_joined ≡ true
@@ -87,11 +89,10 @@ joined_live at x r h there live = by_flag r.past.is_joined refl
 -- ---- What was made, where the bytes end at both ends of a hop
 
 abbrev ends_at : Side → ℕ → List Made → List Made
-ends_at side at made = changed_at (with_call (bytes_end side)) at made
+ends_at side at made = called_at at (bytes_end side ∷ []) made
 
 abbrev cut_made : ℕ → List Made → List Made
-cut_made zero made = ends_at Below zero made
-cut_made (suc at) made = ends_at Above at (ends_at Below (suc at) made)
+cut_made at made = making.ended at made
 
 ends_values : (side : Side) (at : ℕ) (made : List Made) → changed_at (ended side) at (map value_of made) ≡ map value_of (ends_at side at made)
 ends_values side at [] = refl
@@ -132,39 +133,38 @@ client_cut at p = by_place at
     by_place zero = ap client (eq-eqb zero 0 refl)
     by_place (suc i) = ap client (ne_eqb (suc i) 0 (λ is. absurd (omega (arith, is))))
 
-agent_cut : {calls : List RouteCall} (at : ℕ) (x : Hop) (r : RouteRun) (h : Holds calls r) → slice_get r.route.hops at ≡ Some x → x.is_live ≡ true
-    → record { end = agent_end (loses_if (at == last_of r.route) r.past.agent); is_used = r.past.is_reached } ≡ cut_above (slice_get h.made at) (agent_tip r.past)
-agent_cut at x r h there live = by_made (slice_get h.made at) refl
+agent_cut : {calls : List RouteCall} {made : List Made} (at : ℕ) (x : Hop) (r : RouteRun) (h : Holds calls r made) → slice_get r.route.hops at ≡ Some x → x.is_live ≡ true
+    → record { end = agent_end (loses_if (at == last_of r.route) r.past.agent); is_used = r.past.is_reached } ≡ cut_above (slice_get made at) (agent_tip r.past)
+agent_cut {made = made} at x r h there live = by_made (slice_get made at) refl
   where
     agent : Bool → Tip
     agent flag = record { end = agent_end (loses_if flag r.past.agent); is_used = r.past.is_reached }
 
-    by_made : (m : Option Made) → slice_get h.made at ≡ m → agent (at == last_of r.route) ≡ cut_above m (agent_tip r.past)
+    by_made : (m : Option Made) → slice_get made at ≡ m → agent (at == last_of r.route) ≡ cut_above m (agent_tip r.past)
     by_made None none =
-        let size = none_above at (client_tip r.past) r.route.hops h.made (agent_tip r.past) x there live none h.way.all in
+        let size = none_above at (client_tip r.past) r.route.hops made (agent_tip r.past) x there live none h.way.all in
         ap agent (eq-eqb at (last_of r.route) (omega (arith, size)))
     by_made (Some m) is =
-        let most = made_size (client_tip r.past) r.route.hops h.made (agent_tip r.past) h.way.all in
-        let least = some_within at h.made m is in
+        let most = made_size (client_tip r.past) r.route.hops made (agent_tip r.past) h.way.all in
+        let least = some_within at made m is in
         ap agent (ne_eqb at (last_of r.route) (λ last. absurd (omega (arith, last, most, least))))
 
 module _ (calls : List RouteCall) where
   -- ---- A quiet call of a value-add
 
-  pub quiet_holds : (call : Call) (at : ℕ) (r : RouteRun) (h : Holds calls r) (m : Made) → slice_get h.made at ≡ Some m → Adds call (run_of m)
-      → IsQuiet (lower_added call (run_of m)) (upper_by call (run_of m).value.relay) → (LosesByCut calls at m → LosesByCut calls at (with_call call m)) → Holds calls (with_add at (called call (value_of m)) r)
-  quiet_holds call at r h m there adds quiet loses =
+  pub quiet_holds : {made : List Made} → (call : Call) (at : ℕ) (r : RouteRun) (h : Holds calls r made) (m : Made) → slice_get made at ≡ Some m → Adds call (run_of m)
+      → IsQuiet (lower_added call (run_of m)) (upper_by call (run_of m).value.relay) → (LosesByCut calls at m → LosesByCut calls at (with_call call m)) → Holds calls (with_add at (called call (value_of m)) r) (slice_set made at (with_call call m))
+  quiet_holds {made = made} call at r h m there adds quiet loses =
       let next = with_call call m in
       record {
-        made = slice_set h.made at next;
         adds = ap (λ vs. slice_set vs at (called call (value_of m))) h.adds
-            ∙ ap (λ v. slice_set (map value_of h.made) at v) (sym (call_value call m)) ∙ set_mapped value_of at h.made next;
+            ∙ ap (λ v. slice_set (map value_of made) at v) (sym (call_value call m)) ∙ set_mapped value_of at made next;
         way = record {
-          all = same_ends at (client_tip r.past) r.route.hops h.made (agent_tip r.past) m next there (below_same call m adds quiet.below) (above_same call m adds quiet.above) h.way.all;
-          connected = connected_set at h.made r.past.is_reached m next there (still_connected call m adds) h.way.connected;
-          reached = λ is. h.way.reached is ∙ ap (λ n. n + 1) (sym (set_length at h.made next));
+          all = same_ends at (client_tip r.past) r.route.hops made (agent_tip r.past) m next there (below_same call m adds quiet.below) (above_same call m adds quiet.above) h.way.all;
+          connected = connected_set at made r.past.is_reached m next there (still_connected call m adds) h.way.connected;
+          reached = λ is. h.way.reached is ∙ ap (λ n. n + 1) (sym (set_length at made next));
           unreached = h.way.unreached;
-          unconnected = λ more. last_kept at h.made m next there (still_unconnected call m adds) (h.way.unconnected (omega (arith, more, set_length at h.made next)));
+          unconnected = λ more. last_kept at made m next there (still_unconnected call m adds) (h.way.unconnected (omega (arith, more, set_length at made next)));
         };
         unmade = λ is. ap (λ ms. slice_set ms at next) (h.unmade is);
         unjoined = h.unjoined;
@@ -172,9 +172,9 @@ module _ (calls : List RouteCall) where
         none_earlier = h.none_earlier;
         wanted = h.wanted;
         unstarted = h.unstarted;
-        started = λ is more. omega (arith, set_length at h.made next, h.started is more);
+        started = λ is more. omega (arith, set_length at made next, h.started is more);
         earlier = h.earlier;
-        losses = losses_set calls at h.made m next there loses h.losses;
+        losses = losses_set calls at made m next there loses h.losses;
       }
 
   -- ---- The end of the bytes at a side of a value-add
@@ -276,23 +276,22 @@ module _ (calls : List RouteCall) where
 
   -- ---- All of it
 
-  live_cut : (at : ℕ) (r : RouteRun) (x : Hop) → slice_get r.route.hops at ≡ Some x → x.is_live ≡ true → list_any (is_cut_of at) calls ≡ true → Holds calls r
+  live_cut : {made : List Made} → (at : ℕ) (r : RouteRun) (x : Hop) → slice_get r.route.hops at ≡ Some x → x.is_live ≡ true → list_any (is_cut_of at) calls ≡ true → Holds calls r made
       → Holds calls (record {
         route = ended_below at (on_add (ended Below) at (cut_route at r.route));
         past = record r.past { client = loses_if (at == 0) r.past.client; agent = loses_if (at == last_of r.route) r.past.agent };
-      })
-  live_cut at r x there live cuts h =
-      let keeps = cut_keeps r.past.is_reached at h.made cuts in
+      }) (cut_made at made)
+  live_cut {made = made} at r x there live cuts h =
+      let keeps = cut_keeps r.past.is_reached at made cuts in
       let hops = slice_set r.route.hops at no_hop in
       let size : length hops ≡ length r.route.hops = set_length at r.route.hops no_hop in
-      let agent = cut_above (slice_get h.made at) (agent_tip r.past) in
-      subst (λ route. Holds calls (record { route = route; past = p })) (sym (both_ended at (cut_route at r.route))) (record {
-        made = cut_made at h.made;
-        adds = ap (ended_at at) h.adds ∙ cut_values at h.made;
+      let agent = cut_above (slice_get made at) (agent_tip r.past) in
+      subst (λ route. Holds calls (record { route = route; past = p }) (cut_made at made)) (sym (both_ended at (cut_route at r.route))) (record {
+        adds = ap (ended_at at) h.adds ∙ cut_values at made;
         way = record {
-          all = subst (λ t. EachCarries (client_tip p) hops (cut_made at h.made) t) (sym (agent_cut at x r h there live))
-              (subst (λ t. EachCarries t hops (cut_made at h.made) agent) (sym (client_cut at r.past))
-              (each_cut at (client_tip r.past) r.route.hops h.made (agent_tip r.past) x there live h.way));
+          all = subst (λ t. EachCarries (client_tip p) hops (cut_made at made) t) (sym (agent_cut at x r h there live))
+              (subst (λ t. EachCarries t hops (cut_made at made) agent) (sym (client_cut at r.past))
+              (each_cut at (client_tip r.past) r.route.hops made (agent_tip r.past) x there live h.way));
           connected = keeps.connected h.way.connected;
           reached = λ is. size ∙ h.way.reached is ∙ ap (λ n. n + 1) (sym keeps.size);
           unreached = λ is. last_set at r.route.hops x no_hop there (λ dead. refl) (h.way.unreached is);
@@ -319,8 +318,9 @@ module _ (calls : List RouteCall) where
       unreached true last none = absurd (both (reached_live at r.route.hops x (eqb-true at (last_of r.route) last) there live r h refl) none)
       unreached false last none = h.unreached none
 
-  pub cuts_holds : (at : ℕ) (r : RouteRun) → list_any (is_cut_of at) calls ≡ true → Holds calls r → Holds calls (record { route = (cut at r.route).1; past = cut_past at r.route r.past })
-  cuts_holds at r cuts h = by_hop (slice_get r.route.hops at) refl
+  pub cuts_holds : {made : List Made} → (at : ℕ) (r : RouteRun) → list_any (is_cut_of at) calls ≡ true → Holds calls r made
+      → Holds calls (record { route = (cut at r.route).1; past = cut_past at r.route r.past }) (making.cut at r.route made)
+  cuts_holds {made = made} at r cuts h = by_hop (slice_get r.route.hops at) refl
     where
       after : Bool → RouteValue → RouteRun
       after flag cut_on = record {
@@ -328,10 +328,10 @@ module _ (calls : List RouteCall) where
         past = record r.past { client = loses_if (flag && (at == 0)) r.past.client; agent = loses_if (flag && (at == last_of r.route)) r.past.agent };
       }
 
-      by_flag : (x : Hop) (flag : Bool) → slice_get r.route.hops at ≡ Some x → x.is_live ≡ flag → Holds calls (after flag (cut_route at r.route))
+      by_flag : (x : Hop) (flag : Bool) → slice_get r.route.hops at ≡ Some x → x.is_live ≡ flag → Holds calls (after flag (cut_route at r.route)) (cond flag (cut_made at made) made)
       by_flag x true there is = live_cut at r x there is cuts h
       by_flag x false there is = h
 
-      by_hop : (x : Option Hop) → slice_get r.route.hops at ≡ x → Holds calls (after (live_of x) (hop_put hop.cut at x r.route))
+      by_hop : (x : Option Hop) → slice_get r.route.hops at ≡ x → Holds calls (after (live_of x) (hop_put hop.cut at x r.route)) (cond (live_of x) (cut_made at made) made)
       by_hop None is = h
       by_hop (Some x) is = by_flag x x.is_live is refl

@@ -37,15 +37,14 @@ module _ (calls : List Call) (change : Hop → Hop) (dead : (h : Hop) → IsDead
   }
 
   -- the client's talk goes on, and is none where it hasn't connected
-  first_holds : (talk : Talk) (hops : List Hop) (adds : List ValueValue) (p : Past)
+  first_holds : {made : List Made} → (talk : Talk) (hops : List Hop) (adds : List ValueValue) (p : Past)
       → ((h : Hop) (upper : Tip) → slice_get hops 0 ≡ Some h → HopHolds h (client_tip p) upper → HopHolds (change h) (record { end = end_of talk; is_used = p.is_joined }) upper)
-      → (p.is_joined ≡ false → talk ≡ no_talk) → Holds calls (run_by hops adds p)
-      → Holds calls (record { route = on_hop change 0 (record { hops = hops; adds = adds }); past = with_client talk p })
+      → (p.is_joined ≡ false → talk ≡ no_talk) → Holds calls (run_by hops adds p) made
+      → Holds calls (record { route = on_hop change 0 (record { hops = hops; adds = adds }); past = with_client talk p }) made
   first_holds talk [] adds p carries none h = absurd h.way.all
-  first_holds talk (x ∷ hops) adds p carries none h = record {
-    made = h.made;
+  first_holds {made = made} talk (x ∷ hops) adds p carries none h = record {
     adds = h.adds;
-    way = first_way (client_tip p) (record { end = end_of talk; is_used = p.is_joined }) x hops h.made (agent_tip p) (λ upper. carries x upper refl) h.way;
+    way = first_way (client_tip p) (record { end = end_of talk; is_used = p.is_joined }) x hops made (agent_tip p) (λ upper. carries x upper refl) h.way;
     unmade = h.unmade;
     unjoined = none;
     unreached = h.unreached;
@@ -72,8 +71,8 @@ last_way agent next lower hops made last after there carries dead way = record {
 
 -- ---- Each call
 
-pub sends_up_holds : (outs : List Outgoing) (calls : List Call) (hops : List Hop) (adds : List ValueValue) (p : Past) → p.is_joined ≡ true → Holds calls (run_by hops adds p)
-    → Holds calls (record { route = sent_up outs (record { hops = hops; adds = adds }); past = with_client (gives outs p.client) p })
+pub sends_up_holds : {made : List Made} → (outs : List Outgoing) (calls : List Call) (hops : List Hop) (adds : List ValueValue) (p : Past) → p.is_joined ≡ true → Holds calls (run_by hops adds p) made
+    → Holds calls (record { route = sent_up outs (record { hops = hops; adds = adds }); past = with_client (gives outs p.client) p }) made
 sends_up_holds outs calls hops adds p joined h =
     first_holds calls (hop.sent_up outs) (λ x. dead_up x) (gives outs p.client) hops adds p (λ x upper there c. up_given outs x (client_tip p) upper c)
     (λ is. absurd (both is)) h
@@ -87,11 +86,11 @@ sends_up_holds outs calls hops adds p joined h =
 got_more : (talk : Talk) (parts : List Outgoing) → end_of (gets parts talk) ≡ came_more (bytes_of parts) (end_of talk)
 got_more talk parts = ap (λ bs. record { gave = talk.gave; came = bs; is_lost = talk.is_lost; is_refused = false }) (bytes_more (λ mark. mark) talk.got parts)
 
-pub arrives_down_holds : (count : ℕ) (calls : List Call) (hops : List Hop) (adds : List ValueValue) (p : Past) → Holds calls (run_by hops adds p)
+pub arrives_down_holds : {made : List Made} → (count : ℕ) (calls : List Call) (hops : List Hop) (adds : List ValueValue) (p : Past) → Holds calls (run_by hops adds p) made
     → Holds calls (record {
       route = arrived_down count (record { hops = hops; adds = adds });
       past = with_client (gets (arriving count (flight_down (record { hops = hops; adds = adds }))) p.client) p;
-    })
+    }) made
 arrives_down_holds count calls [] adds p h = absurd h.way.all
 arrives_down_holds count calls (x ∷ hops) adds p h =
     let parts = arriving count x.down in
@@ -116,22 +115,21 @@ arrives_down_holds count calls (x ∷ hops) adds p h =
 -- ---- The agent's side
 
 -- the agent's talk goes on, and is none where it wasn't reached
-last_holds : (calls : List Call) (change : Hop → Hop) (dead : (h : Hop) → IsDead h → IsDead (change h)) (talk : Talk) (x : Hop) (hops : List Hop) (adds : List ValueValue) (p : Past)
+last_holds : {made : List Made} → (calls : List Call) (change : Hop → Hop) (dead : (h : Hop) → IsDead h → IsDead (change h)) (talk : Talk) (x : Hop) (hops : List Hop) (adds : List ValueValue) (p : Past)
     → ((l : Tip) (h : Hop) → slice_get (x ∷ hops) (last_place (x ∷ hops)) ≡ Some h → HopHolds h l (agent_tip p) → HopHolds (change h) l (record { end = agent_end talk; is_used = p.is_reached }))
-    → (p.is_reached ≡ false → talk ≡ no_talk) → Holds calls (run_by (x ∷ hops) adds p)
-    → Holds calls (record { route = on_hop change (last_of (record { hops = x ∷ hops; adds = adds })) (record { hops = x ∷ hops; adds = adds }); past = with_agent talk p })
-last_holds calls change dead talk x hops adds p carries none h =
-    subst (λ n. Holds calls (record { route = on_hop change n (record { hops = x ∷ hops; adds = adds }); past = with_agent talk p })) (sym (last_is x hops))
-    (subst (λ o. Holds calls (record { route = hop_put change (last_place (x ∷ hops)) o (record { hops = x ∷ hops; adds = adds }); past = with_agent talk p })) (sym has.there) holds)
+    → (p.is_reached ≡ false → talk ≡ no_talk) → Holds calls (run_by (x ∷ hops) adds p) made
+    → Holds calls (record { route = on_hop change (last_of (record { hops = x ∷ hops; adds = adds })) (record { hops = x ∷ hops; adds = adds }); past = with_agent talk p }) made
+last_holds {made = made} calls change dead talk x hops adds p carries none h =
+    subst (λ n. Holds calls (record { route = on_hop change n (record { hops = x ∷ hops; adds = adds }); past = with_agent talk p }) made) (sym (last_is x hops))
+    (subst (λ o. Holds calls (record { route = hop_put change (last_place (x ∷ hops)) o (record { hops = x ∷ hops; adds = adds }); past = with_agent talk p }) made) (sym has.there) holds)
   where
     has : HasLast (x ∷ hops)
     has = has_last x hops
 
-    holds : Holds calls (record { route = record { hops = slice_set (x ∷ hops) (last_place (x ∷ hops)) (change has.last); adds = adds }; past = with_agent talk p })
+    holds : Holds calls (record { route = record { hops = slice_set (x ∷ hops) (last_place (x ∷ hops)) (change has.last); adds = adds }; past = with_agent talk p }) made
     holds = record {
-      made = h.made;
       adds = h.adds;
-      way = last_way (agent_tip p) (agent_end talk) (client_tip p) (x ∷ hops) h.made has.last (change has.last) has.there (λ l c. carries l has.last has.there c) (dead has.last) h.way;
+      way = last_way (agent_tip p) (agent_end talk) (client_tip p) (x ∷ hops) made has.last (change has.last) has.there (λ l c. carries l has.last has.there c) (dead has.last) h.way;
       unmade = h.unmade;
       unjoined = h.unjoined;
       unreached = none;
@@ -143,8 +141,8 @@ last_holds calls change dead talk x hops adds p carries none h =
       losses = h.losses;
     }
 
-pub sends_down_holds : (outs : List Outgoing) (calls : List Call) (hops : List Hop) (adds : List ValueValue) (p : Past) → p.is_reached ≡ true → Holds calls (run_by hops adds p)
-    → Holds calls (record { route = sent_down outs (record { hops = hops; adds = adds }); past = with_agent (gives outs p.agent) p })
+pub sends_down_holds : {made : List Made} → (outs : List Outgoing) (calls : List Call) (hops : List Hop) (adds : List ValueValue) (p : Past) → p.is_reached ≡ true → Holds calls (run_by hops adds p) made
+    → Holds calls (record { route = sent_down outs (record { hops = hops; adds = adds }); past = with_agent (gives outs p.agent) p }) made
 sends_down_holds outs calls [] adds p reached h = absurd h.way.all
 sends_down_holds outs calls (x ∷ hops) adds p reached h =
     last_holds calls (hop.sent_down outs) dead_down (gives outs p.agent) x hops adds p (λ l y there c. down_given outs y l (agent_tip p) c) (λ is. absurd (both is)) h
@@ -158,11 +156,11 @@ sends_down_holds outs calls (x ∷ hops) adds p reached h =
 agent_got_more : (talk : Talk) (parts : List Outgoing) → agent_end (gets parts talk) ≡ came_more (bytes_of parts) (agent_end talk)
 agent_got_more talk parts = ap (λ bs. record { gave = talk.gave; came = bs; is_lost = talk.is_lost; is_refused = talk.is_refused }) (bytes_more (λ mark. mark) talk.got parts)
 
-pub arrives_up_holds : (count : ℕ) (calls : List Call) (hops : List Hop) (adds : List ValueValue) (p : Past) → Holds calls (run_by hops adds p)
+pub arrives_up_holds : {made : List Made} → (count : ℕ) (calls : List Call) (hops : List Hop) (adds : List ValueValue) (p : Past) → Holds calls (run_by hops adds p) made
     → Holds calls (record {
       route = arrived_up count (record { hops = hops; adds = adds });
       past = with_agent (gets (arriving count (flight_up (record { hops = hops; adds = adds }))) p.agent) p;
-    })
+    }) made
 arrives_up_holds count calls [] adds p h = absurd h.way.all
 arrives_up_holds count calls (x ∷ hops) adds p h = last_holds calls change (dead_came Below count) (gets (arriving count flight) p.agent) x hops adds p carries none h
   where

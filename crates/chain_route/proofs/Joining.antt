@@ -4,21 +4,24 @@ use Rattle.std.specs.List.{AllByRecursion}
 use Rattle.value_node.specs.ValueValue.{ValueValue}
 use Rattle.value_node.specs.declared.states.Side.{Side}
 use Rattle.value_node.specs.declared.states.Side.TheVariants.{Below}
-use Rattle.chain_route.specs.Carrying.{IsDead, end_of}
+use Rattle.chain_route.specs.Carrying.{IsDead, Made, end_of}
 use Rattle.chain_route.specs.Hop.{connected as hop_connected}
+use Rattle.chain_route.specs.Making as making
+use Rattle.chain_route.specs.Making.{fresh_made, giving, made_anew}
 use Rattle.chain_route.specs.Passing.{carried}
-use Rattle.chain_route.specs.Route.{connected, joined, last_of, made_at, peer_of, with_carried}
+use Rattle.chain_route.specs.Route.{connected, joined, last_of, made_at, on_hop, peer_of, with_carried}
 use Rattle.chain_route.specs.RouteValue.{RouteValue}
 use Rattle.chain_route.specs.Runs.{Call, Past, RouteRun, joined_by}
 use Rattle.chain_route.specs.declared.hop.Hop.{Hop}
 use Rattle.chain_route.proofs.Each.{EachCarries}
-use Rattle.chain_route.proofs.Anew.{dead_above, fresh_made}
+use Rattle.chain_route.proofs.Anew.{dead_above}
 use Rattle.chain_route.proofs.Flows.{HopHolds, begun_carries, fresh_end, used}
 use Rattle.chain_route.proofs.Holding.{Holds, agent_tip, client_tip, on_pair_holds, unreached_agent, with_route}
 use Rattle.chain_route.proofs.Stepping.{carried_step}
 
-pub carried_holds : (side : Side) (at : ℕ) (calls : List Call) (r : RouteRun) → Holds calls r → Holds calls (with_route (with_carried side at r.route) r)
-carried_holds side at calls r h = on_pair_holds side at (carried side) calls r (λ m hop has_end. carried_step side m hop) h
+pub carried_holds : {made : List Made} → (side : Side) (at : ℕ) (calls : List Call) (r : RouteRun) → Holds calls r made
+    → Holds calls (with_route (with_carried side at r.route) r) (making.carried side at r.route made)
+carried_holds side at calls r h = on_pair_holds side at (carried side) calls (λ v hop. giving side v) r (λ m hop has_end. carried_step side m hop) h
 
 -- ---- The client connects
 
@@ -29,9 +32,8 @@ abbrev joins_now : Past → Past
 joins_now p = record p { is_joined = true }
 
 -- to the agent: a channel is wanted
-wanted_holds : (calls : List Call) (r : RouteRun) → r.past.is_joined ≡ false → Holds calls r → Holds calls (record { route = r.route; past = wants r.past })
+wanted_holds : {made : List Made} → (calls : List Call) (r : RouteRun) → r.past.is_joined ≡ false → Holds calls r made → Holds calls (record { route = r.route; past = wants r.past }) made
 wanted_holds calls r none h = record {
-  made = h.made;
   adds = h.adds;
   way = h.way;
   unmade = h.unmade;
@@ -46,9 +48,9 @@ wanted_holds calls r none h = record {
 }
 
 -- to a value-add, which is made
-first_made : (calls : List Call) (hops : List Hop) (adds : List ValueValue) (p : Past) → p.is_joined ≡ false → p.is_wanted ≡ false → 0 < length hops - 1
-    → Holds calls (record { route = record { hops = hops; adds = adds }; past = p })
-    → Holds calls (record { route = joined 0 (made_at 0 (record { hops = hops; adds = adds })); past = joins_now p })
+first_made : {made : List Made} → (calls : List Call) (hops : List Hop) (adds : List ValueValue) (p : Past) → p.is_joined ≡ false → p.is_wanted ≡ false → 0 < length hops - 1
+    → Holds calls (record { route = record { hops = hops; adds = adds }; past = p }) made
+    → Holds calls (record { route = joined 0 (made_at 0 (record { hops = hops; adds = adds })); past = joins_now p }) (fresh_made (peer_of 0 (record { hops = hops; adds = adds })) ∷ [])
 first_made calls [] adds p none unwanted more h = absurd h.way.all
 first_made calls (x ∷ []) adds p none unwanted more h = absurd (omega (arith, more))
 first_made calls (x ∷ g ∷ hops) adds p none unwanted more h =
@@ -58,7 +60,6 @@ first_made calls (x ∷ g ∷ hops) adds p none unwanted more h =
     let no_agent = unreached_agent calls (record { route = route; past = p }) h unreached in
     let dead : AllByRecursion IsDead (x ∷ g ∷ hops) = subst (λ ms. EachCarries (client_tip p) (x ∷ g ∷ hops) ms (agent_tip p)) (h.unmade none) h.way.all in
     record {
-      made = fresh_made (peer_of 0 route) ∷ [];
       adds = refl;
       way = record {
         all = subst (λ e. EachCarries (used (end_of p.client)) (hop_connected [] ∷ g ∷ hops) (fresh_made (peer_of 0 route) ∷ []) e) (sym no_agent)
@@ -82,12 +83,17 @@ first_made calls (x ∷ g ∷ hops) adds p none unwanted more h =
     both : {b : Bool} → b ≡ true → b ≡ false → ⊥
     both is isnt = let no : true ≡ false = sym is ∙ isnt in cc
 
-pub joins_kept : (calls : List Call) (r : RouteRun) → r.past.is_joined ≡ false → r.past.is_wanted ≡ false → Holds calls r → Holds calls (joined_by (connected 0 r.route) r.past)
-joins_kept calls r none unwanted h = by_flag (nat_lt 0 (last_of r.route)) refl
+pub joins_kept : {made : List Made} → (calls : List Call) (r : RouteRun) → r.past.is_joined ≡ false → r.past.is_wanted ≡ false → Holds calls r made
+    → Holds calls (joined_by (connected 0 r.route) r.past) (making.connected 0 r.route made)
+joins_kept {made = made} calls r none unwanted h = by_flag (nat_lt 0 (last_of r.route)) refl
   where
     r1 : RouteRun
     r1 = record { route = joined 0 (made_at 0 r.route); past = joins_now r.past }
 
-    by_flag : (flag : Bool) → nat_lt 0 (last_of r.route) ≡ flag → Holds calls (joined_by (cond flag (false, with_carried Below 0 (joined 0 (made_at 0 r.route))) (true, r.route)) r.past)
+    anew : List Made
+    anew = making.upper_below 0 (on_hop (λ h. hop_connected []) 0 (made_at 0 r.route)) (made_anew 0 r.route made)
+
+    by_flag : (flag : Bool) → nat_lt 0 (last_of r.route) ≡ flag
+        → Holds calls (joined_by (cond flag (false, with_carried Below 0 (joined 0 (made_at 0 r.route))) (true, r.route)) r.past) (cond flag (making.carried Below 0 (joined 0 (made_at 0 r.route)) anew) made)
     by_flag true is = carried_holds Below 0 calls r1 (first_made calls r.route.hops r.route.adds r.past none unwanted (ltb-true 0 (last_of r.route) is) h)
     by_flag false is = wanted_holds calls r none h

@@ -6,7 +6,7 @@ use Rattle.value_node.specs.Runs as value
 use Rattle.chain_route.specs.Carrying.{AllLoseByCuts, LosesByCut, Made, loses_above, was_lost_above}
 use Rattle.chain_route.specs.Runs.{Call}
 use Rattle.chain_route.proofs.Adds.{with_call}
-use Rattle.chain_route.proofs.Anew.{fresh_made}
+use Rattle.chain_route.specs.Making.{fresh_made}
 
 -- ---- One value-add
 

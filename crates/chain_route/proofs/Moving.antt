@@ -55,18 +55,16 @@ moved_by side m next hop after more is carries dead = record {
 }
 
 -- what both come to, with the value-add that was made so
-pub record Step (side : Side) (m : Made) (hop : Hop) (p : Pair) : Type 0 where
-  pub next : Made
+pub record Step (side : Side) (m : Made) (hop : Hop) (next : Made) (p : Pair) : Type 0 where
   pub value : value_of next ≡ p.add
   pub moves : Moves side m next hop p.hop
   pub lost : was_lost_above next ≡ was_lost_above m
 
-pub step_on : (side : Side) (m next : Made) (hop after : Hop) (p : Pair) → Moves side m next hop after → was_lost_above next ≡ was_lost_above m → Step side next after p
-    → Step side m hop p
-step_on side m next hop after p moves lost step = record {
-  next = step.next;
+pub step_on : (side : Side) (m next last : Made) (hop after : Hop) (p : Pair) → Moves side m next hop after → was_lost_above next ≡ was_lost_above m → Step side next after last p
+    → Step side m hop last p
+step_on side m next last hop after p moves lost step = record {
   value = step.value;
-  moves = moves_on side m next step.next hop after p.hop moves step.moves;
+  moves = moves_on side m next last hop after p.hop moves step.moves;
   lost = step.lost ∙ lost;
 }
 

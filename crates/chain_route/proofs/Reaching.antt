@@ -13,12 +13,13 @@ use Rattle.value_node.specs.declared.relay.Relay.{Relay}
 use Rattle.value_node.specs.declared.states.Bind.{Bind}
 use Rattle.value_node.specs.declared.states.Bind.TheVariants.{Unbound, Opening, Bound, Closed}
 use Rattle.chain_route.specs.Carrying.{IsGoneBy, Made, end_above, end_below, past_of, value_of}
-use Rattle.chain_route.specs.Hop.{connected, refused}
+use Rattle.chain_route.specs.Hop.{connected}
+use Rattle.chain_route.specs.Making.{fresh_made, opened_hop}
 use Rattle.chain_route.specs.Runs.{awaits_of, given_by}
 use Rattle.chain_route.specs.declared.hop.Hop.{Hop}
 use Rattle.chain_route.proofs.Each.{EachCarries}
 use Rattle.chain_route.proofs.Adds.{call_run, facts_of, tip_above, tip_of, with_call}
-use Rattle.chain_route.proofs.Anew.{AreDeadBehind, dead_above, fresh_made}
+use Rattle.chain_route.proofs.Anew.{AreDeadBehind, dead_above}
 use Rattle.chain_route.proofs.Flows.{HopHolds, Tip, begun_carries, fresh_end, unused_tip, used}
 use Rattle.chain_route.proofs.Unsent.{unsent_above}
 use Rattle.list_laws.proofs.Flags.{and_parts as both_true}
@@ -97,11 +98,7 @@ gone_by m waits some got front = by_connection (past_of m).connection refl some
 -- ---- The agent is reached by the last value-add
 
 -- where the agent refused, the end of the stream is on its way
-abbrev pub opened : Bool → Hop
-opened true = connected []
-opened false = refused
-
-pub opened_carries : (did : Bool) → HopHolds (opened did) (used fresh_end) (used (record { gave = given_by did; came = []; is_lost = false; is_refused = not did }))
+pub opened_carries : (did : Bool) → HopHolds (opened_hop did) (used fresh_end) (used (record { gave = given_by did; came = []; is_lost = false; is_refused = not did }))
 opened_carries true = record {
   up = λ live free. refl;
   up_front = ([], refl);

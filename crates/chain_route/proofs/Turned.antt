@@ -1,5 +1,5 @@
 -- A value-add takes an entry, and connects where it is redirected: a way carries on.
-use Rattle.std.proofs.Common.{◌≡◌, ℕ, ◌&&◌, Bool, true, false, cond, List, Option, Some, None, refl, sym, ap, ◌∙◌, subst}
+use Rattle.std.proofs.Common.{◌≡◌, ℕ, ◌&&◌, Bool, true, false, cond, List, [], ◌∷◌, Option, Some, None, refl, sym, ap, ◌∙◌, subst}
 use Rattle.std.specs.Prelude.{Err, Ok, Result, slice_get, slice_set}
 use Rattle.channel_core.specs.Taking.{next_taken}
 use Rattle.channel_core.specs.declared.taking.Taken.{Taken}
@@ -24,6 +24,8 @@ use Rattle.value_node.specs.declared.states.Side.TheVariants.{Below, Above}
 use Rattle.value_node.specs.declared.states.ValueTurn.{ValueTurn}
 use Rattle.value_node.specs.declared.states.ValueTurn.TheVariants.{Nothing, Took, Connect}
 use Rattle.chain_route.specs.Carrying.{Made, past_of, value_of}
+use Rattle.chain_route.specs.Making as making
+use Rattle.chain_route.specs.Making.{called_at}
 use Rattle.chain_route.specs.Passing.{carried, emptied}
 use Rattle.chain_route.specs.Route.{beside, connected_after, pair_put, turn_put, turned, with_carried}
 use Rattle.chain_route.specs.RouteValue.{RouteValue}
@@ -32,7 +34,7 @@ use Rattle.chain_route.specs.declared.hop.Hop.{Hop}
 use Rattle.chain_route.proofs.Adds.{facts_of, run_of, with_call}
 use Rattle.chain_route.proofs.Connecting.{connects_kept}
 use Rattle.chain_route.proofs.Cutting.{quiet_holds, with_add}
-use Rattle.chain_route.proofs.Holding.{Holds, with_route}
+use Rattle.chain_route.proofs.Holding.{Holds, called_there, with_route}
 use Rattle.chain_route.proofs.Idle.{turn_is_quiet}
 use Rattle.chain_route.proofs.Joining.{carried_holds}
 use Rattle.chain_route.proofs.Losses.{loses_same, lost_same}
@@ -147,33 +149,38 @@ turn_waits Above m is = absurd (above_turns (value_of m).relay is)
 
 -- ---- A turn
 
-after_turn : (turn : ValueTurn) (at : ℕ) (calls : List Call) (r : RouteRun) → (turn ≡ Connect → WaitsAt at r.route) → Holds calls r → Holds calls (with_route (connected_after turn at r.route).1 r)
+after_turn : {made : List Made} → (turn : ValueTurn) (at : ℕ) (calls : List Call) (r : RouteRun) → (turn ≡ Connect → WaitsAt at r.route) → Holds calls r made
+    → Holds calls (with_route (connected_after turn at r.route).1 r) (making.connected_after turn at r.route made)
 after_turn Nothing at calls r waits h = h
 after_turn Took at calls r waits h = h
-after_turn Connect at calls r waits h =
-    let w = waits_in at h.made (sym (ap (λ vs. awaits_of (slice_get vs at)) h.adds) ∙ waits refl) in connects_kept at calls r h w.m w.there w.waits
+after_turn {made = made} Connect at calls r waits h =
+    let w = waits_in at made (sym (ap (λ vs. awaits_of (slice_get vs at)) h.adds) ∙ waits refl) in connects_kept at calls r h w.m w.there w.waits
 
-made_turns : (side : Side) (at : ℕ) (calls : List Call) (r : RouteRun) (h : Holds calls r) (m : Made) → slice_get h.made at ≡ Some m → slice_get r.route.adds at ≡ Some (value_of m)
-    → Holds calls (with_route (turn_put side at (Some (value_of m)) r.route).1 r)
-made_turns side at calls r h m there add_is =
+made_turns : {made : List Made} → (side : Side) (at : ℕ) (calls : List Call) (r : RouteRun) (h : Holds calls r made) (m : Made) → slice_get made at ≡ Some m → slice_get r.route.adds at ≡ Some (value_of m)
+    → Holds calls (with_route (turn_put side at (Some (value_of m)) r.route).1 r) (making.turned_of side at (Some (value_of m)) r.route made)
+made_turns {made = made} side at calls r h m there add_is =
     let next = value_turned side (value_of m) in
     let call = value.turns side in
     let r1 = with_add at next.1 r in
-    let h1 : Holds calls r1 = quiet_holds calls call at r h m there refl (turn_is_quiet side (run_of m).value.relay) (loses_same calls at m (with_call call m) (lost_same call m refl)) in
+    let h1 : Holds calls r1 (called_at at (call ∷ []) made) =
+    subst (Holds calls r1) (sym (called_there at (call ∷ []) made m there))
+    (quiet_holds calls call at r h m there refl (turn_is_quiet side (run_of m).value.relay) (loses_same calls at m (with_call call m) (lost_same call m refl))) in
     let r2 = with_route (with_carried Below at r1.route) r1 in
     let r3 = with_route (with_carried Above at r2.route) r2 in
     after_turn next.0 at calls r3
     (λ is. carried_waits Above at r2.route (carried_waits Below at r1.route (set_waits at r.route (value_of m) next.1 add_is (turn_waits side m is))))
     (carried_holds Above at calls r2 (carried_holds Below at calls r1 h1))
 
-pub turns_kept : (side : Side) (at : ℕ) (calls : List Call) (r : RouteRun) → Holds calls r → Holds calls (with_route (turned side at r.route).1 r)
-turns_kept side at calls r h = by_add (slice_get r.route.adds at) refl
+pub turns_kept : {made : List Made} → (side : Side) (at : ℕ) (calls : List Call) (r : RouteRun) → Holds calls r made
+    → Holds calls (with_route (turned side at r.route).1 r) (making.turned side at r.route made)
+turns_kept {made = made} side at calls r h = by_add (slice_get r.route.adds at) refl
   where
-    by_made : (v : ValueValue) → slice_get r.route.adds at ≡ Some v → IsMapped value_of h.made at v → Holds calls (with_route (turn_put side at (Some v) r.route).1 r)
+    by_made : (v : ValueValue) → slice_get r.route.adds at ≡ Some v → IsMapped value_of made at v
+        → Holds calls (with_route (turn_put side at (Some v) r.route).1 r) (making.turned_of side at (Some v) r.route made)
     by_made v is m =
-        subst (λ x. Holds calls (with_route (turn_put side at (Some x) r.route).1 r)) m.value
+        subst (λ x. Holds calls (with_route (turn_put side at (Some x) r.route).1 r) (making.turned_of side at (Some x) r.route made)) m.value
         (made_turns side at calls r h m.from m.there (is ∙ ap Some (sym m.value)))
 
-    by_add : (add : Option ValueValue) → slice_get r.route.adds at ≡ add → Holds calls (with_route (turn_put side at add r.route).1 r)
+    by_add : (add : Option ValueValue) → slice_get r.route.adds at ≡ add → Holds calls (with_route (turn_put side at add r.route).1 r) (making.turned_of side at add r.route made)
     by_add None is = h
-    by_add (Some v) is = by_made v is (get_mapped value_of at h.made v (sym (ap (λ vs. slice_get vs at) h.adds) ∙ is))
+    by_add (Some v) is = by_made v is (get_mapped value_of at made v (sym (ap (λ vs. slice_get vs at) h.adds) ∙ is))

@@ -5,5 +5,6 @@ pub mod RouteValue
 pub mod Route
 pub mod Runs
 pub mod Carrying
+pub mod Making
 pub mod Taking
 pub mod Until

@@ -17,6 +17,7 @@ use Rattle.agent_node.specs.Runs.{AgentRun, Call, Past, after_all, after_call, b
 use Rattle.agent_node.specs.Strangers.{HasNoStranger}
 use Rattle.agent_node.specs.declared.channel.Channel.{Channel}
 use Rattle.chain_world.specs.Chain.{agent_emptied, emptied, parts_delivered, queue_of}
+use Rattle.chain_world.specs.Past.{coming_to, giving_to}
 use Rattle.chain_world.specs.Standing.{past_at, unmarked}
 use Rattle.agent_node.proofs.TheLaws.{agent_has_no_strangers, agent_tells_the_truth}
 use Rattle.channel_core.proofs.TheLaws.{closes_only_so, spends_nothing}
@@ -83,6 +84,10 @@ leaves_others k (touch ∷ touches) r =
 abbrev pub gifts : List Outgoing → List Touch
 gifts queue = map (λ o. a_gift) queue
 
+pub gifts_are : (k : ℕ) (queue : List Outgoing) → calls_of k (gifts queue) ≡ giving_to k queue
+gifts_are k [] = refl
+gifts_are k (o ∷ queue) = ap (λ calls. gives k ∷ calls) (gifts_are k queue)
+
 gifts_agent : (k : ℕ) (queue : List Outgoing) (r : AgentRun) → (after_all (calls_of k (gifts queue)) r).agent ≡ record r.agent { channels = puts k queue r.agent.channels }
 unfolding after_giving
 gifts_agent k [] r = refl
@@ -106,6 +111,10 @@ gifts_past k (o ∷ queue) r =
 
 abbrev pub pieces : List Outgoing → List Touch
 pieces parts = map (λ part. a_piece part.bytes) parts
+
+pub pieces_are : (k : ℕ) (parts : List Outgoing) → calls_of k (pieces parts) ≡ coming_to k parts
+pieces_are k [] = refl
+pieces_are k (part ∷ parts) = ap (λ calls. comes k part.bytes ∷ calls) (pieces_are k parts)
 
 abbrev pub delivering_all : List Outgoing → List (EndCall Unit)
 delivering_all parts = map (λ part. delivering part.bytes None) parts
@@ -161,16 +170,18 @@ pub after_more : (calls more : List Call) (r : AgentRun) → after_all (calls ++
 after_more [] more r = refl
 after_more (call ∷ calls) more r = after_more calls more (after_call call r)
 
--- an agent that has these images, after some calls
-pub record Reached (images : List Image) (r : AgentRun) : Type 0 where
-  pub calls : List Call
+-- an agent that has these images, after these calls
+pub record Reached (images : List Image) (calls : List Call) (r : AgentRun) : Type 0 where
   pub is : after_all calls (no_calls images) ≡ r
 
-pub reached_more : (images : List Image) (r : AgentRun) (more : List Call) → Reached images r → Reached images (after_all more r)
-reached_more images r more reached = record {
-  calls = reached.calls ++ more;
-  is = after_more reached.calls more (no_calls images) ∙ ap (after_all more) reached.is;
-}
+pub reached_more : {calls : List Call} → (images : List Image) (r : AgentRun) (more : List Call) → Reached images calls r → Reached images (calls ++ more) (after_all more r)
+reached_more {calls = calls} images r more reached = record { is = after_more calls more (no_calls images) ∙ ap (after_all more) reached.is }
+
+-- and after those of one channel
+pub reached_touched : {calls : List Call} → (images : List Image) (r : AgentRun) (k : ℕ) (touches : List Touch) (more : List Call) → calls_of k touches ≡ more → Reached images calls r
+    → Reached images (calls ++ more) (after_all (calls_of k touches) r)
+reached_touched {calls = calls} images r k touches more is reached =
+    subst (λ xs. Reached images (calls ++ xs) (after_all (calls_of k touches) r)) is (reached_more images r (calls_of k touches) reached)
 
 pub none_any : (k : ℕ) (pasts : List Past) → past_at k pasts ≡ None → list_any (λ past. past.number == k) pasts ≡ false
 none_any k [] none = refl
@@ -194,18 +205,18 @@ module _ (images : List Image) where
   queue_past past None is = is.1
   queue_past past (Some end) is = ap (λ e. e.queued) (sym is) ∙ ap (λ b. cond b [] end.queued) (sym (ap (λ e. e.is_spent) is ∙ fresh_past past))
 
-  pub end_past : (k : ℕ) (r : AgentRun) (past : Past) → Reached images r → past_at k r.channels ≡ Some past → IsEndOf (channel_end k r.agent.channels) past
-  end_past k r past reached is =
+  pub end_past : {calls : List Call} → (k : ℕ) (r : AgentRun) (past : Past) → Reached images calls r → past_at k r.channels ≡ Some past → IsEndOf (channel_end k r.agent.channels) past
+  end_past {calls = calls} k r past reached is =
       let P : AgentRun → Type 0 = λ x. AllByRecursion (λ p. IsEndOf (channel_end p.number x.agent.channels) p) x.channels in
-      let each : P r = subst P reached.is (agent_tells_the_truth images reached.calls).ends in
+      let each : P r = subst P reached.is (agent_tells_the_truth images calls).ends in
       let same : past.number ≡ k = eqb-true past.number k (at_number k r.channels past is) in
       let Q : ℕ → Type 0 = λ n. IsEndOf (channel_end n r.agent.channels) past in
       subst Q same (at_all (λ p. IsEndOf (channel_end p.number r.agent.channels) p) k r.channels past each is)
 
-  pub end_none : (k : ℕ) (r : AgentRun) → Reached images r → past_at k r.channels ≡ None → channel_end k r.agent.channels ≡ None
-  end_none k r reached none = subst HasNoStranger reached.is (agent_has_no_strangers images reached.calls) k (none_any k r.channels none)
+  pub end_none : {calls : List Call} → (k : ℕ) (r : AgentRun) → Reached images calls r → past_at k r.channels ≡ None → channel_end k r.agent.channels ≡ None
+  end_none {calls = calls} k r reached none = subst HasNoStranger reached.is (agent_has_no_strangers images calls) k (none_any k r.channels none)
 
-  pub has_queue : (k : ℕ) (r : AgentRun) → Reached images r → HasQueue k r (queue_of (channel_end k r.agent.channels))
+  pub has_queue : {calls : List Call} → (k : ℕ) (r : AgentRun) → Reached images calls r → HasQueue k r (queue_of (channel_end k r.agent.channels))
   has_queue k r reached = record {
     is = λ c there. by_past c (ap end_in (place_found k r.agent.channels ∙ there)) (past_at k r.channels) refl;
     past = λ past is. queue_past past (channel_end k r.agent.channels) (end_past k r past reached is);

@@ -24,6 +24,7 @@ use Rattle.client_node.specs.Runs.{Call, asks, bytes_end, called, closes, comes,
 use Rattle.tcf_message.specs.Message.{reading}
 use Rattle.tcf_text.specs.declared.log.LogLine.{LogLine}
 use Rattle.chain_world.specs.Chain.{client_emptied, parts_came, queue_of}
+use Rattle.chain_world.specs.Past.{coming, giving}
 use Rattle.chain_world.proofs.Calls.{idle_endless}
 use Rattle.client_node.proofs.Calls.{client as client_of}
 use Rattle.chain_route.proofs.EndCalls.{AreIdle, idle_arrived}
@@ -110,9 +111,6 @@ quiet_given (asks what) c quiet = refl
 
 -- ---- All that its end queued is given out
 
-abbrev pub giving : List Outgoing → List Call
-giving queue = map (λ o. gives) queue
-
 pub giving_named : (queue : List Outgoing) → AllByRecursion HasNames (giving queue)
 giving_named [] = tt
 giving_named (o ∷ queue) = (tt, giving_named queue)
@@ -171,9 +169,6 @@ pub empties : (c : ClientValue) → IsFreshIn c.channel → Empties c (queue_of 
 empties c fresh = empties_on c.channel c.log c.is_spent fresh
 
 -- ---- Parts of messages come
-
-abbrev pub coming : List Outgoing → List Call
-coming parts = map (λ part. comes part.bytes part.mark) parts
 
 pub coming_named : (parts : List Outgoing) → AllByRecursion HasNames (coming parts)
 coming_named [] = tt

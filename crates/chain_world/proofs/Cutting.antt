@@ -15,6 +15,7 @@ use Rattle.chain_route.specs.Route.{is_live, last_of}
 use Rattle.chain_route.specs.RouteValue.{RouteValue}
 use Rattle.chain_route.specs.Runs.{Past as WayPast, RouteRun, Talk, after_call, cuts, is_waiting, loses_if}
 use Rattle.chain_world.specs.ChainValue.{ChainValue}
+use Rattle.chain_world.specs.Past.{ChainPast, client_gets, way_gets}
 use Rattle.chain_world.specs.Standing.{cuts_at, past_at}
 use Rattle.chain_world.proofs.Chains.{joined_where_live}
 use Rattle.chain_world.proofs.Clients.{loses_so, opened_kept}
@@ -58,8 +59,7 @@ cut_live hop r did = by_flag (is_live hop r) _ did
 module _ (p : Place) where
   -- ---- The client
 
-  record ClientCut (c : ClientValue) (next : ClientValue) (later : Talk) : Type 0 where
-    calls : List ClientCall
+  record ClientCut (c : ClientValue) (next : ClientValue) (later : Talk) (calls : List ClientCall) : Type 0 where
     allowed : AllByRecursion (MayCall p) calls
     client : next ≡ run calls new_client
     gave : later.gave ≡ given_out calls new_client
@@ -67,16 +67,15 @@ module _ (p : Place) where
     lost : later.is_lost ≡ list_any is_ending (end_calls calls new_client)
     opened : is_some next.channel ≡ is_some c.channel
 
-  spared : (pasts : List Past) (chain : ChainValue) (calls : List ClientCall) (now : RouteRun) → Agrees p pasts chain calls now → ClientCut chain.client chain.client now.past.client
-  spared pasts chain calls now a = record { calls = calls; allowed = a.allowed; client = a.client; gave = a.gave; got = a.got; lost = a.lost; opened = refl }
+  spared : (pasts : List Past) (chain : ChainValue) (calls : List ClientCall) (now : RouteRun) → Agrees p pasts chain calls now → ClientCut chain.client chain.client now.past.client calls
+  spared pasts chain calls now a = record { allowed = a.allowed; client = a.client; gave = a.gave; got = a.got; lost = a.lost; opened = refl }
 
   gone : (pasts : List Past) (chain : ChainValue) (calls : List ClientCall) (now : RouteRun) → MayCall p bytes_end → is_some chain.client.channel ≡ true → Agrees p pasts chain calls now
-      → ClientCut chain.client (called bytes_end chain.client) (record now.past.client { is_lost = true })
+      → ClientCut chain.client (called bytes_end chain.client) (record now.past.client { is_lost = true }) (calls ++ bytes_end ∷ [])
   gone pasts chain calls now may opened a =
       let more = is_more calls (bytes_end ∷ []) chain.client a.client in
       let does = loses_so chain.client opened in
       record {
-        calls = calls ++ bytes_end ∷ [];
         allowed = all_append (MayCall p) calls (bytes_end ∷ []) a.allowed (may, tt);
         client = sym more.client;
         gave = a.gave ∙ sym (more.gave ∙ ap (λ outs. given_out calls new_client ++ outs) does.given ∙ append-nil (given_out calls new_client));
@@ -91,10 +90,11 @@ module _ (p : Place) where
   MayCut hop = list_any (cuts_at p.at hop) p.plans ≡ true
 
   -- what becomes of the chain where its hop is live, and of the channel where that is the last hop
-  pub cut_fits : (pasts after : List Past) (adds hop : ℕ) (c : ChainValue) (q : RouteValue) (last : Bool) → MayCut hop → route.cut hop c.route ≡ (true, q) → (hop == last_of c.route) ≡ last
-      → ((k : ℕ) → c.channel ≡ Some k → past_at k after ≡ cut_if last (past_at k pasts)) → ((j : ℕ) → Contains c.earlier j → IsCameSame pasts after j) → Fits p pasts adds c
-      → (first : Bool) → (hop == 0) ≡ first → Fits p after adds (cond first (record c { route = q; client = called bytes_end c.client }) (record c { route = q }))
-  cut_fits pasts after adds hop c q last may is is_last cut same f = by_first
+  pub cut_fits : {kept : ChainPast} → (pasts after : List Past) (adds hop : ℕ) (c : ChainValue) (q : RouteValue) (last : Bool) → MayCut hop → route.cut hop c.route ≡ (true, q) → (hop == last_of c.route) ≡ last
+      → ((k : ℕ) → c.channel ≡ Some k → past_at k after ≡ cut_if last (past_at k pasts)) → ((j : ℕ) → Contains c.earlier j → IsCameSame pasts after j) → Fits p pasts adds c kept
+      → (first : Bool) → (hop == 0) ≡ first
+      → Fits p after adds (cond first (record c { route = q; client = called bytes_end c.client }) (record c { route = q })) (way_gets (cuts hop) (cond first (client_gets (bytes_end ∷ []) kept) kept))
+  cut_fits {kept = kept} pasts after adds hop c q last may is is_last cut same f = by_first
     where
       live : is_live hop c.route ≡ true
       live = cut_live hop c.route (ap (λ (x : Bool × RouteValue). x.0) is)
@@ -114,13 +114,13 @@ module _ (p : Place) where
           ∙ ap (λ b. made q b (is_live hop f.now.route && (hop == last_of f.now.route))) (both_live (hop == 0) ∙ is_first)
           ∙ ap (made q first) (both_live (hop == last_of f.now.route) ∙ ap (λ r. hop == last_of r) (sym f.agrees.route) ∙ is_last)
 
-      with_client : (first : Bool) → (hop == 0) ≡ first → (next : ClientValue) → ClientCut c.client next (loses_if first f.now.past.client) → Fits p after adds (record c { route = q; client = next })
-      with_client first is_first next x =
+      with_client : (first : Bool) → (hop == 0) ≡ first → (next : ClientValue) (calls : List ClientCall) → ClientCut c.client next (loses_if first f.now.past.client) calls
+          → Fits p after adds (record c { route = q; client = next }) (record { calls = calls; ways = kept.ways ++ cuts hop ∷ [] })
+      with_client first is_first next calls x =
           let now = made q first last in
           record {
-            calls = x.calls;
             now = now;
-            way = subst (IsWay p adds) (run_is first is_first) (way_on p adds (cuts hop) f.now may f.way);
+            way = subst (IsWay p adds (kept.ways ++ cuts hop ∷ [])) (run_is first is_first) (way_on p adds (cuts hop) f.now may f.way);
             agrees = record {
               client = x.client;
               allowed = x.allowed;
@@ -136,9 +136,10 @@ module _ (p : Place) where
             opened = x.opened ∙ f.opened;
           }
 
-      by_first : (first : Bool) → (hop == 0) ≡ first → Fits p after adds (cond first (record c { route = q; client = called bytes_end c.client }) (record c { route = q }))
+      by_first : (first : Bool) → (hop == 0) ≡ first
+          → Fits p after adds (cond first (record c { route = q; client = called bytes_end c.client }) (record c { route = q })) (way_gets (cuts hop) (cond first (client_gets (bytes_end ∷ []) kept) kept))
       by_first true is_first =
           let zero_is : hop ≡ 0 = eqb-true hop 0 is_first in
           let opened : is_some c.client.channel ≡ true = f.opened ∙ joined_where_live p pasts adds c f (subst (λ n. is_live n c.route ≡ true) zero_is live) in
-          with_client true is_first (called bytes_end c.client) (gone pasts c f.calls f.now (tt, subst MayCut zero_is may) opened f.agrees)
-      by_first false is_first = with_client false is_first c.client (spared pasts c f.calls f.now f.agrees)
+          with_client true is_first (called bytes_end c.client) (kept.calls ++ bytes_end ∷ []) (gone pasts c kept.calls f.now (tt, subst MayCut zero_is may) opened f.agrees)
+      by_first false is_first = with_client false is_first c.client kept.calls (spared pasts c kept.calls f.now f.agrees)

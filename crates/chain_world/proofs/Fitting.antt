@@ -12,7 +12,9 @@ use Rattle.client_node.specs.Runs.{Call as ClientCall, run}
 use Rattle.chain_route.specs.Runs.{Call, Past as WayPast, RouteRun, Talk, after_all, after_call, is_waiting, no_calls}
 use Rattle.tcf_schedules.specs.Plan.{Plan}
 use Rattle.chain_world.specs.ChainValue.{ChainValue}
-use Rattle.chain_world.specs.Standing.{AllStand, ChainStands, MayBeCalled, MayHappen, Talked, Talks, TalksOn, past_at}
+use Rattle.chain_world.specs.Past.{ChainPast}
+use Rattle.chain_world.specs.Remembering.{AllStandBy, ChainStandsBy}
+use Rattle.chain_world.specs.Standing.{ChainStands, MayBeCalled, MayHappen, Talked, Talks, TalksOn, past_at}
 use Rattle.chain_world.proofs.Calls.{endings_more}
 use Rattle.chain_world.proofs.Clients.{end_calls_more, given_more, run_more}
 use Rattle.chain_world.proofs.Talks.{Talking, TalkingOn}
@@ -30,8 +32,7 @@ pub record Place : Type 0 where
 abbrev pub MayGo : Place → Call → Type 0
 MayGo p call = MayHappen p.plans p.at call
 
-pub record IsWay (p : Place) (adds : ℕ) (x : RouteRun) : Type 0 where
-  pub ways : List Call
+pub record IsWay (p : Place) (adds : ℕ) (ways : List Call) (x : RouteRun) : Type 0 where
   pub may : AllByRecursion (MayGo p) ways
   pub is : after_all ways (no_calls adds) ≡ x
 
@@ -39,15 +40,14 @@ way_more : (ways more : List Call) (x : RouteRun) → after_all (ways ++ more) x
 way_more [] more x = refl
 way_more (call ∷ ways) more x = way_more ways more (after_call call x)
 
-pub way_on : (p : Place) (adds : ℕ) (call : Call) (x : RouteRun) → MayGo p call → IsWay p adds x → IsWay p adds (after_call call x)
-way_on p adds call x may w = record {
-  ways = w.ways ++ call ∷ [];
-  may = all_append (MayGo p) w.ways (call ∷ []) w.may (may, tt);
-  is = way_more w.ways (call ∷ []) (no_calls adds) ∙ ap (after_call call) w.is;
+pub way_on : {ways : List Call} → (p : Place) (adds : ℕ) (call : Call) (x : RouteRun) → MayGo p call → IsWay p adds ways x → IsWay p adds (ways ++ call ∷ []) (after_call call x)
+way_on {ways = ways} p adds call x may w = record {
+  may = all_append (MayGo p) ways (call ∷ []) w.may (may, tt);
+  is = way_more ways (call ∷ []) (no_calls adds) ∙ ap (after_call call) w.is;
 }
 
-pub is_way_holds : (p : Place) (adds : ℕ) (x : RouteRun) → IsWay p adds x → WayHolds x
-is_way_holds p adds x w = subst WayHolds w.is (way_holds adds w.ways)
+pub is_way_holds : {ways : List Call} → (p : Place) (adds : ℕ) (x : RouteRun) → IsWay p adds ways x → WayHolds x
+is_way_holds {ways = ways} p adds x w = subst WayHolds w.is (way_holds adds ways)
 
 -- ---- What a client's calls gave and got, with more of them
 
@@ -83,11 +83,10 @@ pub record Agrees (p : Place) (pasts : List Past) (chain : ChainValue) (calls : 
   pub talks : TalkingOn chain.channel now.past pasts
   pub talked : AllByRecursion (Talked now.past pasts) chain.earlier
 
-pub record Fits (p : Place) (pasts : List Past) (adds : ℕ) (chain : ChainValue) : Type 0 where
-  pub calls : List ClientCall
+pub record Fits (p : Place) (pasts : List Past) (adds : ℕ) (chain : ChainValue) (kept : ChainPast) : Type 0 where
   pub now : RouteRun
-  pub way : IsWay p adds now
-  pub agrees : Agrees p pasts chain calls now
+  pub way : IsWay p adds kept.ways now
+  pub agrees : Agrees p pasts chain kept.calls now
   pub unwanted : now.past.is_wanted ≡ false
   pub settled : is_waiting now ≡ false
   pub opened : is_some chain.client.channel ≡ now.past.is_joined
@@ -112,17 +111,19 @@ talks_on : (channel : Option ℕ) (p : WayPast) (pasts : List Past) → ((k : �
 talks_on None p pasts given t = t
 talks_on (Some k) p pasts given t = (t.0, talks_of (past_at k pasts) p.agent (given k refl) t.1)
 
-pub stands_of : (p : Place) (pasts : List Past) (adds : ℕ) (chain : ChainValue) → Fits p pasts adds chain → GaveOut pasts chain → ChainStands p.plans pasts p.at adds chain
-stands_of p pasts adds chain f gave =
-    let is : after_all f.way.ways (no_calls adds) ≡ f.now = f.way.is in
-    record {
-      calls = f.calls;
-      ways = f.way.ways;
-      may_be_called = may_of p f.calls f.agrees.allowed;
+pub stands_of : (p : Place) (pasts : List Past) (adds : ℕ) (chain : ChainValue) (kept : ChainPast) → Fits p pasts adds chain kept → GaveOut pasts chain
+    → ChainStandsBy p.plans pasts p.at adds chain kept
+stands_of p pasts adds chain kept f gave =
+    let is : after_all kept.ways (no_calls adds) ≡ f.now = f.way.is in
+    let route = f.agrees.route ∙ ap (λ x. x.route) (sym is) in
+    let stands : ChainStands p.plans pasts p.at adds chain = record {
+      calls = kept.calls;
+      ways = kept.ways;
+      may_be_called = may_of p kept.calls f.agrees.allowed;
       may_happen = f.way.may;
       client = f.agrees.client;
-      names = names_of p f.calls f.agrees.allowed;
-      way = f.agrees.route ∙ ap (λ x. x.route) (sym is);
+      names = names_of p kept.calls f.agrees.allowed;
+      way = route;
       unwanted = ap (λ x. x.past.is_wanted) is ∙ f.unwanted;
       settled = ap is_waiting is ∙ f.settled;
       given = gave.client;
@@ -130,24 +131,29 @@ stands_of p pasts adds chain f gave =
       opened = f.opened ∙ ap (λ x. x.past.is_joined) (sym is);
       gave = ap (λ x. x.past.client.gave) is ∙ f.agrees.gave;
       got = ap (λ x. bytes_of x.past.client.got) is ∙ f.agrees.got;
-      talks = talks_on chain.channel (after_all f.way.ways (no_calls adds)).past pasts gave.agent (subst (λ x. TalkingOn chain.channel x.past pasts) (sym is) f.agrees.talks);
+      talks = talks_on chain.channel (after_all kept.ways (no_calls adds)).past pasts gave.agent (subst (λ x. TalkingOn chain.channel x.past pasts) (sym is) f.agrees.talks);
       talked = subst (λ x. AllByRecursion (Talked x.past pasts) chain.earlier) (sym is) f.agrees.talked;
-    }
+    } in
+    record { client = f.agrees.client; route = route; stands = stands; calls = refl; ways = refl }
 
 -- ---- All chains
 
 abbrev pub place_of : List Plan → ℕ → Place
 place_of plans at = record { plans = plans; at = at }
 
--- from this place on, each by the number of its value-adds
-abbrev pub AllFit : List Plan → List Past → ℕ → List ℕ → List ChainValue → Type 0
-AllFit plans pasts at [] [] = Unit {0}
-AllFit plans pasts at (adds ∷ rest) (chain ∷ chains) = Fits (place_of plans at) pasts adds chain × AllFit plans pasts (suc at) rest chains
-AllFit plans pasts at _ _ = ⊥
+-- from this place on, each by the number of its value-adds and its past
+abbrev pub AllFit : List Plan → List Past → ℕ → List ℕ → List ChainValue → List ChainPast → Type 0
+AllFit plans pasts at [] [] kept = Unit {0}
+AllFit plans pasts at [] (chain ∷ chains) kept = ⊥
+AllFit plans pasts at (n ∷ adds) [] kept = ⊥
+AllFit plans pasts at (n ∷ adds) (chain ∷ chains) [] = ⊥
+AllFit plans pasts at (n ∷ adds) (chain ∷ chains) (one ∷ kept) = Fits (place_of plans at) pasts n chain one × AllFit plans pasts (suc at) adds chains kept
 
-pub all_stand : (plans : List Plan) (pasts : List Past) (at : ℕ) (adds : List ℕ) (chains : List ChainValue) → AllByRecursion (GaveOut pasts) chains → AllFit plans pasts at adds chains → AllStand plans pasts at adds chains
-all_stand plans pasts at [] [] gave all = tt
-all_stand plans pasts at [] (chain ∷ chains) gave all = absurd all
-all_stand plans pasts at (n ∷ adds) [] gave all = absurd all
-all_stand plans pasts at (n ∷ adds) (chain ∷ chains) gave all =
-    (stands_of (place_of plans at) pasts n chain all.0 gave.0, all_stand plans pasts (suc at) adds chains gave.1 all.1)
+pub all_stand : (plans : List Plan) (pasts : List Past) (at : ℕ) (adds : List ℕ) (chains : List ChainValue) (kept : List ChainPast) → AllByRecursion (GaveOut pasts) chains
+    → AllFit plans pasts at adds chains kept → AllStandBy plans pasts at adds chains kept
+all_stand plans pasts at [] [] kept gave all = tt
+all_stand plans pasts at [] (chain ∷ chains) kept gave all = absurd all
+all_stand plans pasts at (n ∷ adds) [] kept gave all = absurd all
+all_stand plans pasts at (n ∷ adds) (chain ∷ chains) [] gave all = absurd all
+all_stand plans pasts at (n ∷ adds) (chain ∷ chains) (one ∷ kept) gave all =
+    (stands_of (place_of plans at) pasts n chain one all.0 gave.0, all_stand plans pasts (suc at) adds chains kept gave.1 all.1)

@@ -32,6 +32,7 @@ mod Worlds
 mod Reaching
 mod Opening
 mod Gave
+mod Following
 mod Playing
 pub mod Counted
 mod Inboxes

@@ -1,12 +1,11 @@
 -- An end that is open stays so while bytes come for it and end, and closes with its last entry alone.
 use Rattle.std.proofs.Common.{Bool, true, false, cond, Result, Ok, Err}
-use Rattle.stream_escape.specs.declared.stream.Item.TheVariants as items
 use Rattle.tcf_message.specs.Message.{MessageValue, command, final, progress, not_known, event, flow}
 use Rattle.tcf_message.specs.declared.message.MessageFault.{MessageFault}
 use Rattle.channel_core.specs.Closing.{is_closed}
 use Rattle.channel_core.specs.EndValue.{EndValue}
 use Rattle.channel_core.specs.Receiving.{ended, is_over, with_last}
-use Rattle.channel_core.specs.Taking.{answered, closes, next_taken}
+use Rattle.channel_core.specs.Taking.{next_taken}
 use Rattle.channel_core.specs.declared.states.Cause.TheVariants.{Ended}
 use Rattle.channel_core.proofs.Keeping.{closed_by}
 use Rattle.value_node.specs.Passing.{not_recognised}

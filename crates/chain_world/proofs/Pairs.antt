@@ -10,6 +10,7 @@ use Rattle.chain_route.specs.Route.{all_delivered_at, beside, delivered_at, on_p
 use Rattle.chain_route.specs.RouteValue.{RouteValue}
 use Rattle.chain_route.specs.declared.hop.Hop.{Hop}
 use Rattle.chain_route.proofs.Resting.{again}
+use Rattle.chain_world.specs.Past.{pieces_for}
 use Rattle.chain_world.proofs.Lists.{set_twice}
 use Rattle.list_laws.proofs.Lists.{get_set, set_same}
 
@@ -45,20 +46,20 @@ pieces_on zero side at r = put_still side at (slice_get r.adds at) (slice_get r.
 pieces_on (suc n) side at r =
     sym (pair_twice (pieces n side) (delivered side most_bytes) side at r) ∙ pieces_on n side at (delivered_at side at most_bytes r)
 
--- all that is in flight arrives in some number of pieces
-pub record InPieces (side : Side) (at : ℕ) (r : RouteValue) : Type 0 where
-  pub count : ℕ
-  pub is : all_delivered_at side at r ≡ again (delivered_at side at most_bytes) count r
+-- all that is in flight arrives in so many pieces
+abbrev InPieces : Side → ℕ → ℕ → RouteValue → Type 0
+InPieces side at count r = all_delivered_at side at r ≡ again (delivered_at side at most_bytes) count r
 
-all_put : (side : Side) (at : ℕ) (add : Option ValueValue) (there : Option Hop) (r : RouteValue) → slice_get r.adds at ≡ add → slice_get r.hops (beside side at) ≡ there → InPieces side at r
-all_put side at None None r is_add is_hop = record { count = 0; is = ap (λ o. pair_put (all_delivered side) side at o (slice_get r.hops (beside side at)) r) is_add ∙ ap (λ o. pair_put (all_delivered side) side at None o r) is_hop }
-all_put side at None (Some h) r is_add is_hop = record { count = 0; is = ap (λ o. pair_put (all_delivered side) side at o (slice_get r.hops (beside side at)) r) is_add ∙ ap (λ o. pair_put (all_delivered side) side at None o r) is_hop }
-all_put side at (Some v) None r is_add is_hop = record { count = 0; is = ap (λ o. pair_put (all_delivered side) side at o (slice_get r.hops (beside side at)) r) is_add ∙ ap (λ o. pair_put (all_delivered side) side at (Some v) o r) is_hop }
+all_put : (side : Side) (at : ℕ) (add : Option ValueValue) (there : Option Hop) (r : RouteValue) → slice_get r.adds at ≡ add → slice_get r.hops (beside side at) ≡ there → InPieces side at (pieces_for side add there) r
+all_put side at None None r is_add is_hop = ap (λ o. pair_put (all_delivered side) side at o (slice_get r.hops (beside side at)) r) is_add ∙ ap (λ o. pair_put (all_delivered side) side at None o r) is_hop
+all_put side at None (Some h) r is_add is_hop = ap (λ o. pair_put (all_delivered side) side at o (slice_get r.hops (beside side at)) r) is_add ∙ ap (λ o. pair_put (all_delivered side) side at None o r) is_hop
+all_put side at (Some v) None r is_add is_hop = ap (λ o. pair_put (all_delivered side) side at o (slice_get r.hops (beside side at)) r) is_add ∙ ap (λ o. pair_put (all_delivered side) side at (Some v) o r) is_hop
 all_put side at (Some v) (Some h) r is_add is_hop =
     let n = size_in (lane_to side h) in
     let found : (f : Pair → Pair) → on_pair f side at r ≡ with_pair side at (f (pair v h)) r =
     λ f. ap (λ o. pair_put f side at o (slice_get r.hops (beside side at)) r) is_add ∙ ap (λ o. pair_put f side at (Some v) o r) is_hop in
-    record { count = n; is = found (all_delivered side) ∙ sym (found (pieces n side)) ∙ pieces_on n side at r }
+    found (all_delivered side) ∙ sym (found (pieces n side)) ∙ pieces_on n side at r
 
-pub in_pieces : (side : Side) (at : ℕ) (r : RouteValue) → InPieces side at r
+pub in_pieces : (side : Side) (at : ℕ) (r : RouteValue)
+    → all_delivered_at side at r ≡ again (delivered_at side at most_bytes) (pieces_for side (slice_get r.adds at) (slice_get r.hops (beside side at))) r
 in_pieces side at r = all_put side at (slice_get r.adds at) (slice_get r.hops (beside side at)) r refl refl

@@ -10,6 +10,7 @@ use Rattle.chain_route.specs.Route.{reached as way_reached}
 use Rattle.chain_route.specs.Runs.{Past as WayPast, RouteRun, Talk, earlier_of, given_by, is_waiting, reached_past, reaches}
 use Rattle.chain_world.specs.Chain.{channels_of, numbered}
 use Rattle.chain_world.specs.ChainValue.{ChainValue}
+use Rattle.chain_world.specs.Past.{ChainPast, way_gets}
 use Rattle.chain_world.specs.Standing.{Talked, past_at}
 use Rattle.chain_world.proofs.Fitting.{Agrees, Fits, IsWay, Place, way_on}
 use Rattle.chain_world.proofs.Talks.{IsCameSame, Talking, TalkingOn, talked_kept}
@@ -17,11 +18,10 @@ use Rattle.chain_world.proofs.Unawaited.{reached_unawaited}
 use Rattle.list_laws.proofs.AllLists.{all_append}
 
 -- a chain whose way waits for a channel of the agent
-pub record Waits (p : Place) (pasts : List Past) (adds : ℕ) (chain : ChainValue) : Type 0 where
-  pub calls : List ClientCall
+pub record Waits (p : Place) (pasts : List Past) (adds : ℕ) (chain : ChainValue) (kept : ChainPast) : Type 0 where
   pub now : RouteRun
-  pub way : IsWay p adds now
-  pub agrees : Agrees p pasts chain calls now
+  pub way : IsWay p adds kept.ways now
+  pub agrees : Agrees p pasts chain kept.calls now
   pub waiting : is_waiting now ≡ true
   pub opened : is_some chain.client.channel ≡ true
 
@@ -63,15 +63,14 @@ begins_so (Some k) did p pasts t = (refl, t)
 abbrev pub reached_chain : Option ℕ → Bool → ChainValue → ChainValue
 reached_chain channel did chain = let next = numbered channel chain in record next { route = way_reached did next.route }
 
-pub reached_fits : (p : Place) (pasts after : List Past) (adds : ℕ) (chain : ChainValue) (channel : Option ℕ) (did : Bool) → BeginsOn channel did after → ((j : ℕ) → Contains (channels_of chain) j → IsCameSame pasts after j) → Waits p pasts adds chain
-    → Fits p after adds (reached_chain channel did chain)
-reached_fits p pasts after adds chain channel did begins same w =
+pub reached_fits : {kept : ChainPast} → (p : Place) (pasts after : List Past) (adds : ℕ) (chain : ChainValue) (channel : Option ℕ) (did : Bool) → BeginsOn channel did after → ((j : ℕ) → Contains (channels_of chain) j → IsCameSame pasts after j) → Waits p pasts adds chain kept
+    → Fits p after adds (reached_chain channel did chain) (way_gets (reaches did) kept)
+reached_fits {kept = kept} p pasts after adds chain channel did begins same w =
     let past = reached_past did w.now.past in
     let next : RouteRun = record { route = way_reached did w.now.route; past = past } in
     record {
-      calls = w.calls;
       now = next;
-      way = subst (IsWay p adds) (ap (λ b. cond {A = RouteRun} b next w.now) w.waiting) (way_on p adds (reaches did) w.now tt w.way);
+      way = subst (IsWay p adds (kept.ways ++ reaches did ∷ [])) (ap (λ b. cond {A = RouteRun} b next w.now) w.waiting) (way_on p adds (reaches did) w.now tt w.way);
       agrees = record {
         client = w.agrees.client;
         allowed = w.agrees.allowed;
@@ -80,7 +79,7 @@ reached_fits p pasts after adds chain channel did begins same w =
         got = w.agrees.got;
         lost = w.agrees.lost;
         talks = begins_so channel did w.now.past after begins;
-        talked = talked_kept past past pasts after (channels_of chain) (λ got has. has) same (all_earlier p did w.now pasts chain w.calls w.agrees);
+        talked = talked_kept past past pasts after (channels_of chain) (λ got has. has) same (all_earlier p did w.now pasts chain kept.calls w.agrees);
       };
       unwanted = refl;
       settled = reached_unawaited did w.now;

@@ -1,11 +1,18 @@
 //! The laws of whole chains, over every schedule and of each round.
+ghost use Rattle.chain_world.specs.Past.{WorldIsPlayed};
+ghost use Rattle.chain_world.specs.Remembering.{StandsByItsPast};
 ghost use Rattle.chain_world.specs.Standing.{StandsAfterEverySchedule};
 ghost use Rattle.chain_world.specs.Until.{RoundsGoOn};
 
 /// The law that after every schedule the agent, each client and each way between them is what its calls made of it, that
 /// what a client and the agent gave and got is what the way got and gave there, and that no two channels have one number.
+///
+/// These calls are the world's past, which is a function of the schedule: each step writes down the calls that its nodes get by it,
+/// and does to the world what playing it does.
 pub fn a_world_stands()
-    ensures { StandsAfterEverySchedule }
+    ensures stands { StandsAfterEverySchedule }
+    ensures played { WorldIsPlayed }
+    ensures past { StandsByItsPast }
 {}
 
 /// The law that a round goes on until all has arrived and was taken, whatever the chain and the world. When it has brought what

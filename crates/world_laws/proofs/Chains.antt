@@ -31,12 +31,13 @@ use Rattle.value_node.specs.Asked.{Asked}
 use Rattle.value_node.specs.OwnMessages.{BeginsWithHello}
 use Rattle.chain_through.proofs.Ways.{are_bound}
 use Rattle.world_laws.specs.EndLaws.{ClosesRightly}
+use Rattle.world_laws.specs.HopLaws.{channel_past, spoken_on}
 use Rattle.chain_through.proofs.TheLaws.{all_comes_through}
 use Rattle.world_laws.proofs.Earlier.{all_silent}
 use Rattle.world_laws.proofs.Quiet.{ComesQuietly, comes_quietly, takes_quietly}
 use Rattle.world_laws.proofs.Sending.{client_calls, sent_commands}
-use Rattle.world_laws.proofs.Serving.{AgentSpeaks, IsAskedFirst, asked_first, asked_top, begins, executed_front, last_hop, speaks, speaks_nothing, told_formed, told_gave, told_on, told_to, unended}
-use Rattle.world_laws.proofs.Sides.{past_on, way, way_carries}
+use Rattle.world_laws.proofs.Serving.{AgentSpeaks, IsAskedFirst, asked_first, asked_top, begins, executed_front, last_hop, speaks, speaks_nothing, told_formed, told_gave, told_to, unended}
+use Rattle.world_laws.proofs.Sides.{way, way_carries}
 use Rattle.world_laws.proofs.Silent.{at_number, unopened_silent}
 use Rattle.world_laws.proofs.Unstuck.{AllTook}
 use Rattle.world_laws.proofs.Hearing.{asked_few, bound_heard, target_all, target_heard, unbound_heard}
@@ -201,7 +202,7 @@ module _ (images : List Image) (r : AgentRun) (follows : AgentFollowsHistory ima
 
   -- what the agent says, whether it opened the channel or not
   abbrev said : List Spoken
-  said = told_on images r.history (past_on chain.channel r.channels)
+  said = spoken_on images r.history (channel_past chain.channel r.channels)
 
   agent_speaks : AgentSpeaks images r.history said agent.gave (top_end lower carries.made).gave
   agent_speaks = by_channel chain.channel refl s.talks
@@ -210,12 +211,12 @@ module _ (images : List Image) (r : AgentRun) (follows : AgentFollowsHistory ima
       nothing_said gave = speaks_nothing images r.history agent.gave (top_end lower carries.made).gave gave
 
       by_past : (k : ℕ) → chain.channel ≡ Some k → run.past.is_reached ≡ true → (there : Option Past) → past_at k r.channels ≡ there → Talks there run.past.agent
-          → AgentSpeaks images r.history (told_on images r.history there) agent.gave (top_end lower carries.made).gave
+          → AgentSpeaks images r.history (spoken_on images r.history there) agent.gave (top_end lower carries.made).gave
       by_past k is reached None there talks = nothing_said (inr talks.gave)
       by_past k is reached (Some past) there talks = speaking k past is there reached talks.gave talks.front
 
       by_channel : (channel : Option ℕ) → chain.channel ≡ channel → TalksOn channel run.past r.channels
-          → AgentSpeaks images r.history (told_on images r.history (past_on channel r.channels)) agent.gave (top_end lower carries.made).gave
+          → AgentSpeaks images r.history (spoken_on images r.history (channel_past channel r.channels)) agent.gave (top_end lower carries.made).gave
       by_channel None is (inl never) = nothing_said (inl never.1)
       by_channel None is (inr refused) = nothing_said (inr refused.1)
       by_channel (Some k) is talks = by_past k is talks.0 (past_at k r.channels) refl talks.1

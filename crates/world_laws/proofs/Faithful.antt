@@ -10,6 +10,8 @@ use Rattle.chain_through.specs.Through.{KnowsTruth, kept_in}
 use Rattle.chain_told.specs.Told.{AreTrueAt}
 use Rattle.chain_world.specs.Chain.{channels_of, is_quiet}
 use Rattle.chain_world.specs.ChainValue.{ChainValue}
+use Rattle.chain_world.specs.Past.{ChainPast, Past, past_of as past_after}
+use Rattle.chain_world.specs.Remembering.{AllStandBy, StandsBy}
 use Rattle.chain_world.specs.Standing.{AllStand, ChainStands, Stands}
 use Rattle.chain_world.specs.World.{new_world, run}
 use Rattle.chain_world.specs.WorldValue.{WorldValue}
@@ -26,15 +28,15 @@ use Rattle.tcf_schedules.specs.Plan.{Plan}
 use Rattle.tcf_text.specs.Each.{Each}
 use Rattle.tcf_text.specs.Once.{Once}
 use Rattle.value_node.specs.ValueValue.{ValueValue}
-use Rattle.world_laws.specs.HopLaws.{ChainHopsStand, HopsStandAfterEverySchedule}
+use Rattle.world_laws.specs.HopLaws.{AllHopsStand, HopsStandAfterEverySchedule}
 use Rattle.world_laws.specs.WorldLaws.{AreCoherent, AreFresh, ChainIsCoherent, ChainIsFaithful, ChainLacksNothing, CoherentAfterEverySchedule, FaithfulAfterEverySchedule, FreshAfterEverySchedule, IsFaithful, IsTrueAt, KnowsTarget, NothingIsStuck, NothingStuckAfterEverySchedule}
 use Rattle.agent_node.proofs.TheLaws.{agent_has_no_strangers, agent_tells_the_truth}
 use Rattle.chain_heard.proofs.TheLaws.{heard_among_is_ordered, heard_is_coherent, heard_is_fresh, no_target_is_coherent, no_target_is_fresh, no_target_is_ordered}
-use Rattle.chain_world.proofs.TheLaws.{world_stands}
+use Rattle.chain_world.proofs.TheLaws.{world_stands, world_stands_by_its_past}
 use Rattle.client_node.proofs.TheLaws.{answered_once, log_tells_past, shows_what_is_kept}
 use Rattle.node_answers.proofs.TheLaws.{agent_serves_all}
 use Rattle.world_laws.proofs.Chains.{HearsNone, HearsTarget, adds_know, chain_hears, earlier_silent}
-use Rattle.world_laws.proofs.Hops.{chain_hops}
+use Rattle.world_laws.proofs.Hops.{hops_by_past}
 use Rattle.world_laws.proofs.Numbering.{each_found}
 use Rattle.world_laws.proofs.Sides.{way, way_carries}
 use Rattle.world_laws.proofs.Unstuck.{AllTook, all_answered, all_took, chain_lacks, channels_lack}
@@ -170,12 +172,6 @@ module _ (images : List Image) (adds : List ℕ) (plans : List Plan) (w : WorldV
         agent = channels_lack images agent_run follows serves (agent_has_no_strangers images s.calls) agent_run.agent.channels (each_found images s.calls);
       })
 
-  world_hops : AllByRecursion (ChainHopsStand images w.history w.agent) w.chains
-  world_hops =
-      subst (λ a. AllByRecursion (ChainHopsStand images w.history a) w.chains) s.agent
-      (subst (λ h. AllByRecursion (ChainHopsStand images h agent_run.agent) w.chains) s.history
-      (all_of agent_run (ChainHopsStand images agent_run.history agent_run.agent) plans (chain_hops images agent_run follows serves plans) 0 adds w.chains s.chains))
-
   world_coherent : AreTyped images → AreCoherent images w
   world_coherent typed =
       subst (λ h. AreCoherent images (record w { history = h })) s.history
@@ -188,6 +184,24 @@ module _ (images : List Image) (adds : List ℕ) (plans : List Plan) (w : WorldV
       (all_of agent_run (λ chain. Fresh chain.client.log images agent_run.history) plans
       (λ at n chain stands. chain_fresh images agent_run follows serves plans at n chain stands typed) 0 adds w.chains s.chains)
 
+-- ---- The hops of all chains, by the past of the world
+
+module _ (images : List Image) (plans : List Plan) (r : AgentRun) (follows : AgentFollowsHistory images r) (serves : AllByRecursion ServesAll r.channels) where
+  all_hops : (at : ℕ) (adds : List ℕ) (chains : List ChainValue) (past : List ChainPast) → AllStandBy plans r.channels at adds chains past → AllHopsStand images r.history r.agent r.channels adds chains past
+  all_hops at [] [] past all = tt
+  all_hops at [] (chain ∷ chains) past all = absurd all
+  all_hops at (n ∷ adds) [] past all = absurd all
+  all_hops at (n ∷ adds) (chain ∷ chains) [] all = absurd all
+  all_hops at (n ∷ adds) (chain ∷ chains) (own ∷ past) all = (hops_by_past images r follows serves plans at n chain own all.0, all_hops (suc at) adds chains past all.1)
+
+world_hops : (images : List Image) (adds : List ℕ) (plans : List Plan) (w : WorldValue) (past : Past) → StandsBy plans images adds w past
+    → AllHopsStand images w.history w.agent (agent_after past.agent (agent_begun images)).channels adds w.chains past.chains
+world_hops images adds plans w past s =
+    let r = agent_after past.agent (agent_begun images) in
+    subst (λ a. AllHopsStand images w.history a r.channels adds w.chains past.chains) s.agent
+    (subst (λ h. AllHopsStand images h r.agent r.channels adds w.chains past.chains) s.history
+    (all_hops images plans r (agent_tells_the_truth images past.agent) (agent_serves_all images past.agent) 0 adds w.chains past.chains s.chains))
+
 pub faithful : FaithfulAfterEverySchedule
 faithful images adds plans playable = world_faithful images adds plans (run plans (new_world images adds)) (world_stands images adds plans playable)
 
@@ -198,7 +212,8 @@ pub unstuck : NothingStuckAfterEverySchedule
 unstuck images adds plans playable = world_unstuck images adds plans (run plans (new_world images adds)) (world_stands images adds plans playable)
 
 pub hops_stand : HopsStandAfterEverySchedule
-hops_stand images adds plans playable = world_hops images adds plans (run plans (new_world images adds)) (world_stands images adds plans playable)
+hops_stand images adds plans playable =
+    world_hops images adds plans (run plans (new_world images adds)) (past_after images adds plans) (world_stands_by_its_past images adds plans playable)
 
 pub fresh : FreshAfterEverySchedule
 fresh images adds plans typed playable = world_fresh images adds plans (run plans (new_world images adds)) (world_stands images adds plans playable) typed

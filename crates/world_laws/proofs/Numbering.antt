@@ -203,17 +203,17 @@ opened_apart k a new apart = by_flag (is_refused k a) new
 -- ---- Over any calls
 
 module _ (images : List Image) where
-  is_new : (k : ℕ) (r : AgentRun) → Reached images r → (opened k r.agent).0 ≡ true → has k (of_agent r.agent) ≡ false
-  is_new k r reached did =
-      let follows : AgentFollowsHistory images r = subst (AgentFollowsHistory images) reached.is (agent_tells_the_truth images reached.calls) in
-      let next : Reached images (after_call (opens k) r) = reached_more images r (opens k ∷ []) reached in
-      let later : AgentFollowsHistory images (after_call (opens k) r) = subst (AgentFollowsHistory images) next.is (agent_tells_the_truth images next.calls) in
+  is_new : {calls : List Call} → (k : ℕ) (r : AgentRun) → Reached images calls r → (opened k r.agent).0 ≡ true → has k (of_agent r.agent) ≡ false
+  is_new {calls = calls} k r reached did =
+      let follows : AgentFollowsHistory images r = subst (AgentFollowsHistory images) reached.is (agent_tells_the_truth images calls) in
+      let next : Reached images (calls ++ opens k ∷ []) (after_call (opens k) r) = reached_more images r (opens k ∷ []) reached in
+      let later : AgentFollowsHistory images (after_call (opens k) r) = subst (AgentFollowsHistory images) next.is (agent_tells_the_truth images (calls ++ opens k ∷ [])) in
       let unopened : was_opened k r.history ≡ false = later.legal r.history (Opened k) [] (ap (λ (b : Bool). r.history ++ input_if b (Opened k)) did) in
       let none : list_any (λ past. past.number == k) r.channels ≡ false = sym (follows.opened k) ∙ unopened in
-      let stranger : channel_end k r.agent.channels ≡ None = subst (λ (x : AgentRun). list_any (λ past. past.number == k) x.channels ≡ false → channel_end k x.agent.channels ≡ None) reached.is (agent_has_no_strangers images reached.calls k) none in
+      let stranger : channel_end k r.agent.channels ≡ None = subst (λ (x : AgentRun). list_any (λ past. past.number == k) x.channels ≡ false → channel_end k x.agent.channels ≡ None) reached.is (agent_has_no_strangers images calls k) none in
       none_has k r.agent.channels (sym (end_found k r.agent.channels) ∙ stranger)
 
-  call_apart : (call : Call) (r : AgentRun) → Reached images r → AreApart (of_agent r.agent) → AreApart (of_agent (called call r.agent))
+  call_apart : {calls : List Call} → (call : Call) (r : AgentRun) → Reached images calls r → AreApart (of_agent r.agent) → AreApart (of_agent (called call r.agent))
   call_apart (opens k) r reached apart = opened_apart k r.agent (is_new k r reached) apart
   call_apart (comes k piece) r reached apart = subst AreApart (sym (delivered_keeps k piece r.agent)) apart
   call_apart (bytes_end k) r reached apart = subst AreApart (sym (ended_keeps k r.agent)) apart
@@ -221,12 +221,13 @@ module _ (images : List Image) where
   call_apart (ticks thread) r reached apart = subst AreApart (sym (ticked_keeps thread r.agent)) apart
   call_apart (gives k) r reached apart = subst AreApart (sym (giving_keeps k r.agent)) apart
 
-  calls_apart : (calls : List Call) (r : AgentRun) → Reached images r → AreApart (of_agent r.agent) → AreApart (of_agent (after_all calls r).agent)
+  calls_apart : {before : List Call} → (calls : List Call) (r : AgentRun) → Reached images before r → AreApart (of_agent r.agent) → AreApart (of_agent (after_all calls r).agent)
   calls_apart [] r reached apart = apart
-  calls_apart (call ∷ calls) r reached apart = calls_apart calls (after_call call r) (reached_more images r (call ∷ []) reached) (call_apart call r reached apart)
+  calls_apart {before = before} (call ∷ calls) r reached apart =
+      calls_apart {before = before ++ call ∷ []} calls (after_call call r) (reached_more images r (call ∷ []) reached) (call_apart call r reached apart)
 
   -- each channel is found by its number
   pub each_found : (calls : List Call) → AllByRecursion (λ c. channel_end c.number (after_all calls (no_calls images)).agent.channels ≡ Some c.end) (after_all calls (no_calls images)).agent.channels
   each_found calls =
       let cs = (after_all calls (no_calls images)).agent.channels in
-      ends_found cs cs (all_found cs (calls_apart calls (no_calls images) (record { calls = []; is = refl }) tt))
+      ends_found cs cs (all_found cs (calls_apart {before = []} calls (no_calls images) (record { is = refl }) tt))

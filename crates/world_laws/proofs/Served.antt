@@ -15,8 +15,7 @@ use Rattle.channel_core.proofs.Keeping.{IsTidy}
 use Rattle.channel_core.proofs.Running.{always}
 use Rattle.target_contexts.specs.declared.process.Image.{Image}
 use Rattle.target_hub.specs.Sent.{agent_services}
-use Rattle.world_laws.specs.HopLaws.{side_of_channel}
-use Rattle.world_laws.proofs.Sides.{past_on}
+use Rattle.world_laws.specs.HopLaws.{channel_past, side_of_channel}
 use Rattle.world_laws.proofs.Silent.{at_number}
 use Rattle.world_laws.proofs.Still.{NoneWaits, all_taken}
 
@@ -35,7 +34,7 @@ module _ (images : List Image) (r : AgentRun) (follows : AgentFollowsHistory ima
           let taken : NoneWaits channel.end = all_taken channel.end is in
           record { queued = given; inbox = ap (λ e. e.inbox) (sym end) ∙ taken.inbox; stop = ap (λ e. e.stop) (sym end) ∙ taken.stop }
 
-  pub channel_served : (channel : Option ℕ) (talk : Talk) → is_last_quiet channel r.agent ≡ true → IsAgentSide (option_map side_of_channel (past_on channel r.channels)) talk → IsServedOrRefused talk
+  pub channel_served : (channel : Option ℕ) (talk : Talk) → is_last_quiet channel r.agent ≡ true → IsAgentSide (option_map side_of_channel (channel_past channel r.channels)) talk → IsServedOrRefused talk
   channel_served None talk quiet refused = inr refused.1
   channel_served (Some k) talk quiet is = by_past (past_at k r.channels) refl is
     where

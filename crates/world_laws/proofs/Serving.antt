@@ -199,11 +199,6 @@ not_ended (Closed (causes.Stream fault)) queued spoken queue right ends = absurd
 abbrev pub told_to : List Image → List Input → Past → List Spoken
 told_to images history past = spoken_of (messages_told (tokens (asked (run_of past))) (sent images past.number history))
 
--- and nothing where it wasn't opened
-abbrev pub told_on : List Image → List Input → Option Past → List Spoken
-told_on images history None = []
-told_on images history (Some past) = told_to images history past
-
 -- these are the messages that its end queued
 pub told_queued : (images : List Image) (history : List Input) (past : Past) → FollowsHistory images history past → filter is_message (run_of past).past.queued ≡ map said_so (told_to images history past)
 told_queued images history past follows = follows.told ∙ said_spoken (messages_told (tokens (asked (run_of past))) (sent images past.number history))

@@ -7,6 +7,7 @@ use Rattle.chain_quiet.specs.Hops.{IsAgentSide}
 use Rattle.chain_quiet.proofs.Hops.Connections.{last_lives}
 use Rattle.chain_quiet.specs.Stuck.{IsChannel, IsReadable, end_of_side, last_is_live}
 use Rattle.chain_route.specs.Carrying.{AllCarry, Carries, agent_end, end_of, value_of}
+use Rattle.chain_route.specs.Making.{made_after}
 use Rattle.chain_route.specs.Route.{is_live, last_of}
 use Rattle.chain_route.specs.Runs.{Past as WayPast, RouteRun, Talk, after_all as way_after, no_calls as way_begun}
 use Rattle.chain_world.proofs.Pasts.{at_all}
@@ -18,17 +19,12 @@ use Rattle.channel_laws.specs.Meeting.{Side, run_of}
 use Rattle.client_node.specs.Client.{new_client}
 use Rattle.client_node.specs.Ends.{IsEndAfter, end_calls}
 use Rattle.tcf_schedules.specs.Plan.{Plan}
-use Rattle.world_laws.specs.HopLaws.{side_of_channel, side_of_client}
-use Rattle.chain_route.proofs.TheLaws.{each_hop_carries}
+use Rattle.world_laws.specs.HopLaws.{channel_past, side_of_channel, side_of_client}
+use Rattle.chain_route.proofs.TheLaws.{each_hop_carries, each_hop_carries_by_calls}
 use Rattle.client_node.proofs.TheLaws.{clients_end_is_a_run}
 use Rattle.world_laws.proofs.Sending.{all_readable, client_hello}
 
 -- ---- The agent's end
-
--- the channel that a chain has there, where it was opened
-abbrev pub past_on : Option ℕ → List Past → Option Past
-past_on None pasts = None
-past_on (Some k) pasts = past_at k pasts
 
 is_channel : (past : Past) (talk : Talk) → ServesAll past → Talks (Some past) talk → IsChannel (side_of_channel past) talk
 is_channel past talk all talks = record {
@@ -43,7 +39,7 @@ is_channel past talk all talks = record {
 }
 
 -- whether its hop is live or not
-channel_by : (pasts : List Past) → AllByRecursion ServesAll pasts → (channel : Option ℕ) (p : WayPast) → TalksOn channel p pasts → IfSome (option_map side_of_channel (past_on channel pasts)) (λ a. IsChannel a p.agent)
+channel_by : (pasts : List Past) → AllByRecursion ServesAll pasts → (channel : Option ℕ) (p : WayPast) → TalksOn channel p pasts → IfSome (option_map side_of_channel (channel_past channel pasts)) (λ a. IsChannel a p.agent)
 channel_by pasts serves None p talks = tt
 channel_by pasts serves (Some k) p talks = by_past (past_at k pasts) refl talks.1
   where
@@ -53,7 +49,7 @@ channel_by pasts serves (Some k) p talks = by_past (past_at k pasts) refl talks.
 
 -- where its hop is live
 agent_by : (pasts : List Past) → AllByRecursion ServesAll pasts → (channel : Option ℕ) (p : WayPast) (live : Bool) → TalksOn channel p pasts → (p.is_reached ≡ false → live ≡ false) → live ≡ true
-    → IsAgentSide (option_map side_of_channel (past_on channel pasts)) p.agent
+    → IsAgentSide (option_map side_of_channel (channel_past channel pasts)) p.agent
 agent_by pasts serves None p live (inl never) unreached is = let dead : live ≡ false = unreached never.0 in absurd cc
 agent_by pasts serves None p live (inr gave) unreached is = gave
 agent_by pasts serves (Some k) p live talks unreached is = by_past (past_at k pasts) talks.1 (channel_by pasts serves (Some k) p talks)
@@ -70,6 +66,10 @@ module _ (pasts : List Past) (plans : List Plan) (at adds : ℕ) (chain : ChainV
 
   abbrev pub way_carries : Carries s.ways way
   way_carries = each_hop_carries adds s.ways
+
+  -- by the value-adds that these calls made
+  pub made_is : way_carries.made ≡ made_after adds s.ways
+  made_is = (each_hop_carries_by_calls adds s.ways).are
 
   -- the client's end, by its calls
   abbrev pub client_side : Side ℕ
@@ -95,8 +95,8 @@ module _ (pasts : List Past) (plans : List Plan) (at adds : ℕ) (chain : ChainV
   pub hops_carry : AllCarry (end_of_side client_side) way.route.hops way_carries.made (agent_end way.past.agent)
   hops_carry = subst (λ e. AllCarry e way.route.hops way_carries.made (agent_end way.past.agent)) client_is way_carries.hops
 
-  pub agent_channel : AllByRecursion ServesAll pasts → IfSome (option_map side_of_channel (past_on chain.channel pasts)) (λ a. IsChannel a way.past.agent)
+  pub agent_channel : AllByRecursion ServesAll pasts → IfSome (option_map side_of_channel (channel_past chain.channel pasts)) (λ a. IsChannel a way.past.agent)
   agent_channel serves = channel_by pasts serves chain.channel way.past s.talks
 
-  pub agent_is : AllByRecursion ServesAll pasts → last_is_live way.route.hops ≡ true → IsAgentSide (option_map side_of_channel (past_on chain.channel pasts)) way.past.agent
+  pub agent_is : AllByRecursion ServesAll pasts → last_is_live way.route.hops ≡ true → IsAgentSide (option_map side_of_channel (channel_past chain.channel pasts)) way.past.agent
   agent_is serves is = agent_by pasts serves chain.channel way.past (is_live (last_of way.route) way.route) s.talks way_carries.unreached (last_lives way.route.hops ∙ is)

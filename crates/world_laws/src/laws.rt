@@ -18,11 +18,13 @@ ghost use Rattle.world_laws.specs.WorldLaws.{CoherentAfterEverySchedule, Faithfu
 /// knows, at the position of the last message that it took. And that each answer with a position, of the target or from a
 /// store on the way, to a command that may be answered from a store is what the target answers at that position. And that
 /// nothing is stuck: where nothing is under way on a chain no command is pending or held at an end of it that is open, and
-/// none ever is at one of the agent. And that each hop of a chain that was opened stands, at any moment: what an open end of
-/// a live one took and what is under way to it is what the other one queued, and each command that is pending at it and not
-/// held is under way, or taken and not answered, or its answer is under way; the last level that an end told fits its inbox;
-/// what an end of one that was cut took, and then what waits in its inbox, is in order the first of what the other one
-/// queued; and all that is said down a hop, whatever of it came, is told rightly.
+/// none ever is at one of the agent.
+///
+/// And that each hop of a chain that was opened stands, at any moment, by the past of the world: the calls that its nodes got,
+/// which each step of the schedule writes down. What an open end of a live one took and what is under way to it is what the other
+/// one queued, and each command that is pending at it and not held is under way, or taken and not answered, or its answer is under
+/// way; the last level that an end told fits its inbox; what an end of one that was cut took, and then what waits in its inbox, is
+/// in order the first of what the other one queued; and all that is said down a hop, whatever of it came, is told rightly.
 pub fn every_schedule()
     ensures faithful { FaithfulAfterEverySchedule }
     ensures ends { EndsRightlyAfterEverySchedule }

@@ -1,1 +1,6 @@
 pub mod Shift
+pub mod Words
+pub mod Immediates
+pub mod Steps
+pub mod Ends
+pub mod TheLaws

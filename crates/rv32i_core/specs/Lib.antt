@@ -4,3 +4,4 @@ pub mod Registers
 pub mod Bytes
 pub mod Integers
 pub mod Machine
+pub mod Laws

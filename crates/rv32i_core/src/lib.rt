@@ -9,11 +9,13 @@ mod decoding;
 mod execution;
 mod instructions;
 mod integers;
+mod laws;
 mod ram;
 mod registers;
 
 pub use decoding::decode;
 pub use execution::{Outcome, execute};
 pub use instructions::{BranchKind, ImmKind, Instruction, LoadKind, OpKind, StoreKind};
+pub use laws::the_machine_stays_within;
 pub use ram::Memory;
 pub use registers::Cpu;

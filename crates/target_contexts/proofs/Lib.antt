@@ -3,4 +3,5 @@ pub mod Found
 pub mod Lookup
 pub mod Orderly
 pub mod Short
+pub mod Whole
 pub mod TheLaws

@@ -1,9 +1,11 @@
 -- The laws of contexts, as terms.
 use Rattle.target_contexts.specs.Laws.{ChangeStaysOrderly, ChangesOne, EndStaysOrderly, EndsOne, StartStaysOrderly, StartsOne}
 use Rattle.target_contexts.specs.Short.{ChangeStaysShort, EndStaysShort, FoundIsShort, StartStaysShort}
+use Rattle.target_contexts.specs.Whole.{StartIsWhole, StartStands}
 use Rattle.target_contexts.proofs.Lookup as lookup
 use Rattle.target_contexts.proofs.Orderly.{change_orderly, end_orderly, start_orderly}
 use Rattle.target_contexts.proofs.Short as short
+use Rattle.target_contexts.proofs.Whole as whole
 
 pub starts_one : StartsOne
 starts_one = lookup.starts_one
@@ -34,3 +36,9 @@ change_stays_short = short.change_stays_short
 
 pub end_stays_short : EndStaysShort
 end_stays_short = short.end_stays_short
+
+pub start_is_whole : StartIsWhole
+start_is_whole = whole.start_whole
+
+pub start_stands : StartStands
+start_stands = whole.start_stands

@@ -9,3 +9,4 @@ pub mod Named
 pub mod Changes
 pub mod Refusals
 pub mod Short
+pub mod Whole

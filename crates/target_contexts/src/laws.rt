@@ -1,6 +1,7 @@
 //! The laws of a list of live processes: to start, change or end one leaves the others as they are, and the list
-//! orderly.
+//! orderly; and the law of the process that starts.
 ghost use Rattle.target_contexts.specs.Laws.{ChangeStaysOrderly, ChangesOne, EndStaysOrderly, EndsOne, StartStaysOrderly, StartsOne};
+ghost use Rattle.target_contexts.specs.Whole.{StartIsWhole, StartStands};
 
 /// The law that a process that starts is the one of its number, and that all others stay.
 pub fn a_start_adds_one()
@@ -23,4 +24,11 @@ pub fn they_stay_orderly()
     ensures start { StartStaysOrderly }
     ensures change { ChangeStaysOrderly }
     ensures end { EndStaysOrderly }
+{}
+
+/// The law that a start from an image of at most 65,536 bytes makes a process whose processor and memory are such as the
+/// machine has them, and whose thread is suspended where the debugger is attached and else runs.
+pub fn a_start_makes_a_whole_process()
+    ensures whole { StartIsWhole }
+    ensures state { StartStands }
 {}

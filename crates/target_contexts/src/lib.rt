@@ -9,7 +9,10 @@ mod process;
 mod targets;
 
 pub use context::THREAD;
-pub use laws::{a_change_changes_one, a_start_adds_one, an_end_ends_one, they_stay_orderly};
+pub use laws::{
+    a_change_changes_one, a_start_adds_one, a_start_makes_a_whole_process, an_end_ends_one,
+    they_stay_orderly,
+};
 pub use lengths::they_stay_short;
 pub use named::{number_for, thread_for};
 pub use process::{Image, Process, ThreadState};

@@ -1,5 +1,5 @@
 -- Each event that the target tells can be written.
-use Rattle.std.proofs.Common.{◌≡◌, ℕ, ℤ, pos, negsuc, ◌<◌, ◌^◌, ◌-◌, ◌%◌, ◌==◌, ltb, Bool, true, false, cond, ◌&&◌, List, [], ◌∷◌, map, Option, Some, None, option_map, refl, suc, drop, length, arith, lit<}
+use Rattle.std.proofs.Common.{◌≡◌, ℕ, ℤ, pos, negsuc, ◌<◌, ◌^◌, ◌==◌, Bool, true, false, cond, ◌&&◌, List, [], ◌∷◌, map, Option, Some, None, option_map, refl, drop, length, arith, lit<}
 use Rattle.std.proofs.lemmas.Bool.{ltb-true}
 use Rattle.std.specs.List.{AllByRecursion}
 use Rattle.std.specs.Option.{IfSome}
@@ -13,14 +13,8 @@ use Rattle.tcf_values.specs.declared.values.BpProps.{BpProps}
 use Rattle.breakpoints.specs.Address.{address_in, is_address, is_numeral, is_prefixed}
 use Rattle.breakpoints.specs.Status.{instance_of, instances_of, place_at, place_of}
 use Rattle.breakpoints.specs.Statuses.{status_event, statuses_of}
-use Rattle.rv32i_core.specs.Integers.{signed, sum, unsigned}
-use Rattle.rv32i_core.specs.Bytes.{is_inside, word_at}
-use Rattle.rv32i_core.specs.Listing.{instruction_of}
-use Rattle.rv32i_core.specs.Machine.{Step, goes_on, ends, excepts, decoded_step, effect, is_taken, jump_step, load_step, loaded, next_step, store_step, stored, machine}
-use Rattle.rv32i_core.specs.Registers.{following, register_of, with_register}
-use Rattle.rv32i_core.specs.declared.instructions.Instruction.{Instruction}
-use Rattle.rv32i_core.specs.declared.instructions.Instruction.TheVariants.{Lui, Auipc, Jal, Jalr, Load, ImmOp, Branch, Store, Op, Fence, Ecall, Ebreak}
-use Rattle.rv32i_core.specs.declared.registers.Cpu.{Cpu}
+use Rattle.rv32i_core.specs.Laws.{EndsSigned, IsSigned}
+use Rattle.rv32i_core.specs.Machine.{Step, goes_on, ends, excepts, machine}
 use Rattle.target_contexts.specs.Contexts.{process_data, thread_data}
 use Rattle.target_contexts.specs.Live.{process_of}
 use Rattle.target_contexts.specs.Named.{attached_in}
@@ -36,6 +30,7 @@ use Rattle.run_control.specs.Tracing.{halt_by, last_hits, last_of, states_of, st
 use Rattle.target_hub.specs.Limits.{AreEvents}
 use Rattle.target_hub.specs.Passing.{tick_told}
 use Rattle.target_hub.specs.declared.target.Target.{Target}
+use Rattle.rv32i_core.proofs.TheLaws.{ends_are_signed}
 use Rattle.list_laws.proofs.Flags.{and_first}
 use Rattle.list_laws.proofs.AllLists.{all_map}
 
@@ -109,61 +104,11 @@ pub suspended_fit : (number : ℕ) (process : Option Process) → AreEvents (sus
 suspended_fit number None = tt
 suspended_fit number (Some process) = stop_fits number process.cpu.pc process.state
 
--- ---- the end of a process: its code is a number of 32 bits
+-- ---- the end of a process: its code is a signed number of 32 bits
 
-pub signed_by : (small : Bool) (n : ℕ) → ltb n (2 ^ 31) ≡ small → IsWhole (cond small (pos n) (negsuc (2 ^ 32 - suc n)))
-signed_by true n is = let low : n < 2 ^ 31 = ltb-true n (2 ^ 31) is in omega arith
-signed_by false n is = omega arith
-
-pub signed_fits : (n : ℕ) → IsWhole (signed n)
-signed_fits n = signed_by (ltb n (2 ^ 31)) n refl
-
-abbrev pub StepFits : Step → Type 0
-StepFits (goes_on cpu memory) = Unit {0}
-StepFits (ends code) = IsWhole code
-StepFits excepts = Unit {0}
-
-by_test : (test : Bool) (one other : Step) → StepFits one → StepFits other → StepFits (cond test one other)
-by_test true one other fits also = fits
-by_test false one other fits also = also
-
-jump_fits : (target : ℕ) (cpu : Cpu) (memory : List ℕ) → StepFits (jump_step target cpu memory)
-jump_fits target cpu memory = by_test (target % 4 == 0) (goes_on (record cpu { pc = target }) memory) excepts tt tt
-
-pub load_fits : (rd : ℕ) (value : Option ℕ) (cpu : Cpu) (memory : List ℕ) → StepFits (load_step rd value cpu memory)
-load_fits rd None cpu memory = tt
-load_fits rd (Some value) cpu memory = tt
-
-pub store_fits : (stored : Option (List ℕ)) (cpu : Cpu) → StepFits (store_step stored cpu)
-store_fits None cpu = tt
-store_fits (Some memory) cpu = tt
-
-effect_fits : (instruction : Instruction) (cpu : Cpu) (memory : List ℕ) → StepFits (effect instruction cpu memory)
-effect_fits (ImmOp kind rd rs1 imm) cpu memory = tt
-effect_fits (Lui rd imm) cpu memory = tt
-effect_fits (Auipc rd imm) cpu memory = tt
-effect_fits (Op kind rd rs1 rs2) cpu memory = tt
-effect_fits (Jal rd imm) cpu memory = jump_fits (sum cpu.pc (unsigned imm)) (with_register rd (following cpu) cpu) memory
-effect_fits (Jalr rd rs1 imm) cpu memory =
-    let target = sum (register_of rs1 cpu) (unsigned imm) in jump_fits (target - target % 2) (with_register rd (following cpu) cpu) memory
-effect_fits (Branch kind rs1 rs2 imm) cpu memory =
-    let target = sum cpu.pc (unsigned imm) in
-    by_test (is_taken kind (register_of rs1 cpu) (register_of rs2 cpu)) (jump_step target cpu memory) (next_step cpu memory) (jump_fits target cpu memory) tt
-effect_fits (Load kind rd rs1 imm) cpu memory = load_fits rd (loaded kind (sum (register_of rs1 cpu) (unsigned imm)) memory) cpu memory
-effect_fits (Store kind rs1 rs2 imm) cpu memory = store_fits (stored kind (sum (register_of rs1 cpu) (unsigned imm)) (register_of rs2 cpu) memory) cpu
-effect_fits Fence cpu memory = tt
-effect_fits Ecall cpu memory = by_test (register_of 17 cpu == 93) (ends (signed (register_of 10 cpu))) excepts (signed_fits (register_of 10 cpu)) tt
-effect_fits Ebreak cpu memory = tt
-
-decoded_fits : (instruction : Option Instruction) (cpu : Cpu) (memory : List ℕ) → StepFits (decoded_step instruction cpu memory)
-decoded_fits None cpu memory = tt
-decoded_fits (Some instruction) cpu memory = effect_fits instruction cpu memory
-
-machine_fits : (cpu : Cpu) (memory : List ℕ) → StepFits (machine cpu memory)
-unfolding machine
-machine_fits cpu memory =
-    let instruction = instruction_of (word_at memory cpu.pc) in
-    by_test (is_inside 4 cpu.pc) (decoded_step instruction cpu memory) excepts (decoded_fits instruction cpu memory) tt
+pub code_fits : (code : ℤ) → IsSigned code → IsWhole code
+code_fits (pos n) signed = omega arith
+code_fits (negsuc n) signed = omega arith
 
 pub end_fits : (bps : List (ℕ × BpProps)) (number : ℕ) (code : ℤ) (targets : TargetsValue) → IsWhole code → AreEvents (end_events bps number code targets)
 end_fits bps number code targets whole = (tt, (whole, statuses_fit (attached_in targets.processes) bps))
@@ -178,16 +123,16 @@ exception_fit : (bps : List (ℕ × BpProps)) (number : ℕ) (plain : ThreadStat
 exception_fit bps number plain true after process = suspended_fit number _
 exception_fit bps number plain false after process = end_fits bps number exception_code after (lit< {m = 1} {n = 2 ^ 63} tt)
 
-executed_fit : (bps : List (ℕ × BpProps)) (number : ℕ) (plain : ThreadState) (attached : Bool) (after : TargetsValue) (process : Process) (step : Step) → StepFits step
+executed_fit : (bps : List (ℕ × BpProps)) (number : ℕ) (plain : ThreadState) (attached : Bool) (after : TargetsValue) (process : Process) (step : Step) → EndsSigned step
     → AreEvents (settled_events bps number (fate_by plain attached (executed_by bps number process step)) after)
 executed_fit bps number plain attached after process (goes_on cpu memory) fits = with_fit bps number plain attached after _
-executed_fit bps number plain attached after process (ends code) fits = end_fits bps number code after fits
+executed_fit bps number plain attached after process (ends code) fits = end_fits bps number code after (code_fits code fits)
 executed_fit bps number plain attached after process excepts fits = exception_fit bps number plain attached after process
 
-halt_fit : (bps : List (ℕ × BpProps)) (number : ℕ) (plain : ThreadState) (attached : Bool) (after : TargetsValue) (step : Step) → StepFits step
+halt_fit : (bps : List (ℕ × BpProps)) (number : ℕ) (plain : ThreadState) (attached : Bool) (after : TargetsValue) (step : Step) → EndsSigned step
     → AreEvents (settled_events bps number (fate_by plain attached (halt_by step)) after)
 halt_fit bps number plain attached after (goes_on cpu memory) fits = suspended_fit number _
-halt_fit bps number plain attached after (ends code) fits = end_fits bps number code after fits
+halt_fit bps number plain attached after (ends code) fits = end_fits bps number code after (code_fits code fits)
 halt_fit bps number plain true after excepts fits = suspended_fit number _
 halt_fit bps number plain false after excepts fits = end_fits bps number exception_code after (lit< {m = 1} {n = 2 ^ 63} tt)
 
@@ -195,14 +140,14 @@ stop_fit : (bps : List (ℕ × BpProps)) (number : ℕ) (plain : ThreadState) (a
     → AreEvents (settled_events bps number (fate_by plain attached (stop_by hits all last)) after)
 stop_fit bps number plain attached after (hit ∷ hits) all last = suspended_fit number _
 stop_fit bps number plain attached after [] true last = suspended_fit number _
-stop_fit bps number plain attached after [] false last = halt_fit bps number plain attached after (machine last.cpu last.memory) (machine_fits last.cpu last.memory)
+stop_fit bps number plain attached after [] false last = halt_fit bps number plain attached after (machine last.cpu last.memory) (ends_are_signed last.cpu last.memory)
 
 -- ---- a tick, and a trace
 
 ticked_fit : (bps : List (ℕ × BpProps)) (number : ℕ) (process : Option Process) (after : TargetsValue) → AreEvents (ticked_events_at bps number process after)
 ticked_fit bps number None after = tt
 ticked_fit bps number (Some process) after =
-    executed_fit bps number (counted process.state) process.attached after process (machine process.cpu process.memory) (machine_fits process.cpu process.memory)
+    executed_fit bps number (counted process.state) process.attached after process (machine process.cpu process.memory) (ends_are_signed process.cpu process.memory)
 
 tick_fit_of : (bps : List (ℕ × BpProps)) (targets : TargetsValue) (number : Option ℕ) → IfSome (option_map (λ n. ticked_events bps n targets) number) AreEvents
 tick_fit_of bps targets None = tt

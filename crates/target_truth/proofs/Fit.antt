@@ -7,9 +7,9 @@ use Rattle.std.proofs.lemmas.Option.{none-some, same_Some, slice_get_past}
 use Rattle.target_contexts.specs.Changes.{with_change, with_change_at}
 use Rattle.target_contexts.specs.Live.{IsOrderly, Rise, numbers_of, place_of, process_at, process_of, with_at, with_row, without, without_at}
 use Rattle.target_contexts.specs.TargetsValue.{TargetsValue}
+use Rattle.target_contexts.specs.Whole.{IsWhole}
 use Rattle.target_contexts.specs.declared.process.Process.{Process}
 use Rattle.command_tables.specs.Canonical.{AreBytes}
-use Rattle.target_truth.proofs.Whole.{IsWhole}
 
 abbrev pub AllWhole : List (ℕ × Process) → Type 0
 AllWhole rows = AllByRecursion (λ row. IsWhole row.1) rows

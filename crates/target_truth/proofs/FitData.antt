@@ -1,5 +1,5 @@
 -- What the commands of Memory and Registers leave is fit.
-use Rattle.std.proofs.Common.{◌≡◌, ℕ, zero, suc, ℤ, pos, negsuc, ◌+◌, ◌≤◌, ◌==◌, nat_lt, unsigned_abs, Bool, true, false, not, cond, is_none, List, [], ◌∷◌, ◌++◌, length, take, drop, Option, Some, None, refl, ◌∙◌, arith, length-append, length-take, length-drop}
+use Rattle.std.proofs.Common.{◌≡◌, ℕ, ℤ, pos, negsuc, ◌+◌, ◌<◌, ◌≤◌, ◌==◌, nat_lt, unsigned_abs, Bool, true, false, not, cond, is_none, List, [], ◌∷◌, ◌++◌, length, take, drop, Option, Some, None, refl, ◌∙◌, arith, length-append, length-take, length-drop}
 use Rattle.std.proofs.lemmas.Bool.{eqb-true, ltb-false}
 use Rattle.command_tables.specs.Canonical.{AreBytes, IsReadable}
 use Rattle.data_services.specs.Bytes.{with_part, word_bytes, word_of}
@@ -8,41 +8,36 @@ use Rattle.data_services.specs.MemoryRows.{is_no_size, is_outside, with_memory}
 use Rattle.data_services.specs.Named.{process_named}
 use Rattle.data_services.specs.Parts.{bytes_in, number_in, parts_named, with_bytes, with_number, with_parts}
 use Rattle.data_services.specs.RegisterRows.{register_after, with_word}
+use Rattle.rv32i_core.proofs.TheLaws.{writes_stay_within}
+use Rattle.rv32i_core.proofs.Words.{byte_below}
+use Rattle.rv32i_core.specs.Laws.{IsCpu, IsWord}
 use Rattle.rv32i_core.specs.Registers.{with_register}
 use Rattle.rv32i_core.specs.declared.registers.Cpu.{Cpu}
 use Rattle.target_contexts.specs.Changes.{with_change, with_change_of}
 use Rattle.target_contexts.specs.Named.{number_named}
 use Rattle.target_contexts.specs.TargetsValue.{TargetsValue}
+use Rattle.target_contexts.specs.Whole.{IsWhole}
 use Rattle.target_contexts.specs.declared.process.Process.{Process}
 use Rattle.target_truth.proofs.Fit.{IsFit, change_fit}
-use Rattle.target_truth.proofs.FitRun.{bytes_append, fault_fit}
-use Rattle.target_truth.proofs.Machine.{moved_whole, written_whole}
-use Rattle.target_truth.proofs.Whole.{IsCpu, IsWhole}
-use Rattle.target_truth.proofs.Words.{IsWord, byte_below}
+use Rattle.target_truth.proofs.FitRun.{fault_fit}
 use Rattle.tcf_values.specs.Faults.{first_fault}
 use Rattle.tcf_values.specs.Ids.{register_of}
 use Rattle.tcf_values.specs.declared.command.Command.{Command}
 use Rattle.tcf_values.specs.declared.command.Command.TheVariants.{MemSet, RegSet, RegSetm}
 use Rattle.tcf_values.specs.declared.faults.Fault.TheVariants.{BadAddress, BadContext, BadSize}
 use Rattle.tcf_values.specs.declared.ids.RegisterId.{RegisterId}
+use Rattle.list_laws.proofs.AllLists.{all_append, all_drop, all_take}
 use Rattle.list_laws.proofs.Flags.{not_false, neither}
 
 -- ---- bytes
 
-bytes_take : (count : ℕ) (bytes : List ℕ) → AreBytes bytes → AreBytes (take count bytes)
-bytes_take zero bytes are = tt
-bytes_take (suc count) [] are = tt
-bytes_take (suc count) (byte ∷ bytes) are = (are.0, bytes_take count bytes are.1)
-
-bytes_drop : (count : ℕ) (bytes : List ℕ) → AreBytes bytes → AreBytes (drop count bytes)
-bytes_drop zero bytes are = are
-bytes_drop (suc count) [] are = tt
-bytes_drop (suc count) (byte ∷ bytes) are = bytes_drop count bytes are.1
+abbrev IsByte : ℕ → Type 0
+IsByte byte = byte < 256
 
 part_bytes : (first : ℕ) (part bytes : List ℕ) → AreBytes part → AreBytes bytes → AreBytes (with_part first part bytes)
 part_bytes first part bytes are all =
-    bytes_append (take first bytes) (part ++ drop (first + length part) bytes) (bytes_take first bytes all)
-    (bytes_append part (drop (first + length part) bytes) are (bytes_drop (first + length part) bytes all))
+    all_append IsByte (take first bytes) (part ++ drop (first + length part) bytes) (all_take IsByte first bytes all)
+    (all_append IsByte part (drop (first + length part) bytes) are (all_drop IsByte (first + length part) bytes all))
 
 -- ---- memory
 
@@ -90,8 +85,8 @@ bytes_are number = (omega arith, (omega arith, (omega arith, (omega arith, tt)))
 
 number_by : (is_register : Bool) (index number : ℕ) (cpu : Cpu) → IsCpu cpu → IsWord number
     → IsCpu (cond is_register (with_register index number cpu) (record cpu { pc = number }))
-number_by true index number cpu is below = written_whole index number cpu is below
-number_by false index number cpu is below = moved_whole number cpu is below
+number_by true index number cpu is below = writes_stay_within index number cpu is below
+number_by false index number cpu is below = record { pc = below; count = is.count; registers = is.registers }
 
 number_whole : (index number : ℕ) (cpu : Cpu) → IsCpu cpu → IsWord number → IsCpu (with_number index number cpu)
 number_whole index number cpu is below = number_by (nat_lt index 32) index number cpu is below
@@ -121,9 +116,9 @@ part_whole part bytes process are is =
 parts_fit : (parts : List Part) (bytes : List ℕ) (targets : TargetsValue) → AreBytes bytes → IsFit targets → IsFit (with_parts parts bytes targets)
 parts_fit [] bytes targets are fit = fit
 parts_fit (part ∷ parts) bytes targets are fit =
-    parts_fit parts (drop part.size bytes) (with_change (with_bytes part (take part.size bytes)) part.register.process targets) (bytes_drop part.size bytes are)
+    parts_fit parts (drop part.size bytes) (with_change (with_bytes part (take part.size bytes)) part.register.process targets) (all_drop IsByte part.size bytes are)
     (change_fit (with_bytes part (take part.size bytes)) part.register.process targets fit
-    (λ process is. part_whole part (take part.size bytes) process (bytes_take part.size bytes are) is))
+    (λ process is. part_whole part (take part.size bytes) process (all_take IsByte part.size bytes are) is))
 
 -- ---- each command
 

@@ -1,11 +1,9 @@
 -- What the commands of RunControl, Processes and Trace, and ticks, leave is fit.
-use Rattle.std.proofs.Common.{◌≡◌, ℕ, zero, suc, ◌+◌, ◌-◌, ◌<◌, ◌≤◌, ◌==◌, nat_lt, nat_le, Bool, true, false, cond, List, [], ◌∷◌, ◌++◌, length, replicate, Option, Some, None, IfSome, option_map, refl, ◌∙◌, arith}
+use Rattle.std.proofs.Common.{◌≡◌, ℕ, zero, suc, ◌+◌, ◌==◌, nat_lt, nat_le, Bool, true, false, cond, List, [], ◌∷◌, length, Option, Some, None, IfSome, option_map, refl}
 use Rattle.std.specs.Prelude.{unsigned_abs}
 use Rattle.std.specs.List.{AllByRecursion}
 use Rattle.std.specs.Option.{option_map_or}
 use Rattle.std.proofs.lemmas.Bool.{ltb-false}
-use Rattle.std.proofs.lemmas.List.{length-append, length-replicate}
-use Rattle.std.proofs.lemmas.List.Elements.{All-replicate, recursion_from_All}
 use Rattle.run_control.specs.Attaching.{attach_after, attached, detach_after, detached, start_fault_for}
 use Rattle.run_control.specs.Commands.{left_of, run_after, run_fault, run_left}
 use Rattle.run_control.specs.Ending.{end_after}
@@ -14,7 +12,8 @@ use Rattle.run_control.specs.Naming.{is_empty, process_named}
 use Rattle.run_control.specs.Steering.{left_by, resume_after, suspend_after, with_state}
 use Rattle.run_control.specs.Ticking.{counted, running_number, tick_after, ticked, ticked_at}
 use Rattle.run_control.specs.Tracing.{halt_by, last_hits, last_of, next_by, next_of, run_from, states_of, stop_by, trace_after, traced_at, up_to_hit}
-use Rattle.rv32i_core.specs.Bytes.{image_memory}
+use Rattle.rv32i_core.proofs.TheLaws.{steps_stay_within}
+use Rattle.rv32i_core.specs.Laws.{LeavesWhole}
 use Rattle.rv32i_core.specs.Machine.{Step, ends, excepts, goes_on, machine}
 use Rattle.target_contexts.specs.Changes.{targets_by, with_change}
 use Rattle.target_contexts.specs.Images.{image_of, is_named}
@@ -22,16 +21,15 @@ use Rattle.target_contexts.specs.Live.{process_of}
 use Rattle.target_contexts.specs.Named.{number_named, thread_named}
 use Rattle.target_contexts.specs.Starting.{new_process, refusal_for, suspended_text, with_started}
 use Rattle.target_contexts.specs.TargetsValue.{TargetsValue}
+use Rattle.target_contexts.specs.Whole.{IsWhole}
 use Rattle.target_contexts.specs.declared.process.Image.{Image}
 use Rattle.target_contexts.specs.declared.process.Process.{Process}
 use Rattle.target_contexts.specs.declared.process.ThreadState.{ThreadState}
 use Rattle.target_contexts.specs.declared.process.ThreadState.TheVariants.{Running, Suspended}
 use Rattle.target_contexts.specs.declared.targets.StartRefusal.TheVariants.{Full, Numbers, Size}
 use Rattle.command_tables.specs.Canonical.{AreBytes}
+use Rattle.target_contexts.proofs.TheLaws.{start_is_whole}
 use Rattle.target_truth.proofs.Fit.{IsFit, change_fit, end_fit, found_whole, start_fit}
-use Rattle.target_truth.proofs.Machine.{IsStep, machine_whole}
-use Rattle.target_truth.proofs.Whole.{IsMemory, IsWhole}
-use Rattle.target_truth.proofs.Words.{IsWord}
 use Rattle.tcf_values.specs.declared.command.Command.{Command}
 use Rattle.tcf_values.specs.declared.command.Command.TheVariants.{Resume, Suspend, Terminate, ProcStart, ProcAttach, ProcDetach, ProcTerminate, TraceRun}
 use Rattle.tcf_values.specs.declared.faults.Fault.{Fault}
@@ -83,13 +81,13 @@ stopped_fit number plain attached [] false last targets fit = halted_fit number 
 
 -- ---- one instruction
 
-stepped_whole : (step : Step) (process : Process) → IsStep step → IsWhole process → IsWhole (stepped_by step process)
+stepped_whole : (step : Step) (process : Process) → LeavesWhole step → IsWhole process → IsWhole (stepped_by step process)
 stepped_whole (goes_on cpu memory) process step is = record { cpu = step.0; memory = step.1 }
 stepped_whole (ends code) process step is = is
 stepped_whole excepts process step is = is
 
 one_whole : (process : Process) → IsWhole process → IsWhole (stepped process)
-one_whole process is = stepped_whole (machine process.cpu process.memory) process (machine_whole process.cpu process.memory is.cpu is.memory) is
+one_whole process is = stepped_whole (machine process.cpu process.memory) process (steps_stay_within process.cpu process.memory is.cpu is.memory) is
 
 ticked_fit : (bps : List (ℕ × BpProps)) (number : ℕ) (found : Option Process) (targets : TargetsValue) → IsFit targets → IsFit (ticked_at bps number found targets)
 ticked_fit bps number None targets fit = fit
@@ -106,7 +104,7 @@ tick_fit bps thread targets fit = tick_by bps (running_number thread targets.pro
 
 -- ---- several
 
-next_whole : (step : Step) (process : Process) → IsStep step → IfSome (next_by step process) IsWhole
+next_whole : (step : Step) (process : Process) → LeavesWhole step → IfSome (next_by step process) IsWhole
 next_whole (goes_on cpu memory) process step = record { cpu = step.0; memory = step.1 }
 next_whole (ends code) process step = tt
 next_whole excepts process step = tt
@@ -119,7 +117,7 @@ run_by (Some process) run is all = (is, all process is)
 run_whole : (count : ℕ) (process : Process) → IsWhole process → AllByRecursion IsWhole (run_from count process)
 run_whole zero process is = tt
 run_whole (suc count) process is =
-    run_by (next_of process) (run_from count) (next_whole (machine process.cpu process.memory) process (machine_whole process.cpu process.memory is.cpu is.memory)) (run_whole count)
+    run_by (next_of process) (run_from count) (next_whole (machine process.cpu process.memory) process (steps_stay_within process.cpu process.memory is.cpu is.memory)) (run_whole count)
 
 hit_by : (goes : Bool) (states : List Process) → AllByRecursion IsWhole states → AllByRecursion IsWhole (cond goes states [])
 hit_by true states all = all
@@ -149,32 +147,12 @@ trace_fit bps count number targets fit =
 
 -- ---- a start
 
-zeros_words : AllByRecursion IsWord (replicate 32 0)
-zeros_words = recursion_from_All IsWord (replicate 32 0) (All-replicate IsWord 32 0 (omega arith))
-
-pub bytes_append : (some more : List ℕ) → AreBytes some → AreBytes more → AreBytes (some ++ more)
-bytes_append [] more all also = also
-bytes_append (byte ∷ some) more all also = (all.0, bytes_append some more all.1 also)
-
-image_whole : (image : List ℕ) → AreBytes image → length image ≤ 65536 → IsMemory (image_memory image)
-unfolding image_memory
-image_whole image are within = record {
-  size = length-append image (replicate (65536 - length image) 0) ∙ omega (arith, length-replicate {A = ℕ} (65536 - length image) 0);
-  bytes = bytes_append image (replicate (65536 - length image) 0) are (recursion_from_All (λ byte. byte < 256) _ (All-replicate (λ byte. byte < 256) (65536 - length image) 0 (omega arith)));
-}
-
-new_whole : (attach : Bool) (image : Image) → AreBytes image.bytes → length image.bytes ≤ 65536 → IsWhole (new_process attach image)
-new_whole attach image are within = record {
-  cpu = record { pc = omega arith; count = length-replicate {A = ℕ} 32 0; registers = zeros_words };
-  memory = image_whole image.bytes are within;
-}
-
 image_by : (is_it : Bool) (image : Image) (others : Option Image) → AreBytes image.bytes → IfSome others (λ found. AreBytes found.bytes)
     → IfSome (cond is_it (Some image) others) (λ found. AreBytes found.bytes)
 image_by true image others are also = are
 image_by false image others are also = also
 
-found_image : (file : List ℕ) (images : List Image) → AllByRecursion (λ image. AreBytes image.bytes) images → IfSome (image_of file images) (λ image. AreBytes image.bytes)
+pub found_image : (file : List ℕ) (images : List Image) → AllByRecursion (λ image. AreBytes image.bytes) images → IfSome (image_of file images) (λ image. AreBytes image.bytes)
 found_image file [] all = tt
 found_image file (image ∷ images) all = image_by (is_named file image) image (image_of file images) all.0 (found_image file images all.1)
 
@@ -188,7 +166,7 @@ started_fit : (attach : Bool) (targets : TargetsValue) (found : Option Image) �
 started_fit attach targets None fit are none = fit
 started_fit attach targets (Some image) fit are none =
     let small = size_by (nat_le 64 (length targets.processes)) (nat_lt 65536 (length image.bytes)) (nat_lt 4294967295 targets.next) none in
-    start_fit targets (new_process attach image) (targets.next + 1) fit (new_whole attach image are (ltb-false 65536 (length image.bytes) small))
+    start_fit targets (new_process attach image) (targets.next + 1) fit (start_is_whole attach image are (ltb-false 65536 (length image.bytes) small))
 
 -- ---- each command
 

@@ -6,6 +6,7 @@ use Rattle.command_tables.specs.declared.reading.Reading.TheVariants.{Known, Unk
 use Rattle.service_names.specs.Commands.{named_as}
 use Rattle.service_names.specs.declared.commands.CommandName.{CommandName}
 use Rattle.service_names.specs.declared.commands.CommandName.TheVariants as service
+use Rattle.target_contexts.specs.Whole.{IsWhole}
 use Rattle.target_contexts.specs.declared.process.Image.{Image}
 use Rattle.target_contexts.specs.declared.process.Process.{Process}
 use Rattle.target_hub.specs.Execution.{after_in, exec_after}
@@ -22,7 +23,7 @@ use Rattle.target_truth.proofs.Fronts.{IsReadInput, inputs_read}
 use Rattle.target_truth.proofs.Fit.{IsFit, found_whole, orderly_whole}
 use Rattle.target_truth.proofs.FitData.{data_fit}
 use Rattle.target_truth.proofs.FitRun.{run_fit, tick_fit}
-use Rattle.target_truth.proofs.Whole.{IsGood, IsWhole}
+use Rattle.target_truth.proofs.Whole.{IsGood}
 use Rattle.tcf_values.specs.declared.command.Command.{Command}
 use Rattle.tcf_values.specs.declared.ids.ContextId.{ContextId}
 

@@ -2,12 +2,13 @@
 use Rattle.std.proofs.Common.{◌≡◌, ℕ, ◌≤◌, ◌==◌, Bool, true, false, cond, List, is_none, Option, Some, None, option_and_then, refl, sym, ◌∙◌, ap, eqb-true}
 use Rattle.std.proofs.lemmas.Bool.{cond-true}
 use Rattle.data_services.specs.Named.{holder_of, process_with}
+use Rattle.rv32i_core.specs.Laws.{IsCpu}
 use Rattle.target_contexts.specs.Named.{is_running, runs}
 use Rattle.target_contexts.specs.declared.process.Process.{Process}
 use Rattle.target_hub.specs.declared.target.Target.{Target}
 use Rattle.target_truth.specs.Holds.{process_in}
 use Rattle.tcf_values.proofs.TheLaws.{register_round_trip}
-use Rattle.target_truth.proofs.Whole.{IsCpu, IsGood}
+use Rattle.target_truth.proofs.Whole.{IsGood}
 use Rattle.tcf_values.specs.Ids.{register_of}
 use Rattle.tcf_values.specs.declared.ids.RegisterId.{RegisterId}
 

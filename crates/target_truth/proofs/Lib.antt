@@ -15,9 +15,6 @@ pub mod FirstBreakpoints
 pub mod First
 pub mod Silent
 pub mod Whole
-pub mod Words
-pub mod Immediates
-pub mod Machine
 pub mod Fronts
 pub mod Fit
 pub mod FitRun
@@ -26,7 +23,6 @@ pub mod Good
 pub mod Tells
 pub mod ContextLimits
 pub mod StatusLimits
-pub mod ExitCodes
 pub mod Listed
 pub mod Statuses
 pub mod Live

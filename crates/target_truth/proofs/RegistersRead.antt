@@ -1,15 +1,17 @@
 -- Registers that are answered: what is read of their four bytes is so.
-use Rattle.std.proofs.Common.{◌≡◌, ℕ, zero, suc, ◌<◌, ◌^◌, ◌==◌, cond, List, [], ◌∷◌, length, drop, Option, Some, None, refl, sym, ◌∙◌, ap, subst, arith, length-take, length-drop}
+use Rattle.std.proofs.Common.{◌≡◌, ℕ, zero, suc, ◌<◌, ◌^◌, ◌==◌, cond, List, length, drop, Option, Some, None, refl, sym, ◌∙◌, ap, subst, arith, length-take, length-drop}
 use Rattle.std.proofs.lemmas.Bool.{and_from, cond-true, cond_both, eq-eqb, eqb-true, le-leb}
 use Rattle.std.proofs.lemmas.List.{take_all}
 use Rattle.std.proofs.lemmas.Nat.{from_le_bytes-to_le_bytes_4}
 use Rattle.std.specs.Int.{w32, from_le_bytes}
 use Rattle.std.specs.List.{AllByRecursion}
-use Rattle.std.specs.Prelude.{nat_lt, slice_index}
+use Rattle.std.specs.Prelude.{nat_lt}
 use Rattle.data_services.specs.Bytes.{part_of, word_bytes}
 use Rattle.data_services.specs.Parts.{number_in}
 use Rattle.knowledge.specs.Changes.{register_read}
 use Rattle.knowledge.specs.Rows.{whole_read, word_read}
+use Rattle.rv32i_core.proofs.TheLaws.{reads_are_words}
+use Rattle.rv32i_core.specs.Laws.{IsCpu, IsWord}
 use Rattle.rv32i_core.specs.Registers.{register_of as number_of}
 use Rattle.rv32i_core.specs.declared.registers.Cpu.{Cpu}
 use Rattle.target_contexts.specs.declared.process.Process.{Process}
@@ -17,21 +19,13 @@ use Rattle.target_hub.specs.declared.target.Target.{Target}
 use Rattle.target_truth.proofs.Changes.{IsSo}
 use Rattle.target_truth.proofs.Holders.{IsHeld}
 use Rattle.target_truth.proofs.Seen.{number_seen}
-use Rattle.target_truth.proofs.Whole.{IsCpu}
 use Rattle.tcf_values.specs.Ids.{register_of}
 use Rattle.tcf_values.specs.declared.ids.RegisterId.{RegisterId}
 use Rattle.list_laws.proofs.AllLists.{all_if}
 
-at_index : (xs : List ℕ) (i : ℕ) → AllByRecursion (λ number. number < 2 ^ 32) xs → slice_index xs i < 2 ^ 32
-at_index [] i all = omega arith
-at_index (x ∷ xs) zero all = all.0
-at_index (x ∷ xs) (suc i) all = at_index xs i all.1
-
 pub number_small : (index : ℕ) (cpu : Cpu) → IsCpu cpu → number_in index cpu < 2 ^ 32
 number_small index cpu is =
-    let IsSmall : ℕ → Type 0 = λ number. number < 2 ^ 32 in
-    cond_both (nat_lt index 32) (number_of index cpu) cpu.pc IsSmall
-    (λ low. cond_both (index == 0) 0 (slice_index cpu.x index) IsSmall (λ zero. omega arith) (λ other. at_index cpu.x index is.registers)) (λ high. is.pc)
+    cond_both (nat_lt index 32) (number_of index cpu) cpu.pc IsWord (λ low. reads_are_words index cpu is) (λ high. is.pc)
 
 pub word_four : (number : ℕ) → length (word_bytes number) ≡ 4
 unfolding word_bytes

@@ -1,5 +1,5 @@
 -- The commands of RunControl and Processes that change something: their events tell it.
-use Rattle.std.proofs.Common.{◌≡◌, ℕ, ◌<◌, ◌≤◌, ◌^◌, ◌++◌, Bool, true, false, cond, List, [], length, Option, Some, None, option_map, refl, sym, subst, arith, lit<}
+use Rattle.std.proofs.Common.{◌≡◌, ℕ, ◌<◌, ◌≤◌, ◌^◌, ◌++◌, nat_le, nat_lt, Bool, true, false, cond, List, [], length, Option, Some, None, IfSome, option_map, refl, sym, subst, arith, lit<}
 use Rattle.std.specs.Prelude.{ℤ}
 use Rattle.std.specs.List.{AllByRecursion}
 use Rattle.std.proofs.lemmas.Bool.{ltb-false}
@@ -10,20 +10,27 @@ use Rattle.run_control.specs.Asking.{process_fault}
 use Rattle.run_control.specs.Naming.{process_named}
 use Rattle.run_control.specs.Steering.{left_by, resume_after, resume_fault, suspend_after, suspend_events, suspend_fault, with_state}
 use Rattle.run_control.specs.Telling.{added_events, changed_events, resumed_events, statuses_in, stop_events, suspended_events}
+use Rattle.command_tables.specs.Canonical.{AreBytes}
 use Rattle.target_contexts.specs.Images.{image_of}
+use Rattle.target_contexts.specs.Laws.{AgreeBut}
+use Rattle.target_contexts.specs.Live.{process_of}
 use Rattle.target_contexts.specs.Named.{is_suspended, number_named, thread_named}
 use Rattle.target_contexts.specs.Starting.{first_state, new_process, refusal_for, suspended_text, with_started}
+use Rattle.target_contexts.specs.TargetsValue.{TargetsValue}
+use Rattle.target_contexts.specs.Whole.{IsWhole}
 use Rattle.target_contexts.specs.declared.process.Image.{Image}
 use Rattle.target_contexts.specs.declared.process.Process.{Process}
 use Rattle.target_contexts.specs.declared.targets.StartRefusal.TheVariants as refusals
+use Rattle.target_contexts.specs.declared.process.ThreadState.{ThreadState}
 use Rattle.target_contexts.specs.declared.process.ThreadState.TheVariants.{Running, Suspended}
 use Rattle.target_hub.specs.Execution.{exec_after, exec_effect}
 use Rattle.target_hub.specs.declared.target.Target.{Target}
 use Rattle.target_truth.specs.Holds.{process_in}
-use Rattle.target_contexts.proofs.TheLaws.{starts_one}
+use Rattle.target_contexts.proofs.TheLaws.{start_is_whole, start_stands, starts_one}
 use Rattle.target_truth.proofs.Becoming.{change_stays, changed, rests, stays, stays_attached, with_contexts}
 use Rattle.target_truth.proofs.Live.{number_found, next_unused, none_found}
 use Rattle.target_truth.proofs.First.{came, switched}
+use Rattle.target_truth.proofs.FitRun.{found_image}
 use Rattle.target_truth.proofs.Statuses.{statuses_told}
 use Rattle.target_truth.proofs.Tells.{IsTold, Tell}
 use Rattle.target_truth.proofs.Faults.{by_fault, check_passed}
@@ -96,48 +103,62 @@ terminate_process channel id target good =
 -- ---- start
 
 -- of an attached process its suspension is told behind it, and of another nothing
-first_told : (number : ℕ) (now : Target) (image : Image) (attach : Bool) → IsNumber number → process_in number now ≡ Some (new_process attach image)
-    → AllByRecursion (IsTold now now) (statuses_in now.breakpoints now.contexts)
-    → AllByRecursion (IsTold now now) (stop_events number 0 (first_state attach) ++ statuses_in now.breakpoints now.contexts)
-first_told number now image true is there statuses =
-    (stopped_told number now now _ _ suspended_text [] is (lit< tt) (rests number now (new_process true image) there) refl, statuses)
-first_told number now image false is there statuses = statuses
+first_told : (number : ℕ) (now : Target) (process : Process) (attach : Bool) → IsNumber number → process_in number now ≡ Some process
+    → process.cpu.pc < 2 ^ 32 → process.state ≡ first_state attach → AllByRecursion (IsTold now now) (statuses_in now.breakpoints now.contexts)
+    → AllByRecursion (IsTold now now) (stop_events number process.cpu.pc (first_state attach) ++ statuses_in now.breakpoints now.contexts)
+first_told number now process true is there pc state statuses =
+    (stopped_told number now now process process suspended_text [] is pc (rests number now process there) state, statuses)
+first_told number now process false is there pc state statuses = statuses
 
--- no refusal is due, so there is a number left
-room : (full large spent : Bool) → option_map start_fault_for (cond full (Some refusals.Full) (cond large (Some refusals.Size) (cond spent (Some refusals.Numbers) None))) ≡ None → spent ≡ false
-room true large spent none = absurd cc
-room false true spent none = absurd cc
-room false false true none = absurd cc
-room false false false none = refl
-
-start_of : (image : Option Image) (attach : Bool) (target : Target) → IsGood target
-    → option_map start_fault_for (refusal_for image (length target.contexts.processes) target.contexts.next) ≡ None
-    → Tell target (with_contexts (with_started attach target.contexts image) target) (start_events target.breakpoints target.contexts.next (with_started attach target.contexts image))
-start_of None attach target good none = absurd cc
-start_of (Some image) attach target good none =
+-- whatever process it is that starts
+started_told : (attach : Bool) (process : Process) (contexts : TargetsValue) (target : Target) → IsGood target → IsNumber target.contexts.next → IsWhole process
+    → process.state ≡ first_state attach → process_of target.contexts.next contexts.processes ≡ Some process
+    → AgreeBut target.contexts.next target.contexts.processes contexts.processes
+    → Tell target (with_contexts contexts target) (start_events target.breakpoints target.contexts.next contexts)
+started_told attach process contexts target good is whole state there others =
     let next = target.contexts.next in
-    let process = new_process attach image in
-    let contexts = with_started attach target.contexts (Some image) in
     let now = with_contexts contexts target in
-    let in_order = good.consistent.processes in
-    let starts = starts_one target.contexts.processes next process in_order in
-    let least : 0 < next = below target.contexts.processes 0 next in_order.rising in
-    let most : next ≤ 4294967295 = ltb-false 4294967295 next (room _ _ _ none) in
-    let is : IsNumber next = (omega arith, omega arith) in
-    subst (λ (o : Option Process). Tell target now (added_events next o ++ (suspended_events next o ++ statuses_in target.breakpoints contexts))) (sym starts.0) (
+    let statuses = statuses_told now good.consistent.breakpoints.differ in
+    subst (λ (o : Option Process). Tell target now (added_events next o ++ (suspended_events next o ++ statuses_in target.breakpoints contexts))) (sym there) (
       record {
         limits = (process_fits next process, (thread_fits next process, tt));
         typed = tt;
-        leads = came next target now process is (record { others = starts.1; breakpoints = refl }) (none_found next target.contexts.processes (next_unused next target.contexts.processes in_order)) starts.0;
+        leads = came next target now process is (record { others = others; breakpoints = refl })
+            (none_found next target.contexts.processes (next_unused next target.contexts.processes good.consistent.processes)) there;
       },
-      first_told next now image attach is starts.0 (statuses_told now good.consistent.breakpoints.differ),
+      subst (λ (s : ThreadState). AllByRecursion (IsTold now now) (stop_events next process.cpu.pc s ++ statuses_in now.breakpoints now.contexts)) (sym state)
+          (first_told next now process attach is there whole.cpu.pc state statuses),
     )
+
+-- no refusal is due, so it fits into memory and there is a number left
+room : (full large spent : Bool) → option_map start_fault_for (cond full (Some refusals.Full) (cond large (Some refusals.Size) (cond spent (Some refusals.Numbers) None))) ≡ None
+    → (large ≡ false) × (spent ≡ false)
+room true large spent none = absurd cc
+room false true spent none = absurd cc
+room false false true none = absurd cc
+room false false false none = (refl, refl)
+
+start_of : (image : Option Image) (attach : Bool) (target : Target) → IsGood target → IfSome image (λ found. AreBytes found.bytes)
+    → option_map start_fault_for (refusal_for image (length target.contexts.processes) target.contexts.next) ≡ None
+    → Tell target (with_contexts (with_started attach target.contexts image) target) (start_events target.breakpoints target.contexts.next (with_started attach target.contexts image))
+start_of None attach target good are none = absurd cc
+start_of (Some image) attach target good are none =
+    let next = target.contexts.next in
+    let in_order = good.consistent.processes in
+    let process = new_process attach image in
+    let starts = starts_one target.contexts.processes next process in_order in
+    let least : 0 < next = below target.contexts.processes 0 next in_order.rising in
+    let fits = room (nat_le 64 (length target.contexts.processes)) (nat_lt 65536 (length image.bytes)) (nat_lt 4294967295 next) none in
+    let most : next ≤ 4294967295 = ltb-false 4294967295 next fits.1 in
+    let whole = start_is_whole attach image are (ltb-false 65536 (length image.bytes) fits.0) in
+    started_told attach process (with_started attach target.contexts (Some image)) target good (omega arith, omega arith) whole (start_stands attach image) starts.0 starts.1
 
 pub start : (channel : ℕ) (directory file : List ℕ) (args environment : List (List ℕ)) (attach : Bool) (target : Target) → IsGood target
     → Tells channel (commands.ProcStart directory file args environment attach) target
 unfolding exec_after exec_effect
 start channel directory file args environment attach target good =
-    by_fault (start_fault file target.contexts) target _ _ (start_of (image_of file target.contexts.images) attach target good)
+    by_fault (start_fault file target.contexts) target _ _
+    (start_of (image_of file target.contexts.images) attach target good (found_image file target.contexts.images good.images))
 
 -- ---- attach and detach
 

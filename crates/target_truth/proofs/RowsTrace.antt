@@ -4,6 +4,8 @@ use Rattle.std.specs.Prelude.{ℤ, is_none, unsigned_abs}
 use Rattle.std.specs.List.{AllByRecursion}
 use Rattle.std.specs.Option.{option_map_or}
 use Rattle.std.proofs.lemmas.Option.{none-some}
+use Rattle.rv32i_core.proofs.TheLaws.{ends_are_signed, steps_stay_within}
+use Rattle.rv32i_core.specs.Laws.{LeavesWhole}
 use Rattle.rv32i_core.specs.Machine.{Step, goes_on, ends, excepts, machine}
 use Rattle.run_control.specs.Commands.{left_of, trace_given}
 use Rattle.run_control.specs.Executing.{hits_at, step_text, stepped, stepped_by}
@@ -13,6 +15,7 @@ use Rattle.run_control.specs.Tracing.{last_hits, last_of, next_by, next_of, run_
 use Rattle.target_contexts.specs.Changes.{with_change}
 use Rattle.target_contexts.specs.Live.{process_of}
 use Rattle.target_contexts.specs.Named.{process_at_number, runs, thread_named}
+use Rattle.target_contexts.specs.Whole.{IsWhole}
 use Rattle.target_contexts.specs.declared.process.Process.{Process}
 use Rattle.target_contexts.specs.declared.process.ThreadState.{ThreadState}
 use Rattle.target_contexts.specs.declared.process.ThreadState.TheVariants.{Running, Suspended}
@@ -21,14 +24,12 @@ use Rattle.target_hub.specs.Passing.{tick_told, ticked}
 use Rattle.target_hub.specs.declared.target.Target.{Target}
 use Rattle.target_truth.specs.Holds.{process_in}
 use Rattle.target_truth.proofs.Becoming.{changed, with_contexts}
-use Rattle.target_truth.proofs.Machine.{IsStep, machine_whole}
 use Rattle.target_truth.proofs.RowsRun.{Tells}
 use Rattle.target_truth.proofs.Settling.{Executes, settles, stops_settle}
 use Rattle.target_truth.proofs.Faults.{by_fault, check_passed}
 use Rattle.target_truth.proofs.Telling.{if_there}
 use Rattle.target_truth.proofs.Tells.{Tell}
-use Rattle.target_truth.proofs.ExitCodes.{machine_fits}
-use Rattle.target_truth.proofs.Whole.{IsGood, IsWhole}
+use Rattle.target_truth.proofs.Whole.{IsGood}
 use Rattle.tcf_values.specs.OptionLaws.{some_same}
 use Rattle.tcf_values.specs.declared.command.Command.TheVariants as commands
 use Rattle.tcf_values.specs.declared.event.EventData.{EventData}
@@ -43,7 +44,7 @@ record Follows (first next : Process) : Type 0 where
   attached : next.attached ≡ first.attached
   whole : IsWhole next
 
-next_follows : (first process : Process) (step : Step) → IsStep step → Follows first process → IfSome (next_by step process) (Follows first)
+next_follows : (first process : Process) (step : Step) → LeavesWhole step → Follows first process → IfSome (next_by step process) (Follows first)
 next_follows first process (goes_on cpu memory) is follows = record { name = follows.name; attached = follows.attached; whole = record { cpu = is.0; memory = is.1 } }
 next_follows first process (ends code) is follows = tt
 next_follows first process excepts is follows = tt
@@ -56,7 +57,7 @@ from_next first count (Some process) follows each = (follows, each process follo
 all_follow : (first : Process) (count : ℕ) (process : Process) → Follows first process → AllByRecursion (Follows first) (run_from count process)
 all_follow first zero process follows = tt
 all_follow first (suc count) process follows =
-    from_next first count (next_of process) (next_follows first process (machine process.cpu process.memory) (machine_whole process.cpu process.memory follows.whole.cpu follows.whole.memory) follows)
+    from_next first count (next_of process) (next_follows first process (machine process.cpu process.memory) (steps_stay_within process.cpu process.memory follows.whole.cpu follows.whole.memory) follows)
     (λ next is. all_follow first count next is)
 
 hit_follow : (first : Process) (bps : List (ℕ × BpProps)) (number : ℕ) (states : List Process) → AllByRecursion (Follows first) states → AllByRecursion (Follows first) (up_to_hit bps number states)
@@ -115,7 +116,7 @@ record Steps (process next : Process) : Type 0 where
   attached : next.attached ≡ process.attached
   pc : next.cpu.pc < 2 ^ 32
 
-steps : (process : Process) (step : Step) → IsStep step → IsWhole process → Steps process (stepped_by step process)
+steps : (process : Process) (step : Step) → LeavesWhole step → IsWhole process → Steps process (stepped_by step process)
 steps process (goes_on cpu memory) is whole = record { name = refl; attached = refl; pc = is.0.pc }
 steps process (ends code) is whole = record { name = refl; attached = refl; pc = whole.cpu.pc }
 steps process excepts is whole = record { name = refl; attached = refl; pc = whole.cpu.pc }
@@ -128,7 +129,7 @@ tick_found number target (Some old) good there =
     let whole = good.whole number old there in
     let step = machine old.cpu old.memory in
     let contexts = with_change stepped number target.contexts in
-    let is = steps old step (machine_whole old.cpu old.memory whole.cpu whole.memory) whole in
+    let is = steps old step (steps_stay_within old.cpu old.memory whole.cpu whole.memory) whole in
     let executes : Executes number target contexts old (stepped old) = record {
       there = there;
       becomes = changed stepped number target.contexts old there;
@@ -136,7 +137,7 @@ tick_found number target (Some old) good there =
       attached = is.attached;
       pc = is.pc;
     } in
-    settles number target contexts old (stepped old) (counted old.state) old.attached step good executes (counted_runs old.state) (machine_fits old.cpu old.memory)
+    settles number target contexts old (stepped old) (counted old.state) old.attached step good executes (counted_runs old.state) (ends_are_signed old.cpu old.memory)
 
 tick_by : (target : Target) (number : Option ℕ) (events : List EventData) → IsGood target → option_map (λ n. ticked_events target.breakpoints n target.contexts) number ≡ Some events
     → Tell target (with_contexts (option_map_or (λ n. ticked_number target.breakpoints n target.contexts) number target.contexts) target) events

@@ -7,6 +7,8 @@ use Rattle.run_control.specs.Executing.{breakpoint_text, exception_code, excepti
 use Rattle.run_control.specs.Steering.{with_state}
 use Rattle.run_control.specs.Telling.{suspended_events}
 use Rattle.run_control.specs.Tracing.{halt_by, stop_by}
+use Rattle.rv32i_core.proofs.TheLaws.{ends_are_signed}
+use Rattle.rv32i_core.specs.Laws.{EndsSigned}
 use Rattle.rv32i_core.specs.Machine.{Step, goes_on, ends, excepts, machine}
 use Rattle.target_contexts.specs.Changes.{with_change}
 use Rattle.target_contexts.specs.Live.{process_of}
@@ -22,9 +24,8 @@ use Rattle.target_truth.proofs.Live.{number_found}
 use Rattle.target_truth.proofs.Silent.{ran_on}
 use Rattle.target_truth.proofs.Telling.{Ended, end_told, ended, stopped_told}
 use Rattle.target_truth.proofs.Tells.{Tell}
-use Rattle.target_truth.proofs.ExitCodes.{machine_fits}
 use Rattle.target_truth.proofs.Whole.{IsGood}
-use Rattle.target_hub.proofs.Told.{StepFits}
+use Rattle.target_hub.proofs.Told.{code_fits}
 
 -- ---- a process that executed: it is still the one that was started, and its pc is a number of 32 bits
 
@@ -78,9 +79,9 @@ SettlesHalt number target contexts plain attached step =
     Tell target (with_contexts (settled number fate contexts) target) (settled_events target.breakpoints number fate (settled number fate contexts))
 
 halts_settle : (number : ℕ) (target : Target) (contexts : TargetsValue) (old new : Process) (plain : ThreadState) (attached : Bool) (step : Step) → IsGood target
-    → Executes number target contexts old new → (runs plain ≡ true → runs old.state ≡ true) → StepFits step → SettlesHalt number target contexts plain attached step
+    → Executes number target contexts old new → (runs plain ≡ true → runs old.state ≡ true) → EndsSigned step → SettlesHalt number target contexts plain attached step
 halts_settle number target contexts old new plain attached (goes_on cpu memory) good executes ran fits = lives number target contexts old new plain good executes ran
-halts_settle number target contexts old new plain attached (ends code) good executes ran fits = ends_so number target contexts old new code good executes fits
+halts_settle number target contexts old new plain attached (ends code) good executes ran fits = ends_so number target contexts old new code good executes (code_fits code fits)
 halts_settle number target contexts old new plain true excepts good executes ran fits = suspends number target contexts old new exception_text [] good executes
 halts_settle number target contexts old new plain false excepts good executes ran fits = ends_so number target contexts old new exception_code good executes (lit< {m = 1} {n = 2 ^ 63} tt)
 
@@ -100,7 +101,7 @@ hits_settle number target contexts old new plain attached [] good executes ran =
 hits_settle number target contexts old new plain attached (hit ∷ hits) good executes ran = suspends number target contexts old new breakpoint_text (hit ∷ hits) good executes
 
 pub settles : (number : ℕ) (target : Target) (contexts : TargetsValue) (old new : Process) (plain : ThreadState) (attached : Bool) (step : Step) → IsGood target
-    → Executes number target contexts old new → (runs plain ≡ true → runs old.state ≡ true) → StepFits step → Settles number target contexts plain attached old step
+    → Executes number target contexts old new → (runs plain ≡ true → runs old.state ≡ true) → EndsSigned step → Settles number target contexts plain attached old step
 settles number target contexts old new plain attached (goes_on cpu memory) good executes ran fits =
     hits_settle number target contexts old new plain attached (hits_at target.breakpoints number (record old { cpu = cpu; memory = memory })) good executes ran
 settles number target contexts old new plain attached step good executes ran fits = halts_settle number target contexts old new plain attached step good executes ran fits
@@ -117,4 +118,4 @@ pub stops_settle : (number : ℕ) (target : Target) (contexts : TargetsValue) (o
 stops_settle number target contexts old new plain attached (hit ∷ hits) all last good executes ran = suspends number target contexts old new breakpoint_text (hit ∷ hits) good executes
 stops_settle number target contexts old new plain attached [] true last good executes ran = lives number target contexts old new plain good executes ran
 stops_settle number target contexts old new plain attached [] false last good executes ran =
-    halts_settle number target contexts old new plain attached (machine last.cpu last.memory) good executes ran (machine_fits last.cpu last.memory)
+    halts_settle number target contexts old new plain attached (machine last.cpu last.memory) good executes ran (ends_are_signed last.cpu last.memory)

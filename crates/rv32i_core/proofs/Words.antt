@@ -7,15 +7,15 @@ use Rattle.std.proofs.Math.Dec.{lit<}
 use Rattle.std.proofs.Math.Nat.{pow-le-pow_right}
 use Rattle.rv32i_core.specs.Bytes.{halfword_at, word_at}
 use Rattle.rv32i_core.specs.Integers.{amount, immediate_result, one_if, operation_result, shifted_right, shifted_right_signed, unsigned}
+use Rattle.rv32i_core.specs.Laws.{IsWord}
 use Rattle.rv32i_core.specs.Word.{sign_extended}
 use Rattle.rv32i_core.specs.declared.instructions.ImmKind.{ImmKind}
 use Rattle.rv32i_core.specs.declared.instructions.ImmKind.TheVariants.{Addi, Slti, Sltiu, Xori, Ori, Andi, Slli, Srli, Srai}
 use Rattle.rv32i_core.specs.declared.instructions.OpKind.{OpKind}
 use Rattle.rv32i_core.specs.declared.instructions.OpKind.TheVariants.{Add, Sub, Sll, Slt, Sltu, Xor, Srl, Sra, Or, And}
-use Rattle.command_tables.specs.Canonical.{AreBytes}
 
-abbrev pub IsWord : ℕ → Type 0
-IsWord number = number < 2 ^ 32
+abbrev pub AreBytes : List ℕ → Type 0
+AreBytes bytes = AllByRecursion (λ byte. byte < 256) bytes
 
 -- ---- places of lists
 

@@ -5,8 +5,9 @@ use Rattle.std.proofs.Math.ListN.{length-set}
 use Rattle.std.proofs.lemmas.Nat.{mod_below}
 use Rattle.std.proofs.Math.Dec.{lit<}
 use Rattle.rv32i_core.specs.Bytes.{byte_at, halfword_at, is_inside, with_byte, with_halfword, with_word, word_at}
+use Rattle.rv32i_core.specs.Laws.{IsCpu, IsMemory, IsWord, LeavesWhole}
 use Rattle.rv32i_core.specs.Listing.{instruction_of}
-use Rattle.rv32i_core.specs.Machine.{Step, decoded_step, effect, ends, excepts, goes_on, is_taken, jump_step, load_step, loaded, machine, next_step, store_step, stored}
+use Rattle.rv32i_core.specs.Machine.{decoded_step, effect, ends, excepts, goes_on, is_taken, jump_step, load_step, loaded, machine, next_step, store_step, stored}
 use Rattle.rv32i_core.specs.Registers.{following, register_of, with_register}
 use Rattle.rv32i_core.specs.declared.instructions.Instruction.{Instruction}
 use Rattle.rv32i_core.specs.declared.instructions.Instruction.TheVariants.{Lui, Auipc, Jal, Jalr, Load, ImmOp, Branch, Store, Op, Fence, Ecall, Ebreak}
@@ -15,15 +16,8 @@ use Rattle.rv32i_core.specs.declared.instructions.LoadKind.TheVariants.{Lb, Lh, 
 use Rattle.rv32i_core.specs.declared.instructions.StoreKind.{StoreKind}
 use Rattle.rv32i_core.specs.declared.instructions.StoreKind.TheVariants.{Sb, Sh, Sw}
 use Rattle.rv32i_core.specs.declared.registers.Cpu.{Cpu}
-use Rattle.command_tables.specs.Canonical.{AreBytes}
-use Rattle.target_truth.proofs.Immediates.{HasWord, word_given}
-use Rattle.target_truth.proofs.Whole.{IsCpu, IsMemory}
-use Rattle.target_truth.proofs.Words.{IsWord, byte_below, extended_below, halfword_below, immediate_below, number_below, operation_below, rest_below, word_below}
-
-abbrev pub IsStep : Step → Type 0
-IsStep (goes_on cpu memory) = IsCpu cpu × IsMemory memory
-IsStep (ends code) = Unit {0}
-IsStep excepts = Unit {0}
+use Rattle.rv32i_core.proofs.Immediates.{HasWord, word_given}
+use Rattle.rv32i_core.proofs.Words.{AreBytes, byte_below, extended_below, halfword_below, immediate_below, number_below, operation_below, rest_below, word_below}
 
 -- ---- registers
 
@@ -74,27 +68,27 @@ word_whole place n memory is = halfword_whole (place + 2) (n / 2 ^ 16) (with_hal
 
 -- ---- steps
 
-next_whole : (cpu : Cpu) (memory : List ℕ) → IsCpu cpu → IsMemory memory → IsStep (next_step cpu memory)
+next_whole : (cpu : Cpu) (memory : List ℕ) → IsCpu cpu → IsMemory memory → LeavesWhole (next_step cpu memory)
 next_whole cpu memory is also = (moved_whole (following cpu) cpu is (rest_below (cpu.pc + 4)), also)
 
 result_whole : (rd value : ℕ) (cpu : Cpu) (memory : List ℕ) → IsCpu cpu → IsMemory memory → IsWord value
-    → IsStep (goes_on (record (with_register rd value cpu) { pc = following cpu }) memory)
+    → LeavesWhole (goes_on (record (with_register rd value cpu) { pc = following cpu }) memory)
 result_whole rd value cpu memory is also below = (moved_whole (following cpu) (with_register rd value cpu) (written_whole rd value cpu is below) (rest_below (cpu.pc + 4)), also)
 
 jump_by : (is_fit : Bool) (target : ℕ) (cpu : Cpu) (memory : List ℕ) → IsCpu cpu → IsMemory memory → IsWord target
-    → IsStep (cond is_fit (goes_on (record cpu { pc = target }) memory) excepts)
+    → LeavesWhole (cond is_fit (goes_on (record cpu { pc = target }) memory) excepts)
 jump_by true target cpu memory is also below = (moved_whole target cpu is below, also)
 jump_by false target cpu memory is also below = tt
 
-jump_whole : (target : ℕ) (cpu : Cpu) (memory : List ℕ) → IsCpu cpu → IsMemory memory → IsWord target → IsStep (jump_step target cpu memory)
+jump_whole : (target : ℕ) (cpu : Cpu) (memory : List ℕ) → IsCpu cpu → IsMemory memory → IsWord target → LeavesWhole (jump_step target cpu memory)
 jump_whole target cpu memory is also below = jump_by (target % 4 == 0) target cpu memory is also below
 
-link_whole : (rd target : ℕ) (cpu : Cpu) (memory : List ℕ) → IsCpu cpu → IsMemory memory → IsWord target → IsStep (jump_step target (with_register rd (following cpu) cpu) memory)
+link_whole : (rd target : ℕ) (cpu : Cpu) (memory : List ℕ) → IsCpu cpu → IsMemory memory → IsWord target → LeavesWhole (jump_step target (with_register rd (following cpu) cpu) memory)
 link_whole rd target cpu memory is also below =
     jump_whole target (with_register rd (following cpu) cpu) memory (written_whole rd (following cpu) cpu is (rest_below (cpu.pc + 4))) also below
 
 branch_by : (takes : Bool) (target : ℕ) (cpu : Cpu) (memory : List ℕ) → IsCpu cpu → IsMemory memory → IsWord target
-    → IsStep (cond takes (jump_step target cpu memory) (next_step cpu memory))
+    → LeavesWhole (cond takes (jump_step target cpu memory) (next_step cpu memory))
 branch_by true target cpu memory is also below = jump_whole target cpu memory is also below
 branch_by false target cpu memory is also below = next_whole cpu memory is also
 
@@ -111,7 +105,7 @@ loaded_below Lw place memory are = value_by (is_inside 4 place) _ (word_below me
 loaded_below Lbu place memory are = value_by (is_inside 1 place) _ (omega (arith, byte_below memory place are))
 loaded_below Lhu place memory are = value_by (is_inside 2 place) _ (omega (arith, halfword_below memory place are))
 
-load_by : (found : Option ℕ) (rd : ℕ) (cpu : Cpu) (memory : List ℕ) → IsCpu cpu → IsMemory memory → IfSome found IsWord → IsStep (load_step rd found cpu memory)
+load_by : (found : Option ℕ) (rd : ℕ) (cpu : Cpu) (memory : List ℕ) → IsCpu cpu → IsMemory memory → IfSome found IsWord → LeavesWhole (load_step rd found cpu memory)
 load_by None rd cpu memory is also below = tt
 load_by (Some value) rd cpu memory is also below = result_whole rd value cpu memory is also below
 
@@ -124,20 +118,20 @@ stored_whole Sb place n memory is = memory_by (is_inside 1 place) _ (byte_whole 
 stored_whole Sh place n memory is = memory_by (is_inside 2 place) _ (halfword_whole place n memory is)
 stored_whole Sw place n memory is = memory_by (is_inside 4 place) _ (word_whole place n memory is)
 
-store_by : (left : Option (List ℕ)) (cpu : Cpu) → IsCpu cpu → IfSome left IsMemory → IsStep (store_step left cpu)
+store_by : (left : Option (List ℕ)) (cpu : Cpu) → IsCpu cpu → IfSome left IsMemory → LeavesWhole (store_step left cpu)
 store_by None cpu is also = tt
 store_by (Some memory) cpu is also = next_whole cpu memory is also
 
 -- ---- each instruction
 
-call_by : (ends_it : Bool) (code : ℤ) → IsStep (cond ends_it (ends code) excepts)
+call_by : (ends_it : Bool) (code : ℤ) → LeavesWhole (cond ends_it (ends code) excepts)
 call_by true code = tt
 call_by false code = tt
 
 even_below : (n : ℕ) → IsWord n → IsWord (n - n % 2)
 even_below n below = omega arith
 
-effect_whole : (instruction : Instruction) (cpu : Cpu) (memory : List ℕ) → IsCpu cpu → IsMemory memory → HasWord instruction → IsStep (effect instruction cpu memory)
+effect_whole : (instruction : Instruction) (cpu : Cpu) (memory : List ℕ) → IsCpu cpu → IsMemory memory → HasWord instruction → LeavesWhole (effect instruction cpu memory)
 effect_whole (ImmOp kind rd rs1 imm) cpu memory is also has =
     result_whole rd _ cpu memory is also (immediate_below kind (register_of rs1 cpu) imm (read_below rs1 cpu is) has)
 effect_whole (Lui rd imm) cpu memory is also has = result_whole rd _ cpu memory is also has
@@ -154,15 +148,15 @@ effect_whole Fence cpu memory is also has = next_whole cpu memory is also
 effect_whole Ecall cpu memory is also has = call_by (register_of 17 cpu == 93) _
 effect_whole Ebreak cpu memory is also has = tt
 
-decoded_whole : (instruction : Option Instruction) (cpu : Cpu) (memory : List ℕ) → IsCpu cpu → IsMemory memory → IfSome instruction HasWord → IsStep (decoded_step instruction cpu memory)
+decoded_whole : (instruction : Option Instruction) (cpu : Cpu) (memory : List ℕ) → IsCpu cpu → IsMemory memory → IfSome instruction HasWord → LeavesWhole (decoded_step instruction cpu memory)
 decoded_whole None cpu memory is also has = tt
 decoded_whole (Some instruction) cpu memory is also has = effect_whole instruction cpu memory is also has
 
 machine_by : (is_there : Bool) (cpu : Cpu) (memory : List ℕ) → IsCpu cpu → IsMemory memory
-    → IsStep (cond is_there (decoded_step (instruction_of (word_at memory cpu.pc)) cpu memory) excepts)
+    → LeavesWhole (cond is_there (decoded_step (instruction_of (word_at memory cpu.pc)) cpu memory) excepts)
 machine_by true cpu memory is also = decoded_whole (instruction_of (word_at memory cpu.pc)) cpu memory is also (word_given (word_at memory cpu.pc))
 machine_by false cpu memory is also = tt
 
-pub machine_whole : (cpu : Cpu) (memory : List ℕ) → IsCpu cpu → IsMemory memory → IsStep (machine cpu memory)
+pub machine_whole : (cpu : Cpu) (memory : List ℕ) → IsCpu cpu → IsMemory memory → LeavesWhole (machine cpu memory)
 unfolding machine
 machine_whole cpu memory is_cpu is_memory = machine_by (is_inside 4 cpu.pc) cpu memory is_cpu is_memory

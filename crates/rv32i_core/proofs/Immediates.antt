@@ -5,12 +5,13 @@ use Rattle.std.specs.List.{AllByRecursion}
 use Rattle.std.proofs.lemmas.Nat.{mod_below}
 use Rattle.std.proofs.Math.Dec.{lit<}
 use Rattle.rv32i_core.specs.Integers.{unsigned}
+use Rattle.rv32i_core.specs.Laws.{IsWord}
 use Rattle.rv32i_core.specs.Listing.{branches, entry_at, entry_under, immediate_operations, immediate_shifts, instruction_of, listing, loads, op_imm_row, operations, or_else, stores}
 use Rattle.rv32i_core.specs.Word.{bits, funct3_of, funct7_of, immediate_i, immediate_u, opcode_of, rd_of, rs1_of, rs2_of}
 use Rattle.rv32i_core.specs.declared.instructions.ImmKind.{ImmKind}
 use Rattle.rv32i_core.specs.declared.instructions.Instruction.{Instruction}
 use Rattle.rv32i_core.specs.declared.instructions.Instruction.TheVariants.{Lui, ImmOp, Ecall, Ebreak}
-use Rattle.target_truth.proofs.Words.{IsWord, extended_below}
+use Rattle.rv32i_core.proofs.Words.{extended_below}
 
 -- the immediates that go into a register as they are, or bit by bit
 abbrev pub HasWord : Instruction → Type 0

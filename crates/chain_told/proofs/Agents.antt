@@ -1,4 +1,3 @@
-pub mod Greetless
 pub mod Sending
 pub mod Answering
 pub mod Numbered

@@ -10,6 +10,7 @@ pub mod Small
 pub mod SmallGiven
 pub mod SmallAnswers
 pub mod Sends
+pub mod Greetless
 pub mod Histories
 pub mod Bounded
 pub mod TheLaws

@@ -1,12 +1,17 @@
 -- The laws of the target, over every target.
-use Rattle.std.specs.Prelude.{ℕ, ◌≡◌, false, []}
+use Rattle.std.specs.Prelude.{ℕ, ◌≡◌, false, List, [], IfSome}
+use Rattle.std.specs.List.{AllByRecursion}
 use Rattle.breakpoints.specs.Rows.{owned_by}
+use Rattle.command_tables.specs.declared.reading.Reading.{Reading}
 use Rattle.tcf_values.specs.Changing.{changes}
 use Rattle.tcf_values.specs.declared.answer.Answer.TheVariants.{Failed}
 use Rattle.tcf_values.specs.declared.command.Command.{Command}
 use Rattle.tcf_values.specs.declared.errors.ErrorReport.{ErrorReport}
+use Rattle.tcf_values.specs.declared.event.EventData.{EventData}
+use Rattle.tcf_values.specs.declared.ids.ContextId.{ContextId}
+use Rattle.target_hub.specs.Answering.{executed}
 use Rattle.target_hub.specs.Execution.{exec_after, exec_effect}
-use Rattle.target_hub.specs.Passing.{closed}
+use Rattle.target_hub.specs.Passing.{closed, closed_told, tick_told}
 use Rattle.target_hub.specs.declared.target.Target.{Target}
 
 -- a command that an error answers changes nothing, and no event tells of it
@@ -28,3 +33,22 @@ AskingIsTheSame = (one other : ℕ) (command : Command) (target : Target) → ch
 -- a channel that has gone owns no breakpoint
 abbrev pub GoneOwnsNothing : Type 0
 GoneOwnsNothing = (channel : ℕ) (target : Target) → owned_by channel (closed channel target).breakpoints ≡ []
+
+-- ---- no event of the target is a Hello, by which each end of a channel names its own services
+
+abbrev pub IsNoHello : EventData → Type 0
+IsNoHello (EventData.Hello services) = ⊥
+IsNoHello event = Unit {0}
+
+abbrev pub AreNoHello : List EventData → Type 0
+AreNoHello told = AllByRecursion IsNoHello told
+
+abbrev pub CommandsTellNoHello : Type 0
+CommandsTellNoHello = (channel : ℕ) (service name : List ℕ) (reading : Reading) (target : Target) →
+    AreNoHello (executed channel service name reading target).events
+
+abbrev pub TicksTellNoHello : Type 0
+TicksTellNoHello = (thread : ContextId) (target : Target) → IfSome (tick_told thread target) AreNoHello
+
+abbrev pub ClosingsTellNoHello : Type 0
+ClosingsTellNoHello = (channel : ℕ) (target : Target) → AreNoHello (closed_told channel target)

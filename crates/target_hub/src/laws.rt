@@ -1,6 +1,6 @@
 //! The laws of the target, over every target and over every history.
 ghost use Rattle.target_hub.specs.HistoryLaws.{ClosedOwnsNothing, StaysConsistent};
-ghost use Rattle.target_hub.specs.Laws.{AskingChangesNothing, AskingIsTheSame, FailureChangesNothing, GoneOwnsNothing};
+ghost use Rattle.target_hub.specs.Laws.{AskingChangesNothing, AskingIsTheSame, ClosingsTellNoHello, CommandsTellNoHello, FailureChangesNothing, GoneOwnsNothing, TicksTellNoHello};
 
 /// The law that a command that an error answers changes nothing, and that no event tells of it.
 pub fn a_failure_changes_nothing()
@@ -25,4 +25,12 @@ pub fn a_gone_channel_owns_nothing()
 pub fn every_history_is_consistent()
     ensures target { StaysConsistent }
     ensures closed { ClosedOwnsNothing }
+{}
+
+/// The law that no event that the target tells, by a command, by an instruction or by the closing of a channel, is a Hello,
+/// by which each end of a channel names its own services.
+pub fn no_event_is_a_hello()
+    ensures commands { CommandsTellNoHello }
+    ensures ticks { TicksTellNoHello }
+    ensures closings { ClosingsTellNoHello }
 {}

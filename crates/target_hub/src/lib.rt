@@ -18,7 +18,7 @@ pub use hub::Hub;
 pub use input::Input;
 pub use laws::{
     a_failure_changes_nothing, a_gone_channel_owns_nothing, asking_changes_nothing,
-    every_history_is_consistent,
+    every_history_is_consistent, no_event_is_a_hello,
 };
 pub use sendable::{every_history_is_bounded, what_is_told_can_be_sent};
 pub use target::Target;

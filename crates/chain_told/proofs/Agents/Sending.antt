@@ -21,7 +21,8 @@ use Rattle.target_hub.specs.declared.done.Done.{Done}
 use Rattle.target_hub.specs.declared.input.Input.{Input}
 use Rattle.target_hub.specs.declared.input.Input.TheVariants.{Opened, Executed, Ticked, Closed}
 use Rattle.target_hub.specs.declared.target.Target.{Target}
-use Rattle.chain_told.proofs.Agents.Greetless.{AreGreetless, IsNoGreeting, closed_greetless, executed_greetless, ticked_greetless}
+use Rattle.target_hub.proofs.TheLaws.{closings_tell_no_hello, commands_tell_no_hello, ticks_tell_no_hello}
+use Rattle.target_hub.specs.Laws.{AreNoHello, IsNoHello}
 use Rattle.list_laws.proofs.Flags.{or_neither, second_false, or_false as or_none}
 use Rattle.list_laws.proofs.AllLists.{all_append, all_each, all_map_then, all_test}
 
@@ -68,13 +69,13 @@ climbs_on position (told ∷ here) rest all further low below =
 
 -- ---- the messages of one input
 
-event_plain : (event : EventData) → IsNoGreeting event → is_hello (service_of (told_as event)) (name_of (told_as event)) ≡ false
+event_plain : (event : EventData) → IsNoHello event → is_hello (service_of (told_as event)) (name_of (told_as event)) ≡ false
 unfolding hello locator
 event_plain (EventData.Hello list) none = absurd none
 event_plain event none = refl
 
-events_at : (position : ℕ) (events : List EventData) → AreGreetless events → AllByRecursion (IsAt position) (events_told position events)
-events_at position events none = all_map_then (IsAt position) IsNoGreeting (event_told position) events (λ event plain. ((le_refl position, event_plain event plain), refl)) none
+events_at : (position : ℕ) (events : List EventData) → AreNoHello events → AllByRecursion (IsAt position) (events_told position events)
+events_at position events none = all_map_then (IsAt position) IsNoHello (event_told position) events (λ event plain. ((le_refl position, event_plain event plain), refl)) none
 
 answer_at : (position : ℕ) (through : Bool) (answer : Answered) → IsAt position (answer_told position through answer)
 answer_at position through Unknown = (le_refl position, refl)
@@ -87,7 +88,7 @@ caller_at position reading done =
     (all_each (λ (address : ℕ). Unit {0}) done.progress (λ address. tt)))
     (answer_at position (is_through reading) done.answer, tt)
 
-tick_at : (position : ℕ) (told : Option (List EventData)) → IfSome told AreGreetless → AllByRecursion (IsAt position) (tick_events_told position told)
+tick_at : (position : ℕ) (told : Option (List EventData)) → IfSome told AreNoHello → AllByRecursion (IsAt position) (tick_events_told position told)
 tick_at position None none = tt
 tick_at position (Some events) none = events_at position events none
 
@@ -97,10 +98,10 @@ told_at k position target (Opened channel) other =
 told_at k position target (Executed channel reading service name) other =
     let done = executed channel service name reading target in
     all_append (IsAt position) (events_told position done.events) (cond (channel == k) (caller_told position reading done) [])
-    (events_at position done.events (executed_greetless channel service name reading target))
+    (events_at position done.events (commands_tell_no_hello channel service name reading target))
     (all_test (IsAt position) (channel == k) (caller_told position reading done) [] (λ _. caller_at position reading done) (λ _. tt))
-told_at k position target (Ticked thread) other = tick_at position (tick_told thread target) (ticked_greetless thread target)
-told_at k position target (Closed channel) other = events_at position (closed_told channel target) (closed_greetless channel target)
+told_at k position target (Ticked thread) other = tick_at position (tick_told thread target) (ticks_tell_no_hello thread target)
+told_at k position target (Closed channel) other = events_at position (closed_told channel target) (closings_tell_no_hello channel target)
 
 live_at : (k : ℕ) (before : List Input) (target : Target) (input : Input) → opens k input ≡ false → AllByRecursion (IsAt (length before + 1)) (told_while_live k before target input)
 live_at k before target input other =

@@ -1,13 +1,11 @@
 -- The target tells no Hello: it tells of its processes, its breakpoints, its memory and its registers.
 use Rattle.std.proofs.Common.{ℕ, ℤ, pos, ◌==◌, length, Bool, true, false, cond, List, [], ◌∷◌, ◌++◌, Option, Some, None, option_map}
 use Rattle.std.specs.Prelude.{IfSome, int_lt, slice_get, unsigned_abs}
-use Rattle.std.specs.List.{AllByRecursion}
 use Rattle.breakpoints.specs.Changes.{changes_list, done}
 use Rattle.breakpoints.specs.Rows.{ids_of, owned_by}
 use Rattle.breakpoints.specs.Statuses.{statuses_of}
 use Rattle.breakpoints.specs.declared.breakpoints.BpDone.{BpDone}
 use Rattle.breakpoints.specs.declared.breakpoints.BpDone.TheVariants.{Changed, Failed}
-use Rattle.command_tables.specs.declared.reading.Reading.{Reading}
 use Rattle.command_tables.specs.declared.reading.Reading.TheVariants as readings
 use Rattle.data_services.specs.Commands.{data_effect, data_fault, data_given}
 use Rattle.data_services.specs.MemoryRows.{memory_events}
@@ -31,11 +29,10 @@ use Rattle.target_contexts.specs.TargetsValue.{TargetsValue}
 use Rattle.target_contexts.specs.declared.process.Process.{Process}
 use Rattle.target_contexts.specs.declared.process.ThreadState.{ThreadState}
 use Rattle.target_contexts.specs.declared.process.ThreadState.TheVariants.{Running, Suspended}
-use Rattle.target_hub.specs.Answering.{executed}
 use Rattle.target_hub.specs.BreakpointsRows as bp_rows
 use Rattle.target_hub.specs.BreakpointsRows.{ask_answer, ask_fault, breakpoints_effect, effect_of, removed_events, status_events}
 use Rattle.target_hub.specs.Execution.{effect_in, exec_effect}
-use Rattle.target_hub.specs.Passing.{closed_told, tick_told}
+use Rattle.target_hub.specs.Laws.{AreNoHello, ClosingsTellNoHello, CommandsTellNoHello, IsNoHello, TicksTellNoHello}
 use Rattle.target_hub.specs.declared.target.Target.{Target}
 use Rattle.tcf_values.specs.Effects.{effect_by, failed, gives}
 use Rattle.tcf_values.specs.declared.command.Command.{Command}
@@ -43,84 +40,76 @@ use Rattle.tcf_values.specs.declared.command.Command.TheVariants.{GetContext, Ge
 use Rattle.tcf_values.specs.declared.effect.Effect.{Effect}
 use Rattle.tcf_values.specs.declared.event.EventData.{EventData}
 use Rattle.tcf_values.specs.declared.faults.Fault.{Fault}
-use Rattle.tcf_values.specs.declared.ids.ContextId.{ContextId}
 use Rattle.tcf_values.specs.declared.values.BpProps.{BpProps}
 use Rattle.tcf_values.specs.declared.values.Location.{Location}
 use Rattle.list_laws.proofs.AllLists.{all_append}
 
-abbrev pub IsNoGreeting : EventData → Type 0
-IsNoGreeting (EventData.Hello list) = ⊥
-IsNoGreeting event = Unit {0}
-
-abbrev pub AreGreetless : List EventData → Type 0
-AreGreetless told = AllByRecursion IsNoGreeting told
-
 -- ---- lists of events
 
-three : (xs ys zs : List EventData) → AreGreetless xs → AreGreetless ys → AreGreetless zs → AreGreetless (xs ++ (ys ++ zs))
-three xs ys zs first second third = all_append IsNoGreeting xs (ys ++ zs) first (all_append IsNoGreeting ys zs second third)
+three : (xs ys zs : List EventData) → AreNoHello xs → AreNoHello ys → AreNoHello zs → AreNoHello (xs ++ (ys ++ zs))
+three xs ys zs first second third = all_append IsNoHello xs (ys ++ zs) first (all_append IsNoHello ys zs second third)
 
-either : (test : Bool) (one other : List EventData) → AreGreetless one → AreGreetless other → AreGreetless (cond test one other)
+either : (test : Bool) (one other : List EventData) → AreNoHello one → AreNoHello other → AreNoHello (cond test one other)
 either true one other first second = first
 either false one other first second = second
 
-of_number : (events : ℕ → List EventData) (named : Option ℕ) → ((number : ℕ) → AreGreetless (events number)) → AreGreetless (events_of events named)
+of_number : (events : ℕ → List EventData) (named : Option ℕ) → ((number : ℕ) → AreNoHello (events number)) → AreNoHello (events_of events named)
 of_number events None each = tt
 of_number events (Some number) each = each number
 
 -- a command that fails tells nothing
-none_told : (fault : Fault) → AreGreetless (failed fault).events
+none_told : (fault : Fault) → AreNoHello (failed fault).events
 unfolding failed
 none_told fault = tt
 
-by_fault : (fault : Option Fault) (given : Effect) → AreGreetless given.events → AreGreetless (effect_by fault given).events
+by_fault : (fault : Option Fault) (given : Effect) → AreNoHello given.events → AreNoHello (effect_by fault given).events
 by_fault None given all = all
 by_fault (Some fault) given all = none_told fault
 
 -- ---- of processes
 
-statuses_all : (attached : List ℕ) (rows : List (ℕ × BpProps)) → AreGreetless (statuses_of attached rows)
+statuses_all : (attached : List ℕ) (rows : List (ℕ × BpProps)) → AreNoHello (statuses_of attached rows)
 statuses_all attached [] = tt
 statuses_all attached (row ∷ rows) = (tt, statuses_all attached rows)
 
-statuses_told : (bps : List (ℕ × BpProps)) (targets : TargetsValue) → AreGreetless (statuses_in bps targets)
+statuses_told : (bps : List (ℕ × BpProps)) (targets : TargetsValue) → AreNoHello (statuses_in bps targets)
 statuses_told bps targets = statuses_all (attached_in targets.processes) bps
 
-added_told : (number : ℕ) (process : Option Process) → AreGreetless (added_events number process)
+added_told : (number : ℕ) (process : Option Process) → AreNoHello (added_events number process)
 added_told number None = tt
 added_told number (Some process) = (tt, tt)
 
-changed_told : (number : ℕ) (process : Option Process) → AreGreetless (changed_events number process)
+changed_told : (number : ℕ) (process : Option Process) → AreNoHello (changed_events number process)
 changed_told number None = tt
 changed_told number (Some process) = (tt, tt)
 
-stop_told : (number pc : ℕ) (state : ThreadState) → AreGreetless (stop_events number pc state)
+stop_told : (number pc : ℕ) (state : ThreadState) → AreNoHello (stop_events number pc state)
 stop_told number pc (Running left) = tt
 stop_told number pc (Suspended reason hits) = (tt, tt)
 
-suspended_told : (number : ℕ) (process : Option Process) → AreGreetless (suspended_events number process)
+suspended_told : (number : ℕ) (process : Option Process) → AreNoHello (suspended_events number process)
 suspended_told number None = tt
 suspended_told number (Some process) = stop_told number process.cpu.pc process.state
 
-resumed_told : (number : ℕ) → AreGreetless (resumed_events number)
+resumed_told : (number : ℕ) → AreNoHello (resumed_events number)
 resumed_told number = (tt, tt)
 
-end_told : (bps : List (ℕ × BpProps)) (number : ℕ) (code : ℤ) (targets : TargetsValue) → AreGreetless (end_events bps number code targets)
+end_told : (bps : List (ℕ × BpProps)) (number : ℕ) (code : ℤ) (targets : TargetsValue) → AreNoHello (end_events bps number code targets)
 end_told bps number code targets = (tt, (tt, statuses_told bps targets))
 
-started_told : (bps : List (ℕ × BpProps)) (number : ℕ) (after : TargetsValue) → AreGreetless (start_events bps number after)
+started_told : (bps : List (ℕ × BpProps)) (number : ℕ) (after : TargetsValue) → AreNoHello (start_events bps number after)
 started_told bps number after =
     let process = process_of number after.processes in
     three (added_events number process) (suspended_events number process) (statuses_in bps after)
     (added_told number process) (suspended_told number process) (statuses_told bps after)
 
-attached_told : (bps : List (ℕ × BpProps)) (after : TargetsValue) (number : ℕ) → AreGreetless (attach_events bps number after)
+attached_told : (bps : List (ℕ × BpProps)) (after : TargetsValue) (number : ℕ) → AreNoHello (attach_events bps number after)
 attached_told bps after number =
     let process = process_of number after.processes in
     three (changed_events number process) (suspended_events number process) (statuses_in bps after)
     (changed_told number process) (suspended_told number process) (statuses_told bps after)
 
-detached_told : (bps : List (ℕ × BpProps)) (was_suspended : Bool) (after : TargetsValue) (number : ℕ) → AreGreetless (detach_events bps was_suspended number after)
+detached_told : (bps : List (ℕ × BpProps)) (was_suspended : Bool) (after : TargetsValue) (number : ℕ) → AreNoHello (detach_events bps was_suspended number after)
 detached_told bps was_suspended after number =
     let process = process_of number after.processes in
     three (changed_events number process) (cond was_suspended (resumed_events number) []) (statuses_in bps after)
@@ -128,44 +117,44 @@ detached_told bps was_suspended after number =
 
 -- ---- what becomes of a process after its instructions
 
-hit_told : (bps : List (ℕ × BpProps)) (number : ℕ) (plain : ThreadState) (attached : Bool) (after : TargetsValue) (hits : List (List ℕ)) → AreGreetless (settled_events bps number (fate_by plain attached (executed_with hits)) after)
+hit_told : (bps : List (ℕ × BpProps)) (number : ℕ) (plain : ThreadState) (attached : Bool) (after : TargetsValue) (hits : List (List ℕ)) → AreNoHello (settled_events bps number (fate_by plain attached (executed_with hits)) after)
 hit_told bps number plain attached after [] = suspended_told number (process_of number after.processes)
 hit_told bps number plain attached after (hit ∷ hits) = suspended_told number (process_of number after.processes)
 
-exception_told : (bps : List (ℕ × BpProps)) (number : ℕ) (plain : ThreadState) (attached : Bool) (after : TargetsValue) (process : Process) → AreGreetless (settled_events bps number (fate_by plain attached (executed_by bps number process excepts)) after)
+exception_told : (bps : List (ℕ × BpProps)) (number : ℕ) (plain : ThreadState) (attached : Bool) (after : TargetsValue) (process : Process) → AreNoHello (settled_events bps number (fate_by plain attached (executed_by bps number process excepts)) after)
 exception_told bps number plain true after process = suspended_told number (process_of number after.processes)
 exception_told bps number plain false after process = end_told bps number exception_code after
 
 executed_told : (bps : List (ℕ × BpProps)) (number : ℕ) (plain : ThreadState) (attached : Bool) (after : TargetsValue) (process : Process) (step : Step)
-    → AreGreetless (settled_events bps number (fate_by plain attached (executed_by bps number process step)) after)
+    → AreNoHello (settled_events bps number (fate_by plain attached (executed_by bps number process step)) after)
 executed_told bps number plain attached after process (goes_on cpu memory) = hit_told bps number plain attached after _
 executed_told bps number plain attached after process (ends code) = end_told bps number code after
 executed_told bps number plain attached after process excepts = exception_told bps number plain attached after process
 
 halt_told : (bps : List (ℕ × BpProps)) (number : ℕ) (plain : ThreadState) (attached : Bool) (after : TargetsValue) (step : Step)
-    → AreGreetless (settled_events bps number (fate_by plain attached (halt_by step)) after)
+    → AreNoHello (settled_events bps number (fate_by plain attached (halt_by step)) after)
 halt_told bps number plain attached after (goes_on cpu memory) = suspended_told number (process_of number after.processes)
 halt_told bps number plain attached after (ends code) = end_told bps number code after
 halt_told bps number plain true after excepts = suspended_told number (process_of number after.processes)
 halt_told bps number plain false after excepts = end_told bps number exception_code after
 
 stopped_told : (bps : List (ℕ × BpProps)) (number : ℕ) (plain : ThreadState) (attached : Bool) (after : TargetsValue) (hits : List (List ℕ)) (all : Bool) (last : Process)
-    → AreGreetless (settled_events bps number (fate_by plain attached (stop_by hits all last)) after)
+    → AreNoHello (settled_events bps number (fate_by plain attached (stop_by hits all last)) after)
 stopped_told bps number plain attached after (hit ∷ hits) all last = suspended_told number (process_of number after.processes)
 stopped_told bps number plain attached after [] true last = suspended_told number (process_of number after.processes)
 stopped_told bps number plain attached after [] false last = halt_told bps number plain attached after (machine last.cpu last.memory)
 
-traced_told : (bps : List (ℕ × BpProps)) (number count : ℕ) (process : Option Process) (after : TargetsValue) → AreGreetless (traced_events_at bps number count process after)
+traced_told : (bps : List (ℕ × BpProps)) (number count : ℕ) (process : Option Process) (after : TargetsValue) → AreNoHello (traced_events_at bps number count process after)
 traced_told bps number count None after = tt
 traced_told bps number count (Some process) after =
     let states = states_of bps number count process in
     stopped_told bps number (Suspended step_text []) process.attached after (last_hits bps number process states) (length states == count) (last_of process states)
 
-trace_told : (bps : List (ℕ × BpProps)) (count : ℕ) (named : Option ℕ) (targets after : TargetsValue) → AreGreetless (trace_given bps count named targets after).events
+trace_told : (bps : List (ℕ × BpProps)) (count : ℕ) (named : Option ℕ) (targets after : TargetsValue) → AreNoHello (trace_given bps count named targets after).events
 trace_told bps count None targets after = tt
 trace_told bps count (Some number) targets after = traced_told bps number count (process_of number targets.processes) after
 
-run_all : (command : Command) (bps : List (ℕ × BpProps)) (targets after : TargetsValue) → AreGreetless (run_given command bps targets after).events
+run_all : (command : Command) (bps : List (ℕ × BpProps)) (targets after : TargetsValue) → AreNoHello (run_given command bps targets after).events
 run_all (GetContext id) bps targets after = tt
 run_all (GetChildren id) bps targets after = tt
 run_all (GetState id) bps targets after = tt
@@ -186,22 +175,22 @@ run_all (ProcTerminate id) bps targets after =
 run_all (TraceRun id count) bps targets after = trace_told bps (unsigned_abs count) (thread_named id) targets after
 run_all _ bps targets after = tt
 
-run_told : (command : Command) (bps : List (ℕ × BpProps)) (targets : TargetsValue) → AreGreetless (run_effect command bps targets).events
+run_told : (command : Command) (bps : List (ℕ × BpProps)) (targets : TargetsValue) → AreNoHello (run_effect command bps targets).events
 run_told command bps targets =
     let after = run_left command bps targets in
     by_fault (run_fault command targets) (run_given command bps targets after) (run_all command bps targets after)
 
 -- ---- of memory and registers
 
-memory_told : (named : Option ℕ) (addr size : ℤ) → AreGreetless (memory_events named addr size)
+memory_told : (named : Option ℕ) (addr size : ℤ) → AreNoHello (memory_events named addr size)
 memory_told None addr size = tt
 memory_told (Some number) addr size = either (int_lt (pos 0) size) (_ ∷ []) [] (tt, tt) tt
 
-registers_told : (first : Option Location) (list : List Location) → AreGreetless (events_from first list)
+registers_told : (first : Option Location) (list : List Location) → AreNoHello (events_from first list)
 registers_told None list = tt
 registers_told (Some first) list = either (name_one first.register list) (EventData.RegChanged first.register ∷ []) (EventData.RegsChanged ∷ []) (tt, tt) (tt, tt)
 
-data_all : (command : Command) (targets : TargetsValue) → AreGreetless (data_given command targets).events
+data_all : (command : Command) (targets : TargetsValue) → AreNoHello (data_given command targets).events
 data_all (MemGet id addr word size mode) targets = tt
 data_all (MemSet id addr word size mode bytes) targets = memory_told (number_named id) addr size
 data_all (RegGet id) targets = tt
@@ -210,28 +199,28 @@ data_all (RegGetm list) targets = tt
 data_all (RegSetm list bytes) targets = registers_told (slice_get list 0) list
 data_all _ targets = tt
 
-data_told : (command : Command) (targets : TargetsValue) → AreGreetless (data_effect command targets).events
+data_told : (command : Command) (targets : TargetsValue) → AreNoHello (data_effect command targets).events
 data_told command targets = by_fault (data_fault command targets) (data_given command targets) (data_all command targets)
 
 -- ---- of breakpoints
 
-removed_told : (ids : List (List ℕ)) → AreGreetless (removed_events ids)
+removed_told : (ids : List (List ℕ)) → AreNoHello (removed_events ids)
 removed_told [] = tt
 removed_told (id ∷ ids) = (tt, tt)
 
-new_told : (list : List BpProps) → AreGreetless (bp_rows.added_events list)
+new_told : (list : List BpProps) → AreNoHello (bp_rows.added_events list)
 new_told [] = tt
 new_told (props ∷ list) = (tt, tt)
 
-other_told : (list : List BpProps) → AreGreetless (bp_rows.changed_events list)
+other_told : (list : List BpProps) → AreNoHello (bp_rows.changed_events list)
 other_told [] = tt
 other_told (props ∷ list) = (tt, tt)
 
-status_told : (attached : List ℕ) (list : List BpProps) → AreGreetless (status_events attached list)
+status_told : (attached : List ℕ) (list : List BpProps) → AreNoHello (status_events attached list)
 status_told attached [] = tt
 status_told attached (props ∷ list) = (tt, status_told attached list)
 
-done_told : (attached : List ℕ) (done : BpDone) → AreGreetless (effect_of attached done).events
+done_told : (attached : List ℕ) (done : BpDone) → AreNoHello (effect_of attached done).events
 done_told attached (Failed code) = tt
 done_told attached (Changed removed added changed) =
     three (removed_events removed) (bp_rows.added_events added) (bp_rows.changed_events changed ++ (status_events attached added ++ status_events attached changed))
@@ -239,11 +228,11 @@ done_told attached (Changed removed added changed) =
     (three (bp_rows.changed_events changed) (status_events attached added) (status_events attached changed)
     (other_told changed) (status_told attached added) (status_told attached changed))
 
-either_effect : (test : Bool) (one other : Effect) → AreGreetless one.events → AreGreetless other.events → AreGreetless (cond test one other).events
+either_effect : (test : Bool) (one other : Effect) → AreNoHello one.events → AreNoHello other.events → AreNoHello (cond test one other).events
 either_effect true one other first second = first
 either_effect false one other first second = second
 
-breakpoints_told : (channel : ℕ) (command : Command) (target : Target) → AreGreetless (breakpoints_effect channel command target).events
+breakpoints_told : (channel : ℕ) (command : Command) (target : Target) → AreNoHello (breakpoints_effect channel command target).events
 breakpoints_told channel command target =
     let attached = attached_in target.contexts.processes in
     let answer = gives (ask_answer command attached target.breakpoints) in
@@ -252,7 +241,7 @@ breakpoints_told channel command target =
 
 -- ---- by every input
 
-told_in : (name : CommandName) (channel : ℕ) (command : Command) (target : Target) → AreGreetless (effect_in name channel command target).events
+told_in : (name : CommandName) (channel : ℕ) (command : Command) (target : Target) → AreNoHello (effect_in name channel command target).events
 told_in (service.Locator name) channel command target = tt
 told_in (service.RunControl name) channel command target = run_told command target.breakpoints target.contexts
 told_in (service.Breakpoints name) channel command target = breakpoints_told channel command target
@@ -261,26 +250,26 @@ told_in (service.Registers name) channel command target = data_told command targ
 told_in (service.Processes name) channel command target = run_told command target.breakpoints target.contexts
 told_in (service.Trace name) channel command target = run_told command target.breakpoints target.contexts
 
-exec_told : (channel : ℕ) (command : Command) (target : Target) → AreGreetless (exec_effect channel command target).events
+exec_told : (channel : ℕ) (command : Command) (target : Target) → AreNoHello (exec_effect channel command target).events
 unfolding exec_effect
 exec_told channel command target = told_in (named_as command) channel command target
 
-pub executed_greetless : (channel : ℕ) (service name : List ℕ) (reading : Reading) (target : Target) → AreGreetless (executed channel service name reading target).events
-executed_greetless channel service name (readings.Known command) target = exec_told channel command target
-executed_greetless channel service name readings.Unknown target = tt
-executed_greetless channel service name (readings.Bad index code) target = tt
+pub commands_greetless : CommandsTellNoHello
+commands_greetless channel service name (readings.Known command) target = exec_told channel command target
+commands_greetless channel service name readings.Unknown target = tt
+commands_greetless channel service name (readings.Bad index code) target = tt
 
-ticked_told : (bps : List (ℕ × BpProps)) (number : ℕ) (process : Option Process) (after : TargetsValue) → AreGreetless (ticked_events_at bps number process after)
+ticked_told : (bps : List (ℕ × BpProps)) (number : ℕ) (process : Option Process) (after : TargetsValue) → AreNoHello (ticked_events_at bps number process after)
 ticked_told bps number None after = tt
 ticked_told bps number (Some process) after =
     executed_told bps number (counted process.state) process.attached after process (machine process.cpu process.memory)
 
-tick_named : (bps : List (ℕ × BpProps)) (targets : TargetsValue) (named : Option ℕ) → IfSome (option_map (λ number. ticked_events bps number targets) named) AreGreetless
+tick_named : (bps : List (ℕ × BpProps)) (targets : TargetsValue) (named : Option ℕ) → IfSome (option_map (λ number. ticked_events bps number targets) named) AreNoHello
 tick_named bps targets None = tt
 tick_named bps targets (Some number) = ticked_told bps number (process_of number targets.processes) (ticked bps number targets)
 
-pub ticked_greetless : (thread : ContextId) (target : Target) → IfSome (tick_told thread target) AreGreetless
-ticked_greetless thread target = tick_named target.breakpoints target.contexts (running_number thread target.contexts.processes)
+pub ticks_greetless : TicksTellNoHello
+ticks_greetless thread target = tick_named target.breakpoints target.contexts (running_number thread target.contexts.processes)
 
-pub closed_greetless : (channel : ℕ) (target : Target) → AreGreetless (closed_told channel target)
-closed_greetless channel target = removed_told (ids_of (owned_by channel target.breakpoints))
+pub closings_greetless : ClosingsTellNoHello
+closings_greetless channel target = removed_told (ids_of (owned_by channel target.breakpoints))

@@ -1,7 +1,7 @@
 -- How long canonical texts are at most. A byte of a string takes at most six, as `\u001f` does, and one from 32 on at most
 -- two; a whole number takes at most 64 digits and a sign.
-use Rattle.std.proofs.Common.{◌≡◌, ◌≤◌, ℕ, zero, suc, ℤ, pos, negsuc, ◌+◌, ◌*◌, ◌/◌, ◌%◌, ◌==◌, nat_lt, nat_le, Bool, true, false, cond, ◌&&◌, List, [], ◌∷◌, ◌++◌, length, map, replicate, Option, Some, None, option_map, IfSome, lit≤, arith, leb-true, ltb-true, length-append}
-use Rattle.std.specs.Prelude.{codes, decimal}
+use Rattle.std.proofs.Common.{◌≡◌, ◌≤◌, ℕ, zero, suc, ℤ, pos, negsuc, ◌+◌, ◌*◌, ◌/◌, ◌%◌, ◌==◌, nat_lt, nat_le, Bool, true, false, cond, ◌&&◌, List, [], ◌∷◌, ◌++◌, filter, length, map, replicate, Option, Some, None, option_map, IfSome, refl, lit≤, arith, leb-true, ltb-true, length-append}
+use Rattle.std.specs.Prelude.{codes, decimal, is_some}
 use Rattle.std.specs.Fmt.{digits, digits_onto, digit_glyph}
 use Rattle.std.specs.List.{AllByRecursion, list_all}
 use Rattle.std.proofs.Math.Nat.{mul-suc}
@@ -23,7 +23,7 @@ use Rattle.json_values.specs.Processes.{process_json}
 use Rattle.json_values.specs.Props.{are_contexts, bp_json, is_bp, is_location, is_short}
 use Rattle.json_values.specs.Ranges.{range_json}
 use Rattle.json_values.specs.Reports.{report_json}
-use Rattle.json_values.specs.Sizes.{AreWords, IsName, IsSmallContext, IsSmallInstance, IsSmallPlace, IsSmallProcess, IsSmallReport, IsSmallStatus, IsWord, size_of}
+use Rattle.json_values.specs.Sizes.{AreSmallContexts, AreWords, IsName, IsSmallContext, IsSmallInstance, IsSmallPlace, IsSmallProcess, IsSmallReport, IsSmallStatus, IsWord, has_name, size_of}
 use Rattle.json_values.specs.States.{hits_json}
 use Rattle.json_values.specs.Statuses.{instance_at, instance_json, status_json}
 use Rattle.json_values.specs.Words.{word_json}
@@ -144,6 +144,46 @@ items_size json most later (x ∷ xs) all =
 pub list_size : {A : Type 0} (json : A → Data) (most : ℕ) (xs : List A) → AllByRecursion (λ x. size_of (json x) ≤ most) xs → size_of (list_json json xs) ≤ (most + 1) * length xs + 2
 list_size json most xs all = omega (arith, items_size json most false xs all)
 
+-- one element more, which is longer or not
+longer_by : {A : Type 0} (json : A → Data) (few more : ℕ) (flag later : Bool) (x : A) (xs longer : List A) → size_of (json x) ≤ few + cond flag more 0
+    → length (items_text true (items_of (map json xs))) ≤ (few + 1) * length xs + more * length longer + 1
+    → length (items_text later (items_of (map json (x ∷ xs)))) ≤ (few + 1) * length (x ∷ xs) + more * length (cond flag (x ∷ longer) longer) + 1
+longer_by json few more true later x xs longer small rest =
+    let behind = items_text true (items_of (map json xs)) in
+    omega (
+      arith,
+      length-append (comma_if later) (compact_text (json x) ++ behind),
+      length-append (compact_text (json x)) behind,
+      comma_size later,
+      small,
+      rest,
+      mul-suc (few + 1) (length xs),
+      mul-suc more (length longer),
+    )
+longer_by json few more false later x xs longer small rest =
+    let behind = items_text true (items_of (map json xs)) in
+    omega (
+      arith,
+      length-append (comma_if later) (compact_text (json x) ++ behind),
+      length-append (compact_text (json x)) behind,
+      comma_size later,
+      small,
+      rest,
+      mul-suc (few + 1) (length xs),
+    )
+
+items_longer : {A : Type 0} (json : A → Data) (is_long : A → Bool) (few more : ℕ) (later : Bool) (xs : List A)
+    → AllByRecursion (λ x. size_of (json x) ≤ few + cond (is_long x) more 0) xs
+    → length (items_text later (items_of (map json xs))) ≤ (few + 1) * length xs + more * length (filter is_long xs) + 1
+items_longer json is_long few more later [] all = omega arith
+items_longer json is_long few more later (x ∷ xs) all =
+    longer_by json few more (is_long x) later x xs (filter is_long xs) all.0 (items_longer json is_long few more true xs all.1)
+
+-- each element has at most so many bytes, and its comma, and those that are longer have so many more
+longer_size : {A : Type 0} (json : A → Data) (is_long : A → Bool) (few more : ℕ) (xs : List A) → AllByRecursion (λ x. size_of (json x) ≤ few + cond (is_long x) more 0) xs
+    → size_of (list_json json xs) ≤ (few + 1) * length xs + more * length (filter is_long xs) + 2
+longer_size json is_long few more xs all = omega (arith, items_longer json is_long few more false xs all)
+
 -- what follows from what holds of each element
 all_follow : {A : Type 0} (P Q : A → Type 0) (xs : List A) → ((x : A) → P x → Q x) → AllByRecursion P xs → AllByRecursion Q xs
 all_follow P Q [] follows all = tt
@@ -245,6 +285,25 @@ context_size context small =
     (if_one 1532 1633 (codes "ParentID") (option_map string context.parent) _ (lit≤ tt) (if_text context.parent small.parent)
     (one_more 1532 1 (codes "ProcessID") _ _ (lit≤ tt) (text_fits context.process small.process) no_more))))))))))
 
+-- where there is none, nothing is written
+no_name : (most : ℕ) (found : Option (List ℕ)) (ms : Members) → is_some found ≡ false → Within most ms → Within most (member_if (codes "Name") (option_map string found) ms)
+no_name most None ms none within = within
+no_name most (Some name) ms none within = absurd cc
+
+-- one without a name is far shorter
+unnamed_size : (context : ContextData) → IsSmallContext context → has_name context ≡ false → size_of (context_json context) ≤ 5646
+unnamed_size context small none =
+    object_size 5645 _ (one_more 64 5481 (codes "CanCount") _ _ (lit≤ tt) (word_fits context.can_count)
+    (one_more 64 5317 (codes "CanResume") _ _ (lit≤ tt) (word_fits context.can_resume)
+    (one_more 5 5212 (codes "CanSuspend") _ _ (lit≤ tt) (flag_fits context.can_suspend)
+    (one_more 5 5107 (codes "CanTerminate") _ _ (lit≤ tt) (flag_fits context.can_terminate)
+    (one_more 5 5002 (codes "HasState") _ _ (lit≤ tt) (flag_fits context.has_state)
+    (one_more 1532 3370 (codes "ID") _ _ (lit≤ tt) (text_fits context.id small.id)
+    (one_more 5 3265 (codes "IsContainer") _ _ (lit≤ tt) (flag_fits context.container)
+    (no_name 3265 context.name _ none
+    (if_one 1532 1633 (codes "ParentID") (option_map string context.parent) _ (lit≤ tt) (if_text context.parent small.parent)
+    (one_more 1532 1 (codes "ProcessID") _ _ (lit≤ tt) (text_fits context.process small.process) no_more))))))))))
+
 pub process_size : (process : ProcessData) → IsSmallProcess process → size_of (process_json process) ≤ 395162
 process_size process small =
     object_size 395161 _ (one_more 5 395056 (codes "Attached") _ _ (lit≤ tt) (flag_fits process.attached)
@@ -311,9 +370,15 @@ pub peers_size : (ids : List (List ℕ)) → AreWords ids → size_of (peers_jso
 peers_size ids words =
     omega (arith, words.0, list_size peer_json 1634 ids (all_follow IsWord (λ (id : List ℕ). size_of (peer_json id) ≤ 1634) ids peer_size words.1))
 
-pub contexts_size : (list : List ContextData) → length list ≤ 2 → AllByRecursion IsSmallContext list → size_of (list_json context_json list) ≤ 797932
-contexts_size list few all =
-    omega (arith, few, list_size context_json 398964 list (all_follow IsSmallContext (λ (c : ContextData). size_of (context_json c) ≤ 398964) list context_size all))
+-- with a name or without
+context_room : (flag : Bool) (context : ContextData) → has_name context ≡ flag → IsSmallContext context → size_of (context_json context) ≤ 5646 + cond flag 393318 0
+context_room true context named small = context_size context small
+context_room false context unnamed small = unnamed_size context small unnamed
+
+pub contexts_size : (list : List ContextData) → AreSmallContexts list → size_of (list_json context_json list) ≤ 837461
+contexts_size list are =
+    let all = all_follow IsSmallContext (λ (c : ContextData). size_of (context_json c) ≤ 5646 + cond (has_name c) 393318 0) list (λ c. context_room (has_name c) c refl) are.small in
+    omega (arith, are.few, are.named, longer_size context_json has_name 5646 393318 list all)
 
 pub bps_size : (list : List BpProps) → length list ≤ 256 → AllByRecursion (λ props. is_bp props ≡ true) list → size_of (list_json bp_json list) ≤ 903682
 bps_size list few all =

@@ -1,5 +1,5 @@
 -- Values whose canonical texts are short.
-use Rattle.std.specs.Prelude.{ℕ, ◌≤◌, List, length, IfSome}
+use Rattle.std.specs.Prelude.{ℕ, ◌≤◌, Bool, List, length, filter, is_some, IfSome}
 use Rattle.std.specs.List.{AllByRecursion}
 use Rattle.serde_json.specs.Data.{Data}
 use Rattle.serde_json.specs.Written.{compact_text}
@@ -31,6 +31,15 @@ pub record IsSmallContext (context : ContextData) : Type 0 where
   pub parent : IfSome context.parent IsWord
   pub process : IsWord context.process
   pub name : IfSome context.name IsName
+
+abbrev pub has_name : ContextData → Bool
+has_name context = is_some context.name
+
+-- a process and its eight threads at most, of which the process alone has a name; there is room for a second name
+pub record AreSmallContexts (list : List ContextData) : Type 0 where
+  pub few : length list ≤ 9
+  pub named : length (filter has_name list) ≤ 2
+  pub small : AllByRecursion IsSmallContext list
 
 pub record IsSmallProcess (process : ProcessData) : Type 0 where
   pub id : IsWord process.id

@@ -63,9 +63,9 @@ two_fits most service name a b few short brief word small = omega (arith, two_si
 pub events_fit : EventsFit
 events_fit (EventData.Hello list) small = one_fits 392450 (codes "Locator") (codes "Hello") (texts_json list) (lit≤ tt) (lit≤ tt) (lit≤ tt) (words_size list small)
 events_fit (EventData.CtxAdded list) small =
-    one_fits 797932 (codes "RunControl") (codes "contextAdded") (list_json context_json list) (lit≤ tt) (lit≤ tt) (lit≤ tt) (contexts_size list small.0 small.1)
+    one_fits 837461 (codes "RunControl") (codes "contextAdded") (list_json context_json list) (lit≤ tt) (lit≤ tt) (lit≤ tt) (contexts_size list small)
 events_fit (EventData.CtxChanged list) small =
-    one_fits 797932 (codes "RunControl") (codes "contextChanged") (list_json context_json list) (lit≤ tt) (lit≤ tt) (lit≤ tt) (contexts_size list small.0 small.1)
+    one_fits 837461 (codes "RunControl") (codes "contextChanged") (list_json context_json list) (lit≤ tt) (lit≤ tt) (lit≤ tt) (contexts_size list small)
 events_fit (EventData.CtxRemoved list) small =
     one_fits 392450 (codes "RunControl") (codes "contextRemoved") (texts_json list) (lit≤ tt) (lit≤ tt) (lit≤ tt) (words_size list small)
 events_fit (EventData.Suspended id pc reason hits) small =

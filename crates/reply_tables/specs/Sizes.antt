@@ -2,7 +2,7 @@
 use Rattle.std.specs.Prelude.{ℕ, ◌≡◌, ◌+◌, ◌≤◌, true, [], ◌∷◌, length, Some}
 use Rattle.std.specs.List.{AllByRecursion}
 use Rattle.json_values.specs.Props.{is_bp}
-use Rattle.json_values.specs.Sizes.{AreWords, IsSmallContext, IsSmallProcess, IsSmallReport, IsSmallStatus, IsWord}
+use Rattle.json_values.specs.Sizes.{AreSmallContexts, AreWords, IsSmallContext, IsSmallProcess, IsSmallReport, IsSmallStatus, IsWord}
 use Rattle.json_values.specs.Words.{word_json}
 use Rattle.service_names.specs.Events.{name_of, service_of, told_as}
 use Rattle.reply_tables.specs.Events.{event_data}
@@ -18,11 +18,11 @@ use Rattle.tcf_values.specs.declared.values.RunState.TheVariants.{Running, Suspe
 
 -- ---- what is small
 
--- a process and its thread, and 256 breakpoints, at most
+-- a process with its threads, and 256 breakpoints, at most
 abbrev pub IsSmallEvent : EventData → Type 0
 IsSmallEvent (EventData.Hello list) = AreWords list
-IsSmallEvent (EventData.CtxAdded list) = (length list ≤ 2) × AllByRecursion IsSmallContext list
-IsSmallEvent (EventData.CtxChanged list) = (length list ≤ 2) × AllByRecursion IsSmallContext list
+IsSmallEvent (EventData.CtxAdded list) = AreSmallContexts list
+IsSmallEvent (EventData.CtxChanged list) = AreSmallContexts list
 IsSmallEvent (EventData.CtxRemoved list) = AreWords list
 IsSmallEvent (EventData.Suspended id pc reason hits) = IsWord id × IsWord reason × AreWords hits
 IsSmallEvent (EventData.Resumed id) = IsWord id

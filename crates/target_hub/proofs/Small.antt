@@ -126,11 +126,11 @@ found_short rows number all = found_by rows number (process_of number rows) refl
 
 pub added_small : (number : ℕ) (process : Option Process) → IfSome process IsShort → AreSmall (added_events number process)
 added_small number None is = tt
-added_small number (Some process) is = ((lit≤ tt, (process_small number process is, (thread_small number process, tt))), tt)
+added_small number (Some process) is = (record { few = lit≤ tt; named = lit≤ tt; small = (process_small number process is, (thread_small number process, tt)) }, tt)
 
 pub changed_small : (number : ℕ) (process : Option Process) → AreSmall (changed_events number process)
 changed_small number None = tt
-changed_small number (Some process) = ((lit≤ tt, (thread_small number process, tt)), tt)
+changed_small number (Some process) = (record { few = lit≤ tt; named = lit≤ tt; small = (thread_small number process, tt) }, tt)
 
 stop_small : (number pc : ℕ) (state : ThreadState) → IsShortState state → AreSmall (stop_events number pc state)
 stop_small number pc (Running left) short = tt

@@ -15,6 +15,7 @@ use Rattle.breakpoints.specs.Keyed.{AreApart, AreKeyed, IsKept}
 use Rattle.breakpoints.specs.Rows.{ids_of, is_among, is_there, rows_for}
 use Rattle.breakpoints.proofs.Lookup.{key_there}
 use Rattle.list_laws.proofs.Flags.{or_false, or_true, neither}
+use Rattle.breakpoints.specs.Placed.{Placed, row_for}
 
 -- ---- IDs that differ
 
@@ -61,11 +62,11 @@ one_given list rest later first id given again split same is test before =
 
 -- ---- the map's keys differ exactly as the IDs do
 
-all_ids : (id : List ℕ) (es : List (Vec ℕ × (ℕ × BpProps))) → AreKeyed es → AllByRecursion (λ k. bytes_eq id k.items ≡ false) (keys_of es) → AllByRecursion (λ other. bytes_eq id other ≡ false) (ids_of (values_of es))
+all_ids : (id : List ℕ) (es : List (Vec ℕ × Placed)) → AreKeyed es → AllByRecursion (λ k. bytes_eq id k.items ≡ false) (keys_of es) → AllByRecursion (λ other. bytes_eq id other ≡ false) (ids_of (values_of es))
 all_ids id [] keyed all = all
 all_ids id (e ∷ es) keyed all = (subst (λ other. bytes_eq id other ≡ false) keyed.0 all.0, all_ids id es keyed.1 all.1)
 
-pub ids_differ : (es : List (Vec ℕ × (ℕ × BpProps))) → AreKeyed es → IsDistinct (λ x y. bytes_eq x.items y.items) (keys_of es) → IsDistinct bytes_eq (ids_of (values_of es))
+pub ids_differ : (es : List (Vec ℕ × Placed)) → AreKeyed es → IsDistinct (λ x y. bytes_eq x.items y.items) (keys_of es) → IsDistinct bytes_eq (ids_of (values_of es))
 unfolding IsDistinct
 ids_differ [] keyed differ = differ
 ids_differ (e ∷ es) keyed differ =
@@ -76,37 +77,37 @@ pub ids-rows_for : (channel : ℕ) (list : List BpProps) → ids_of (rows_for ch
 ids-rows_for channel [] = refl
 ids-rows_for channel (props ∷ list) = ap (λ ids. props.id ∷ ids) (ids-rows_for channel list)
 
-pub there_among : (id : List ℕ) (rows : List (ℕ × BpProps)) → is_there id rows ≡ is_among (ids_of rows) id
+pub there_among : (id : List ℕ) (rows : List Placed) → is_there id rows ≡ is_among (ids_of rows) id
 there_among id [] = refl
-there_among id (row ∷ rows) = ap (λ b. bytes_eq id row.1.id || b) (there_among id rows)
+there_among id (row ∷ rows) = ap (λ b. bytes_eq id row.props.id || b) (there_among id rows)
 
 -- ---- entries that are put last
 
-abbrev absent : Vec ℕ → List (Vec ℕ × (ℕ × BpProps)) → Bool
+abbrev absent : Vec ℕ → List (Vec ℕ × Placed) → Bool
 absent k es = list_any (λ e. bytes_eq k.items e.0.items) es
 
 abbrev same_key : Vec ℕ → Vec ℕ → Bool
 same_key x y = bytes_eq x.items y.items
 
-pub insert_last : (k : Vec ℕ) (row : ℕ × BpProps) (es : List (Vec ℕ × (ℕ × BpProps))) → absent k es ≡ false → insert_entry same_key es k row ≡ es ++ (k, row) ∷ []
+pub insert_last : (k : Vec ℕ) (row : Placed) (es : List (Vec ℕ × Placed)) → absent k es ≡ false → insert_entry same_key es k row ≡ es ++ (k, row) ∷ []
 insert_last k row [] apart = refl
 insert_last k row (e ∷ es) apart =
     let parts = neither _ _ apart in
     ap (λ b. cond b ((e.0, row) ∷ es) (e ∷ insert_entry same_key es k row)) parts.0 ∙ ap (λ rest. e ∷ rest) (insert_last k row es parts.1)
 
-absent_push : (k : Vec ℕ) (es : List (Vec ℕ × (ℕ × BpProps))) (new : Vec ℕ × (ℕ × BpProps)) → absent k es ≡ false → bytes_eq k.items new.0.items ≡ false → absent k (es ++ new ∷ []) ≡ false
+absent_push : (k : Vec ℕ) (es : List (Vec ℕ × Placed)) (new : Vec ℕ × Placed) → absent k es ≡ false → bytes_eq k.items new.0.items ≡ false → absent k (es ++ new ∷ []) ≡ false
 absent_push k [] new apart other = ap (λ b. b || false) other
 absent_push k (e ∷ es) new apart other =
     let parts = neither _ _ apart in
     ap (λ b. b || absent k (es ++ new ∷ [])) parts.0 ∙ absent_push k es new parts.1 other
 
 -- those that are apart from the list are apart from one more, from which they differ
-apart_push : (fresh es : List (Vec ℕ × (ℕ × BpProps))) (new : Vec ℕ × (ℕ × BpProps)) → AreApart fresh es → AllByRecursion (λ k. same_key new.0 k ≡ false) (keys_of fresh) → AreApart fresh (es ++ new ∷ [])
+apart_push : (fresh es : List (Vec ℕ × Placed)) (new : Vec ℕ × Placed) → AreApart fresh es → AllByRecursion (λ k. same_key new.0 k ≡ false) (keys_of fresh) → AreApart fresh (es ++ new ∷ [])
 apart_push [] es new apart differ = apart
 apart_push (f ∷ fresh) es new apart differ =
     (absent_push f.0 es new apart.0 (eq_sym f.0.items new.0.items ∙ differ.0), apart_push fresh es new apart.1 differ.1)
 
-pub insert_all_last : (fresh es : List (Vec ℕ × (ℕ × BpProps))) → AreApart fresh es → IsDistinct same_key (keys_of fresh) → insert_all same_key es fresh ≡ es ++ fresh
+pub insert_all_last : (fresh es : List (Vec ℕ × Placed)) → AreApart fresh es → IsDistinct same_key (keys_of fresh) → insert_all same_key es fresh ≡ es ++ fresh
 unfolding IsDistinct
 insert_all_last [] es apart differ = sym (append-nil es)
 insert_all_last (f ∷ fresh) es apart differ =
@@ -116,61 +117,61 @@ insert_all_last (f ∷ fresh) es apart differ =
 
 -- ---- breakpoints whose IDs aren't there
 
-there_absent : (k : Vec ℕ) (es : List (Vec ℕ × (ℕ × BpProps))) → AreKeyed es → absent k es ≡ is_there k.items (values_of es)
+there_absent : (k : Vec ℕ) (es : List (Vec ℕ × Placed)) → AreKeyed es → absent k es ≡ is_there k.items (values_of es)
 there_absent k [] keyed = refl
 there_absent k (e ∷ es) keyed =
-    ap (λ id. bytes_eq k.items id || absent k es) keyed.0 ∙ ap (λ b. bytes_eq k.items e.1.1.id || b) (there_absent k es keyed.1)
+    ap (λ id. bytes_eq k.items id || absent k es) keyed.0 ∙ ap (λ b. bytes_eq k.items e.1.props.id || b) (there_absent k es keyed.1)
 
 -- where no ID of the list is there, the entries made of it are apart from those that are there
-pub apart_from : (channel : ℕ) (fresh es : List (Vec ℕ × (ℕ × BpProps))) (list : List BpProps) → AreKeyed fresh → AreKeyed es → values_of fresh ≡ rows_for channel list
+pub apart_from : (channel : ℕ) (fresh es : List (Vec ℕ × Placed)) (list : List BpProps) → AreKeyed fresh → AreKeyed es → values_of fresh ≡ rows_for channel list
     → list_any (λ props. is_there props.id (values_of es)) list ≡ false → AreApart fresh es
 apart_from channel [] es list new keyed made none = tt
 apart_from channel (f ∷ fresh) es [] new keyed made none = cc
 apart_from channel (f ∷ fresh) es (props ∷ list) new keyed made none =
     let parts = neither _ _ none in
-    let first : f.1 ≡ (channel, props) = cc in
+    let first : f.1 ≡ row_for channel props = cc in
     let rest : values_of fresh ≡ rows_for channel list = cc in
-    let id : f.0.items ≡ props.id = new.0 ∙ ap (λ (row : ℕ × BpProps). row.1.id) first in
+    let id : f.0.items ≡ props.id = new.0 ∙ ap (λ (row : Placed). row.props.id) first in
     (there_absent f.0 es keyed ∙ ap (λ i. is_there i (values_of es)) id ∙ parts.0, apart_from channel fresh es list new.1 keyed rest parts.1)
 
 -- ---- one entry after another
 
-values-push : (es : List (Vec ℕ × (ℕ × BpProps))) (new : Vec ℕ × (ℕ × BpProps)) → values_of (es ++ new ∷ []) ≡ values_of es ++ new.1 ∷ []
-values-push es new = map-append (λ (e : Vec ℕ × (ℕ × BpProps)). e.1) es (new ∷ [])
+values-push : (es : List (Vec ℕ × Placed)) (new : Vec ℕ × Placed) → values_of (es ++ new ∷ []) ≡ values_of es ++ new.1 ∷ []
+values-push es new = map-append (λ (e : Vec ℕ × Placed). e.1) es (new ∷ [])
 
-keyed_push : (es : List (Vec ℕ × (ℕ × BpProps))) (new : Vec ℕ × (ℕ × BpProps)) → AreKeyed es → new.0.items ≡ new.1.1.id → AreKeyed (es ++ new ∷ [])
+keyed_push : (es : List (Vec ℕ × Placed)) (new : Vec ℕ × Placed) → AreKeyed es → new.0.items ≡ new.1.props.id → AreKeyed (es ++ new ∷ [])
 keyed_push [] new keyed here = (here, keyed)
 keyed_push (e ∷ es) new keyed here = (keyed.0, keyed_push es new keyed.1 here)
 
-pub keyed_append : (es fresh : List (Vec ℕ × (ℕ × BpProps))) → AreKeyed es → AreKeyed fresh → AreKeyed (es ++ fresh)
+pub keyed_append : (es fresh : List (Vec ℕ × Placed)) → AreKeyed es → AreKeyed fresh → AreKeyed (es ++ fresh)
 keyed_append [] fresh keyed new = new
 keyed_append (e ∷ es) fresh keyed new = (keyed.0, keyed_append es fresh keyed.1 new)
 
-pub values-append : (es fresh : List (Vec ℕ × (ℕ × BpProps))) → values_of (es ++ fresh) ≡ values_of es ++ values_of fresh
-values-append es fresh = map-append (λ (e : Vec ℕ × (ℕ × BpProps)). e.1) es fresh
+pub values-append : (es fresh : List (Vec ℕ × Placed)) → values_of (es ++ fresh) ≡ values_of es ++ values_of fresh
+values-append es fresh = map-append (λ (e : Vec ℕ × Placed). e.1) es fresh
 
 -- the insertion of an ID that isn't there yet
-pub record Pushes (channel : ℕ) (list : List BpProps) (i : ℕ) (new : List (Vec ℕ × (ℕ × BpProps))) : Type 0 where
+pub record Pushes (channel : ℕ) (list : List BpProps) (i : ℕ) (new : List (Vec ℕ × Placed)) : Type 0 where
   pub rows : values_of new ≡ rows_for channel (take (i + 1) list)
   pub keyed : AreKeyed new
 
-pub pushes : (channel : ℕ) (list : List BpProps) (i : ℕ) (props copied : BpProps) (k : Vec ℕ) (es new : List (Vec ℕ × (ℕ × BpProps)))
+pub pushes : (channel : ℕ) (list : List BpProps) (i : ℕ) (props copied : BpProps) (k : Vec ℕ) (es new : List (Vec ℕ × Placed))
     → values_of es ≡ rows_for channel (take i list) → AreKeyed es → i < length list → props ≡ get_or list i props → copied ≡ props → k.items ≡ props.id
-    → is_some (lookup (same_key k) es) ≡ false → new ≡ insert_entry same_key es k (channel, copied) → Pushes channel list i new
+    → is_some (lookup (same_key k) es) ≡ false → new ≡ insert_entry same_key es k (row_for channel copied) → Pushes channel list i new
 pushes channel list i props copied k es new so_far keyed within item copy key missing inserted =
     let absent_is : absent k es ≡ false = there_absent k es keyed ∙ sym (key_there k.items es keyed) ∙ missing in
-    let last : new ≡ es ++ (k, (channel, copied)) ∷ [] = inserted ∙ insert_last k (channel, copied) es absent_is in
-    let one : (channel, copied) ∷ [] ≡ rows_for channel (get_or list i props ∷ []) = ap (λ (p : BpProps). (channel, p) ∷ []) (copy ∙ item) in
+    let last : new ≡ es ++ (k, row_for channel copied) ∷ [] = inserted ∙ insert_last k (row_for channel copied) es absent_is in
+    let one : row_for channel copied ∷ [] ≡ rows_for channel (get_or list i props ∷ []) = ap (λ (p : BpProps). row_for channel p ∷ []) (copy ∙ item) in
     record {
-      rows = ap values_of last ∙ values-push es (k, (channel, copied)) ∙ ap (λ rows. rows ++ (channel, copied) ∷ []) so_far
+      rows = ap values_of last ∙ values-push es (k, row_for channel copied) ∙ ap (λ rows. rows ++ row_for channel copied ∷ []) so_far
           ∙ ap (λ rows. rows_for channel (take i list) ++ rows) one
-          ∙ sym (map-append (λ (p : BpProps). (channel, p)) (take i list) (get_or list i props ∷ []))
+          ∙ sym (map-append (row_for channel) (take i list) (get_or list i props ∷ []))
           ∙ ap (rows_for channel) (sym (take_more list i props within));
-      keyed = subst AreKeyed (sym last) (keyed_push es (k, (channel, copied)) keyed (key ∙ ap (λ (p : BpProps). p.id) (sym copy)));
+      keyed = subst AreKeyed (sym last) (keyed_push es (k, row_for channel copied) keyed (key ∙ ap (λ (p : BpProps). p.id) (sym copy)));
     }
 
 -- an ID that is there already was given before
-pub given_twice : (channel : ℕ) (list : List BpProps) (i : ℕ) (props : BpProps) (k : Vec ℕ) (es : List (Vec ℕ × (ℕ × BpProps)))
+pub given_twice : (channel : ℕ) (list : List BpProps) (i : ℕ) (props : BpProps) (k : Vec ℕ) (es : List (Vec ℕ × Placed))
     → values_of es ≡ rows_for channel (take i list) → AreKeyed es → i < length list → props ≡ get_or list i props → k.items ≡ props.id
     → is_some (lookup (same_key k) es) ≡ true → has_twice (map (λ p. p.id) list) ≡ true
 given_twice channel list i props k es so_far keyed within item key there =
@@ -199,33 +200,33 @@ turned_by false t true = sym (or_true t)
 turned_by false t false = sym (or_false t)
 
 -- the causes are looked for in another order
-pub place_turned : (list : List BpProps) (rows : List (ℕ × BpProps)) → ((is_overfull list rows || clashes list rows) || has_twice (map (λ props. props.id) list)) ≡ has_no_place list rows
+pub place_turned : (list : List BpProps) (rows : List Placed) → ((is_overfull list rows || clashes list rows) || has_twice (map (λ props. props.id) list)) ≡ has_no_place list rows
 place_turned list rows = turned_by (clashes list rows) (has_twice (map (λ props. props.id) list)) (is_overfull list rows)
 
 -- where there is a place, there is none of the causes
-pub record HasPlace (list : List BpProps) (rows : List (ℕ × BpProps)) : Type 0 where
+pub record HasPlace (list : List BpProps) (rows : List Placed) : Type 0 where
   pub apart : clashes list rows ≡ false
   pub once : has_twice (map (λ props. props.id) list) ≡ false
   pub room : is_overfull list rows ≡ false
 
-pub a_place : (list : List BpProps) (rows : List (ℕ × BpProps)) → has_no_place list rows ≡ false → HasPlace list rows
+pub a_place : (list : List BpProps) (rows : List Placed) → has_no_place list rows ≡ false → HasPlace list rows
 a_place list rows e =
     let outer = neither (clashes list rows || has_twice (map (λ props. props.id) list)) (is_overfull list rows) e in
     let inner = neither (clashes list rows) (has_twice (map (λ props. props.id) list)) outer.0 in
     record { apart = inner.0; once = inner.1; room = outer.1 }
 
 -- the list with the new breakpoints last is kept well
-pub kept_append : (channel : ℕ) (es fresh new : List (Vec ℕ × (ℕ × BpProps))) (list : List BpProps) (rows : List (ℕ × BpProps)) → new ≡ es ++ fresh → values_of es ≡ rows → values_of fresh ≡ rows_for channel list
+pub kept_append : (channel : ℕ) (es fresh new : List (Vec ℕ × Placed)) (list : List BpProps) (rows : List Placed) → new ≡ es ++ fresh → values_of es ≡ rows → values_of fresh ≡ rows_for channel list
     → AreKeyed es → AreKeyed fresh → IsDistinct same_key (keys_of new) → is_overfull list rows ≡ false → IsKept new
 kept_append channel es fresh new list rows made there added keyed keyed_new unique room =
     let all : AreKeyed new = subst AreKeyed (sym made) (keyed_append es fresh keyed keyed_new) in
     let values : values_of new ≡ rows ++ rows_for channel list = ap values_of made ∙ values-append es fresh ∙ ap (λ v. v ++ values_of fresh) there ∙ ap (λ v. rows ++ v) added in
     let count : length (values_of new) ≡ length rows + length list =
-    ap length values ∙ length-append rows (rows_for channel list) ∙ ap (λ n. length rows + n) (length-map list (λ (p : BpProps). (channel, p))) in
+    ap length values ∙ length-append rows (rows_for channel list) ∙ ap (λ n. length rows + n) (length-map list (row_for channel)) in
     let few : length rows + length list ≤ 256 = ltb-false 256 (length rows + length list) room in
     record { keyed = all; orderly = record { differ = ids_differ new all unique; few = omega arith } }
 
-pub values_append : (channel : ℕ) (es fresh new : List (Vec ℕ × (ℕ × BpProps))) (list : List BpProps) (rows : List (ℕ × BpProps)) → new ≡ es ++ fresh → values_of es ≡ rows → values_of fresh ≡ rows_for channel list
+pub values_append : (channel : ℕ) (es fresh new : List (Vec ℕ × Placed)) (list : List BpProps) (rows : List Placed) → new ≡ es ++ fresh → values_of es ≡ rows → values_of fresh ≡ rows_for channel list
     → values_of new ≡ rows ++ rows_for channel list
 values_append channel es fresh new list rows made there added =
     ap values_of made ∙ values-append es fresh ∙ ap (λ v. v ++ values_of fresh) there ∙ ap (λ v. rows ++ v) added

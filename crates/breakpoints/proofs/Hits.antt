@@ -11,6 +11,7 @@ use Rattle.tcf_values.specs.declared.values.BpProps.{BpProps}
 use Rattle.breakpoints.specs.Laws.{HitsAreInstances, is_instance_at}
 use Rattle.breakpoints.specs.Rows.{ids_of}
 use Rattle.breakpoints.specs.Status.{instance_of, instances_of, is_at, is_for, is_hit, place_of}
+use Rattle.breakpoints.specs.Placed.{Placed}
 
 -- two processes have two IDs
 other_id : (n process : ℕ) → n < 2 ^ 32 → process < 2 ^ 32 → n ≢ process → bytes_eq (context_spelling (contexts.Process n)) (context_spelling (contexts.Process process)) ≡ false
@@ -96,12 +97,12 @@ enabled_by props attached process pc true small there =
 
 -- ---- all breakpoints
 
-filter_same : (p q : ℕ × BpProps → Bool) → ((row : ℕ × BpProps) → p row ≡ q row) → (rows : List (ℕ × BpProps)) → filter p rows ≡ filter q rows
+filter_same : (p q : Placed → Bool) → ((row : Placed) → p row ≡ q row) → (rows : List Placed) → filter p rows ≡ filter q rows
 filter_same p q same [] = refl
 filter_same p q same (row ∷ rows) =
     ap (λ b. cond b (row ∷ filter p rows) (filter p rows)) (same row) ∙ ap (λ rest. cond (q row) (row ∷ rest) rest) (filter_same p q same rows)
 
 pub hits_are_instances : HitsAreInstances
 hits_are_instances rows attached process pc small there =
-    ap ids_of (filter_same (λ row. is_hit process pc row.1) (λ row. list_any (is_instance_at process pc) (instances_of row.1 attached))
-    (λ row. enabled_by row.1 attached process pc row.1.enabled small there) rows)
+    ap ids_of (filter_same (λ row. is_hit process pc row.props) (λ row. list_any (is_instance_at process pc) (instances_of row.props attached))
+    (λ row. enabled_by row.props attached process pc row.props.enabled small there) rows)

@@ -3,42 +3,42 @@ use Rattle.std.proofs.Common.{◌≡◌, ℕ, Bool, true, false, cond, ◌||◌,
 use Rattle.std.specs.Prelude.{bytes_eq, find}
 use Rattle.std.specs.Global.{Vec}
 use Rattle.std.specs.Map.{lookup, values_of}
-use Rattle.tcf_values.specs.declared.values.BpProps.{BpProps}
+use Rattle.breakpoints.specs.Placed.{Placed}
 use Rattle.breakpoints.specs.Keyed.{AreKeyed}
 use Rattle.breakpoints.specs.Rows.{is_there, props_of}
 
 -- the first breakpoint of this ID
-abbrev pub row_of : List ℕ → List (ℕ × BpProps) → Option (ℕ × BpProps)
-row_of id rows = find (λ row. bytes_eq id row.1.id) rows
+abbrev pub row_of : List ℕ → List Placed → Option Placed
+row_of id rows = find (λ row. bytes_eq id row.props.id) rows
 
-pub lookup_row : (id : List ℕ) (entries : List (Vec ℕ × (ℕ × BpProps))) → AreKeyed entries
+pub lookup_row : (id : List ℕ) (entries : List (Vec ℕ × Placed)) → AreKeyed entries
     → lookup (λ k. bytes_eq id k.items) entries ≡ row_of id (values_of entries)
 lookup_row id [] keyed = refl
 lookup_row id (e ∷ es) keyed =
     ap (λ key. cond (bytes_eq id key) (Some e.1) (lookup (λ k. bytes_eq id k.items) es)) keyed.0
-    ∙ ap (cond (bytes_eq id e.1.1.id) (Some e.1)) (lookup_row id es keyed.1)
+    ∙ ap (cond (bytes_eq id e.1.props.id) (Some e.1)) (lookup_row id es keyed.1)
 
-found_by : (id : List ℕ) (row : ℕ × BpProps) (rows : List (ℕ × BpProps)) (b : Bool) → is_some (row_of id rows) ≡ is_there id rows
+found_by : (id : List ℕ) (row : Placed) (rows : List Placed) (b : Bool) → is_some (row_of id rows) ≡ is_there id rows
     → is_some (cond b (Some row) (row_of id rows)) ≡ (b || is_there id rows)
 found_by id row rows true rest = refl
 found_by id row rows false rest = rest
 
-pub found_there : (id : List ℕ) (rows : List (ℕ × BpProps)) → is_some (row_of id rows) ≡ is_there id rows
+pub found_there : (id : List ℕ) (rows : List Placed) → is_some (row_of id rows) ≡ is_there id rows
 found_there id [] = refl
-found_there id (row ∷ rows) = found_by id row rows (bytes_eq id row.1.id) (found_there id rows)
+found_there id (row ∷ rows) = found_by id row rows (bytes_eq id row.props.id) (found_there id rows)
 
 -- an ID that the map has is there
-pub key_there : (id : List ℕ) (entries : List (Vec ℕ × (ℕ × BpProps))) → AreKeyed entries
+pub key_there : (id : List ℕ) (entries : List (Vec ℕ × Placed)) → AreKeyed entries
     → is_some (lookup (λ k. bytes_eq id k.items) entries) ≡ is_there id (values_of entries)
 key_there id entries keyed = ap is_some (lookup_row id entries keyed) ∙ found_there id (values_of entries)
 
 -- what the map has under an ID are the properties of that breakpoint
-pub lookup_props : (id : List ℕ) (entries : List (Vec ℕ × (ℕ × BpProps))) (o : Option (ℕ × BpProps)) → AreKeyed entries
-    → o ≡ lookup (λ k. bytes_eq id k.items) entries → props_of id (values_of entries) ≡ option_map (λ row. row.1) o
-lookup_props id entries o keyed is = ap (option_map (λ (row : ℕ × BpProps). row.1)) (sym (is ∙ lookup_row id entries keyed))
+pub lookup_props : (id : List ℕ) (entries : List (Vec ℕ × Placed)) (o : Option Placed) → AreKeyed entries
+    → o ≡ lookup (λ k. bytes_eq id k.items) entries → props_of id (values_of entries) ≡ option_map (λ row. row.props) o
+lookup_props id entries o keyed is = ap (option_map (λ (row : Placed). row.props)) (sym (is ∙ lookup_row id entries keyed))
 
-pub none_found : (id : List ℕ) (entries : List (Vec ℕ × (ℕ × BpProps))) → AreKeyed entries → None ≡ lookup (λ k. bytes_eq id k.items) entries → is_there id (values_of entries) ≡ false
+pub none_found : (id : List ℕ) (entries : List (Vec ℕ × Placed)) → AreKeyed entries → None ≡ lookup (λ k. bytes_eq id k.items) entries → is_there id (values_of entries) ≡ false
 none_found id entries keyed none = sym (key_there id entries keyed) ∙ ap is_some (sym none)
 
-pub one_found : (id : List ℕ) (entries : List (Vec ℕ × (ℕ × BpProps))) (row : ℕ × BpProps) → AreKeyed entries → Some row ≡ lookup (λ k. bytes_eq id k.items) entries → is_there id (values_of entries) ≡ true
+pub one_found : (id : List ℕ) (entries : List (Vec ℕ × Placed)) (row : Placed) → AreKeyed entries → Some row ≡ lookup (λ k. bytes_eq id k.items) entries → is_there id (values_of entries) ≡ true
 one_found id entries row keyed one = sym (key_there id entries keyed) ∙ ap is_some (sym one)

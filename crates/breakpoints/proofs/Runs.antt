@@ -15,6 +15,7 @@ use Rattle.breakpoints.proofs.Fresh.{eq_sym, ids-rows_for, there_among}
 use Rattle.breakpoints.proofs.Written.{flag_keeps, orderly_map, props_keeps}
 use Rattle.list_laws.proofs.AllLists.{all_append}
 use Rattle.list_laws.proofs.Flags.{not_true, neither as or_parts}
+use Rattle.breakpoints.specs.Placed.{Placed, row_for}
 
 -- ---- new breakpoints that have a place
 
@@ -48,19 +49,19 @@ differ_append (id ∷ ids) new differ fresh none = (
   differ_append ids new differ.1 fresh (tails_apart id ids new none),
 )
 
-none_clashes : (list : List BpProps) (rows : List (ℕ × BpProps)) → clashes list rows ≡ false → NoneAmong (map (λ (p : BpProps). p.id) list) (ids_of rows)
+none_clashes : (list : List BpProps) (rows : List Placed) → clashes list rows ≡ false → NoneAmong (map (λ (p : BpProps). p.id) list) (ids_of rows)
 none_clashes [] rows none = tt
 none_clashes (props ∷ list) rows none =
     let parts = or_parts _ _ none in (sym (there_among props.id rows) ∙ parts.0, none_clashes list rows parts.1)
 
-orderly_append : (channel : ℕ) (list : List BpProps) (rows : List (ℕ × BpProps)) → IsOrderly rows → has_no_place list rows ≡ false → IsOrderly (rows ++ rows_for channel list)
+orderly_append : (channel : ℕ) (list : List BpProps) (rows : List Placed) → IsOrderly rows → has_no_place list rows ≡ false → IsOrderly (rows ++ rows_for channel list)
 orderly_append channel list rows orderly place =
     let most = or_parts _ _ place in
     let parts = or_parts _ _ most.0 in
     let few : length rows + length list ≤ 256 = ltb-false 256 (length rows + length list) most.1 in
-    let count : length (rows_for channel list) ≡ length list = length-map list (λ (p : BpProps). (channel, p)) in
+    let count : length (rows_for channel list) ≡ length list = length-map list (row_for channel) in
     let ids : ids_of (rows ++ rows_for channel list) ≡ ids_of rows ++ map (λ (p : BpProps). p.id) list =
-    map-append (λ (row : ℕ × BpProps). row.1.id) rows (rows_for channel list) ∙ ap (λ new. ids_of rows ++ new) (ids-rows_for channel list) in
+    map-append (λ (row : Placed). row.props.id) rows (rows_for channel list) ∙ ap (λ new. ids_of rows ++ new) (ids-rows_for channel list) in
     record {
       differ = subst (IsDistinct bytes_eq) (sym ids) (differ_append (ids_of rows) (map (λ (p : BpProps). p.id) list) orderly.differ (once_differ _ parts.1) (none_clashes list rows parts.0));
       few = omega (arith, length-append rows (rows_for channel list));
@@ -68,11 +69,11 @@ orderly_append channel list rows orderly place =
 
 -- ---- a command, and a run
 
-by_test : (P : List (ℕ × BpProps) → Type 0) (b : Bool) (rows new : List (ℕ × BpProps)) → P rows → (b ≡ false → P new) → P (cond b rows new)
+by_test : (P : List Placed → Type 0) (b : Bool) (rows new : List Placed) → P rows → (b ≡ false → P new) → P (cond b rows new)
 by_test P true rows new old next = old
 by_test P false rows new old next = next refl
 
-orderly_after : (channel : ℕ) (c : Command) (rows : List (ℕ × BpProps)) → IsOrderly rows → IsOrderly (after channel c rows)
+orderly_after : (channel : ℕ) (c : Command) (rows : List Placed) → IsOrderly rows → IsOrderly (after channel c rows)
 orderly_after channel (BpSet list) rows orderly =
     by_test IsOrderly (has_no_place list (others channel rows)) rows _ orderly (λ place. orderly_append channel list (others channel rows) (orderly_filter _ rows orderly) place)
 orderly_after channel (BpAdd props) rows orderly =
@@ -84,14 +85,14 @@ orderly_after channel (BpEnable ids) rows orderly =
 orderly_after channel (BpDisable ids) rows orderly =
     by_test IsOrderly _ rows _ orderly (λ _. orderly_map (row_with_flag false ids) (flag_keeps false ids) rows orderly)
 orderly_after channel (BpRemove ids) rows orderly =
-    by_test IsOrderly (lacks ids rows) rows (unnamed ids rows) orderly (λ _. orderly_filter (λ row. not (is_among ids row.1.id)) rows orderly)
+    by_test IsOrderly (lacks ids rows) rows (unnamed ids rows) orderly (λ _. orderly_filter (λ row. not (is_among ids row.props.id)) rows orderly)
 orderly_after channel _ rows orderly = orderly
 
-orderly_step : (step : Step) (rows : List (ℕ × BpProps)) → IsOrderly rows → IsOrderly (list_after step rows)
+orderly_step : (step : Step) (rows : List Placed) → IsOrderly rows → IsOrderly (list_after step rows)
 orderly_step (command channel c) rows orderly = orderly_after channel c rows orderly
 orderly_step (going channel) rows orderly = orderly_filter _ rows orderly
 
-orderly_run : (steps : List Step) (rows : List (ℕ × BpProps)) → IsOrderly rows → IsOrderly (list_after_all steps rows)
+orderly_run : (steps : List Step) (rows : List Placed) → IsOrderly rows → IsOrderly (list_after_all steps rows)
 orderly_run [] rows orderly = orderly
 orderly_run (step ∷ steps) rows orderly = orderly_run steps (list_after step rows) (orderly_step step rows orderly)
 
@@ -104,27 +105,27 @@ stays_orderly steps = orderly_run steps [] orderly_none
 
 -- ---- a channel that owns nothing
 
-abbrev OwnsNone : ℕ → List (ℕ × BpProps) → Type 0
-OwnsNone channel rows = AllByRecursion (λ row. nat_eq row.0 channel ≡ false) rows
+abbrev OwnsNone : ℕ → List Placed → Type 0
+OwnsNone channel rows = AllByRecursion (λ row. nat_eq row.channel channel ≡ false) rows
 
-none_owned : (channel : ℕ) (rows : List (ℕ × BpProps)) → OwnsNone channel rows → owned_by channel rows ≡ []
+none_owned : (channel : ℕ) (rows : List Placed) → OwnsNone channel rows → owned_by channel rows ≡ []
 none_owned channel [] none = refl
 none_owned channel (row ∷ rows) none = ap (λ b. cond b (row ∷ owned_by channel rows) (owned_by channel rows)) none.0 ∙ none_owned channel rows none.1
 
-none_by : (channel : ℕ) (row : ℕ × BpProps) (rows : List (ℕ × BpProps)) (b : Bool) → (b ≡ true → nat_eq row.0 channel ≡ false) → OwnsNone channel rows → OwnsNone channel (cond b (row ∷ rows) rows)
+none_by : (channel : ℕ) (row : Placed) (rows : List Placed) (b : Bool) → (b ≡ true → nat_eq row.channel channel ≡ false) → OwnsNone channel rows → OwnsNone channel (cond b (row ∷ rows) rows)
 none_by channel row rows true here none = (here refl, none)
 none_by channel row rows false here none = none
 
-none_of_others : (channel : ℕ) (rows : List (ℕ × BpProps)) → OwnsNone channel (others channel rows)
+none_of_others : (channel : ℕ) (rows : List Placed) → OwnsNone channel (others channel rows)
 none_of_others channel [] = tt
 none_of_others channel (row ∷ rows) =
-    none_by channel row (others channel rows) (not (nat_eq row.0 channel)) (not_true (nat_eq row.0 channel)) (none_of_others channel rows)
+    none_by channel row (others channel rows) (not (nat_eq row.channel channel)) (not_true (nat_eq row.channel channel)) (none_of_others channel rows)
 
-none_filter : (channel : ℕ) (p : ℕ × BpProps → Bool) (rows : List (ℕ × BpProps)) → OwnsNone channel rows → OwnsNone channel (filter p rows)
+none_filter : (channel : ℕ) (p : Placed → Bool) (rows : List Placed) → OwnsNone channel rows → OwnsNone channel (filter p rows)
 none_filter channel p [] none = tt
 none_filter channel p (row ∷ rows) none = none_by channel row (filter p rows) (p row) (λ _. none.0) (none_filter channel p rows none.1)
 
-none_append : (channel : ℕ) (rows new : List (ℕ × BpProps)) → OwnsNone channel rows → OwnsNone channel new → OwnsNone channel (rows ++ new)
+none_append : (channel : ℕ) (rows new : List Placed) → OwnsNone channel rows → OwnsNone channel new → OwnsNone channel (rows ++ new)
 none_append channel [] new none fresh = fresh
 none_append channel (row ∷ rows) new none fresh = (none.0, none_append channel rows new none.1 fresh)
 
@@ -133,33 +134,33 @@ none_for channel other [] differ = tt
 none_for channel other (props ∷ list) differ = (ne_eqb other channel differ, none_for channel other list differ)
 
 -- the change leaves owners as they are
-abbrev KeepsOwners : (ℕ × BpProps → ℕ × BpProps) → Type 0
-KeepsOwners change = (row : ℕ × BpProps) → (change row).0 ≡ row.0
+abbrev KeepsOwners : (Placed → Placed) → Type 0
+KeepsOwners change = (row : Placed) → (change row).channel ≡ row.channel
 
-none_map : (channel : ℕ) (change : ℕ × BpProps → ℕ × BpProps) → KeepsOwners change → (rows : List (ℕ × BpProps)) → OwnsNone channel rows → OwnsNone channel (map change rows)
+none_map : (channel : ℕ) (change : Placed → Placed) → KeepsOwners change → (rows : List Placed) → OwnsNone channel rows → OwnsNone channel (map change rows)
 none_map channel change keeps [] none = tt
 none_map channel change keeps (row ∷ rows) none = (ap (λ owner. nat_eq owner channel) (keeps row) ∙ none.0, none_map channel change keeps rows none.1)
 
-owner_by : (b : Bool) (row : ℕ × BpProps) (props : BpProps) → (cond b (row.0, props) row).0 ≡ row.0
+owner_by : (b : Bool) (row : Placed) (props : BpProps) → (cond b (record row { props = props }) row).channel ≡ row.channel
 owner_by true row props = refl
 owner_by false row props = refl
 
-none_after : (channel other : ℕ) (c : Command) (rows : List (ℕ × BpProps)) → other ≢ channel → OwnsNone channel rows → OwnsNone channel (after other c rows)
+none_after : (channel other : ℕ) (c : Command) (rows : List Placed) → other ≢ channel → OwnsNone channel rows → OwnsNone channel (after other c rows)
 none_after channel other (BpSet list) rows differ none =
     by_test (OwnsNone channel) _ rows _ none (λ _. none_append channel (others other rows) (rows_for other list) (none_filter channel _ rows none) (none_for channel other list differ))
 none_after channel other (BpAdd props) rows differ none =
-    by_test (OwnsNone channel) _ rows _ none (λ _. none_append channel rows ((other, props) ∷ []) none (none_for channel other (props ∷ []) differ))
+    by_test (OwnsNone channel) _ rows _ none (λ _. none_append channel rows (row_for other props ∷ []) none (none_for channel other (props ∷ []) differ))
 none_after channel other (BpChange props) rows differ none =
-    by_test (OwnsNone channel) _ rows _ none (λ _. none_map channel (row_with_props props) (λ row. owner_by (bytes_eq props.id row.1.id) row props) rows none)
+    by_test (OwnsNone channel) _ rows _ none (λ _. none_map channel (row_with_props props) (λ row. owner_by (bytes_eq props.id row.props.id) row props) rows none)
 none_after channel other (BpEnable ids) rows differ none =
-    by_test (OwnsNone channel) _ rows _ none (λ _. none_map channel (row_with_flag true ids) (λ row. owner_by (is_among ids row.1.id) row (with_flag true row.1)) rows none)
+    by_test (OwnsNone channel) _ rows _ none (λ _. none_map channel (row_with_flag true ids) (λ row. owner_by (is_among ids row.props.id) row (with_flag true row.props)) rows none)
 none_after channel other (BpDisable ids) rows differ none =
-    by_test (OwnsNone channel) _ rows _ none (λ _. none_map channel (row_with_flag false ids) (λ row. owner_by (is_among ids row.1.id) row (with_flag false row.1)) rows none)
+    by_test (OwnsNone channel) _ rows _ none (λ _. none_map channel (row_with_flag false ids) (λ row. owner_by (is_among ids row.props.id) row (with_flag false row.props)) rows none)
 none_after channel other (BpRemove ids) rows differ none =
-    by_test (OwnsNone channel) (lacks ids rows) rows (unnamed ids rows) none (λ _. none_filter channel (λ row. not (is_among ids row.1.id)) rows none)
+    by_test (OwnsNone channel) (lacks ids rows) rows (unnamed ids rows) none (λ _. none_filter channel (λ row. not (is_among ids row.props.id)) rows none)
 none_after channel other _ rows differ none = none
 
-none_run : (channel : ℕ) (steps : List Step) (rows : List (ℕ × BpProps)) → IsSilent channel steps → OwnsNone channel rows → OwnsNone channel (list_after_all steps rows)
+none_run : (channel : ℕ) (steps : List Step) (rows : List Placed) → IsSilent channel steps → OwnsNone channel rows → OwnsNone channel (list_after_all steps rows)
 none_run channel [] rows silent none = none
 none_run channel (command other c ∷ steps) rows silent none = none_run channel steps (after other c rows) silent.1 (none_after channel other c rows silent.0 none)
 none_run channel (going other ∷ steps) rows silent none = none_run channel steps (others other rows) silent (none_filter channel _ rows none)

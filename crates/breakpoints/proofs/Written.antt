@@ -11,53 +11,54 @@ use Rattle.breakpoints.specs.Changes.{row_with_props, row_with_flag, with_flag}
 use Rattle.breakpoints.specs.Keyed.{AreKeyed, IsKept, with_values}
 use Rattle.breakpoints.specs.Rows.{IsOrderly, ids_of, is_among, is_there}
 use Rattle.breakpoints.proofs.Filtered.{apart_of}
+use Rattle.breakpoints.specs.Placed.{Placed}
 
 -- ---- a change of each breakpoint that leaves its ID
 
 -- the change leaves IDs as they are
-abbrev pub KeepsIds : (ℕ × BpProps → ℕ × BpProps) → Type 0
-KeepsIds change = (row : ℕ × BpProps) → (change row).1.id ≡ row.1.id
+abbrev pub KeepsIds : (Placed → Placed) → Type 0
+KeepsIds change = (row : Placed) → (change row).props.id ≡ row.props.id
 
-pub ids-map : (change : ℕ × BpProps → ℕ × BpProps) → KeepsIds change → (rows : List (ℕ × BpProps)) → ids_of (map change rows) ≡ ids_of rows
+pub ids-map : (change : Placed → Placed) → KeepsIds change → (rows : List Placed) → ids_of (map change rows) ≡ ids_of rows
 ids-map change keeps [] = refl
 ids-map change keeps (row ∷ rows) =
-    ap (λ id. id ∷ ids_of (map change rows)) (keeps row) ∙ ap (λ ids. row.1.id ∷ ids) (ids-map change keeps rows)
+    ap (λ id. id ∷ ids_of (map change rows)) (keeps row) ∙ ap (λ ids. row.props.id ∷ ids) (ids-map change keeps rows)
 
-pub same_length : (change : ℕ × BpProps → ℕ × BpProps) (rows : List (ℕ × BpProps)) → length (map change rows) ≡ length rows
+pub same_length : (change : Placed → Placed) (rows : List Placed) → length (map change rows) ≡ length rows
 same_length change [] = refl
 same_length change (row ∷ rows) = ap suc (same_length change rows)
 
-pub orderly_map : (change : ℕ × BpProps → ℕ × BpProps) → KeepsIds change → (rows : List (ℕ × BpProps)) → IsOrderly rows → IsOrderly (map change rows)
+pub orderly_map : (change : Placed → Placed) → KeepsIds change → (rows : List Placed) → IsOrderly rows → IsOrderly (map change rows)
 orderly_map change keeps rows orderly = record {
   differ = subst (IsDistinct bytes_eq) (sym (ids-map change keeps rows)) orderly.differ;
   few = omega (arith, same_length change rows, orderly.few);
 }
 
 pub flag_keeps : (enabled : Bool) (ids : List (List ℕ)) → KeepsIds (row_with_flag enabled ids)
-flag_keeps enabled ids row = by (is_among ids row.1.id)
+flag_keeps enabled ids row = by (is_among ids row.props.id)
   where
-    by : (b : Bool) → (cond b (row.0, with_flag enabled row.1) row).1.id ≡ row.1.id
+    by : (b : Bool) → (cond b (record row { props = with_flag enabled row.props }) row).props.id ≡ row.props.id
     by true = refl
     by false = refl
 
 pub props_keeps : (props : BpProps) → KeepsIds (row_with_props props)
-props_keeps props row = by (bytes_eq props.id row.1.id) refl
+props_keeps props row = by (bytes_eq props.id row.props.id) refl
   where
-    by : (b : Bool) → bytes_eq props.id row.1.id ≡ b → (cond b (row.0, props) row).1.id ≡ row.1.id
-    by true e = (bytes_eq-Decides props.id row.1.id).0 e
+    by : (b : Bool) → bytes_eq props.id row.props.id ≡ b → (cond b (record row { props = props }) row).props.id ≡ row.props.id
+    by true e = (bytes_eq-Decides props.id row.props.id).0 e
     by false e = refl
 
 -- ---- a change of what each entry holds
 
-pub values-with_values : (change : ℕ × BpProps → ℕ × BpProps) (es : List (Vec ℕ × (ℕ × BpProps))) → values_of (with_values change es) ≡ map change (values_of es)
+pub values-with_values : (change : Placed → Placed) (es : List (Vec ℕ × Placed)) → values_of (with_values change es) ≡ map change (values_of es)
 values-with_values change [] = refl
 values-with_values change (e ∷ es) = ap (λ rows. change e.1 ∷ rows) (values-with_values change es)
 
-keyed_with : (change : ℕ × BpProps → ℕ × BpProps) → KeepsIds change → (es : List (Vec ℕ × (ℕ × BpProps))) → AreKeyed es → AreKeyed (with_values change es)
+keyed_with : (change : Placed → Placed) → KeepsIds change → (es : List (Vec ℕ × Placed)) → AreKeyed es → AreKeyed (with_values change es)
 keyed_with change keeps [] keyed = keyed
 keyed_with change keeps (e ∷ es) keyed = (keyed.0 ∙ sym (keeps e.1), keyed_with change keeps es keyed.1)
 
-pub kept_with : (change : ℕ × BpProps → ℕ × BpProps) → KeepsIds change → (es : List (Vec ℕ × (ℕ × BpProps))) → IsKept es → IsKept (with_values change es)
+pub kept_with : (change : Placed → Placed) → KeepsIds change → (es : List (Vec ℕ × Placed)) → IsKept es → IsKept (with_values change es)
 kept_with change keeps es kept = record {
   keyed = keyed_with change keeps es kept.keyed;
   orderly = subst IsOrderly (sym (values-with_values change es)) (orderly_map change keeps (values_of es) kept.orderly);
@@ -65,7 +66,7 @@ kept_with change keeps es kept = record {
 
 -- ---- one write after another
 
-pub step_written : (change : ℕ × BpProps → ℕ × BpProps) (es : List (Vec ℕ × (ℕ × BpProps))) (i : ℕ) (row : ℕ × BpProps) → slice_get (values_of es) i ≡ Some row
+pub step_written : (change : Placed → Placed) (es : List (Vec ℕ × Placed)) (i : ℕ) (row : Placed) → slice_get (values_of es) i ≡ Some row
     → take (suc i) (set_value_at es i (change row)) ++ with_values change (drop (suc i) (set_value_at es i (change row))) ≡ take i es ++ with_values change (drop i es)
 step_written change [] i row there = cc
 step_written change (e ∷ es) zero row there = let same : e.1 ≡ row = cc in ap (λ r. (e.0, change r) ∷ with_values change es) (sym same)
@@ -73,38 +74,38 @@ step_written change (e ∷ es) (suc i) row there = ap (λ rest. e ∷ rest) (ste
 
 -- ---- new properties under an ID
 
-unnamed_by : (props : BpProps) (es : List (Vec ℕ × (ℕ × BpProps))) → AllByRecursion (λ id. bytes_eq props.id id ≡ false) (ids_of (values_of es)) → with_values (row_with_props props) es ≡ es
+unnamed_by : (props : BpProps) (es : List (Vec ℕ × Placed)) → AllByRecursion (λ id. bytes_eq props.id id ≡ false) (ids_of (values_of es)) → with_values (row_with_props props) es ≡ es
 unnamed_by props [] apart = refl
 unnamed_by props (e ∷ es) apart =
-    ap (λ b. (e.0, cond b (e.1.0, props) e.1) ∷ with_values (row_with_props props) es) apart.0 ∙ ap (λ rest. e ∷ rest) (unnamed_by props es apart.1)
+    ap (λ b. (e.0, cond b (record e.1 { props = props }) e.1) ∷ with_values (row_with_props props) es) apart.0 ∙ ap (λ rest. e ∷ rest) (unnamed_by props es apart.1)
 
 -- where the ID isn't there, nothing changes
-pub none_written : (props : BpProps) (es : List (Vec ℕ × (ℕ × BpProps))) → is_there props.id (values_of es) ≡ false → with_values (row_with_props props) es ≡ es
+pub none_written : (props : BpProps) (es : List (Vec ℕ × Placed)) → is_there props.id (values_of es) ≡ false → with_values (row_with_props props) es ≡ es
 none_written props es none = unnamed_by props es (apart_of props.id (values_of es) none)
 
 abbrev is_id : List ℕ → Vec ℕ → Bool
 is_id id k = bytes_eq id k.items
 
-set_by : (props : BpProps) (e : Vec ℕ × (ℕ × BpProps)) (es : List (Vec ℕ × (ℕ × BpProps))) (row : ℕ × BpProps) (b : Bool) → bytes_eq props.id e.1.1.id ≡ b
-    → AllByRecursion (λ id. bytes_eq e.1.1.id id ≡ false) (ids_of (values_of es))
+set_by : (props : BpProps) (e : Vec ℕ × Placed) (es : List (Vec ℕ × Placed)) (row : Placed) (b : Bool) → bytes_eq props.id e.1.props.id ≡ b
+    → AllByRecursion (λ id. bytes_eq e.1.props.id id ≡ false) (ids_of (values_of es))
     → cond b (Some e.1) (lookup (is_id props.id) es) ≡ Some row
-    → (lookup (is_id props.id) es ≡ Some row → set_value (is_id props.id) es (row.0, props) ≡ with_values (row_with_props props) es)
-    → cond b ((e.0, (row.0, props)) ∷ es) (e ∷ set_value (is_id props.id) es (row.0, props)) ≡ (e.0, cond b (e.1.0, props) e.1) ∷ with_values (row_with_props props) es
+    → (lookup (is_id props.id) es ≡ Some row → set_value (is_id props.id) es (record row { props = props }) ≡ with_values (row_with_props props) es)
+    → cond b ((e.0, (record row { props = props })) ∷ es) (e ∷ set_value (is_id props.id) es (record row { props = props })) ≡ (e.0, cond b (record e.1 { props = props }) e.1) ∷ with_values (row_with_props props) es
 set_by props e es row true is differ found later =
-    let same : props.id ≡ e.1.1.id = (bytes_eq-Decides props.id e.1.1.id).0 is in
+    let same : props.id ≡ e.1.props.id = (bytes_eq-Decides props.id e.1.props.id).0 is in
     let here : e.1 ≡ row = cc in
     let P : List ℕ → Type 0 = λ id. AllByRecursion (λ other. bytes_eq id other ≡ false) (ids_of (values_of es)) in
-    ap (λ (r : ℕ × BpProps). (e.0, (r.0, props)) ∷ es) (sym here) ∙ ap (λ rest. (e.0, (e.1.0, props)) ∷ rest) (sym (unnamed_by props es (subst P (sym same) differ)))
+    ap (λ (r : Placed). (e.0, record r { props = props }) ∷ es) (sym here) ∙ ap (λ rest. (e.0, record e.1 { props = props }) ∷ rest) (sym (unnamed_by props es (subst P (sym same) differ)))
 set_by props e es row false is differ found later = ap (λ rest. e ∷ rest) (later found)
 
 -- the one breakpoint of the ID is written
-pub one_written : (props : BpProps) (es : List (Vec ℕ × (ℕ × BpProps))) (row : ℕ × BpProps) → AreKeyed es → IsDistinct bytes_eq (ids_of (values_of es))
-    → lookup (is_id props.id) es ≡ Some row → set_value (is_id props.id) es (row.0, props) ≡ with_values (row_with_props props) es
+pub one_written : (props : BpProps) (es : List (Vec ℕ × Placed)) (row : Placed) → AreKeyed es → IsDistinct bytes_eq (ids_of (values_of es))
+    → lookup (is_id props.id) es ≡ Some row → set_value (is_id props.id) es (record row { props = props }) ≡ with_values (row_with_props props) es
 unfolding IsDistinct
 one_written props [] row keyed differ found = refl
 one_written props (e ∷ es) row keyed differ found =
-    let key : bytes_eq props.id e.0.items ≡ bytes_eq props.id e.1.1.id = ap (bytes_eq props.id) keyed.0 in
-    let later : lookup (is_id props.id) es ≡ Some row → set_value (is_id props.id) es (row.0, props) ≡ with_values (row_with_props props) es =
+    let key : bytes_eq props.id e.0.items ≡ bytes_eq props.id e.1.props.id = ap (bytes_eq props.id) keyed.0 in
+    let later : lookup (is_id props.id) es ≡ Some row → set_value (is_id props.id) es (record row { props = props }) ≡ with_values (row_with_props props) es =
     one_written props es row keyed.1 differ.1 in
-    ap (λ b. cond b ((e.0, (row.0, props)) ∷ es) (e ∷ set_value (is_id props.id) es (row.0, props))) key
-    ∙ set_by props e es row (bytes_eq props.id e.1.1.id) refl differ.0 (ap (λ b. cond b (Some e.1) (lookup (is_id props.id) es)) (sym key) ∙ found) later
+    ap (λ b. cond b ((e.0, (record row { props = props })) ∷ es) (e ∷ set_value (is_id props.id) es (record row { props = props }))) key
+    ∙ set_by props e es row (bytes_eq props.id e.1.props.id) refl differ.0 (ap (λ b. cond b (Some e.1) (lookup (is_id props.id) es)) (sym key) ∙ found) later

@@ -13,6 +13,7 @@ use Rattle.tcf_values.specs.declared.values.Place.{Place}
 use Rattle.tcf_values.specs.declared.values.Place.TheVariants.{Address, Error}
 use Rattle.breakpoints.specs.Address.{address_of}
 use Rattle.breakpoints.specs.Rows.{ids_of, props_of}
+use Rattle.breakpoints.specs.Placed.{Placed}
 
 -- ---- the processes that a breakpoint is for
 
@@ -54,7 +55,7 @@ instances_of props attached =
     if props.enabled then map (instance_of props) (filter (is_for props.contexts) attached) else []
 
 -- the status of the breakpoint of this ID, where it is there
-abbrev pub status_of : List ℕ → List ℕ → List (ℕ × BpProps) → Option BpStatus
+abbrev pub status_of : List ℕ → List ℕ → List Placed → Option BpStatus
 status_of id attached rows = option_map (λ props. record { instances = instances_of props attached }) (props_of id rows)
 
 -- ---- hits
@@ -69,5 +70,5 @@ is_hit process pc props = list_any (λ instance. is_at pc instance.place) (insta
 
 -- the IDs of the breakpoints that a thread of this process hits at pc, in the order of the list; none where the
 -- process isn't attached
-abbrev pub hits_of : ℕ → Bool → ℕ → List (ℕ × BpProps) → List (List ℕ)
-hits_of process attached pc rows = if attached then ids_of (filter (λ row. is_hit process pc row.1) rows) else []
+abbrev pub hits_of : ℕ → Bool → ℕ → List Placed → List (List ℕ)
+hits_of process attached pc rows = if attached then ids_of (filter (λ row. is_hit process pc row.props) rows) else []

@@ -9,7 +9,9 @@ mod order;
 mod statuses;
 
 use crate::instance::instances_of;
-use crate::rows::{Rows, copies, has_twice, keyed, replace, set_flags, set_props, take_out};
+use crate::rows::{
+    Placed, Rows, copies, has_twice, keyed, replace, set_flags, set_props, take_out,
+};
 use crate::selection::{Selection, is_among, selects};
 use indexmap::IndexMap;
 pub use statuses::status_event;
@@ -40,19 +42,19 @@ pub enum BpDone {
     },
 }
 
-/// The breakpoints of all channels. Contracts see the list of pairs of a channel and the properties, in order.
+/// The breakpoints of all channels. Contracts see the list of them, each beside the channel that owns it, in order.
 #[derive(Drop)]
 pub struct Breakpoints {
     map: Rows,
 }
 
 impl Model for Breakpoints {
-    ghost use Rattle.std.specs.Prelude.{ℕ, List};
+    ghost use Rattle.std.specs.Prelude.{List};
     ghost use Rattle.indexmap.specs.IndexMap.{values};
-    ghost use Rattle.tcf_values.specs.declared.values.BpProps.{BpProps};
+    ghost use Rattle.breakpoints.specs.Placed.{Placed};
     ghost use Rattle.breakpoints.specs.Keyed.{IsKept};
 
-    ghost Value = { List (ℕ × BpProps) };
+    ghost Value = { List Placed };
 
     ghost view = { λ b. values b.map };
 
@@ -112,7 +114,7 @@ impl Breakpoints {
         ensures orderly { IsOrderly self.now }
     {
         let row = self.map.get(id)?;
-        Some(&row.1)
+        Some(&row.props)
     }
 
     /// The IDs of all breakpoints, in the order of the list.
@@ -217,7 +219,7 @@ impl Breakpoints {
         let mut ids = Texts::new(*self.map.allocator());
         for row in self.map.values() {
             if selects(selection, row) {
-                ids.push(row.1.id.copy()?)?;
+                ids.push(row.props.id.copy()?)?;
             }
         }
         Ok(ids)
@@ -230,7 +232,7 @@ impl Breakpoints {
         let mut list = Props::new(*self.map.allocator());
         for row in self.map.values() {
             if is_switched(row, ids, enabled) {
-                list.push(with_flag(&row.1, enabled)?)?;
+                list.push(with_flag(&row.props, enabled)?)?;
             }
         }
         Ok(list)
@@ -337,10 +339,10 @@ impl Breakpoints {
 }
 
 /// Whether the breakpoint is named and has another flag.
-fn is_switched(row: &(u64, BpProps), ids: &[Text], enabled: bool) -> bool
+fn is_switched(row: &Placed, ids: &[Text], enabled: bool) -> bool
     ensures { result ≡ is_switched enabled ids.now row.now }
 {
-    is_among(ids, row.1.id.as_bytes()) && row.1.enabled != enabled
+    is_among(ids, row.props.id.as_bytes()) && row.props.enabled != enabled
 }
 
 /// These properties with another flag.

@@ -10,3 +10,4 @@ mod selection;
 
 pub use breakpoints::{BpDone, Breakpoints, status_event};
 pub use laws::{a_gone_channel_owns_nothing, a_hit_is_an_instance, the_list_stays_orderly};
+pub use rows::Placed;

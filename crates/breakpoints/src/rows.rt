@@ -12,8 +12,15 @@ use indexmap::IndexMap;
 use std::alloc::{AllocError, Global};
 use tcf_values::{BpProps, Duplicate, Props, Text};
 
-/// Each breakpoint beside the channel that owns it.
-pub(crate) type Rows = IndexMap<Vec<u8>, (u64, BpProps)>;
+/// A breakpoint beside the channel that owns it.
+#[derive(Drop)]
+pub struct Placed {
+    pub channel: u64,
+    pub props: BpProps,
+}
+
+/// The breakpoints, each under its ID.
+pub(crate) type Rows = IndexMap<Vec<u8>, Placed>;
 
 /// Whether one of these has this ID.
 fn is_given(list: &[BpProps], id: &[u8]) -> bool
@@ -56,7 +63,13 @@ pub(crate) fn keyed(alloc: Global, channel: u64, list: &[BpProps]) -> Result<Row
     let mut rows = IndexMap::with_capacity(alloc, list.len())?;
     for props in list {
         let id = Vec::from_slice(alloc, props.id.as_bytes())?;
-        rows.insert(id, (channel, props.copy()?))?;
+        rows.insert(
+            id,
+            Placed {
+                channel,
+                props: props.copy()?,
+            },
+        )?;
     }
     Ok(rows)
 }
@@ -67,7 +80,7 @@ pub(crate) fn take_out(rows: &mut Rows, leaving: Selection<'_>)
     ensures room { spare rows.old ≤ spare rows.new }
 {
     rows.retain(
-        |_id: &Vec<u8>, row: &mut (u64, BpProps)| -> bool
+        |_id: &Vec<u8>, row: &mut Placed| -> bool
             ensures { (result ≡ not (selects leaving.entry row.old)) × (row.new ≡ row.old) }
         { !selects(leaving, row) },
     );
@@ -96,16 +109,16 @@ pub(crate) fn set_props(rows: &mut Rows, props: BpProps)
     ensures { rows.new.entries ≡ with_values (row_with_props props) rows.old.entries }
 {
     if let Some(row) = rows.get_mut(props.id.as_bytes()) {
-        row.1 = props;
+        row.props = props;
     }
 }
 
 /// Enables or disables a breakpoint, where it is named.
-fn set_flag(row: &mut (u64, BpProps), ids: &[Text], enabled: bool)
+fn set_flag(row: &mut Placed, ids: &[Text], enabled: bool)
     ensures { row.new ≡ row_with_flag enabled ids.now row.old }
 {
-    if is_among(ids, row.1.id.as_bytes()) {
-        row.1.enabled = enabled;
+    if is_among(ids, row.props.id.as_bytes()) {
+        row.props.enabled = enabled;
     }
 }
 

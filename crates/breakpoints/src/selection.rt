@@ -4,7 +4,8 @@ ghost use Rattle.breakpoints.specs.Rows.{is_among};
 ghost use Rattle.breakpoints.specs.Selecting.{selects};
 
 use crate::instance::is_hit;
-use tcf_values::{BpProps, Text};
+use crate::rows::Placed;
+use tcf_values::Text;
 
 /// A choice of breakpoints.
 #[derive(Clone, Copy)]
@@ -27,14 +28,14 @@ pub(crate) fn is_among(ids: &[Text], id: &[u8]) -> bool
 }
 
 /// Whether this breakpoint is one of the chosen.
-pub(crate) fn selects(selection: Selection<'_>, row: &(u64, BpProps)) -> bool
+pub(crate) fn selects(selection: Selection<'_>, row: &Placed) -> bool
     ensures { result ≡ selects selection.entry row.now }
 {
     match selection {
         Selection::Nothing => false,
         Selection::Everything => true,
-        Selection::OwnedBy(channel) => row.0 == channel,
-        Selection::Named(ids) => is_among(ids, row.1.id.as_bytes()),
-        Selection::HitAt(process, pc) => is_hit(process, pc, &row.1),
+        Selection::OwnedBy(channel) => row.channel == channel,
+        Selection::Named(ids) => is_among(ids, row.props.id.as_bytes()),
+        Selection::HitAt(process, pc) => is_hit(process, pc, &row.props),
     }
 }

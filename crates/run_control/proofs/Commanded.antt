@@ -6,7 +6,7 @@ use Rattle.tcf_values.specs.Faults.{first_fault}
 use Rattle.tcf_values.specs.declared.command.Command.TheVariants.{Resume, Suspend, Terminate, ProcStart, ProcAttach, ProcDetach, ProcTerminate, TraceRun}
 use Rattle.tcf_values.specs.declared.faults.Fault.{Fault}
 use Rattle.tcf_values.specs.declared.faults.Fault.TheVariants.{Other, AlreadyStopped, AlreadyRunning, BadContext, BadNumber, Unsupported}
-use Rattle.tcf_values.specs.declared.values.BpProps.{BpProps}
+use Rattle.breakpoints.specs.declared.rows.Placed.{Placed}
 use Rattle.rv32i_core.specs.Machine.{Step, goes_on, ends, excepts, machine}
 use Rattle.target_contexts.specs.Changes.{targets_by, with_change}
 use Rattle.target_contexts.specs.Images.{image_of}
@@ -90,22 +90,22 @@ next_attached (goes_on cpu memory) p q is =
 next_attached (ends code) p q is = absurd cc
 next_attached excepts p q is = absurd cc
 
-last_by : (bps : List (ℕ × BpProps)) (n count : ℕ) (p q : Process) (quiet : Bool) → q.attached ≡ p.attached → ((r : Process) → (last_of r (up_to_hit bps n (run_from count r))).attached ≡ r.attached) → (last_of p (q ∷ cond quiet (up_to_hit bps n (run_from count q)) [])).attached ≡ p.attached
+last_by : (bps : List Placed) (n count : ℕ) (p q : Process) (quiet : Bool) → q.attached ≡ p.attached → ((r : Process) → (last_of r (up_to_hit bps n (run_from count r))).attached ≡ r.attached) → (last_of p (q ∷ cond quiet (up_to_hit bps n (run_from count q)) [])).attached ≡ p.attached
 last_by bps n count p q true same rest = rest q ∙ same
 last_by bps n count p q false same rest = same
 
-last_next : (bps : List (ℕ × BpProps)) (n count : ℕ) (p : Process) (next : Option Process) → ((q : Process) → next ≡ Some q → q.attached ≡ p.attached) → ((r : Process) → (last_of r (up_to_hit bps n (run_from count r))).attached ≡ r.attached) → (last_of p (up_to_hit bps n (option_map_or (λ q. q ∷ run_from count q) next []))).attached ≡ p.attached
+last_next : (bps : List Placed) (n count : ℕ) (p : Process) (next : Option Process) → ((q : Process) → next ≡ Some q → q.attached ≡ p.attached) → ((r : Process) → (last_of r (up_to_hit bps n (run_from count r))).attached ≡ r.attached) → (last_of p (up_to_hit bps n (option_map_or (λ q. q ∷ run_from count q) next []))).attached ≡ p.attached
 last_next bps n count p None same rest = refl
 last_next bps n count p (Some q) same rest = last_by bps n count p q (is_empty (hits_at bps n q)) (same q refl) rest
 
-last_attached : (bps : List (ℕ × BpProps)) (n count : ℕ) (p : Process) → (last_of p (up_to_hit bps n (run_from count p))).attached ≡ p.attached
+last_attached : (bps : List Placed) (n count : ℕ) (p : Process) → (last_of p (up_to_hit bps n (run_from count p))).attached ≡ p.attached
 last_attached bps n zero p = refl
 last_attached bps n (suc count) p = last_next bps n count p (next_of p) (next_attached (machine p.cpu p.memory) p) (last_attached bps n count)
 
 some_same : (p q : Process) (found : Option Process) → found ≡ Some p → Some q ≡ found → p ≡ q
 some_same p q found there is = cc
 
-trace_at : (bps : List (ℕ × BpProps)) (n count : ℕ) (targets : TargetsValue) (found : Option Process) → process_of n targets.processes ≡ found → ((p : Process) → found ≡ Some p → p.attached ≡ true) → IsOrderly targets.processes targets.next → AreSound targets.processes → AreSound (traced_at bps n count found targets).processes
+trace_at : (bps : List Placed) (n count : ℕ) (targets : TargetsValue) (found : Option Process) → process_of n targets.processes ≡ found → ((p : Process) → found ≡ Some p → p.attached ≡ true) → IsOrderly targets.processes targets.next → AreSound targets.processes → AreSound (traced_at bps n count found targets).processes
 trace_at bps n count targets None there checked orderly sound = sound
 trace_at bps n count targets (Some p) there checked orderly sound =
     let trace : Trace = trace_of bps n count p in

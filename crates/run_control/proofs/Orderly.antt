@@ -7,7 +7,7 @@ use Rattle.tcf_values.specs.declared.command.Command.{Command}
 use Rattle.tcf_values.specs.declared.command.Command.TheVariants.{Resume, Suspend, Terminate, ProcStart, ProcAttach, ProcDetach, ProcTerminate, TraceRun}
 use Rattle.tcf_values.specs.declared.faults.Fault.{Fault}
 use Rattle.tcf_values.specs.declared.ids.ContextId.{ContextId}
-use Rattle.tcf_values.specs.declared.values.BpProps.{BpProps}
+use Rattle.breakpoints.specs.declared.rows.Placed.{Placed}
 use Rattle.target_contexts.specs.Changes.{targets_by, with_change}
 use Rattle.target_contexts.specs.Images.{image_of}
 use Rattle.target_contexts.specs.Live.{IsOrderly, process_of}
@@ -44,12 +44,12 @@ settled_orderly : (n : ℕ) (fate : Fate) (targets : TargetsValue) → AreOrderl
 settled_orderly n (Ends code) targets orderly = end_orderly n targets orderly
 settled_orderly n (Lives state) targets orderly = orderly_change (with_state state) n targets orderly
 
-ticked_orderly : (bps : List (ℕ × BpProps)) (n : ℕ) (found : Option Process) (targets : TargetsValue) → AreOrderly targets → AreOrderly (ticked_at bps n found targets)
+ticked_orderly : (bps : List Placed) (n : ℕ) (found : Option Process) (targets : TargetsValue) → AreOrderly targets → AreOrderly (ticked_at bps n found targets)
 ticked_orderly bps n None targets orderly = orderly
 ticked_orderly bps n (Some process) targets orderly =
     settled_orderly n (tick_fate bps n process) (with_change stepped n targets) (orderly_change stepped n targets orderly)
 
-trace_orderly : (bps : List (ℕ × BpProps)) (n count : ℕ) (found : Option Process) (targets : TargetsValue) → AreOrderly targets → AreOrderly (traced_at bps n count found targets)
+trace_orderly : (bps : List Placed) (n count : ℕ) (found : Option Process) (targets : TargetsValue) → AreOrderly targets → AreOrderly (traced_at bps n count found targets)
 trace_orderly bps n count None targets orderly = orderly
 trace_orderly bps n count (Some process) targets orderly =
     let trace : Trace = trace_of bps n count process in
@@ -86,7 +86,7 @@ left_orderly : (change : ℕ → TargetsValue → TargetsValue) (named : Option 
 left_orderly change None targets given orderly = orderly
 left_orderly change (Some n) targets given orderly = given n
 
-run_left_orderly : (command : Command) (bps : List (ℕ × BpProps)) (targets : TargetsValue) → AreOrderly targets → run_fault command targets ≡ None → AreOrderly (run_left command bps targets)
+run_left_orderly : (command : Command) (bps : List Placed) (targets : TargetsValue) → AreOrderly targets → run_fault command targets ≡ None → AreOrderly (run_left command bps targets)
 run_left_orderly (Resume id mode count) bps targets orderly free =
     left_orderly (resume_after (left_by mode count)) (thread_named id) targets (λ n. orderly_change (with_state (Running (left_by mode count))) n targets orderly) orderly
 run_left_orderly (Suspend id) bps targets orderly free =
@@ -105,13 +105,13 @@ run_left_orderly (TraceRun id count) bps targets orderly free =
     left_orderly (trace_after bps (unsigned_abs count)) (thread_named id) targets (λ n. trace_orderly bps n (unsigned_abs count) (process_of n targets.processes) targets orderly) orderly
 run_left_orderly command bps targets orderly free = orderly
 
-pub run_orderly : (command : Command) (bps : List (ℕ × BpProps)) (targets : TargetsValue) → AreOrderly targets → AreOrderly (run_after command bps targets)
+pub run_orderly : (command : Command) (bps : List Placed) (targets : TargetsValue) → AreOrderly targets → AreOrderly (run_after command bps targets)
 run_orderly command bps targets orderly =
     kept_by (run_fault command targets) (run_left command bps targets) targets (run_left_orderly command bps targets orderly) orderly
 
-tick_named : (bps : List (ℕ × BpProps)) (number : Option ℕ) (targets : TargetsValue) → AreOrderly targets → AreOrderly (option_map_or (λ n. ticked bps n targets) number targets)
+tick_named : (bps : List Placed) (number : Option ℕ) (targets : TargetsValue) → AreOrderly targets → AreOrderly (option_map_or (λ n. ticked bps n targets) number targets)
 tick_named bps None targets orderly = orderly
 tick_named bps (Some number) targets orderly = ticked_orderly bps number (process_of number targets.processes) targets orderly
 
-pub tick_orderly : (thread : ContextId) (bps : List (ℕ × BpProps)) (targets : TargetsValue) → AreOrderly targets → AreOrderly (tick_after bps thread targets)
+pub tick_orderly : (thread : ContextId) (bps : List Placed) (targets : TargetsValue) → AreOrderly targets → AreOrderly (tick_after bps thread targets)
 tick_orderly thread bps targets orderly = tick_named bps (running_number thread targets.processes) targets orderly

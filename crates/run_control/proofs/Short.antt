@@ -6,7 +6,7 @@ use Rattle.std.specs.Prelude.{unsigned_abs}
 use Rattle.tcf_values.specs.declared.command.Command.{Command}
 use Rattle.tcf_values.specs.declared.command.Command.TheVariants.{Resume, Suspend, Terminate, ProcStart, ProcAttach, ProcDetach, ProcTerminate, TraceRun}
 use Rattle.tcf_values.specs.declared.faults.Fault.{Fault}
-use Rattle.tcf_values.specs.declared.values.BpProps.{BpProps}
+use Rattle.breakpoints.specs.declared.rows.Placed.{Placed}
 use Rattle.rv32i_core.specs.Machine.{Step, goes_on, ends, excepts, machine}
 use Rattle.breakpoints.specs.Rows.{ids_of}
 use Rattle.breakpoints.specs.Status.{hits_of, is_hit}
@@ -44,18 +44,18 @@ pub filter_fewer : {A : Type 0} (p : A → Bool) (xs : List A) → length (filte
 filter_fewer p [] = omega arith
 filter_fewer p (x ∷ xs) = omega (arith, fewer (p x) x (filter p xs) (length xs) (filter_fewer p xs))
 
-ids_fewer : (rows : List (ℕ × BpProps)) → length (ids_of rows) ≡ length rows
+ids_fewer : (rows : List Placed) → length (ids_of rows) ≡ length rows
 ids_fewer [] = refl
 ids_fewer (row ∷ rows) = omega (arith, ids_fewer rows)
 
 abbrev AreIds : List (List ℕ) → Type 0
 AreIds ids = AllByRecursion (λ text. length text ≤ 255) ids
 
-either_ids : (test : Bool) (row : ℕ × BpProps) (rows : List (ℕ × BpProps)) → length row.1.id ≤ 255 → AreIds (ids_of rows) → AreIds (ids_of (cond test (row ∷ rows) rows))
+either_ids : (test : Bool) (row : Placed) (rows : List Placed) → length row.props.id ≤ 255 → AreIds (ids_of rows) → AreIds (ids_of (cond test (row ∷ rows) rows))
 either_ids true row rows short all = (short, all)
 either_ids false row rows short all = all
 
-filter_ids : (p : ℕ × BpProps → Bool) (rows : List (ℕ × BpProps)) → AreIds (ids_of rows) → AreIds (ids_of (filter p rows))
+filter_ids : (p : Placed → Bool) (rows : List Placed) → AreIds (ids_of rows) → AreIds (ids_of (filter p rows))
 filter_ids p [] all = tt
 filter_ids p (row ∷ rows) all = either_ids (p row) row (filter p rows) all.0 (filter_ids p rows all.1)
 
@@ -63,13 +63,13 @@ if_short : (test : Bool) (hits : List (List ℕ)) → AreShort hits → AreShort
 if_short true hits short = short
 if_short false hits short = (lit≤ tt, tt)
 
-hits_short : (number : ℕ) (attached : Bool) (pc : ℕ) (bps : List (ℕ × BpProps)) → AreShort (ids_of bps) → AreShort (hits_of number attached pc bps)
+hits_short : (number : ℕ) (attached : Bool) (pc : ℕ) (bps : List Placed) → AreShort (ids_of bps) → AreShort (hits_of number attached pc bps)
 hits_short number attached pc bps ids =
-    let hit = λ (row : ℕ × BpProps). is_hit number pc row.1 in
+    let hit = λ (row : Placed). is_hit number pc row.props in
     if_short attached (ids_of (filter hit bps))
     (omega (arith, ids.0, ids_fewer bps, ids_fewer (filter hit bps), filter_fewer hit bps), filter_ids hit bps ids.1)
 
-at_short : (bps : List (ℕ × BpProps)) (number : ℕ) (process : Process) → AreShort (ids_of bps) → AreShort (hits_at bps number process)
+at_short : (bps : List Placed) (number : ℕ) (process : Process) → AreShort (ids_of bps) → AreShort (hits_at bps number process)
 at_short bps number process ids = hits_short number process.attached process.cpu.pc bps ids
 
 -- ---- what becomes of a process
@@ -132,7 +132,7 @@ with_short : (hits : List (List ℕ)) → AreShort hits → IsShortEnd (executed
 with_short [] short = tt
 with_short (hit ∷ hits) short = short
 
-executed_short : (bps : List (ℕ × BpProps)) (number : ℕ) (process : Process) (step : Step) → AreShort (ids_of bps) → IsShortEnd (executed_by bps number process step)
+executed_short : (bps : List Placed) (number : ℕ) (process : Process) (step : Step) → AreShort (ids_of bps) → IsShortEnd (executed_by bps number process step)
 executed_short bps number process (goes_on cpu memory) ids = with_short _ (at_short bps number (record process { cpu = cpu; memory = memory }) ids)
 executed_short bps number process (ends code) ids = tt
 executed_short bps number process excepts ids = tt
@@ -142,7 +142,7 @@ stepped_short (goes_on cpu memory) process is = record { name = is.name; state =
 stepped_short (ends code) process is = is
 stepped_short excepts process is = is
 
-tick_at_short : (bps : List (ℕ × BpProps)) (number : ℕ) (found : Option Process) (targets : TargetsValue) → AreShort (ids_of bps) → ((process : Process) → found ≡ Some process → IsShort process)
+tick_at_short : (bps : List Placed) (number : ℕ) (found : Option Process) (targets : TargetsValue) → AreShort (ids_of bps) → ((process : Process) → found ≡ Some process → IsShort process)
     → AllShort targets.processes → AllShort (ticked_at bps number found targets).processes
 tick_at_short bps number None targets ids each all = all
 tick_at_short bps number (Some process) targets ids each all =
@@ -152,7 +152,7 @@ tick_at_short bps number (Some process) targets ids each all =
     (executed_short bps number process step ids))
     (change_stays_short stepped number targets (λ p is. stepped_short (machine p.cpu p.memory) p is) all)
 
-tick_short : (bps : List (ℕ × BpProps)) (number : Option ℕ) (targets : TargetsValue) → AreShort (ids_of bps) → AllShort targets.processes
+tick_short : (bps : List Placed) (number : Option ℕ) (targets : TargetsValue) → AreShort (ids_of bps) → AllShort targets.processes
     → AllShort (option_map_or (λ n. ticked bps n targets) number targets).processes
 tick_short bps None targets ids all = all
 tick_short bps (Some number) targets ids all =
@@ -185,7 +185,7 @@ if_states : (test : Bool) (states : List Process) → AreShortStates states → 
 if_states true states all = all
 if_states false states all = tt
 
-up_to_short : (bps : List (ℕ × BpProps)) (number : ℕ) (states : List Process) → AreShortStates states → AreShortStates (up_to_hit bps number states)
+up_to_short : (bps : List Placed) (number : ℕ) (states : List Process) → AreShortStates states → AreShortStates (up_to_hit bps number states)
 up_to_short bps number [] all = tt
 up_to_short bps number (state ∷ states) all = (all.0, if_states _ (up_to_hit bps number states) (up_to_short bps number states all.1))
 
@@ -193,7 +193,7 @@ last_short : (process : Process) (states : List Process) → IsShort process →
 last_short process [] is all = is
 last_short process (state ∷ states) is all = last_short state states all.0 all.1
 
-last_hits_short : (bps : List (ℕ × BpProps)) (number : ℕ) (process : Process) (states : List Process) → AreShort (ids_of bps) → AreShort (last_hits bps number process states)
+last_hits_short : (bps : List Placed) (number : ℕ) (process : Process) (states : List Process) → AreShort (ids_of bps) → AreShort (last_hits bps number process states)
 last_hits_short bps number process [] ids = (lit≤ tt, tt)
 last_hits_short bps number process (state ∷ states) ids = at_short bps number (last_of state states) ids
 
@@ -207,7 +207,7 @@ stop_short (hit ∷ hits) all last short = short
 stop_short [] true last short = tt
 stop_short [] false last short = halt_short (machine last.cpu last.memory)
 
-traced_short : (bps : List (ℕ × BpProps)) (number count : ℕ) (found : Option Process) (targets : TargetsValue) → AreShort (ids_of bps) → ((process : Process) → found ≡ Some process → IsShort process)
+traced_short : (bps : List Placed) (number count : ℕ) (found : Option Process) (targets : TargetsValue) → AreShort (ids_of bps) → ((process : Process) → found ≡ Some process → IsShort process)
     → AllShort targets.processes → AllShort (traced_at bps number count found targets).processes
 traced_short bps number count None targets ids each all = all
 traced_short bps number count (Some process) targets ids each all =
@@ -233,7 +233,7 @@ left_short change (Some n) targets given all = given n
 state_left : (state : ThreadState) (n : ℕ) (targets : TargetsValue) → IsShortState state → AllShort targets.processes → AllShort (with_change (with_state state) n targets).processes
 state_left state n targets short all = change_stays_short (with_state state) n targets (λ process is. state_short state process short is) all
 
-run_left_short : (command : Command) (bps : List (ℕ × BpProps)) (targets : TargetsValue) → AreShort (ids_of bps) → AllShort targets.processes → AllShort (run_left command bps targets).processes
+run_left_short : (command : Command) (bps : List Placed) (targets : TargetsValue) → AreShort (ids_of bps) → AllShort targets.processes → AllShort (run_left command bps targets).processes
 run_left_short (Resume id mode count) bps targets ids all =
     left_short (resume_after (left_by mode count)) (thread_named id) targets (λ n. state_left (Running (left_by mode count)) n targets tt all) all
 run_left_short (Suspend id) bps targets ids all =

@@ -1,6 +1,6 @@
 -- A suspended thread's process is attached, and so is that of a thread whose instructions are counted.
 use Rattle.std.proofs.Common.{◌≡◌, ℕ, Bool, true, false, List, Option, Some, None, option_map, refl, sym, ◌∙◌, ap, subst, inl, inr}
-use Rattle.tcf_values.specs.declared.values.BpProps.{BpProps}
+use Rattle.breakpoints.specs.declared.rows.Placed.{Placed}
 use Rattle.rv32i_core.specs.Machine.{Step, goes_on, ends, excepts, machine}
 use Rattle.breakpoints.specs.Status.{hits_of}
 use Rattle.target_contexts.specs.Changes.{with_change}
@@ -65,7 +65,7 @@ fate_sound plain attached (Exit code) given hit = tt
 fate_sound plain attached Exception given hit = exception_fate attached plain
 
 -- breakpoints are hit by attached processes alone
-attached_by : (number pc : ℕ) (bps : List (ℕ × BpProps)) (attached : Bool) → is_empty (hits_of number attached pc bps) ≡ false → attached ≡ true
+attached_by : (number pc : ℕ) (bps : List Placed) (attached : Bool) → is_empty (hits_of number attached pc bps) ≡ false → attached ≡ true
 attached_by number pc bps true some = refl
 attached_by number pc bps false some = absurd cc
 
@@ -79,7 +79,7 @@ stepped_state (goes_on cpu memory) process = refl
 stepped_state (ends code) process = refl
 stepped_state excepts process = refl
 
-pub hit_attached : (bps : List (ℕ × BpProps)) (number : ℕ) (process : Process) (hits : List (List ℕ)) → executed_of bps number process ≡ Hit hits → process.attached ≡ true
+pub hit_attached : (bps : List Placed) (number : ℕ) (process : Process) (hits : List (List ℕ)) → executed_of bps number process ≡ Hit hits → process.attached ≡ true
 hit_attached bps number process hits hit =
     let step = machine process.cpu process.memory in
     let after : Process = stepped process in
@@ -107,14 +107,14 @@ state_needs : (state : ThreadState) → needs_debugger (counted state) ≡ true 
 state_needs (Running left) needs = counted_needs left needs
 state_needs (Suspended reason hits) needs = needs
 
-pub tick_fate_sound : (bps : List (ℕ × BpProps)) (number : ℕ) (process : Process) → IsSound process → FateSound (tick_fate bps number process) process.attached
+pub tick_fate_sound : (bps : List Placed) (number : ℕ) (process : Process) → IsSound process → FateSound (tick_fate bps number process) process.attached
 tick_fate_sound bps number process sound =
     fate_sound (counted process.state) process.attached (executed_of bps number process) (λ needs. sound (state_needs process.state needs)) (hit_attached bps number process)
 
 some_same : (p q : Process) (found : Option Process) → found ≡ Some p → option_map stepped (Some q) ≡ found → p ≡ stepped q
 some_same p q found there is = cc
 
-tick_at : (bps : List (ℕ × BpProps)) (number : ℕ) (targets : TargetsValue) (found : Option Process) → process_of number targets.processes ≡ found → IsOrderly targets.processes targets.next → AreSound targets.processes → AreSound (ticked_at bps number found targets).processes
+tick_at : (bps : List Placed) (number : ℕ) (targets : TargetsValue) (found : Option Process) → process_of number targets.processes ≡ found → IsOrderly targets.processes targets.next → AreSound targets.processes → AreSound (ticked_at bps number found targets).processes
 tick_at bps number targets None there orderly sound = sound
 tick_at bps number targets (Some process) there orderly sound =
     let mine : IsSound process = sound number process there in
@@ -126,5 +126,5 @@ tick_at bps number targets (Some process) there orderly sound =
     (tick_fate_sound bps number process mine))
     (sound_change stepped number targets (λ p found. step_sound p (sound number p found)) sound)
 
-pub ticked_sound : (bps : List (ℕ × BpProps)) (number : ℕ) (targets : TargetsValue) → IsOrderly targets.processes targets.next → AreSound targets.processes → AreSound (ticked bps number targets).processes
+pub ticked_sound : (bps : List Placed) (number : ℕ) (targets : TargetsValue) → IsOrderly targets.processes targets.next → AreSound targets.processes → AreSound (ticked bps number targets).processes
 ticked_sound bps number targets orderly sound = tick_at bps number targets (process_of number targets.processes) refl orderly sound

@@ -1,7 +1,7 @@
 -- An end is told once, and a tick touches one process.
 use Rattle.std.proofs.Common.{◌≡◌, ℕ, ℤ, List, [], ◌∷◌, Option, Some, None, refl, ◌∙◌, ap}
 use Rattle.std.specs.Option.{option_map_or}
-use Rattle.tcf_values.specs.declared.values.BpProps.{BpProps}
+use Rattle.breakpoints.specs.declared.rows.Placed.{Placed}
 use Rattle.breakpoints.specs.Statuses.{statuses_of}
 use Rattle.target_contexts.specs.Changes.{with_change}
 use Rattle.target_contexts.specs.Laws.{AgreeBut}
@@ -22,7 +22,7 @@ use Rattle.run_control.proofs.Changed.{orderly_change, others_stay}
 use Rattle.run_control.proofs.Soundness.{ticked_sound}
 
 -- statuses tell of no exit
-statuses_none : (attached : List ℕ) (bps : List (ℕ × BpProps)) → exits_in (statuses_of attached bps) ≡ []
+statuses_none : (attached : List ℕ) (bps : List Placed) → exits_in (statuses_of attached bps) ≡ []
 statuses_none attached [] = refl
 statuses_none attached (row ∷ bps) = statuses_none attached bps
 
@@ -35,7 +35,7 @@ settled_touches : (number : ℕ) (fate : Fate) (targets : TargetsValue) → IsOr
 settled_touches number (Ends code) targets orderly = (ends_one targets.processes targets.next number orderly).1
 settled_touches number (Lives state) targets orderly = λ other differ. others_stay (with_state state) number other targets differ
 
-touches_at : (bps : List (ℕ × BpProps)) (number : ℕ) (targets : TargetsValue) (found : Option Process) → IsOrderly targets.processes targets.next → AgreeBut number targets.processes (ticked_at bps number found targets).processes
+touches_at : (bps : List Placed) (number : ℕ) (targets : TargetsValue) (found : Option Process) → IsOrderly targets.processes targets.next → AgreeBut number targets.processes (ticked_at bps number found targets).processes
 touches_at bps number targets None orderly = λ other differ. refl
 touches_at bps number targets (Some process) orderly = λ other differ.
     settled_touches number (tick_fate bps number process) (with_change stepped number targets) (orderly_change stepped number targets orderly) other differ
@@ -44,7 +44,7 @@ touches_at bps number targets (Some process) orderly = λ other differ.
 pub touches_one : TouchesOne
 touches_one bps number targets orderly = touches_at bps number targets (process_of number targets.processes) orderly
 
-tick_named : (bps : List (ℕ × BpProps)) (targets : TargetsValue) (number : Option ℕ) → IsOrderly targets.processes targets.next → AreSound targets.processes → AreSound (option_map_or (λ n. ticked bps n targets) number targets).processes
+tick_named : (bps : List Placed) (targets : TargetsValue) (number : Option ℕ) → IsOrderly targets.processes targets.next → AreSound targets.processes → AreSound (option_map_or (λ n. ticked bps n targets) number targets).processes
 tick_named bps targets None orderly sound = sound
 tick_named bps targets (Some number) orderly sound = ticked_sound bps number targets orderly sound
 

@@ -5,7 +5,7 @@ use Rattle.tcf_values.specs.Faults.{first_fault}
 use Rattle.tcf_values.specs.declared.event.EventData.{EventData}
 use Rattle.tcf_values.specs.declared.faults.Fault.{Fault}
 use Rattle.tcf_values.specs.declared.faults.Fault.TheVariants.{Other, AlreadyAttached, BadContext, BadSize}
-use Rattle.tcf_values.specs.declared.values.BpProps.{BpProps}
+use Rattle.breakpoints.specs.declared.rows.Placed.{Placed}
 use Rattle.target_contexts.specs.Changes.{with_change}
 use Rattle.target_contexts.specs.Live.{process_of}
 use Rattle.target_contexts.specs.Named.{is_attached, is_unattached, process_at_number}
@@ -35,7 +35,7 @@ start_fault_for refusals.NoMemory = Other
 abbrev pub start_fault : List ℕ → TargetsValue → Option Fault
 start_fault file targets = option_map start_fault_for (refusal_of file targets)
 
-abbrev pub start_events : List (ℕ × BpProps) → ℕ → TargetsValue → List EventData
+abbrev pub start_events : List Placed → ℕ → TargetsValue → List EventData
 start_events bps number targets =
     let process = process_of number targets.processes in
     added_events number process ++ (suspended_events number process ++ statuses_in bps targets)
@@ -54,7 +54,7 @@ attached process = record process { attached = true; state = Suspended suspended
 abbrev pub attach_after : ℕ → TargetsValue → TargetsValue
 attach_after number targets = with_change attached number targets
 
-abbrev pub attach_events : List (ℕ × BpProps) → ℕ → TargetsValue → List EventData
+abbrev pub attach_events : List Placed → ℕ → TargetsValue → List EventData
 attach_events bps number targets =
     let process = process_of number targets.processes in
     changed_events number process ++ (suspended_events number process ++ statuses_in bps targets)
@@ -74,7 +74,7 @@ abbrev pub detach_after : ℕ → TargetsValue → TargetsValue
 detach_after number targets = with_change detached number targets
 
 -- contextResumed where it was suspended
-abbrev pub detach_events : List (ℕ × BpProps) → Bool → ℕ → TargetsValue → List EventData
+abbrev pub detach_events : List Placed → Bool → ℕ → TargetsValue → List EventData
 detach_events bps was_suspended number targets =
     changed_events number (process_of number targets.processes)
     ++ ((if was_suspended then resumed_events number else []) ++ statuses_in bps targets)

@@ -8,7 +8,7 @@ use Rattle.tcf_values.specs.declared.command.Command.TheVariants.{GetContext, Ge
 use Rattle.tcf_values.specs.declared.effect.Effect.{Effect}
 use Rattle.tcf_values.specs.declared.event.EventData.{EventData}
 use Rattle.tcf_values.specs.declared.faults.Fault.{Fault}
-use Rattle.tcf_values.specs.declared.values.BpProps.{BpProps}
+use Rattle.breakpoints.specs.declared.rows.Placed.{Placed}
 use Rattle.target_contexts.specs.Changes.{targets_by}
 use Rattle.target_contexts.specs.Named.{is_suspended, number_named, thread_named}
 use Rattle.target_contexts.specs.Starting.{started}
@@ -76,7 +76,7 @@ run_fault _ targets = None
 abbrev pub left_of : (ℕ → TargetsValue → TargetsValue) → Option ℕ → TargetsValue → TargetsValue
 left_of change named targets = option_map_or (λ number. change number targets) named targets
 
-abbrev pub run_left : Command → List (ℕ × BpProps) → TargetsValue → TargetsValue
+abbrev pub run_left : Command → List Placed → TargetsValue → TargetsValue
 run_left (Resume id mode count) bps targets = left_of (resume_after (left_by mode count)) (thread_named id) targets
 run_left (Suspend id) bps targets = left_of suspend_after (thread_named id) targets
 run_left (Terminate id) bps targets = left_of end_after (number_named id) targets
@@ -93,13 +93,13 @@ run_left _ bps targets = targets
 abbrev pub events_of : (ℕ → List EventData) → Option ℕ → List EventData
 events_of events named = option_map_or events named []
 
-abbrev pub trace_given : List (ℕ × BpProps) → ℕ → Option ℕ → TargetsValue → TargetsValue → Effect
+abbrev pub trace_given : List Placed → ℕ → Option ℕ → TargetsValue → TargetsValue → Effect
 trace_given bps count None targets after = gives (answers.Count 0)
 trace_given bps count (Some number) targets after =
     let addresses = trace_addresses bps count number targets in
     record { events = trace_events bps count number targets after; progress = addresses; answer = answers.Count (length addresses) }
 
-abbrev pub run_given : Command → List (ℕ × BpProps) → TargetsValue → TargetsValue → Effect
+abbrev pub run_given : Command → List Placed → TargetsValue → TargetsValue → Effect
 run_given (GetContext id) bps targets after = gives (context_answer (data_named id targets.processes))
 run_given (GetChildren id) bps targets after = gives (answers.Ids (children_named id targets.processes))
 run_given (GetState id) bps targets after = gives (state_answer (thread_there id targets.processes))
@@ -124,9 +124,9 @@ run_given _ bps targets after = gives answers.Nothing
 -- ---- a command that fails gives its report alone, and changes nothing
 
 -- the events, the progress and the answer of a command
-abbrev pub run_effect : Command → List (ℕ × BpProps) → TargetsValue → Effect
+abbrev pub run_effect : Command → List Placed → TargetsValue → Effect
 run_effect command bps targets = effect_by (run_fault command targets) (run_given command bps targets (run_left command bps targets))
 
 -- the target after a command
-abbrev pub run_after : Command → List (ℕ × BpProps) → TargetsValue → TargetsValue
+abbrev pub run_after : Command → List Placed → TargetsValue → TargetsValue
 run_after command bps targets = targets_by (run_fault command targets) (run_left command bps targets) targets

@@ -6,7 +6,7 @@ use Rattle.tcf_values.specs.declared.event.EventData.{EventData}
 use Rattle.tcf_values.specs.declared.event.EventData.TheVariants as events
 use Rattle.tcf_values.specs.declared.faults.Fault.{Fault}
 use Rattle.tcf_values.specs.declared.faults.Fault.TheVariants.{BadContext}
-use Rattle.tcf_values.specs.declared.values.BpProps.{BpProps}
+use Rattle.breakpoints.specs.declared.rows.Placed.{Placed}
 use Rattle.target_contexts.specs.Live.{without}
 use Rattle.target_contexts.specs.Named.{number_named, process_at_number}
 use Rattle.target_contexts.specs.TargetsValue.{TargetsValue}
@@ -22,7 +22,7 @@ abbrev pub end_after : ℕ → TargetsValue → TargetsValue
 end_after number targets = record targets { processes = without number targets.processes }
 
 -- the thread and its process are gone, the process has exited with this code, and then the statuses after the end
-abbrev pub end_events : List (ℕ × BpProps) → ℕ → ℤ → TargetsValue → List EventData
+abbrev pub end_events : List Placed → ℕ → ℤ → TargetsValue → List EventData
 end_events bps number code targets =
     events.CtxRemoved (thread_id number ∷ process_id number ∷ [])
     ∷ events.Exited (process_id number) code

@@ -2,7 +2,7 @@
 -- environment calls; TCF services RunControl, contextSuspended, and Processes, exited).
 use Rattle.std.specs.Prelude.{ℕ, ℤ, pos, neg_ℤ, Bool, if◌then◌else◌, List, [], ◌∷◌, codes}
 use Rattle.tcf_values.specs.declared.event.EventData.{EventData}
-use Rattle.tcf_values.specs.declared.values.BpProps.{BpProps}
+use Rattle.breakpoints.specs.declared.rows.Placed.{Placed}
 use Rattle.rv32i_core.specs.Machine.{Step, goes_on, ends, excepts, machine}
 use Rattle.breakpoints.specs.Status.{hits_of}
 use Rattle.target_contexts.specs.Changes.{with_change}
@@ -31,7 +31,7 @@ abbrev pub stepped : Process → Process
 stepped process = stepped_by (machine process.cpu process.memory) process
 
 -- the breakpoints that a thread hits where it stands
-abbrev pub hits_at : List (ℕ × BpProps) → ℕ → Process → List (List ℕ)
+abbrev pub hits_at : List Placed → ℕ → Process → List (List ℕ)
 hits_at bps number process = hits_of number process.attached process.cpu.pc bps
 
 abbrev pub executed_with : List (List ℕ) → Executed
@@ -39,12 +39,12 @@ executed_with [] = Plain
 executed_with (hit ∷ hits) = Hit (hit ∷ hits)
 
 -- an executed instruction is followed by the test for breakpoints at the new pc
-abbrev pub executed_by : List (ℕ × BpProps) → ℕ → Process → Step → Executed
+abbrev pub executed_by : List Placed → ℕ → Process → Step → Executed
 executed_by bps number process (goes_on cpu memory) = executed_with (hits_at bps number (record process { cpu = cpu; memory = memory }))
 executed_by bps number process (ends code) = Exit code
 executed_by bps number process excepts = Exception
 
-abbrev pub executed_of : List (ℕ × BpProps) → ℕ → Process → Executed
+abbrev pub executed_of : List Placed → ℕ → Process → Executed
 executed_of bps number process = executed_by bps number process (machine process.cpu process.memory)
 
 -- ---- what becomes of the process
@@ -75,6 +75,6 @@ settled number (Ends code) targets = end_after number targets
 settled number (Lives state) targets = with_change (with_state state) number targets
 
 -- told of the target after it: the end, or contextSuspended where the thread is suspended now
-abbrev pub settled_events : List (ℕ × BpProps) → ℕ → Fate → TargetsValue → List EventData
+abbrev pub settled_events : List Placed → ℕ → Fate → TargetsValue → List EventData
 settled_events bps number (Ends code) targets = end_events bps number code targets
 settled_events bps number (Lives state) targets = suspended_events number (process_of number targets.processes)

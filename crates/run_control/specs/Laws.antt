@@ -5,7 +5,7 @@ use Rattle.tcf_values.specs.declared.command.Command.{Command}
 use Rattle.tcf_values.specs.declared.event.EventData.{EventData}
 use Rattle.tcf_values.specs.declared.event.EventData.TheVariants as events
 use Rattle.tcf_values.specs.declared.ids.ContextId.{ContextId}
-use Rattle.tcf_values.specs.declared.values.BpProps.{BpProps}
+use Rattle.breakpoints.specs.declared.rows.Placed.{Placed}
 use Rattle.target_contexts.specs.Laws.{AgreeBut}
 use Rattle.target_contexts.specs.Live.{IsLive, IsOrderly, process_of}
 use Rattle.target_contexts.specs.TargetsValue.{TargetsValue}
@@ -28,7 +28,7 @@ abbrev pub exits_in : List EventData → List (List ℕ × ℤ)
 exits_in told = filter_map exit_in told
 
 abbrev pub EndsOnce : Type 0
-EndsOnce = (bps : List (ℕ × BpProps)) (number : ℕ) (code : ℤ) (targets : TargetsValue) → IsOrderly targets.processes targets.next →
+EndsOnce = (bps : List Placed) (number : ℕ) (code : ℤ) (targets : TargetsValue) → IsOrderly targets.processes targets.next →
     (exits_in (end_events bps number code (end_after number targets)) ≡ (process_id number, code) ∷ [])
     × (IsLive number (end_after number targets).processes → ⊥)
     × AgreeBut number targets.processes (end_after number targets).processes
@@ -36,7 +36,7 @@ EndsOnce = (bps : List (ℕ × BpProps)) (number : ℕ) (code : ℤ) (targets : 
 -- ---- a tick touches no other process
 
 abbrev pub TouchesOne : Type 0
-TouchesOne = (bps : List (ℕ × BpProps)) (number : ℕ) (targets : TargetsValue) → IsOrderly targets.processes targets.next →
+TouchesOne = (bps : List Placed) (number : ℕ) (targets : TargetsValue) → IsOrderly targets.processes targets.next →
     AgreeBut number targets.processes (ticked bps number targets).processes
 
 -- ---- a suspended thread's process is attached, and so is that of a thread whose instructions are counted
@@ -54,19 +54,19 @@ AreSound rows = (number : ℕ) (process : Process) → process_of number rows �
 
 -- each command keeps it, whatever breakpoints there are, and so does each tick
 abbrev pub CommandsKeepSound : Type 0
-CommandsKeepSound = (command : Command) (bps : List (ℕ × BpProps)) (targets : TargetsValue) → IsOrderly targets.processes targets.next →
+CommandsKeepSound = (command : Command) (bps : List Placed) (targets : TargetsValue) → IsOrderly targets.processes targets.next →
     AreSound targets.processes → AreSound (run_after command bps targets).processes
 
 abbrev pub TicksKeepSound : Type 0
-TicksKeepSound = (thread : ContextId) (bps : List (ℕ × BpProps)) (targets : TargetsValue) → IsOrderly targets.processes targets.next →
+TicksKeepSound = (thread : ContextId) (bps : List Placed) (targets : TargetsValue) → IsOrderly targets.processes targets.next →
     AreSound targets.processes → AreSound (tick_after bps thread targets).processes
 
 -- ---- the processes stay orderly
 
 abbrev pub CommandsKeepOrder : Type 0
-CommandsKeepOrder = (command : Command) (bps : List (ℕ × BpProps)) (targets : TargetsValue) → IsOrderly targets.processes targets.next →
+CommandsKeepOrder = (command : Command) (bps : List Placed) (targets : TargetsValue) → IsOrderly targets.processes targets.next →
     IsOrderly (run_after command bps targets).processes (run_after command bps targets).next
 
 abbrev pub TicksKeepOrder : Type 0
-TicksKeepOrder = (thread : ContextId) (bps : List (ℕ × BpProps)) (targets : TargetsValue) → IsOrderly targets.processes targets.next →
+TicksKeepOrder = (thread : ContextId) (bps : List Placed) (targets : TargetsValue) → IsOrderly targets.processes targets.next →
     IsOrderly (tick_after bps thread targets).processes (tick_after bps thread targets).next

@@ -2,7 +2,7 @@
 use Rattle.std.specs.Prelude.{ℕ, List, [], ◌∷◌, Option, Some, None}
 use Rattle.tcf_values.specs.declared.event.EventData.{EventData}
 use Rattle.tcf_values.specs.declared.event.EventData.TheVariants as events
-use Rattle.tcf_values.specs.declared.values.BpProps.{BpProps}
+use Rattle.breakpoints.specs.declared.rows.Placed.{Placed}
 use Rattle.breakpoints.specs.Statuses.{statuses_of}
 use Rattle.target_contexts.specs.Contexts.{process_data, thread_data}
 use Rattle.target_contexts.specs.Named.{attached_in}
@@ -36,5 +36,5 @@ abbrev pub resumed_events : ℕ → List EventData
 resumed_events number = events.Resumed (thread_id number) ∷ []
 
 -- one status for each breakpoint, in the order of the list
-abbrev pub statuses_in : List (ℕ × BpProps) → TargetsValue → List EventData
+abbrev pub statuses_in : List Placed → TargetsValue → List EventData
 statuses_in bps targets = statuses_of (attached_in targets.processes) bps

@@ -3,7 +3,7 @@ use Rattle.std.specs.Prelude.{ℕ, ◌-◌, nat_lt, if◌then◌else◌, List, [
 use Rattle.std.specs.Option.{option_map_or}
 use Rattle.tcf_values.specs.declared.event.EventData.{EventData}
 use Rattle.tcf_values.specs.declared.ids.ContextId.{ContextId}
-use Rattle.tcf_values.specs.declared.values.BpProps.{BpProps}
+use Rattle.breakpoints.specs.declared.rows.Placed.{Placed}
 use Rattle.target_contexts.specs.Changes.{with_change}
 use Rattle.target_contexts.specs.Live.{process_of}
 use Rattle.target_contexts.specs.Named.{is_running, thread_for}
@@ -28,28 +28,28 @@ abbrev pub counted : ThreadState → ThreadState
 counted (Running left) = counted_by left
 counted (Suspended reason hits) = Suspended reason hits
 
-abbrev pub tick_fate : List (ℕ × BpProps) → ℕ → Process → Fate
+abbrev pub tick_fate : List Placed → ℕ → Process → Fate
 tick_fate bps number process = fate_by (counted process.state) process.attached (executed_of bps number process)
 
 -- the instruction is executed, and then its process is suspended, ends or goes on
-abbrev pub ticked_at : List (ℕ × BpProps) → ℕ → Option Process → TargetsValue → TargetsValue
+abbrev pub ticked_at : List Placed → ℕ → Option Process → TargetsValue → TargetsValue
 ticked_at bps number None targets = targets
 ticked_at bps number (Some process) targets = settled number (tick_fate bps number process) (with_change stepped number targets)
 
-abbrev pub ticked : List (ℕ × BpProps) → ℕ → TargetsValue → TargetsValue
+abbrev pub ticked : List Placed → ℕ → TargetsValue → TargetsValue
 ticked bps number targets = ticked_at bps number (process_of number targets.processes) targets
 
-abbrev pub ticked_events_at : List (ℕ × BpProps) → ℕ → Option Process → TargetsValue → List EventData
+abbrev pub ticked_events_at : List Placed → ℕ → Option Process → TargetsValue → List EventData
 ticked_events_at bps number None after = []
 ticked_events_at bps number (Some process) after = settled_events bps number (tick_fate bps number process) after
 
-abbrev pub ticked_events : List (ℕ × BpProps) → ℕ → TargetsValue → List EventData
+abbrev pub ticked_events : List Placed → ℕ → TargetsValue → List EventData
 ticked_events bps number targets = ticked_events_at bps number (process_of number targets.processes) (ticked bps number targets)
 
 -- ---- the tick of a thread, which has to live and run
 
-abbrev pub tick_after : List (ℕ × BpProps) → ContextId → TargetsValue → TargetsValue
+abbrev pub tick_after : List Placed → ContextId → TargetsValue → TargetsValue
 tick_after bps thread targets = option_map_or (λ number. ticked bps number targets) (running_number thread targets.processes) targets
 
-abbrev pub tick_events : List (ℕ × BpProps) → ContextId → TargetsValue → Option (List EventData)
+abbrev pub tick_events : List Placed → ContextId → TargetsValue → Option (List EventData)
 tick_events bps thread targets = option_map (λ number. ticked_events bps number targets) (running_number thread targets.processes)

@@ -5,7 +5,7 @@ use Rattle.tcf_values.specs.Faults.{first_fault}
 use Rattle.tcf_values.specs.declared.event.EventData.{EventData}
 use Rattle.tcf_values.specs.declared.faults.Fault.{Fault}
 use Rattle.tcf_values.specs.declared.faults.Fault.TheVariants.{AlreadyRunning, BadContext, BadNumber}
-use Rattle.tcf_values.specs.declared.values.BpProps.{BpProps}
+use Rattle.breakpoints.specs.declared.rows.Placed.{Placed}
 use Rattle.rv32i_core.specs.Machine.{Step, goes_on, ends, excepts, machine}
 use Rattle.target_contexts.specs.Changes.{with_change}
 use Rattle.target_contexts.specs.Live.{process_of}
@@ -45,12 +45,12 @@ run_from zero process = []
 run_from (suc count) process = option_map_or (λ next. next ∷ run_from count next) (next_of process) []
 
 -- up to the first that hits a breakpoint, with that one
-abbrev pub up_to_hit : List (ℕ × BpProps) → ℕ → List Process → List Process
+abbrev pub up_to_hit : List Placed → ℕ → List Process → List Process
 up_to_hit bps number [] = []
 up_to_hit bps number (state ∷ states) =
     state ∷ (if is_empty (hits_at bps number state) then up_to_hit bps number states else [])
 
-abbrev pub states_of : List (ℕ × BpProps) → ℕ → ℕ → Process → List Process
+abbrev pub states_of : List Placed → ℕ → ℕ → Process → List Process
 states_of bps number count process = up_to_hit bps number (run_from count process)
 
 -- the state in which a trace stops; the first where no instruction is executed
@@ -61,7 +61,7 @@ last_of process (state ∷ states) = last_of state states
 -- ---- why it stops
 
 -- the hits in the last state; none where no instruction is executed
-abbrev pub last_hits : List (ℕ × BpProps) → ℕ → Process → List Process → List (List ℕ)
+abbrev pub last_hits : List Placed → ℕ → Process → List Process → List (List ℕ)
 last_hits bps number process [] = []
 last_hits bps number process (state ∷ states) = hits_at bps number (last_of state states)
 
@@ -78,7 +78,7 @@ stop_by hits all last =
     else if all then Plain
     else halt_by (machine last.cpu last.memory)
 
-abbrev pub stop_of : List (ℕ × BpProps) → ℕ → ℕ → Process → List Process → Executed
+abbrev pub stop_of : List Placed → ℕ → ℕ → Process → List Process → Executed
 stop_of bps number count process states =
     stop_by (last_hits bps number process states) (length states == count) (last_of process states)
 
@@ -103,12 +103,12 @@ pub record Trace : Type 0 where
   pub addresses : List ℕ  -- of the executed instructions, in order
   pub stop : Executed  -- why it stops
 
-abbrev pub trace_by : List (ℕ × BpProps) → ℕ → ℕ → Process → List Process → Trace
+abbrev pub trace_by : List Placed → ℕ → ℕ → Process → List Process → Trace
 trace_by bps number count process states =
     let stop = stop_of bps number count process states in
     record { process = last_of process states; addresses = addresses_of process states stop; stop = stop }
 
-abbrev pub trace_of : List (ℕ × BpProps) → ℕ → ℕ → Process → Trace
+abbrev pub trace_of : List Placed → ℕ → ℕ → Process → Trace
 trace_of bps number count process = trace_by bps number count process (states_of bps number count process)
 
 -- ---- what becomes of the process: where all are executed, its thread is suspended by the step
@@ -116,31 +116,31 @@ trace_of bps number count process = trace_by bps number count process (states_of
 abbrev pub trace_fate : Process → Trace → Fate
 trace_fate process trace = fate_by (Suspended step_text []) process.attached trace.stop
 
-abbrev pub traced_of : List (ℕ × BpProps) → ℕ → ℕ → Process → Traced
+abbrev pub traced_of : List Placed → ℕ → ℕ → Process → Traced
 traced_of bps number count process =
     let trace = trace_of bps number count process in
     record { addresses = trace.addresses; fate = trace_fate process trace }
 
-abbrev pub traced_at : List (ℕ × BpProps) → ℕ → ℕ → Option Process → TargetsValue → TargetsValue
+abbrev pub traced_at : List Placed → ℕ → ℕ → Option Process → TargetsValue → TargetsValue
 traced_at bps number count None targets = targets
 traced_at bps number count (Some process) targets =
     let trace = trace_of bps number count process in
     settled number (trace_fate process trace) (with_change (λ _. trace.process) number targets)
 
-abbrev pub trace_after : List (ℕ × BpProps) → ℕ → ℕ → TargetsValue → TargetsValue
+abbrev pub trace_after : List Placed → ℕ → ℕ → TargetsValue → TargetsValue
 trace_after bps count number targets = traced_at bps number count (process_of number targets.processes) targets
 
-abbrev pub traced_events_at : List (ℕ × BpProps) → ℕ → ℕ → Option Process → TargetsValue → List EventData
+abbrev pub traced_events_at : List Placed → ℕ → ℕ → Option Process → TargetsValue → List EventData
 traced_events_at bps number count None after = []
 traced_events_at bps number count (Some process) after =
     settled_events bps number (trace_fate process (trace_of bps number count process)) after
 
-abbrev pub trace_events : List (ℕ × BpProps) → ℕ → ℕ → TargetsValue → TargetsValue → List EventData
+abbrev pub trace_events : List Placed → ℕ → ℕ → TargetsValue → TargetsValue → List EventData
 trace_events bps count number targets after = traced_events_at bps number count (process_of number targets.processes) after
 
-abbrev pub addresses_at : List (ℕ × BpProps) → ℕ → ℕ → Option Process → List ℕ
+abbrev pub addresses_at : List Placed → ℕ → ℕ → Option Process → List ℕ
 addresses_at bps number count None = []
 addresses_at bps number count (Some process) = (trace_of bps number count process).addresses
 
-abbrev pub trace_addresses : List (ℕ × BpProps) → ℕ → ℕ → TargetsValue → List ℕ
+abbrev pub trace_addresses : List Placed → ℕ → ℕ → TargetsValue → List ℕ
 trace_addresses bps count number targets = addresses_at bps number count (process_of number targets.processes)

@@ -45,6 +45,7 @@ use Rattle.target_hub.proofs.Lists.{all_mapped}
 use Rattle.target_hub.proofs.Told.{added_fit, changed_fit, end_fits, status_fits, statuses_fit, suspended_fit, trace_fits}
 use Rattle.list_laws.proofs.Flags.{second_false}
 use Rattle.list_laws.proofs.AllLists.{all_append, all_filter, all_map}
+use Rattle.breakpoints.specs.declared.rows.Placed.{Placed}
 
 -- ---- a command that fails tells nothing
 
@@ -69,35 +70,35 @@ test_fit false one other fit also = also
 three : (xs ys zs : List EventData) → AreEvents xs → AreEvents ys → AreEvents zs → AreEvents (xs ++ (ys ++ zs))
 three xs ys zs first second third = all_append IsEvent xs (ys ++ zs) first (all_append IsEvent ys zs second third)
 
-trace_fit : (bps : List (ℕ × BpProps)) (count : ℕ) (named : Option ℕ) (targets after : TargetsValue) → AreEvents (trace_given bps count named targets after).events
+trace_fit : (bps : List Placed) (count : ℕ) (named : Option ℕ) (targets after : TargetsValue) → AreEvents (trace_given bps count named targets after).events
 trace_fit bps count None targets after = tt
 trace_fit bps count (Some number) targets after = trace_fits bps count number targets after
 
 resumed_fit : (number : ℕ) → AreEvents (resumed_events number)
 resumed_fit number = (tt, tt)
 
-ended_fit : (bps : List (ℕ × BpProps)) (after : TargetsValue) (number : ℕ) → AreEvents (end_events bps number terminate_code after)
+ended_fit : (bps : List Placed) (after : TargetsValue) (number : ℕ) → AreEvents (end_events bps number terminate_code after)
 ended_fit bps after number = end_fits bps number terminate_code after (lit< {m = 0} {n = 2 ^ 63} tt)
 
-started_fit : (bps : List (ℕ × BpProps)) (number : ℕ) (after : TargetsValue) → AreEvents (start_events bps number after)
+started_fit : (bps : List Placed) (number : ℕ) (after : TargetsValue) → AreEvents (start_events bps number after)
 started_fit bps number after =
     let process = process_of number after.processes in
     three (added_events number process) (suspended_events number process) (statuses_in bps after)
     (added_fit number process) (suspended_fit number process) (statuses_fit (attached_in after.processes) bps)
 
-attached_fit : (bps : List (ℕ × BpProps)) (after : TargetsValue) (number : ℕ) → AreEvents (attach_events bps number after)
+attached_fit : (bps : List Placed) (after : TargetsValue) (number : ℕ) → AreEvents (attach_events bps number after)
 attached_fit bps after number =
     let process = process_of number after.processes in
     three (changed_events number process) (suspended_events number process) (statuses_in bps after)
     (changed_fit number process) (suspended_fit number process) (statuses_fit (attached_in after.processes) bps)
 
-detached_fit : (bps : List (ℕ × BpProps)) (was_suspended : Bool) (after : TargetsValue) (number : ℕ) → AreEvents (detach_events bps was_suspended number after)
+detached_fit : (bps : List Placed) (was_suspended : Bool) (after : TargetsValue) (number : ℕ) → AreEvents (detach_events bps was_suspended number after)
 detached_fit bps was_suspended after number =
     let process = process_of number after.processes in
     three (changed_events number process) (cond was_suspended (resumed_events number) []) (statuses_in bps after)
     (changed_fit number process) (test_fit was_suspended (resumed_events number) [] (resumed_fit number) tt) (statuses_fit (attached_in after.processes) bps)
 
-run_fit : (command : Command) (bps : List (ℕ × BpProps)) (targets after : TargetsValue) → AreEvents (run_given command bps targets after).events
+run_fit : (command : Command) (bps : List Placed) (targets after : TargetsValue) → AreEvents (run_given command bps targets after).events
 run_fit (GetContext id) bps targets after = tt
 run_fit (GetChildren id) bps targets after = tt
 run_fit (GetState id) bps targets after = tt
@@ -116,7 +117,7 @@ run_fit (ProcTerminate id) bps targets after = of_fit (λ number. end_events bps
 run_fit (TraceRun id count) bps targets after = trace_fit bps (unsigned_abs count) (thread_named id) targets after
 run_fit _ bps targets after = tt
 
-pub run_told : (command : Command) (bps : List (ℕ × BpProps)) (targets : TargetsValue) → AreEvents (run_effect command bps targets).events
+pub run_told : (command : Command) (bps : List Placed) (targets : TargetsValue) → AreEvents (run_effect command bps targets).events
 run_told command bps targets = by_fault (run_fault command targets) _ (λ _. run_fit command bps targets (run_left command bps targets))
 
 -- ---- Memory and Registers: a range that is set lies in memory
@@ -188,17 +189,17 @@ done_fit attached removed added changed new other =
     (three _ _ _ (new_fit added new) (other_fit changed other)
     (all_append IsEvent _ _ (status_all attached added) (status_all attached changed)))
 
-switched_fit : (enabled : Bool) (ids : List (List ℕ)) (rows : List (ℕ × BpProps)) → AreReadable rows → AreProps (switched enabled ids rows)
+switched_fit : (enabled : Bool) (ids : List (List ℕ)) (rows : List Placed) → AreReadable rows → AreProps (switched enabled ids rows)
 switched_fit enabled ids rows readable =
-    all_mapped (λ row. is_bp row.1 ≡ true) (λ props. is_bp props ≡ true) (λ row. with_flag enabled row.1) _ (λ row is. is)
-    (all_filter (λ row. is_bp row.1 ≡ true) (is_switched enabled ids) rows readable)
+    all_mapped (λ (row : Placed). is_bp row.props ≡ true) (λ (props : BpProps). is_bp props ≡ true) (λ (row : Placed). with_flag enabled row.props) _ (λ row is. is)
+    (all_filter (λ (row : Placed). is_bp row.props ≡ true) (is_switched enabled ids) rows readable)
 
 pub added_readable : (command : Command) → IsReadable command → AreProps (added_by command)
 added_readable (BpSet list) readable = readable
 added_readable (BpAdd props) readable = (readable, tt)
 added_readable _ readable = tt
 
-pub changed_readable : (command : Command) (rows : List (ℕ × BpProps)) → IsReadable command → AreReadable rows → AreProps (changed_by command rows)
+pub changed_readable : (command : Command) (rows : List Placed) → IsReadable command → AreReadable rows → AreProps (changed_by command rows)
 changed_readable (BpChange props) rows readable all = (readable, tt)
 changed_readable (BpEnable ids) rows readable all = switched_fit true ids rows all
 changed_readable (BpDisable ids) rows readable all = switched_fit false ids rows all
@@ -208,7 +209,7 @@ unless_refused : (attached : List ℕ) (refused : Bool) (other : BpDone) → Are
 unless_refused attached true other fit = tt
 unless_refused attached false other fit = fit
 
-change_told : (channel : ℕ) (command : Command) (attached : List ℕ) (rows : List (ℕ × BpProps)) → IsReadable command → AreReadable rows → AreEvents (effect_of attached (done channel command rows)).events
+change_told : (channel : ℕ) (command : Command) (attached : List ℕ) (rows : List Placed) → IsReadable command → AreReadable rows → AreEvents (effect_of attached (done channel command rows)).events
 change_told channel command attached rows readable all =
     let removed = removed_by channel command rows in
     let added = added_by command in

@@ -43,6 +43,7 @@ use Rattle.tcf_values.specs.declared.faults.Fault.{Fault}
 use Rattle.tcf_values.specs.declared.values.BpProps.{BpProps}
 use Rattle.tcf_values.specs.declared.values.Location.{Location}
 use Rattle.list_laws.proofs.AllLists.{all_append}
+use Rattle.breakpoints.specs.declared.rows.Placed.{Placed}
 
 -- ---- lists of events
 
@@ -68,11 +69,11 @@ by_fault (Some fault) given all = none_told fault
 
 -- ---- of processes
 
-statuses_all : (attached : List ℕ) (rows : List (ℕ × BpProps)) → AreNoHello (statuses_of attached rows)
+statuses_all : (attached : List ℕ) (rows : List Placed) → AreNoHello (statuses_of attached rows)
 statuses_all attached [] = tt
 statuses_all attached (row ∷ rows) = (tt, statuses_all attached rows)
 
-statuses_told : (bps : List (ℕ × BpProps)) (targets : TargetsValue) → AreNoHello (statuses_in bps targets)
+statuses_told : (bps : List Placed) (targets : TargetsValue) → AreNoHello (statuses_in bps targets)
 statuses_told bps targets = statuses_all (attached_in targets.processes) bps
 
 added_told : (number : ℕ) (process : Option Process) → AreNoHello (added_events number process)
@@ -94,22 +95,22 @@ suspended_told number (Some process) = stop_told number process.cpu.pc process.s
 resumed_told : (number : ℕ) → AreNoHello (resumed_events number)
 resumed_told number = (tt, tt)
 
-end_told : (bps : List (ℕ × BpProps)) (number : ℕ) (code : ℤ) (targets : TargetsValue) → AreNoHello (end_events bps number code targets)
+end_told : (bps : List Placed) (number : ℕ) (code : ℤ) (targets : TargetsValue) → AreNoHello (end_events bps number code targets)
 end_told bps number code targets = (tt, (tt, statuses_told bps targets))
 
-started_told : (bps : List (ℕ × BpProps)) (number : ℕ) (after : TargetsValue) → AreNoHello (start_events bps number after)
+started_told : (bps : List Placed) (number : ℕ) (after : TargetsValue) → AreNoHello (start_events bps number after)
 started_told bps number after =
     let process = process_of number after.processes in
     three (added_events number process) (suspended_events number process) (statuses_in bps after)
     (added_told number process) (suspended_told number process) (statuses_told bps after)
 
-attached_told : (bps : List (ℕ × BpProps)) (after : TargetsValue) (number : ℕ) → AreNoHello (attach_events bps number after)
+attached_told : (bps : List Placed) (after : TargetsValue) (number : ℕ) → AreNoHello (attach_events bps number after)
 attached_told bps after number =
     let process = process_of number after.processes in
     three (changed_events number process) (suspended_events number process) (statuses_in bps after)
     (changed_told number process) (suspended_told number process) (statuses_told bps after)
 
-detached_told : (bps : List (ℕ × BpProps)) (was_suspended : Bool) (after : TargetsValue) (number : ℕ) → AreNoHello (detach_events bps was_suspended number after)
+detached_told : (bps : List Placed) (was_suspended : Bool) (after : TargetsValue) (number : ℕ) → AreNoHello (detach_events bps was_suspended number after)
 detached_told bps was_suspended after number =
     let process = process_of number after.processes in
     three (changed_events number process) (cond was_suspended (resumed_events number) []) (statuses_in bps after)
@@ -117,44 +118,44 @@ detached_told bps was_suspended after number =
 
 -- ---- what becomes of a process after its instructions
 
-hit_told : (bps : List (ℕ × BpProps)) (number : ℕ) (plain : ThreadState) (attached : Bool) (after : TargetsValue) (hits : List (List ℕ)) → AreNoHello (settled_events bps number (fate_by plain attached (executed_with hits)) after)
+hit_told : (bps : List Placed) (number : ℕ) (plain : ThreadState) (attached : Bool) (after : TargetsValue) (hits : List (List ℕ)) → AreNoHello (settled_events bps number (fate_by plain attached (executed_with hits)) after)
 hit_told bps number plain attached after [] = suspended_told number (process_of number after.processes)
 hit_told bps number plain attached after (hit ∷ hits) = suspended_told number (process_of number after.processes)
 
-exception_told : (bps : List (ℕ × BpProps)) (number : ℕ) (plain : ThreadState) (attached : Bool) (after : TargetsValue) (process : Process) → AreNoHello (settled_events bps number (fate_by plain attached (executed_by bps number process excepts)) after)
+exception_told : (bps : List Placed) (number : ℕ) (plain : ThreadState) (attached : Bool) (after : TargetsValue) (process : Process) → AreNoHello (settled_events bps number (fate_by plain attached (executed_by bps number process excepts)) after)
 exception_told bps number plain true after process = suspended_told number (process_of number after.processes)
 exception_told bps number plain false after process = end_told bps number exception_code after
 
-executed_told : (bps : List (ℕ × BpProps)) (number : ℕ) (plain : ThreadState) (attached : Bool) (after : TargetsValue) (process : Process) (step : Step)
+executed_told : (bps : List Placed) (number : ℕ) (plain : ThreadState) (attached : Bool) (after : TargetsValue) (process : Process) (step : Step)
     → AreNoHello (settled_events bps number (fate_by plain attached (executed_by bps number process step)) after)
 executed_told bps number plain attached after process (goes_on cpu memory) = hit_told bps number plain attached after _
 executed_told bps number plain attached after process (ends code) = end_told bps number code after
 executed_told bps number plain attached after process excepts = exception_told bps number plain attached after process
 
-halt_told : (bps : List (ℕ × BpProps)) (number : ℕ) (plain : ThreadState) (attached : Bool) (after : TargetsValue) (step : Step)
+halt_told : (bps : List Placed) (number : ℕ) (plain : ThreadState) (attached : Bool) (after : TargetsValue) (step : Step)
     → AreNoHello (settled_events bps number (fate_by plain attached (halt_by step)) after)
 halt_told bps number plain attached after (goes_on cpu memory) = suspended_told number (process_of number after.processes)
 halt_told bps number plain attached after (ends code) = end_told bps number code after
 halt_told bps number plain true after excepts = suspended_told number (process_of number after.processes)
 halt_told bps number plain false after excepts = end_told bps number exception_code after
 
-stopped_told : (bps : List (ℕ × BpProps)) (number : ℕ) (plain : ThreadState) (attached : Bool) (after : TargetsValue) (hits : List (List ℕ)) (all : Bool) (last : Process)
+stopped_told : (bps : List Placed) (number : ℕ) (plain : ThreadState) (attached : Bool) (after : TargetsValue) (hits : List (List ℕ)) (all : Bool) (last : Process)
     → AreNoHello (settled_events bps number (fate_by plain attached (stop_by hits all last)) after)
 stopped_told bps number plain attached after (hit ∷ hits) all last = suspended_told number (process_of number after.processes)
 stopped_told bps number plain attached after [] true last = suspended_told number (process_of number after.processes)
 stopped_told bps number plain attached after [] false last = halt_told bps number plain attached after (machine last.cpu last.memory)
 
-traced_told : (bps : List (ℕ × BpProps)) (number count : ℕ) (process : Option Process) (after : TargetsValue) → AreNoHello (traced_events_at bps number count process after)
+traced_told : (bps : List Placed) (number count : ℕ) (process : Option Process) (after : TargetsValue) → AreNoHello (traced_events_at bps number count process after)
 traced_told bps number count None after = tt
 traced_told bps number count (Some process) after =
     let states = states_of bps number count process in
     stopped_told bps number (Suspended step_text []) process.attached after (last_hits bps number process states) (length states == count) (last_of process states)
 
-trace_told : (bps : List (ℕ × BpProps)) (count : ℕ) (named : Option ℕ) (targets after : TargetsValue) → AreNoHello (trace_given bps count named targets after).events
+trace_told : (bps : List Placed) (count : ℕ) (named : Option ℕ) (targets after : TargetsValue) → AreNoHello (trace_given bps count named targets after).events
 trace_told bps count None targets after = tt
 trace_told bps count (Some number) targets after = traced_told bps number count (process_of number targets.processes) after
 
-run_all : (command : Command) (bps : List (ℕ × BpProps)) (targets after : TargetsValue) → AreNoHello (run_given command bps targets after).events
+run_all : (command : Command) (bps : List Placed) (targets after : TargetsValue) → AreNoHello (run_given command bps targets after).events
 run_all (GetContext id) bps targets after = tt
 run_all (GetChildren id) bps targets after = tt
 run_all (GetState id) bps targets after = tt
@@ -175,7 +176,7 @@ run_all (ProcTerminate id) bps targets after =
 run_all (TraceRun id count) bps targets after = trace_told bps (unsigned_abs count) (thread_named id) targets after
 run_all _ bps targets after = tt
 
-run_told : (command : Command) (bps : List (ℕ × BpProps)) (targets : TargetsValue) → AreNoHello (run_effect command bps targets).events
+run_told : (command : Command) (bps : List Placed) (targets : TargetsValue) → AreNoHello (run_effect command bps targets).events
 run_told command bps targets =
     let after = run_left command bps targets in
     by_fault (run_fault command targets) (run_given command bps targets after) (run_all command bps targets after)
@@ -259,12 +260,12 @@ commands_greetless channel service name (readings.Known command) target = exec_t
 commands_greetless channel service name readings.Unknown target = tt
 commands_greetless channel service name (readings.Bad index code) target = tt
 
-ticked_told : (bps : List (ℕ × BpProps)) (number : ℕ) (process : Option Process) (after : TargetsValue) → AreNoHello (ticked_events_at bps number process after)
+ticked_told : (bps : List Placed) (number : ℕ) (process : Option Process) (after : TargetsValue) → AreNoHello (ticked_events_at bps number process after)
 ticked_told bps number None after = tt
 ticked_told bps number (Some process) after =
     executed_told bps number (counted process.state) process.attached after process (machine process.cpu process.memory)
 
-tick_named : (bps : List (ℕ × BpProps)) (targets : TargetsValue) (named : Option ℕ) → IfSome (option_map (λ number. ticked_events bps number targets) named) AreNoHello
+tick_named : (bps : List Placed) (targets : TargetsValue) (named : Option ℕ) → IfSome (option_map (λ number. ticked_events bps number targets) named) AreNoHello
 tick_named bps targets None = tt
 tick_named bps targets (Some number) = ticked_told bps number (process_of number targets.processes) (ticked bps number targets)
 

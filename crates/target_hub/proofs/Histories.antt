@@ -10,7 +10,7 @@ use Rattle.service_names.specs.Commands.{named_as}
 use Rattle.service_names.specs.declared.commands.CommandName.{CommandName}
 use Rattle.service_names.specs.declared.commands.CommandName.TheVariants as service
 use Rattle.tcf_values.specs.declared.command.Command.{Command}
-use Rattle.tcf_values.specs.declared.values.BpProps.{BpProps}
+use Rattle.breakpoints.specs.declared.rows.Placed.{Placed}
 use Rattle.breakpoints.specs.Changes.{after}
 use Rattle.breakpoints.specs.Laws.{Step, command, going, list_after_all}
 use Rattle.breakpoints.specs.Rows.{IsOrderly as AreListed, others, owned_by}
@@ -48,7 +48,7 @@ pub record AreFine (contexts : TargetsValue) : Type 0 where
   pub threads : AreSound contexts.processes
 
 -- of the breakpoints: they come of some commands and goings, and no closed channel owns one
-pub record AreKept (before : List Input) (rows : List (ℕ × BpProps)) : Type 0 where
+pub record AreKept (before : List Input) (rows : List Placed) : Type 0 where
   pub steps : List Step
   pub made : rows ≡ list_after_all steps []
   pub properties : AreReadable rows
@@ -68,7 +68,7 @@ data_sound : (c : Command) (contexts : TargetsValue) → AreSound contexts.proce
 data_sound c contexts sound number process there =
     sound_at (process_of number contexts.processes) process (ap (option_map thread_part) (sym there) ∙ threads_stay c contexts number) (sound number)
 
-run_fine : (c : Command) (bps : List (ℕ × BpProps)) (contexts : TargetsValue) → AreFine contexts → AreFine (run_after c bps contexts)
+run_fine : (c : Command) (bps : List Placed) (contexts : TargetsValue) → AreFine contexts → AreFine (run_after c bps contexts)
 run_fine c bps contexts fine = record {
   processes = commands_keep_order c bps contexts fine.processes;
   threads = commands_keep_sound c bps contexts fine.processes fine.threads;
@@ -133,7 +133,7 @@ not_closed false closed is = absurd cc
 
 -- ---- the breakpoints through an input
 
-same_kept : (before : List Input) (input : Input) (rows : List (ℕ × BpProps)) → ((channel : ℕ) → closes channel input ≡ false) → AreKept before rows → AreKept (before ++ input ∷ []) rows
+same_kept : (before : List Input) (input : Input) (rows : List Placed) → ((channel : ℕ) → closes channel input ≡ false) → AreKept before rows → AreKept (before ++ input ∷ []) rows
 same_kept before input rows shut_none kept = record {
   steps = kept.steps;
   made = kept.made;
@@ -144,7 +144,7 @@ same_kept before input rows shut_none kept = record {
 true_is_false : true ≡ false → ⊥
 true_is_false is = cc
 
-change_kept : (before : List Input) (input : Input) (channel : ℕ) (c : Command) (rows : List (ℕ × BpProps)) → ((other : ℕ) → closes other input ≡ false) → was_closed channel before ≡ false → IsReadable c
+change_kept : (before : List Input) (input : Input) (channel : ℕ) (c : Command) (rows : List Placed) → ((other : ℕ) → closes other input ≡ false) → was_closed channel before ≡ false → IsReadable c
     → AreKept before rows → AreKept (before ++ input ∷ []) (after channel c rows)
 change_kept before input channel c rows shut_none live readable kept = record {
   steps = kept.steps ++ command channel c ∷ [];
@@ -156,7 +156,7 @@ change_kept before input channel c rows shut_none live readable kept = record {
       silent_owns other channel c rows differ (kept.closed other was);
 }
 
-going_kept : (before : List Input) (channel : ℕ) (rows : List (ℕ × BpProps)) → AreKept before rows → AreKept (before ++ Closed channel ∷ []) (others channel rows)
+going_kept : (before : List Input) (channel : ℕ) (rows : List Placed) → AreKept before rows → AreKept (before ++ Closed channel ∷ []) (others channel rows)
 going_kept before channel rows kept = record {
   steps = kept.steps ++ going channel ∷ [];
   made = ap (others channel) kept.made ∙ sym (list_append kept.steps (going channel ∷ []) []);

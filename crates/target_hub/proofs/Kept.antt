@@ -12,36 +12,38 @@ use Rattle.breakpoints.specs.declared.breakpoints.BpDone.TheVariants.{Failed, Ch
 use Rattle.target_hub.specs.Limits.{AreReadable, IsKnown}
 use Rattle.target_hub.proofs.Lists.{all_mapped}
 use Rattle.list_laws.proofs.AllLists.{all_append, all_filter}
+use Rattle.breakpoints.specs.Placed.{row_for}
+use Rattle.breakpoints.specs.declared.rows.Placed.{Placed}
 
-abbrev pub IsKept : ℕ × BpProps → Type 0
-IsKept row = is_bp row.1 ≡ true
+abbrev pub IsKept : Placed → Type 0
+IsKept row = is_bp row.props ≡ true
 
-pub others_readable : (channel : ℕ) (rows : List (ℕ × BpProps)) → AreReadable rows → AreReadable (others channel rows)
-others_readable channel rows all = all_filter IsKept (λ row. not (row.0 == channel)) rows all
+pub others_readable : (channel : ℕ) (rows : List Placed) → AreReadable rows → AreReadable (others channel rows)
+others_readable channel rows all = all_filter IsKept (λ row. not (row.channel == channel)) rows all
 
-either : (test : Bool) (one other : ℕ × BpProps) → IsKept one → IsKept other → IsKept (cond test one other)
+either : (test : Bool) (one other : Placed) → IsKept one → IsKept other → IsKept (cond test one other)
 either true one other kept also = kept
 either false one other kept also = also
 
-rows_readable : (channel : ℕ) (command : Command) (rows : List (ℕ × BpProps)) → IsReadable command → AreReadable rows → AreReadable (rows_after channel command rows)
+rows_readable : (channel : ℕ) (command : Command) (rows : List Placed) → IsReadable command → AreReadable rows → AreReadable (rows_after channel command rows)
 rows_readable channel (BpSet list) rows readable all =
     all_append IsKept (others channel rows) (rows_for channel list) (others_readable channel rows all)
-    (all_mapped (λ (props : BpProps). is_bp props ≡ true) IsKept (λ props. (channel, props)) list (λ _ is. is) readable)
-rows_readable channel (BpAdd props) rows readable all = all_append IsKept rows ((channel, props) ∷ []) all (readable, tt)
+    (all_mapped (λ (props : BpProps). is_bp props ≡ true) IsKept (row_for channel) list (λ _ is. is) readable)
+rows_readable channel (BpAdd props) rows readable all = all_append IsKept rows (row_for channel props ∷ []) all (readable, tt)
 rows_readable channel (BpChange props) rows readable all =
-    all_mapped IsKept IsKept (row_with_props props) rows (λ row is. either (bytes_eq props.id row.1.id) (row.0, props) row readable is) all
+    all_mapped IsKept IsKept (row_with_props props) rows (λ row is. either (bytes_eq props.id row.props.id) (record row { props = props }) row readable is) all
 rows_readable channel (BpEnable ids) rows readable all =
-    all_mapped IsKept IsKept (row_with_flag true ids) rows (λ row is. either (is_among ids row.1.id) (row.0, with_flag true row.1) row is is) all
+    all_mapped IsKept IsKept (row_with_flag true ids) rows (λ row is. either (is_among ids row.props.id) (record row { props = with_flag true row.props }) row is is) all
 rows_readable channel (BpDisable ids) rows readable all =
-    all_mapped IsKept IsKept (row_with_flag false ids) rows (λ row is. either (is_among ids row.1.id) (row.0, with_flag false row.1) row is is) all
-rows_readable channel (BpRemove ids) rows readable all = all_filter IsKept (λ row. not (is_among ids row.1.id)) rows all
+    all_mapped IsKept IsKept (row_with_flag false ids) rows (λ row is. either (is_among ids row.props.id) (record row { props = with_flag false row.props }) row is is) all
+rows_readable channel (BpRemove ids) rows readable all = all_filter IsKept (λ row. not (is_among ids row.props.id)) rows all
 rows_readable channel _ rows readable all = all
 
-unless : (refused : Bool) (rows new : List (ℕ × BpProps)) → AreReadable rows → AreReadable new → AreReadable (cond refused rows new)
+unless : (refused : Bool) (rows new : List Placed) → AreReadable rows → AreReadable new → AreReadable (cond refused rows new)
 unless true rows new all also = all
 unless false rows new all also = also
 
-pub after_readable : (channel : ℕ) (command : Command) (rows : List (ℕ × BpProps)) → IsReadable command → AreReadable rows → AreReadable (after channel command rows)
+pub after_readable : (channel : ℕ) (command : Command) (rows : List Placed) → IsReadable command → AreReadable rows → AreReadable (after channel command rows)
 after_readable channel command rows readable all = unless (is_refused channel command rows) rows (rows_after channel command rows) all (rows_readable channel command rows readable all)
 
 -- every refusal has the code 1
@@ -49,6 +51,6 @@ known_by : (refused : Bool) (other : BpDone) → IsKnown other → IsKnown (cond
 known_by true other known = refl
 known_by false other known = known
 
-pub codes_known : (channel : ℕ) (command : Command) (rows : List (ℕ × BpProps)) → IsKnown (done channel command rows)
+pub codes_known : (channel : ℕ) (command : Command) (rows : List Placed) → IsKnown (done channel command rows)
 codes_known channel command rows =
     known_by (is_refused channel command rows) (Changed (removed_by channel command rows) (added_by command) (changed_by command rows)) tt

@@ -1,7 +1,7 @@
 -- What a channel owns, while others command and go.
 use Rattle.std.proofs.Common.{◌≡◌, ◌≢◌, ℕ, ◌==◌, Bool, true, false, cond, not, List, [], ◌∷◌, ◌++◌, filter, refl, sym, ◌∙◌, ap, subst, eqb-true}
 use Rattle.tcf_values.specs.declared.command.Command.{Command}
-use Rattle.tcf_values.specs.declared.values.BpProps.{BpProps}
+use Rattle.breakpoints.specs.declared.rows.Placed.{Placed}
 use Rattle.breakpoints.specs.Changes.{after}
 use Rattle.breakpoints.specs.Laws.{Step, command, going, list_after_all}
 use Rattle.breakpoints.specs.Rows.{others, owned_by}
@@ -35,21 +35,21 @@ part_none p q (x ∷ xs) none =
     part_by p (q x) x (filter q xs) (first_fails (p x) x (filter p xs) none) (part_none p q xs (rest_none (p x) x (filter p xs) none))
 
 -- a command of another channel gives it nothing
-pub silent_owns : (channel other : ℕ) (c : Command) (rows : List (ℕ × BpProps)) → other ≢ channel → owned_by channel rows ≡ [] → owned_by channel (after other c rows) ≡ []
+pub silent_owns : (channel other : ℕ) (c : Command) (rows : List Placed) → other ≢ channel → owned_by channel rows ≡ [] → owned_by channel (after other c rows) ≡ []
 silent_owns channel other c rows differ none =
-    let same : others channel rows ≡ rows = none_pass (λ row. row.0 == channel) rows none in
+    let same : others channel rows ≡ rows = none_pass (λ (row : Placed). row.channel == channel) rows none in
     subst (λ rs. owned_by channel (after other c rs) ≡ []) same (gone_owns_nothing channel rows (command other c ∷ []) (differ, tt))
 
 -- nor does the going of one
-pub going_owns : (channel other : ℕ) (rows : List (ℕ × BpProps)) → owned_by channel rows ≡ [] → owned_by channel (others other rows) ≡ []
-going_owns channel other rows none = part_none (λ row. row.0 == channel) (λ row. not (row.0 == other)) rows none
+pub going_owns : (channel other : ℕ) (rows : List Placed) → owned_by channel rows ≡ [] → owned_by channel (others other rows) ≡ []
+going_owns channel other rows none = part_none (λ (row : Placed). row.channel == channel) (λ (row : Placed). not (row.channel == other)) rows none
 
 -- its own going takes all
-pub gone_owns : (channel other : ℕ) (rows : List (ℕ × BpProps)) → (other == channel) ≡ true → owned_by channel (others other rows) ≡ []
+pub gone_owns : (channel other : ℕ) (rows : List Placed) → (other == channel) ≡ true → owned_by channel (others other rows) ≡ []
 gone_owns channel other rows is =
     subst (λ (n : ℕ). owned_by channel (others n rows) ≡ []) (sym (eqb-true other channel is)) (gone_owns_nothing channel rows [] tt)
 
-pub list_append : (steps more : List Step) (rows : List (ℕ × BpProps)) → list_after_all (steps ++ more) rows ≡ list_after_all more (list_after_all steps rows)
+pub list_append : (steps more : List Step) (rows : List Placed) → list_after_all (steps ++ more) rows ≡ list_after_all more (list_after_all steps rows)
 list_append [] more rows = refl
 list_append (command channel c ∷ steps) more rows = list_append steps more (after channel c rows)
 list_append (going channel ∷ steps) more rows = list_append steps more (others channel rows)

@@ -43,6 +43,7 @@ use Rattle.target_hub.specs.Limits.{AreReadable}
 use Rattle.target_hub.specs.declared.target.Target.{Target}
 use Rattle.target_contexts.proofs.TheLaws.{starts_one}
 use Rattle.target_hub.proofs.Told.{instances_fit, process_within, thread_within}
+use Rattle.breakpoints.specs.declared.rows.Placed.{Placed}
 
 -- ---- a command that fails is answered by a report
 
@@ -127,7 +128,7 @@ start_row : (file : List ℕ) (attach : Bool) (targets : TargetsValue) → IsOrd
     → IsOfRow (ErrorThen Kind.Process) (process_answer (Some targets.next) (started file attach targets).processes)
 start_row file attach targets orderly none = start_row_of attach targets (image_of file targets.images) orderly none
 
-trace_row : (bps : List (ℕ × BpProps)) (count : ℕ) (named : Option ℕ) (targets after : TargetsValue) → IsOfRow (ErrorThen Kind.Count) (trace_given bps count named targets after).answer
+trace_row : (bps : List Placed) (count : ℕ) (named : Option ℕ) (targets after : TargetsValue) → IsOfRow (ErrorThen Kind.Count) (trace_given bps count named targets after).answer
 trace_row bps count None targets after = refl
 trace_row bps count (Some number) targets after = refl
 
@@ -146,14 +147,14 @@ abbrev pub IfReadable : Option BpProps → Type 0
 IfReadable None = Unit {0}
 IfReadable (Some props) = is_bp props ≡ true
 
-found_by : (same : Bool) (row : ℕ × BpProps) (found : Option (ℕ × BpProps)) → is_bp row.1 ≡ true → IfReadable (option_map (λ (r : ℕ × BpProps). r.1) found)
-    → IfReadable (option_map (λ (r : ℕ × BpProps). r.1) (cond same (Some row) found))
+found_by : (same : Bool) (row : Placed) (found : Option Placed) → is_bp row.props ≡ true → IfReadable (option_map (λ (r : Placed). r.props) found)
+    → IfReadable (option_map (λ (r : Placed). r.props) (cond same (Some row) found))
 found_by true row found readable other = readable
 found_by false row found readable other = other
 
-pub found_readable : (id : List ℕ) (rows : List (ℕ × BpProps)) → AreReadable rows → IfReadable (props_of id rows)
+pub found_readable : (id : List ℕ) (rows : List Placed) → AreReadable rows → IfReadable (props_of id rows)
 found_readable id [] all = tt
-found_readable id (row ∷ rows) all = found_by (bytes_eq id row.1.id) row _ all.0 (found_readable id rows all.1)
+found_readable id (row ∷ rows) all = found_by (bytes_eq id row.props.id) row _ all.0 (found_readable id rows all.1)
 
 props_row : (found : Option BpProps) → IfReadable found → first_fault ((is_none found, faults.Other) ∷ []) ≡ None → IsOfRow (ErrorThen Kind.Bp) (props_answer found)
 props_row None readable none = absurd cc

@@ -32,12 +32,13 @@ use Rattle.target_contexts.proofs.TheLaws.{found_is_short}
 use Rattle.target_hub.proofs.Lists.{all_mapped}
 use Rattle.run_control.proofs.Short.{filter_fewer}
 use Rattle.list_laws.proofs.AllLists.{all_append, all_map}
+use Rattle.breakpoints.specs.declared.rows.Placed.{Placed}
 
 abbrev pub AreSmall : List EventData → Type 0
 AreSmall told = AllByRecursion IsSmallEvent told
 
 -- breakpoints and processes, before a command or after it
-pub record AreBounded (bps : List (ℕ × BpProps)) (targets : TargetsValue) : Type 0 where
+pub record AreBounded (bps : List Placed) (targets : TargetsValue) : Type 0 where
   pub short : AllShort targets.processes
   pub few : length targets.processes ≤ 64
   pub properties : AreReadable bps
@@ -68,10 +69,10 @@ id_word props within =
     let id = and_parts (nat_le 1 (length props.id)) (is_short 255 props.id) front.0 in
     leb-true (length props.id) 255 (and_parts (nat_le (length props.id) 255) (list_all (λ b. nat_le 32 b) props.id) id.1).0
 
-pub ids_words : (rows : List (ℕ × BpProps)) → length rows ≤ 256 → AreReadable rows → AreWords (ids_of rows)
+pub ids_words : (rows : List Placed) → length rows ≤ 256 → AreReadable rows → AreWords (ids_of rows)
 ids_words rows few readable = (
-  omega (arith, few, length-map rows (λ (row : ℕ × BpProps). row.1.id)),
-  all_mapped (λ (row : ℕ × BpProps). is_bp row.1 ≡ true) IsWord (λ (row : ℕ × BpProps). row.1.id) rows (λ row is. id_word row.1 is) readable,
+  omega (arith, few, length-map rows (λ (row : Placed). row.props.id)),
+  all_mapped (λ (row : Placed). is_bp row.props ≡ true) IsWord (λ (row : Placed). row.props.id) rows (λ row is. id_word row.props is) readable,
 )
 
 -- ---- statuses
@@ -103,11 +104,11 @@ pub attached_few : (rows : List (ℕ × Process)) → length rows ≤ 64 → len
 attached_few rows few =
     omega (arith, few, filter_fewer (λ number. is_attached (process_of number rows)) (numbers_of rows), length-map rows (λ (row : ℕ × Process). row.0))
 
-pub statuses_small : (bps : List (ℕ × BpProps)) (targets : TargetsValue) → AreBounded bps targets → AreSmall (statuses_in bps targets)
+pub statuses_small : (bps : List Placed) (targets : TargetsValue) → AreBounded bps targets → AreSmall (statuses_in bps targets)
 statuses_small bps targets bounded =
     let attached = attached_in targets.processes in
-    all_mapped (λ (row : ℕ × BpProps). is_bp row.1 ≡ true) IsSmallEvent (λ (row : ℕ × BpProps). status_event attached row.1) bps
-    (λ row is. status_small attached row.1 (attached_few targets.processes bounded.few) is) bounded.properties
+    all_mapped (λ (row : Placed). is_bp row.props ≡ true) IsSmallEvent (λ (row : Placed). status_event attached row.props) bps
+    (λ row is. status_small attached row.props (attached_few targets.processes bounded.few) is) bounded.properties
 
 -- ---- contexts
 
@@ -145,33 +146,33 @@ resumed_small number = (thread_word number, tt)
 
 -- ---- the end of a process, and what becomes of one
 
-pub end_small : (bps : List (ℕ × BpProps)) (number : ℕ) (code : ℤ) (targets : TargetsValue) → AreBounded bps targets → AreSmall (end_events bps number code targets)
+pub end_small : (bps : List Placed) (number : ℕ) (code : ℤ) (targets : TargetsValue) → AreBounded bps targets → AreSmall (end_events bps number code targets)
 end_small bps number code targets bounded =
     ((lit≤ tt, (thread_word number, (process_word number, tt))), (process_word number, statuses_small bps targets bounded))
 
-hit_small : (bps : List (ℕ × BpProps)) (number : ℕ) (plain : ThreadState) (attached : Bool) (after : TargetsValue) (hits : List (List ℕ)) → AreBounded bps after
+hit_small : (bps : List Placed) (number : ℕ) (plain : ThreadState) (attached : Bool) (after : TargetsValue) (hits : List (List ℕ)) → AreBounded bps after
     → AreSmall (settled_events bps number (fate_by plain attached (executed_with hits)) after)
 hit_small bps number plain attached after [] bounded = suspended_small number (process_of number after.processes) (found_short after.processes number bounded.short)
 hit_small bps number plain attached after (hit ∷ hits) bounded = suspended_small number (process_of number after.processes) (found_short after.processes number bounded.short)
 
-exception_small : (bps : List (ℕ × BpProps)) (number : ℕ) (plain : ThreadState) (attached : Bool) (after : TargetsValue) → AreBounded bps after
+exception_small : (bps : List Placed) (number : ℕ) (plain : ThreadState) (attached : Bool) (after : TargetsValue) → AreBounded bps after
     → AreSmall (settled_events bps number (fate_by plain attached (halt_by excepts)) after)
 exception_small bps number plain true after bounded = suspended_small number (process_of number after.processes) (found_short after.processes number bounded.short)
 exception_small bps number plain false after bounded = end_small bps number exception_code after bounded
 
-pub executed_small : (bps : List (ℕ × BpProps)) (number : ℕ) (plain : ThreadState) (attached : Bool) (after : TargetsValue) (process : Process) (step : Step) → AreBounded bps after
+pub executed_small : (bps : List Placed) (number : ℕ) (plain : ThreadState) (attached : Bool) (after : TargetsValue) (process : Process) (step : Step) → AreBounded bps after
     → AreSmall (settled_events bps number (fate_by plain attached (executed_by bps number process step)) after)
 executed_small bps number plain attached after process (goes_on cpu memory) bounded = hit_small bps number plain attached after _ bounded
 executed_small bps number plain attached after process (ends code) bounded = end_small bps number code after bounded
 executed_small bps number plain attached after process excepts bounded = exception_small bps number plain attached after bounded
 
-halt_small : (bps : List (ℕ × BpProps)) (number : ℕ) (plain : ThreadState) (attached : Bool) (after : TargetsValue) (step : Step) → AreBounded bps after
+halt_small : (bps : List Placed) (number : ℕ) (plain : ThreadState) (attached : Bool) (after : TargetsValue) (step : Step) → AreBounded bps after
     → AreSmall (settled_events bps number (fate_by plain attached (halt_by step)) after)
 halt_small bps number plain attached after (goes_on cpu memory) bounded = suspended_small number (process_of number after.processes) (found_short after.processes number bounded.short)
 halt_small bps number plain attached after (ends code) bounded = end_small bps number code after bounded
 halt_small bps number plain attached after excepts bounded = exception_small bps number plain attached after bounded
 
-pub stop_all_small : (bps : List (ℕ × BpProps)) (number : ℕ) (plain : ThreadState) (attached : Bool) (after : TargetsValue) (hits : List (List ℕ)) (all : Bool) (last : Process) → AreBounded bps after
+pub stop_all_small : (bps : List Placed) (number : ℕ) (plain : ThreadState) (attached : Bool) (after : TargetsValue) (hits : List (List ℕ)) (all : Bool) (last : Process) → AreBounded bps after
     → AreSmall (settled_events bps number (fate_by plain attached (stop_by hits all last)) after)
 stop_all_small bps number plain attached after (hit ∷ hits) all last bounded = suspended_small number (process_of number after.processes) (found_short after.processes number bounded.short)
 stop_all_small bps number plain attached after [] true last bounded = suspended_small number (process_of number after.processes) (found_short after.processes number bounded.short)

@@ -53,6 +53,7 @@ use Rattle.reply_tables.proofs.TheLaws.{reports_are_small}
 use Rattle.target_hub.proofs.Rows.{IfReadable, found_readable}
 use Rattle.target_hub.proofs.Small.{AreBounded, attached_few, found_short, ids_words, instances_small, process_small, process_word, thread_small, thread_word}
 use Rattle.list_laws.proofs.AllLists.{all_map}
+use Rattle.breakpoints.specs.declared.rows.Placed.{Placed}
 
 -- ---- a command that fails is answered by a report
 
@@ -142,11 +143,11 @@ processes_words id attached rows few =
 
 -- ---- RunControl, Processes and Trace
 
-trace_answer : (bps : List (ℕ × BpProps)) (count : ℕ) (number : Option ℕ) (targets after : TargetsValue) → IsSmallAnswer (trace_given bps count number targets after).answer
+trace_answer : (bps : List Placed) (count : ℕ) (number : Option ℕ) (targets after : TargetsValue) → IsSmallAnswer (trace_given bps count number targets after).answer
 trace_answer bps count None targets after = tt
 trace_answer bps count (Some number) targets after = tt
 
-run_answer : (command : Command) (bps : List (ℕ × BpProps)) (targets after : TargetsValue) → AreBounded bps targets → AllShort after.processes → IsSmallAnswer (run_given command bps targets after).answer
+run_answer : (command : Command) (bps : List Placed) (targets after : TargetsValue) → AreBounded bps targets → AllShort after.processes → IsSmallAnswer (run_given command bps targets after).answer
 run_answer (GetContext id) bps targets after bounded short = context_small (data_named id targets.processes) (named_small (context_of id) targets.processes bounded.short)
 run_answer (GetChildren id) bps targets after bounded short = named_words id targets.processes bounded.few
 run_answer (GetState id) bps targets after bounded short = state_of_small (thread_there id targets.processes) (at_number targets.processes (thread_named id) bounded.short)
@@ -265,7 +266,7 @@ locator_small GetPeers = (lit≤ tt, tt)
 locator_small (Redirect peer) = reports_are_small 7
 locator_small _ = tt
 
-run_small : (command : Command) (bps : List (ℕ × BpProps)) (targets : TargetsValue) → AreBounded bps targets → (run_fault command targets ≡ None → AllShort (run_left command bps targets).processes)
+run_small : (command : Command) (bps : List Placed) (targets : TargetsValue) → AreBounded bps targets → (run_fault command targets ≡ None → AllShort (run_left command bps targets).processes)
     → IsSmallAnswer (run_effect command bps targets).answer
 run_small command bps targets bounded after =
     let left = run_left command bps targets in

@@ -56,6 +56,7 @@ use Rattle.target_hub.proofs.Lists.{all_mapped}
 use Rattle.target_hub.proofs.Small.{AreBounded, AreSmall, added_small, attached_few, changed_small, end_small, found_short, ids_words, process_word, executed_small, resumed_small, status_small, statuses_small, stop_all_small, suspended_small, test_small, three_small}
 use Rattle.list_laws.proofs.AllLists.{all_append, all_filter}
 use Rattle.run_control.proofs.Short.{filter_fewer}
+use Rattle.breakpoints.specs.declared.rows.Placed.{Placed}
 
 -- ---- a command that fails tells nothing
 
@@ -73,36 +74,36 @@ of_small : (events : ℕ → List EventData) (number : Option ℕ) → ((n : ℕ
 of_small events None each = tt
 of_small events (Some n) each = each n
 
-traced_small : (bps : List (ℕ × BpProps)) (number count : ℕ) (process : Option Process) (after : TargetsValue) → AreBounded bps after → AreSmall (traced_events_at bps number count process after)
+traced_small : (bps : List Placed) (number count : ℕ) (process : Option Process) (after : TargetsValue) → AreBounded bps after → AreSmall (traced_events_at bps number count process after)
 traced_small bps number count None after bounded = tt
 traced_small bps number count (Some process) after bounded =
     let states = states_of bps number count process in
     stop_all_small bps number (Suspended step_text []) process.attached after (last_hits bps number process states) (length states == count) (last_of process states) bounded
 
-trace_small : (bps : List (ℕ × BpProps)) (count : ℕ) (number : Option ℕ) (targets after : TargetsValue) → AreBounded bps after → AreSmall (trace_given bps count number targets after).events
+trace_small : (bps : List Placed) (count : ℕ) (number : Option ℕ) (targets after : TargetsValue) → AreBounded bps after → AreSmall (trace_given bps count number targets after).events
 trace_small bps count None targets after bounded = tt
 trace_small bps count (Some number) targets after bounded = traced_small bps number count (process_of number targets.processes) after bounded
 
-started_small : (bps : List (ℕ × BpProps)) (number : ℕ) (after : TargetsValue) → AreBounded bps after → AreSmall (start_events bps number after)
+started_small : (bps : List Placed) (number : ℕ) (after : TargetsValue) → AreBounded bps after → AreSmall (start_events bps number after)
 started_small bps number after bounded =
     let process = process_of number after.processes in
     let is = found_short after.processes number bounded.short in
     three_small (added_events number process) (suspended_events number process) (statuses_in bps after)
     (added_small number process is) (suspended_small number process is) (statuses_small bps after bounded)
 
-attached_small : (bps : List (ℕ × BpProps)) (number : ℕ) (after : TargetsValue) → AreBounded bps after → AreSmall (attach_events bps number after)
+attached_small : (bps : List Placed) (number : ℕ) (after : TargetsValue) → AreBounded bps after → AreSmall (attach_events bps number after)
 attached_small bps number after bounded =
     let process = process_of number after.processes in
     three_small (changed_events number process) (suspended_events number process) (statuses_in bps after)
     (changed_small number process) (suspended_small number process (found_short after.processes number bounded.short)) (statuses_small bps after bounded)
 
-detached_small : (bps : List (ℕ × BpProps)) (was_suspended : Bool) (number : ℕ) (after : TargetsValue) → AreBounded bps after → AreSmall (detach_events bps was_suspended number after)
+detached_small : (bps : List Placed) (was_suspended : Bool) (number : ℕ) (after : TargetsValue) → AreBounded bps after → AreSmall (detach_events bps was_suspended number after)
 detached_small bps was_suspended number after bounded =
     let process = process_of number after.processes in
     three_small (changed_events number process) (cond was_suspended (resumed_events number) []) (statuses_in bps after)
     (changed_small number process) (test_small was_suspended (resumed_events number) [] (resumed_small number) tt) (statuses_small bps after bounded)
 
-run_small : (command : Command) (bps : List (ℕ × BpProps)) (targets after : TargetsValue) → AreBounded bps after → AreSmall (run_given command bps targets after).events
+run_small : (command : Command) (bps : List Placed) (targets after : TargetsValue) → AreBounded bps after → AreSmall (run_given command bps targets after).events
 run_small (GetContext id) bps targets after bounded = tt
 run_small (GetChildren id) bps targets after bounded = tt
 run_small (GetState id) bps targets after bounded = tt
@@ -123,7 +124,7 @@ run_small (ProcTerminate id) bps targets after bounded =
 run_small (TraceRun id count) bps targets after bounded = trace_small bps (unsigned_abs count) (thread_named id) targets after bounded
 run_small _ bps targets after bounded = tt
 
-pub run_told : (command : Command) (bps : List (ℕ × BpProps)) (targets : TargetsValue) → (run_fault command targets ≡ None → AreBounded bps (run_left command bps targets))
+pub run_told : (command : Command) (bps : List Placed) (targets : TargetsValue) → (run_fault command targets ≡ None → AreBounded bps (run_left command bps targets))
     → AreSmall (run_effect command bps targets).events
 run_told command bps targets after = by_fault (run_fault command targets) _ (λ none. run_small command bps targets (run_left command bps targets) (after none))
 
@@ -198,17 +199,17 @@ data_told command targets = by_fault (data_fault command targets) _ (data_small 
 
 -- ---- Breakpoints
 
-few_owned : (p : ℕ × BpProps → Bool) (rows : List (ℕ × BpProps)) → length rows ≤ 256 → AreReadable rows → AreSmall (removed_events (ids_of (filter p rows)))
-few_owned p rows few readable = by (filter p rows) (omega (arith, few, filter_fewer p rows)) (all_filter (λ row. is_bp row.1 ≡ true) p rows readable)
+few_owned : (p : Placed → Bool) (rows : List Placed) → length rows ≤ 256 → AreReadable rows → AreSmall (removed_events (ids_of (filter p rows)))
+few_owned p rows few readable = by (filter p rows) (omega (arith, few, filter_fewer p rows)) (all_filter (λ (row : Placed). is_bp row.props ≡ true) p rows readable)
   where
-    by : (part : List (ℕ × BpProps)) → length part ≤ 256 → AreReadable part → AreSmall (removed_events (ids_of part))
+    by : (part : List Placed) → length part ≤ 256 → AreReadable part → AreSmall (removed_events (ids_of part))
     by [] short all = tt
     by (row ∷ part) short all = (ids_words (row ∷ part) short all, tt)
 
-pub removed_small : (channel : ℕ) (rows : List (ℕ × BpProps)) → length rows ≤ 256 → AreReadable rows → AreSmall (removed_events (ids_of (owned_by channel rows)))
+pub removed_small : (channel : ℕ) (rows : List Placed) → length rows ≤ 256 → AreReadable rows → AreSmall (removed_events (ids_of (owned_by channel rows)))
 removed_small channel rows few readable = few_owned _ rows few readable
 
-taken_small : (channel : ℕ) (command : Command) (rows : List (ℕ × BpProps)) → length rows ≤ 256 → AreReadable rows → AreSmall (removed_events (removed_by channel command rows))
+taken_small : (channel : ℕ) (command : Command) (rows : List Placed) → length rows ≤ 256 → AreReadable rows → AreSmall (removed_events (removed_by channel command rows))
 taken_small channel (BpSet list) rows few readable = removed_small channel rows few readable
 taken_small channel (BpRemove ids) rows few readable = few_owned _ rows few readable
 taken_small channel _ rows few readable = tt
@@ -226,22 +227,22 @@ status_all attached list few all =
     all_mapped (λ (props : BpProps). is_bp props ≡ true) IsSmallEvent (status_event attached) list (λ props is. status_small attached props few is) all
 
 -- new ones that have a place are at most 256
-set_few : (list : List BpProps) (rows : List (ℕ × BpProps)) → has_no_place list rows ≡ false → length list ≤ 256
+set_few : (list : List BpProps) (rows : List Placed) → has_no_place list rows ≡ false → length list ≤ 256
 set_few list rows placed =
     let twice = has_twice (map (λ (props : BpProps). props.id) list) in
     let over = (or_parts (clashes list rows || twice) (is_overfull list rows) placed).1 in
     omega (arith, ltb-false 256 (length rows + length list) over)
 
-added_few : (channel : ℕ) (command : Command) (rows : List (ℕ × BpProps)) → is_refused channel command rows ≡ false → length (added_by command) ≤ 256
+added_few : (channel : ℕ) (command : Command) (rows : List Placed) → is_refused channel command rows ≡ false → length (added_by command) ≤ 256
 added_few channel (BpSet list) rows placed = set_few list (others channel rows) placed
 added_few channel (BpAdd props) rows placed = lit≤ tt
 added_few channel _ rows placed = lit≤ tt
 
-switched_few : (enabled : Bool) (ids : List (List ℕ)) (rows : List (ℕ × BpProps)) → length rows ≤ 256 → length (switched enabled ids rows) ≤ 256
+switched_few : (enabled : Bool) (ids : List (List ℕ)) (rows : List Placed) → length rows ≤ 256 → length (switched enabled ids rows) ≤ 256
 switched_few enabled ids rows few =
-    omega (arith, few, filter_fewer (is_switched enabled ids) rows, length-map (filter (is_switched enabled ids) rows) (λ (row : ℕ × BpProps). with_flag enabled row.1))
+    omega (arith, few, filter_fewer (is_switched enabled ids) rows, length-map (filter (is_switched enabled ids) rows) (λ (row : Placed). with_flag enabled row.props))
 
-changed_few : (command : Command) (rows : List (ℕ × BpProps)) → length rows ≤ 256 → length (changed_by command rows) ≤ 256
+changed_few : (command : Command) (rows : List Placed) → length rows ≤ 256 → length (changed_by command rows) ≤ 256
 changed_few (BpChange props) rows few = lit≤ tt
 changed_few (BpEnable ids) rows few = switched_few true ids rows few
 changed_few (BpDisable ids) rows few = switched_few false ids rows few
@@ -251,7 +252,7 @@ unless_refused : (attached : List ℕ) (refused : Bool) (other : BpDone) → (re
 unless_refused attached true other small = tt
 unless_refused attached false other small = small refl
 
-change_told : (channel : ℕ) (command : Command) (attached : List ℕ) (rows : List (ℕ × BpProps)) → IsReadable command → length attached ≤ 64 → length rows ≤ 256 → AreReadable rows
+change_told : (channel : ℕ) (command : Command) (attached : List ℕ) (rows : List Placed) → IsReadable command → length attached ≤ 64 → length rows ≤ 256 → AreReadable rows
     → AreSmall (effect_of attached (done channel command rows)).events
 change_told channel command attached rows readable beside few all =
     let added = added_by command in
@@ -277,12 +278,12 @@ breakpoints_told channel command target readable bounded =
 
 -- ---- a tick
 
-ticked_small : (bps : List (ℕ × BpProps)) (number : ℕ) (process : Option Process) (after : TargetsValue) → AreBounded bps after → AreSmall (ticked_events_at bps number process after)
+ticked_small : (bps : List Placed) (number : ℕ) (process : Option Process) (after : TargetsValue) → AreBounded bps after → AreSmall (ticked_events_at bps number process after)
 ticked_small bps number None after bounded = tt
 ticked_small bps number (Some process) after bounded =
     executed_small bps number (counted process.state) process.attached after process (machine process.cpu process.memory) bounded
 
-pub tick_told_small : (bps : List (ℕ × BpProps)) (targets : TargetsValue) (number : Option ℕ) → AreBounded bps (option_map_or (λ n. ticked bps n targets) number targets)
+pub tick_told_small : (bps : List Placed) (targets : TargetsValue) (number : Option ℕ) → AreBounded bps (option_map_or (λ n. ticked bps n targets) number targets)
     → IfSome (option_map (λ n. ticked_events bps n targets) number) AreSmall
 tick_told_small bps targets None bounded = tt
 tick_told_small bps targets (Some number) bounded = ticked_small bps number (process_of number targets.processes) (ticked bps number targets) bounded

@@ -33,6 +33,7 @@ use Rattle.target_hub.specs.declared.target.Target.{Target}
 use Rattle.rv32i_core.proofs.TheLaws.{ends_are_signed}
 use Rattle.list_laws.proofs.Flags.{and_first}
 use Rattle.list_laws.proofs.AllLists.{all_map}
+use Rattle.breakpoints.specs.declared.rows.Placed.{Placed}
 
 -- ---- statuses: an address lies below 65,536
 
@@ -73,8 +74,8 @@ instances_fit props attached = some_fit props _ props.enabled
 pub status_fits : (attached : List ℕ) (props : BpProps) → IsEvent (status_event attached props)
 status_fits attached props = instances_fit props attached
 
-pub statuses_fit : (attached : List ℕ) (rows : List (ℕ × BpProps)) → AreEvents (statuses_of attached rows)
-statuses_fit attached rows = all_map IsEvent (λ row. status_event attached row.1) rows (λ row. status_fits attached row.1)
+pub statuses_fit : (attached : List ℕ) (rows : List Placed) → AreEvents (statuses_of attached rows)
+statuses_fit attached rows = all_map IsEvent (λ (row : Placed). status_event attached row.props) rows (λ row. status_fits attached row.props)
 
 -- ---- contexts
 
@@ -110,33 +111,33 @@ pub code_fits : (code : ℤ) → IsSigned code → IsWhole code
 code_fits (pos n) signed = omega arith
 code_fits (negsuc n) signed = omega arith
 
-pub end_fits : (bps : List (ℕ × BpProps)) (number : ℕ) (code : ℤ) (targets : TargetsValue) → IsWhole code → AreEvents (end_events bps number code targets)
+pub end_fits : (bps : List Placed) (number : ℕ) (code : ℤ) (targets : TargetsValue) → IsWhole code → AreEvents (end_events bps number code targets)
 end_fits bps number code targets whole = (tt, (whole, statuses_fit (attached_in targets.processes) bps))
 
 -- ---- what becomes of a process after an instruction
 
-with_fit : (bps : List (ℕ × BpProps)) (number : ℕ) (plain : ThreadState) (attached : Bool) (after : TargetsValue) (hits : List (List ℕ)) → AreEvents (settled_events bps number (fate_by plain attached (executed_with hits)) after)
+with_fit : (bps : List Placed) (number : ℕ) (plain : ThreadState) (attached : Bool) (after : TargetsValue) (hits : List (List ℕ)) → AreEvents (settled_events bps number (fate_by plain attached (executed_with hits)) after)
 with_fit bps number plain attached after [] = suspended_fit number _
 with_fit bps number plain attached after (hit ∷ hits) = suspended_fit number _
 
-exception_fit : (bps : List (ℕ × BpProps)) (number : ℕ) (plain : ThreadState) (attached : Bool) (after : TargetsValue) (process : Process) → AreEvents (settled_events bps number (fate_by plain attached (executed_by bps number process excepts)) after)
+exception_fit : (bps : List Placed) (number : ℕ) (plain : ThreadState) (attached : Bool) (after : TargetsValue) (process : Process) → AreEvents (settled_events bps number (fate_by plain attached (executed_by bps number process excepts)) after)
 exception_fit bps number plain true after process = suspended_fit number _
 exception_fit bps number plain false after process = end_fits bps number exception_code after (lit< {m = 1} {n = 2 ^ 63} tt)
 
-executed_fit : (bps : List (ℕ × BpProps)) (number : ℕ) (plain : ThreadState) (attached : Bool) (after : TargetsValue) (process : Process) (step : Step) → EndsSigned step
+executed_fit : (bps : List Placed) (number : ℕ) (plain : ThreadState) (attached : Bool) (after : TargetsValue) (process : Process) (step : Step) → EndsSigned step
     → AreEvents (settled_events bps number (fate_by plain attached (executed_by bps number process step)) after)
 executed_fit bps number plain attached after process (goes_on cpu memory) fits = with_fit bps number plain attached after _
 executed_fit bps number plain attached after process (ends code) fits = end_fits bps number code after (code_fits code fits)
 executed_fit bps number plain attached after process excepts fits = exception_fit bps number plain attached after process
 
-halt_fit : (bps : List (ℕ × BpProps)) (number : ℕ) (plain : ThreadState) (attached : Bool) (after : TargetsValue) (step : Step) → EndsSigned step
+halt_fit : (bps : List Placed) (number : ℕ) (plain : ThreadState) (attached : Bool) (after : TargetsValue) (step : Step) → EndsSigned step
     → AreEvents (settled_events bps number (fate_by plain attached (halt_by step)) after)
 halt_fit bps number plain attached after (goes_on cpu memory) fits = suspended_fit number _
 halt_fit bps number plain attached after (ends code) fits = end_fits bps number code after (code_fits code fits)
 halt_fit bps number plain true after excepts fits = suspended_fit number _
 halt_fit bps number plain false after excepts fits = end_fits bps number exception_code after (lit< {m = 1} {n = 2 ^ 63} tt)
 
-stop_fit : (bps : List (ℕ × BpProps)) (number : ℕ) (plain : ThreadState) (attached : Bool) (after : TargetsValue) (hits : List (List ℕ)) (all : Bool) (last : Process)
+stop_fit : (bps : List Placed) (number : ℕ) (plain : ThreadState) (attached : Bool) (after : TargetsValue) (hits : List (List ℕ)) (all : Bool) (last : Process)
     → AreEvents (settled_events bps number (fate_by plain attached (stop_by hits all last)) after)
 stop_fit bps number plain attached after (hit ∷ hits) all last = suspended_fit number _
 stop_fit bps number plain attached after [] true last = suspended_fit number _
@@ -144,23 +145,23 @@ stop_fit bps number plain attached after [] false last = halt_fit bps number pla
 
 -- ---- a tick, and a trace
 
-ticked_fit : (bps : List (ℕ × BpProps)) (number : ℕ) (process : Option Process) (after : TargetsValue) → AreEvents (ticked_events_at bps number process after)
+ticked_fit : (bps : List Placed) (number : ℕ) (process : Option Process) (after : TargetsValue) → AreEvents (ticked_events_at bps number process after)
 ticked_fit bps number None after = tt
 ticked_fit bps number (Some process) after =
     executed_fit bps number (counted process.state) process.attached after process (machine process.cpu process.memory) (ends_are_signed process.cpu process.memory)
 
-tick_fit_of : (bps : List (ℕ × BpProps)) (targets : TargetsValue) (number : Option ℕ) → IfSome (option_map (λ n. ticked_events bps n targets) number) AreEvents
+tick_fit_of : (bps : List Placed) (targets : TargetsValue) (number : Option ℕ) → IfSome (option_map (λ n. ticked_events bps n targets) number) AreEvents
 tick_fit_of bps targets None = tt
 tick_fit_of bps targets (Some number) = ticked_fit bps number (process_of number targets.processes) _
 
 pub tick_fits : (thread : ContextId) (target : Target) → IfSome (tick_told thread target) AreEvents
 tick_fits thread target = tick_fit_of target.breakpoints target.contexts (running_number thread target.contexts.processes)
 
-traced_fit : (bps : List (ℕ × BpProps)) (number count : ℕ) (process : Option Process) (after : TargetsValue) → AreEvents (traced_events_at bps number count process after)
+traced_fit : (bps : List Placed) (number count : ℕ) (process : Option Process) (after : TargetsValue) → AreEvents (traced_events_at bps number count process after)
 traced_fit bps number count None after = tt
 traced_fit bps number count (Some process) after =
     let states = states_of bps number count process in
     stop_fit bps number (Suspended step_text []) process.attached after (last_hits bps number process states) (length states == count) (last_of process states)
 
-pub trace_fits : (bps : List (ℕ × BpProps)) (count number : ℕ) (targets after : TargetsValue) → AreEvents (trace_events bps count number targets after)
+pub trace_fits : (bps : List Placed) (count number : ℕ) (targets after : TargetsValue) → AreEvents (trace_events bps count number targets after)
 trace_fits bps count number targets after = traced_fit bps number count _ after

@@ -28,6 +28,7 @@ use Rattle.target_hub.specs.Execution.{exec_after, exec_effect}
 use Rattle.target_hub.specs.Laws.{AskingChangesNothing, AskingIsTheSame, FailureChangesNothing}
 use Rattle.target_hub.specs.declared.target.Target.{Target}
 use Rattle.data_services.proofs.TheLaws.{failure_changes_nothing}
+use Rattle.breakpoints.specs.declared.rows.Placed.{Placed}
 
 -- ---- a command that only asks
 
@@ -116,11 +117,11 @@ process_none : (named : Option ℕ) (rows : List (ℕ × Process)) → IsNoFailu
 process_none None rows = tt
 process_none (Some number) rows = there_none number (process_of number rows)
 
-trace_none : (bps : List (ℕ × BpProps)) (count : ℕ) (named : Option ℕ) (targets after : TargetsValue) → IsNoFailure (trace_given bps count named targets after).answer
+trace_none : (bps : List Placed) (count : ℕ) (named : Option ℕ) (targets after : TargetsValue) → IsNoFailure (trace_given bps count named targets after).answer
 trace_none bps count None targets after = tt
 trace_none bps count (Some number) targets after = tt
 
-run_none : (command : Command) (bps : List (ℕ × BpProps)) (targets after : TargetsValue) → IsNoFailure (run_given command bps targets after).answer
+run_none : (command : Command) (bps : List Placed) (targets after : TargetsValue) → IsNoFailure (run_given command bps targets after).answer
 run_none (GetContext id) bps targets after = context_none (data_named id targets.processes)
 run_none (GetState id) bps targets after = state_none (thread_there id targets.processes)
 run_none (ProcContext id) bps targets after = process_none (process_named id) targets.processes
@@ -146,7 +147,7 @@ data_nothing : (command : Command) (target : Target) (report : ErrorReport) → 
 data_nothing command target report same =
     let kept = failure_changes_nothing command target.contexts report same in (with_same target (data_after command target.contexts) kept.0, kept.1)
 
-change_nothing : (target : Target) (attached : List ℕ) (refused : Bool) (new : List (ℕ × BpProps)) (removed : List (List ℕ)) (added changed : List BpProps) (report : ErrorReport) →
+change_nothing : (target : Target) (attached : List ℕ) (refused : Bool) (new : List Placed) (removed : List (List ℕ)) (added changed : List BpProps) (report : ErrorReport) →
     (effect_of attached (cond refused (Failed 1) (Changed removed added changed))).answer ≡ answers.Failed report →
     (record target { breakpoints = cond refused target.breakpoints new } ≡ target) × ((effect_of attached (cond refused (Failed 1) (Changed removed added changed))).events ≡ [])
 change_nothing target attached true new removed added changed report same = (refl, refl)

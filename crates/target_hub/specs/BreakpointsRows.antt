@@ -23,6 +23,7 @@ use Rattle.breakpoints.specs.declared.breakpoints.BpDone.{BpDone}
 use Rattle.breakpoints.specs.declared.breakpoints.BpDone.TheVariants.{Failed, Changed}
 use Rattle.run_control.specs.Naming.{is_empty}
 use Rattle.target_hub.specs.declared.target.Target.{Target}
+use Rattle.breakpoints.specs.declared.rows.Placed.{Placed}
 
 -- ---- the commands that change the list: what was taken out, what is new, what is changed, each where there is some,
 -- and then the status of each new or changed one
@@ -66,7 +67,7 @@ abbrev pub status_answer : Option BpStatus → Answer
 status_answer None = answers.Nothing
 status_answer (Some status) = answers.Status status
 
-abbrev pub ask_answer : Command → List ℕ → List (ℕ × BpProps) → Answer
+abbrev pub ask_answer : Command → List ℕ → List Placed → Answer
 ask_answer BpIds attached rows = answers.Ids (ids_of rows)
 ask_answer (BpProperties id) attached rows = props_answer (props_of id rows)
 ask_answer (BpGetStatus id) attached rows = status_answer (status_of id attached rows)

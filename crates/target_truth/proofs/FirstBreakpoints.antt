@@ -19,12 +19,13 @@ use Rattle.target_truth.proofs.Seen.{seen}
 use Rattle.tcf_values.specs.declared.event.EventData.TheVariants as events
 use Rattle.tcf_values.specs.declared.values.BpProps.{BpProps}
 use Rattle.tcf_values.specs.declared.values.BpStatus.{BpStatus}
+use Rattle.breakpoints.specs.declared.rows.Placed.{Placed}
 
 -- the breakpoints but these stay
-abbrev pub OthersStay : List (List ℕ) → List (ℕ × BpProps) → List (ℕ × BpProps) → Type 0
+abbrev pub OthersStay : List (List ℕ) → List Placed → List Placed → Type 0
 OthersStay ids before now = (id : List ℕ) (props : BpProps) → is_among ids id ≡ false → props_of id before ≡ Some props → props_of id now ≡ Some props
 
-abbrev pub AreThere : List BpProps → List (ℕ × BpProps) → Type 0
+abbrev pub AreThere : List BpProps → List Placed → Type 0
 AreThere list rows = AllByRecursion (λ props. props_of props.id rows ≡ Some props) list
 
 -- no process is another

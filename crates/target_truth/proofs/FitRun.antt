@@ -34,7 +34,7 @@ use Rattle.tcf_values.specs.declared.command.Command.{Command}
 use Rattle.tcf_values.specs.declared.command.Command.TheVariants.{Resume, Suspend, Terminate, ProcStart, ProcAttach, ProcDetach, ProcTerminate, TraceRun}
 use Rattle.tcf_values.specs.declared.faults.Fault.{Fault}
 use Rattle.tcf_values.specs.declared.ids.ContextId.{ContextId}
-use Rattle.tcf_values.specs.declared.values.BpProps.{BpProps}
+use Rattle.breakpoints.specs.declared.rows.Placed.{Placed}
 
 -- ---- a thread, and what becomes of a process
 
@@ -60,7 +60,7 @@ exception_fit number plain true targets fit = state_fit (Suspended exception_tex
 exception_fit number plain false targets fit = end_fit number targets fit
 
 -- by the machine's step
-settled_fit : (bps : List (ℕ × BpProps)) (number : ℕ) (process : Process) (plain : ThreadState) (attached : Bool) (step : Step) (targets : TargetsValue) → IsFit targets
+settled_fit : (bps : List Placed) (number : ℕ) (process : Process) (plain : ThreadState) (attached : Bool) (step : Step) (targets : TargetsValue) → IsFit targets
     → IsFit (settled number (fate_by plain attached (executed_by bps number process step)) targets)
 settled_fit bps number process plain attached (goes_on cpu memory) targets fit =
     hits_fit number plain attached (hits_at bps number (record process { cpu = cpu; memory = memory })) targets fit
@@ -89,17 +89,17 @@ stepped_whole excepts process step is = is
 one_whole : (process : Process) → IsWhole process → IsWhole (stepped process)
 one_whole process is = stepped_whole (machine process.cpu process.memory) process (steps_stay_within process.cpu process.memory is.cpu is.memory) is
 
-ticked_fit : (bps : List (ℕ × BpProps)) (number : ℕ) (found : Option Process) (targets : TargetsValue) → IsFit targets → IsFit (ticked_at bps number found targets)
+ticked_fit : (bps : List Placed) (number : ℕ) (found : Option Process) (targets : TargetsValue) → IsFit targets → IsFit (ticked_at bps number found targets)
 ticked_fit bps number None targets fit = fit
 ticked_fit bps number (Some process) targets fit =
     settled_fit bps number process (counted process.state) process.attached (machine process.cpu process.memory) (with_change stepped number targets)
     (change_fit stepped number targets fit one_whole)
 
-tick_by : (bps : List (ℕ × BpProps)) (named : Option ℕ) (targets : TargetsValue) → IsFit targets → IsFit (option_map_or (λ number. ticked bps number targets) named targets)
+tick_by : (bps : List Placed) (named : Option ℕ) (targets : TargetsValue) → IsFit targets → IsFit (option_map_or (λ number. ticked bps number targets) named targets)
 tick_by bps None targets fit = fit
 tick_by bps (Some number) targets fit = ticked_fit bps number (process_of number targets.processes) targets fit
 
-pub tick_fit : (bps : List (ℕ × BpProps)) (thread : ContextId) (targets : TargetsValue) → IsFit targets → IsFit (tick_after bps thread targets)
+pub tick_fit : (bps : List Placed) (thread : ContextId) (targets : TargetsValue) → IsFit targets → IsFit (tick_after bps thread targets)
 tick_fit bps thread targets fit = tick_by bps (running_number thread targets.processes) targets fit
 
 -- ---- several
@@ -123,7 +123,7 @@ hit_by : (goes : Bool) (states : List Process) → AllByRecursion IsWhole states
 hit_by true states all = all
 hit_by false states all = tt
 
-hit_whole : (bps : List (ℕ × BpProps)) (number : ℕ) (states : List Process) → AllByRecursion IsWhole states → AllByRecursion IsWhole (up_to_hit bps number states)
+hit_whole : (bps : List Placed) (number : ℕ) (states : List Process) → AllByRecursion IsWhole states → AllByRecursion IsWhole (up_to_hit bps number states)
 hit_whole bps number [] all = tt
 hit_whole bps number (state ∷ states) all = (all.0, hit_by (is_empty (hits_at bps number state)) (up_to_hit bps number states) (hit_whole bps number states all.1))
 
@@ -131,7 +131,7 @@ last_whole : (process : Process) (states : List Process) → IsWhole process →
 last_whole process [] is all = is
 last_whole process (state ∷ states) is all = last_whole state states all.0 all.1
 
-traced_fit : (bps : List (ℕ × BpProps)) (number count : ℕ) (found : Option Process) (targets : TargetsValue) → IsFit targets → ((process : Process) → found ≡ Some process → IsWhole process)
+traced_fit : (bps : List Placed) (number count : ℕ) (found : Option Process) (targets : TargetsValue) → IsFit targets → ((process : Process) → found ≡ Some process → IsWhole process)
     → IsFit (traced_at bps number count found targets)
 traced_fit bps number count None targets fit whole = fit
 traced_fit bps number count (Some process) targets fit whole =
@@ -141,7 +141,7 @@ traced_fit bps number count (Some process) targets fit whole =
     stopped_fit number (Suspended step_text []) process.attached (last_hits bps number process states) (length states == count) last (with_change (λ _. last) number targets)
     (change_fit (λ _. last) number targets fit (λ _ _. is))
 
-trace_fit : (bps : List (ℕ × BpProps)) (count number : ℕ) (targets : TargetsValue) → IsFit targets → IsFit (trace_after bps count number targets)
+trace_fit : (bps : List Placed) (count number : ℕ) (targets : TargetsValue) → IsFit targets → IsFit (trace_after bps count number targets)
 trace_fit bps count number targets fit =
     traced_fit bps number count (process_of number targets.processes) targets fit (λ process is. found_whole number targets.processes process fit.processes is)
 
@@ -174,7 +174,7 @@ left_fit : (change : ℕ → TargetsValue → TargetsValue) (named : Option ℕ)
 left_fit change None targets fit keeps = fit
 left_fit change (Some number) targets fit keeps = keeps number
 
-run_left_fit : (command : Command) (bps : List (ℕ × BpProps)) (targets : TargetsValue) → IsFit targets → run_fault command targets ≡ None → IsFit (run_left command bps targets)
+run_left_fit : (command : Command) (bps : List Placed) (targets : TargetsValue) → IsFit targets → run_fault command targets ≡ None → IsFit (run_left command bps targets)
 run_left_fit (Resume id mode count) bps targets fit none = left_fit (resume_after (left_by mode count)) (thread_named id) targets fit (λ number. state_fit (Running (left_by mode count)) number targets fit)
 run_left_fit (Suspend id) bps targets fit none = left_fit suspend_after (thread_named id) targets fit (λ number. state_fit (Suspended suspended_text []) number targets fit)
 run_left_fit (Terminate id) bps targets fit none = left_fit end_after (number_named id) targets fit (λ number. end_fit number targets fit)
@@ -190,5 +190,5 @@ pub fault_fit : (fault : Option Fault) (left targets : TargetsValue) → IsFit t
 fault_fit None left targets fit keeps = keeps refl
 fault_fit (Some fault) left targets fit keeps = fit
 
-pub run_fit : (command : Command) (bps : List (ℕ × BpProps)) (targets : TargetsValue) → IsFit targets → IsFit (run_after command bps targets)
+pub run_fit : (command : Command) (bps : List Placed) (targets : TargetsValue) → IsFit targets → IsFit (run_after command bps targets)
 run_fit command bps targets fit = fault_fit (run_fault command targets) (run_left command bps targets) targets fit (run_left_fit command bps targets fit)

@@ -53,6 +53,7 @@ use Rattle.tcf_values.specs.declared.values.BpProps.{BpProps}
 use Rattle.tcf_values.specs.declared.values.ContextData.{ContextData}
 use Rattle.tcf_values.specs.declared.values.Location.{Location}
 use Rattle.target_hub.proofs.Told.{process_within as process_fits}
+use Rattle.breakpoints.specs.declared.rows.Placed.{Placed}
 
 -- the answer to a command of a channel, as it is taken
 abbrev pub reply : ℕ → Command → Target → Message
@@ -135,10 +136,10 @@ get_state channel id target good =
 abbrev IsReadableBp : BpProps → Type 0
 IsReadableBp props = is_bp props ≡ true
 
-found_readable : (id : List ℕ) (rows : List (ℕ × BpProps)) → AreReadable rows → IfSome (props_of id rows) IsReadableBp
+found_readable : (id : List ℕ) (rows : List Placed) → AreReadable rows → IfSome (props_of id rows) IsReadableBp
 found_readable id [] all = tt
 found_readable id (row ∷ rows) all =
-    cond_both (bytes_eq id row.1.id) (Some row) (find (λ r. bytes_eq id r.1.id) rows) (λ found. IfSome (option_map (λ (r : ℕ × BpProps). r.1) found) IsReadableBp)
+    cond_both (bytes_eq id row.props.id) (Some row) (find (λ (r : Placed). bytes_eq id r.props.id) rows) (λ found. IfSome (option_map (λ (r : Placed). r.props) found) IsReadableBp)
     (λ is. all.0) (λ isnt. found_readable id rows all.1)
 
 properties_so : (id : List ℕ) (target : Target) (found : Option BpProps) → props_of id target.breakpoints ≡ found → IfSome found IsReadableBp → is_none found ≡ false

@@ -98,7 +98,7 @@ unless target rows removed added list false tells = tells refl
 -- ---- the commands
 
 owned_stay : (channel : ℕ) (rows : List Row) → OthersStay (ids_of (owned_by channel rows)) rows (others channel rows)
-owned_stay channel rows id props other found = stays_without (λ row. row.0 == channel) id rows props other found
+owned_stay channel rows id props other found = stays_without (λ row. row.channel == channel) id rows props other found
 
 pub set : (channel : ℕ) (list : List BpProps) (target : Target) → IsGood target → IsReadable (commands.BpSet list) → Tells channel (commands.BpSet list) target
 unfolding exec_after exec_effect
@@ -133,7 +133,7 @@ change channel props target good readable =
 -- the switched ones are as they were but for the flag
 switched_fit : (enabled : Bool) (ids : List (List ℕ)) (rows : List Row) → AreReadable rows → AreProps (switched enabled ids rows)
 switched_fit enabled ids rows fit =
-    all_picked (λ (props : BpProps). is_bp props ≡ true) (λ (row : Row). is_bp row.1 ≡ true) (λ (row : Row). with_flag enabled row.1) (is_switched enabled ids) rows (λ row is. is) fit
+    all_picked (λ (props : BpProps). is_bp props ≡ true) (λ (row : Row). is_bp row.props ≡ true) (λ (row : Row). with_flag enabled row.props) (is_switched enabled ids) rows (λ row is. is) fit
 
 flags_told : (enabled : Bool) (ids : List (List ℕ)) (target : Target) → IsGood target
     → Tell target (listing target (with_flags enabled ids target.breakpoints)) (effect_of (attached_of target) (Changed [] [] (switched enabled ids target.breakpoints))).events
@@ -162,7 +162,7 @@ remove channel ids target good =
     let command = commands.BpRemove ids in
     unless target (rows_after channel command rows) (ids_of (named ids rows)) [] [] (is_refused channel command rows)
     (λ there. put_told target (unnamed ids rows) (ids_of (named ids rows)) []
-    (λ id props other found. stays_without (λ row. is_among ids row.1.id) id rows props other found) tt tt)
+    (λ id props other found. stays_without (λ row. is_among ids row.props.id) id rows props other found) tt tt)
 
 -- ---- a channel that goes
 

@@ -34,7 +34,7 @@ use Rattle.tcf_values.specs.OptionLaws.{some_same}
 use Rattle.tcf_values.specs.declared.command.Command.TheVariants as commands
 use Rattle.tcf_values.specs.declared.event.EventData.{EventData}
 use Rattle.tcf_values.specs.declared.ids.ContextId.{ContextId}
-use Rattle.tcf_values.specs.declared.values.BpProps.{BpProps}
+use Rattle.breakpoints.specs.declared.rows.Placed.{Placed}
 use Rattle.list_laws.proofs.AllLists.{all_if}
 
 -- ---- the states that a process comes to
@@ -60,7 +60,7 @@ all_follow first (suc count) process follows =
     from_next first count (next_of process) (next_follows first process (machine process.cpu process.memory) (steps_stay_within process.cpu process.memory follows.whole.cpu follows.whole.memory) follows)
     (λ next is. all_follow first count next is)
 
-hit_follow : (first : Process) (bps : List (ℕ × BpProps)) (number : ℕ) (states : List Process) → AllByRecursion (Follows first) states → AllByRecursion (Follows first) (up_to_hit bps number states)
+hit_follow : (first : Process) (bps : List Placed) (number : ℕ) (states : List Process) → AllByRecursion (Follows first) states → AllByRecursion (Follows first) (up_to_hit bps number states)
 hit_follow first bps number [] all = tt
 hit_follow first bps number (state ∷ states) all =
     (all.0, all_if (Follows first) (is_empty (hits_at bps number state)) (up_to_hit bps number states) (λ is. hit_follow first bps number states all.1))

@@ -1,5 +1,5 @@
 -- The statuses that are told, one of each breakpoint, are so.
-use Rattle.std.proofs.Common.{◌≡◌, ℕ, List, [], ◌∷◌, map, bytes_eq, Some, ap}
+use Rattle.std.proofs.Common.{◌≡◌, List, [], ◌∷◌, map, bytes_eq, Some, ap}
 use Rattle.std.specs.List.{AllByRecursion, IsDistinct}
 use Rattle.breakpoints.specs.Rows.{ids_of, props_of}
 use Rattle.breakpoints.specs.Status.{instances_of}
@@ -13,6 +13,7 @@ use Rattle.target_truth.proofs.Listed.{all_found}
 use Rattle.target_truth.proofs.StatusLimits.{instances_fit}
 use Rattle.target_truth.proofs.Tells.{IsTold}
 use Rattle.tcf_values.specs.declared.values.BpProps.{BpProps}
+use Rattle.breakpoints.specs.declared.rows.Placed.{Placed}
 
 -- that of a breakpoint that is there
 status_told : (target : Target) (props : BpProps) → props_of props.id target.breakpoints ≡ Some props → IsTold target target (status_event (attached_in target.contexts.processes) props)
@@ -32,4 +33,4 @@ each_status_told breakpoint target [] there = tt
 each_status_told breakpoint target (item ∷ list) there = (status_told target (breakpoint item) there.0, each_status_told breakpoint target list there.1)
 
 pub statuses_told : (target : Target) → IsDistinct bytes_eq (ids_of target.breakpoints) → AllByRecursion (IsTold target target) (statuses_in target.breakpoints target.contexts)
-statuses_told target distinct = each_status_told (λ (row : ℕ × BpProps). row.1) target target.breakpoints (all_found target.breakpoints distinct)
+statuses_told target distinct = each_status_told (λ (row : Placed). row.props) target target.breakpoints (all_found target.breakpoints distinct)

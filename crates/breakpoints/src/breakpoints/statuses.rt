@@ -15,7 +15,7 @@ impl Breakpoints {
     {
         let alloc = *self.map.allocator();
         for row in self.map.values() {
-            events.push(status_event(alloc, &row.1, attached)?)?;
+            events.push(status_event(alloc, &row.props, attached)?)?;
         }
         Ok(())
     }

@@ -1,7 +1,7 @@
-use Rattle.std.proofs.Common.{ℕ, sym, ap, ◌∙◌}
+use Rattle.std.proofs.Common.{sym, ap, ◌∙◌}
 use Rattle.std.specs.Prelude.{bytes_eq}
 use Rattle.std.specs.Map.{lookup, set_value}
-use Rattle.tcf_values.specs.declared.values.BpProps.{BpProps}
+use Rattle.breakpoints.specs.Placed.{Placed}
 use Rattle.breakpoints.proofs.Lookup.{none_found}
 use Rattle.breakpoints.proofs.Written.{none_written, one_written}
 use Rattle.breakpoints.proofs.rows.set_props.Goals as goal
@@ -9,7 +9,7 @@ use Rattle.breakpoints.proofs.rows.set_props.Goals as goal
 -- the one breakpoint of the ID is written
 pub returns-in-Some : goal.returns-in-Some
 returns-in-Some c =
-    let row : ℕ × BpProps = (c.in-Some.row.now.0, c.args.props) in
+    let row : Placed = record c.in-Some.row.now { props = c.args.props } in
     (c.get_mut.follows.holds row).0
     ∙ ap (λ id. set_value (λ k. bytes_eq id k.items) c.args.rows.now.entries row) c.as_bytes.ensures
     ∙ one_written c.args.props c.args.rows.now.entries c.in-Some.row.now c.requires.keyed c.requires.orderly.differ

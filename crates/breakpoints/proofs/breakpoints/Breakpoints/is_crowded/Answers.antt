@@ -3,7 +3,7 @@ use Rattle.std.specs.Global.{Vec}
 use Rattle.std.specs.Map.{values_of}
 use Rattle.std.proofs.lemmas.List.{length-map}
 use Rattle.std.proofs.lemmas.List.Filters.{length-filter_both}
-use Rattle.tcf_values.specs.declared.values.BpProps.{BpProps}
+use Rattle.breakpoints.specs.Placed.{Placed}
 use Rattle.breakpoints.specs.Changes.{is_overfull}
 use Rattle.breakpoints.specs.Keyed.{IsKept}
 use Rattle.breakpoints.specs.Selecting.{selected, selects, unselected}
@@ -12,7 +12,7 @@ use Rattle.breakpoints.proofs.Fresh.{not_over_by, over_by}
 use Rattle.breakpoints.proofs.breakpoints.Breakpoints.is_crowded.Goals as goal
 
 -- those that stay and those that leave are all, of which there are at most 256
-parts_of : (leaving : Selection) (es : List (Vec ℕ × (ℕ × BpProps))) (rows : List (ℕ × BpProps)) (count len : ℕ) → IsKept es → values_of es ≡ rows → count ≡ length (selected leaving rows) → len ≡ length es
+parts_of : (leaving : Selection) (es : List (Vec ℕ × Placed)) (rows : List Placed) (count len : ℕ) → IsKept es → values_of es ≡ rows → count ≡ length (selected leaving rows) → len ≡ length es
     → (length (unselected leaving rows) + count ≡ len) × (len ≤ 256)
 parts_of leaving es rows count len kept view counted long =
     let both : length (selected leaving rows) + length (unselected leaving rows) ≡ length rows =

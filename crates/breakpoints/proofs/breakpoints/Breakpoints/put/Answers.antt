@@ -1,7 +1,7 @@
-use Rattle.std.proofs.Common.{◌≡◌, ℕ, List, not, filter, sym, ap, ◌∙◌}
+use Rattle.std.proofs.Common.{◌≡◌, List, not, filter, sym, ap, ◌∙◌}
 use Rattle.std.specs.Map.{values_of}
 use Rattle.std.proofs.lemmas.Bool.{cond-false}
-use Rattle.tcf_values.specs.declared.values.BpProps.{BpProps}
+use Rattle.breakpoints.specs.Placed.{Placed}
 use Rattle.breakpoints.specs.Changes.{clashes}
 use Rattle.breakpoints.specs.Selecting.{selects, unselected}
 use Rattle.breakpoints.proofs.Filtered.{keyed_filter, values-filter}
@@ -16,7 +16,7 @@ keyed-requires c =
 -- no ID of the new ones is among those that stay
 pub replace-requires : goal.replace-requires
 replace-requires c =
-    let rest : List (ℕ × BpProps) = unselected c.args.leaving c.args.self.now in
+    let rest : List Placed = unselected c.args.leaving c.args.self.now in
     let left : values_of (filter (λ e. not (selects c.args.leaving e.1)) c.self.inside.map.entries) ≡ rest =
     values-filter (λ row. not (selects c.args.leaving row)) c.self.inside.map.entries ∙ ap (unselected c.args.leaving) c.self.view_is in
     let place = a_place c.args.list.now rest (sym c.has_no_place.ensures ∙ c.if-has_no_place.false) in
@@ -26,7 +26,7 @@ replace-requires c =
 
 pub invariant_of-self-2 : goal.invariant_of-self-2
 invariant_of-self-2 c =
-    let rest : List (ℕ × BpProps) = unselected c.args.leaving c.args.self.now in
+    let rest : List Placed = unselected c.args.leaving c.args.self.now in
     let left : values_of (filter (λ e. not (selects c.args.leaving e.1)) c.self.inside.map.entries) ≡ rest =
     values-filter (λ row. not (selects c.args.leaving row)) c.self.inside.map.entries ∙ ap (unselected c.args.leaving) c.self.view_is in
     let place = a_place c.args.list.now rest (sym c.has_no_place.ensures ∙ c.if-has_no_place.false) in
@@ -36,7 +36,7 @@ invariant_of-self-2 c =
 
 pub returns-clause-after : goal.returns-clause-after
 returns-clause-after c =
-    let rest : List (ℕ × BpProps) = unselected c.args.leaving c.args.self.now in
+    let rest : List Placed = unselected c.args.leaving c.args.self.now in
     let left : values_of (filter (λ e. not (selects c.args.leaving e.1)) c.self.inside.map.entries) ≡ rest =
     values-filter (λ row. not (selects c.args.leaving row)) c.self.inside.map.entries ∙ ap (unselected c.args.leaving) c.self.view_is in
     values_append c.args.channel (filter (λ e. not (selects c.args.leaving e.1)) c.self.inside.map.entries) c.in_ok-fresh.fresh.entries c.replace.new.rows.entries c.args.list.now rest

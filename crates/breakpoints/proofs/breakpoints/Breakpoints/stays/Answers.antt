@@ -1,6 +1,6 @@
-use Rattle.std.proofs.Common.{◌≡◌, ℕ, List, Some, not, sym, ap, ◌∙◌}
+use Rattle.std.proofs.Common.{◌≡◌, List, Some, not, sym, ap, ◌∙◌}
 use Rattle.std.specs.Map.{values_of}
-use Rattle.tcf_values.specs.declared.values.BpProps.{BpProps}
+use Rattle.breakpoints.specs.Placed.{Placed}
 use Rattle.breakpoints.specs.Rows.{is_there}
 use Rattle.breakpoints.specs.Selecting.{selects, unselected}
 use Rattle.breakpoints.proofs.Filtered.{none_stays, one_stays}
@@ -10,7 +10,7 @@ use Rattle.breakpoints.proofs.breakpoints.Breakpoints.stays.Goals as goal
 -- the one breakpoint of the ID is left where it isn't chosen
 pub returns-in-Some : goal.returns-in-Some
 returns-in-Some c =
-    let rows : List (ℕ × BpProps) = values_of c.self.inside.map.entries in
+    let rows : List Placed = values_of c.self.inside.map.entries in
     let found : row_of c.args.id.now rows ≡ Some c.in-Some.row.now =
     sym (lookup_row c.args.id.now c.self.inside.map.entries c.self.invariant.keyed) ∙ sym c.in-Some.ensures.value in
     ap not c.selects.ensures

@@ -4,17 +4,16 @@ use Rattle.std.proofs.lemmas.Bool.{or_parts}
 use Rattle.std.proofs.lemmas.List.Folds.{list_any-append}
 use Rattle.target_contexts.specs.declared.process.Image.{Image}
 use Rattle.target_hub.specs.History.{IsAllowed, IsLegal, closes, input_after, inputs_after, is_live, opens, was_closed, was_opened}
-use Rattle.target_hub.specs.HubValue.{new_target}
+use Rattle.target_hub.specs.HubValue.{TargetValue, new_target}
 use Rattle.target_hub.specs.Ordered.{OpensAt}
 use Rattle.target_hub.specs.Sent.{Told, executed_by, executed_on, sent, sent_after, told_by, told_while_live}
 use Rattle.target_hub.specs.declared.input.Input.{Input}
 use Rattle.target_hub.specs.declared.input.Input.TheVariants.{Opened}
-use Rattle.target_hub.specs.declared.target.Target.{Target}
 use Rattle.list_laws.proofs.Flags.{or_or_false, or_false}
 
 -- ---- What it makes of the target
 
-pub inputs_more : (before : List Input) (input : Input) (target : Target) → inputs_after (before ++ input ∷ []) target ≡ input_after input (inputs_after before target)
+pub inputs_more : (before : List Input) (input : Input) (target : TargetValue) → inputs_after (before ++ input ∷ []) target ≡ input_after input (inputs_after before target)
 inputs_more [] input target = refl
 inputs_more (x ∷ before) input target = inputs_more before input (input_after x target)
 
@@ -45,7 +44,7 @@ live_closed k before input shut =
 
 -- ---- What it tells and executes
 
-sent_after_more : (k : ℕ) (before : List Input) (target : Target) (inputs : List Input) (input : Input)
+sent_after_more : (k : ℕ) (before : List Input) (target : TargetValue) (inputs : List Input) (input : Input)
     → sent_after k before target (inputs ++ input ∷ []) ≡ sent_after k before target inputs ++ told_while_live k (before ++ inputs) (inputs_after inputs target) input
 sent_after_more k before target [] input =
     append-nil (told_while_live k before target input) ∙ ap (λ bs. told_while_live k bs target input) (sym (append-nil before))
@@ -65,7 +64,7 @@ executed_more k (x ∷ history) input =
     ap (λ cs. executed_by k x ++ cs) (executed_more k history input) ∙ sym (append_assoc (executed_by k x) (executed_on k history) (executed_by k input))
 
 -- what a channel is told by an input, by whether it is live then
-pub told_live : (k : ℕ) (before : List Input) (target : Target) (input : Input) (told : List Told) (live : Bool) → is_live k (before ++ input ∷ []) ≡ live → told_by k (length before + 1) target input ≡ told
+pub told_live : (k : ℕ) (before : List Input) (target : TargetValue) (input : Input) (told : List Told) (live : Bool) → is_live k (before ++ input ∷ []) ≡ live → told_by k (length before + 1) target input ≡ told
     → told_while_live k before target input ≡ cond live told []
 told_live k before target input told live is same = ap (λ b. cond b (told_by k (length before + 1) target input) []) is ∙ ap (λ ts. cond live ts []) same
 
@@ -74,7 +73,7 @@ nothing_by : (opened shut : Bool) (told : List Told) → opened ≡ false → co
 nothing_by true shut told is = absurd cc
 nothing_by false shut told is = refl
 
-nothing_after : (k : ℕ) (before : List Input) (target : Target) (inputs : List Input) → was_opened k (before ++ inputs) ≡ false → sent_after k before target inputs ≡ []
+nothing_after : (k : ℕ) (before : List Input) (target : TargetValue) (inputs : List Input) → was_opened k (before ++ inputs) ≡ false → sent_after k before target inputs ≡ []
 nothing_after k before target [] none = refl
 nothing_after k before target (input ∷ inputs) none =
     let together : was_opened k ((before ++ input ∷ []) ++ inputs) ≡ false = ap (was_opened k) (append_assoc before (input ∷ []) inputs) ∙ none in

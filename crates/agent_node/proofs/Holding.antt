@@ -6,12 +6,11 @@ use Rattle.channel_core.specs.Closing.{is_closed}
 use Rattle.channel_core.specs.Runs.{Call as EndCall}
 use Rattle.target_contexts.specs.declared.process.Image.{Image}
 use Rattle.target_hub.specs.History.{IsAllowed, IsLegal, closes as input_closes, input_after, inputs_after, is_live, opens as input_opens, was_closed, was_opened}
-use Rattle.target_hub.specs.HubValue.{new_target}
+use Rattle.target_hub.specs.HubValue.{TargetValue, new_target}
 use Rattle.target_hub.specs.Ordered.{OpensAt}
 use Rattle.target_hub.specs.Sent.{agent_services, executed_by, executed_on, hello_at, sent}
 use Rattle.target_hub.specs.declared.input.Input.{Input}
 use Rattle.target_hub.specs.declared.input.Input.TheVariants.{Opened}
-use Rattle.target_hub.specs.declared.target.Target.{Target}
 use Rattle.agent_node.specs.AgentValue.{AgentValue}
 use Rattle.agent_node.specs.Channels.{is_kept, new_channel}
 use Rattle.agent_node.specs.Numbers.{has_number, with_number}
@@ -101,7 +100,7 @@ pub record IsForeign (k : ℕ) (input : Input) : Type 0 where
   pub isnt_closed : input_closes k input ≡ false
   pub isnt_caller : executed_by k input ≡ []
 
-pub holds_input : (images : List Image) (a : AgentValue) (history : List Input) (pasts later : List Past) (channels : List Channel) (input : Input) (target : Target)
+pub holds_input : (images : List Image) (a : AgentValue) (history : List Input) (pasts later : List Past) (channels : List Channel) (input : Input) (target : TargetValue)
     → target ≡ input_after input (inputs_after history (new_target images)) → IsAllowed history (inputs_after history (new_target images)) input → ((k : ℕ) → input_opens k input ≡ false)
     → ((k : ℕ) → was_opened k history ≡ false → IsForeign k input)
     → Stands channels later → AreNamesakes pasts later → AllByRecursion (Follows images (history ++ input ∷ [])) later

@@ -8,11 +8,10 @@ use Rattle.channel_core.specs.declared.taking.Taken.{Taken}
 use Rattle.channel_core.specs.declared.taking.Taken.TheVariants as taken
 use Rattle.target_contexts.specs.declared.process.Image.{Image}
 use Rattle.target_hub.specs.History.{inputs_after}
-use Rattle.target_hub.specs.HubValue.{new_target}
+use Rattle.target_hub.specs.HubValue.{TargetValue, new_target}
 use Rattle.target_hub.specs.declared.done.Done.{Done}
 use Rattle.target_hub.specs.declared.input.Input.{Input}
 use Rattle.target_hub.specs.declared.input.Input.TheVariants.{Closed, Executed, Opened, Ticked}
-use Rattle.target_hub.specs.declared.target.Target.{Target}
 use Rattle.tcf_message.specs.Message.{MessageValue, command, event, final, flow, not_known, progress, reading}
 use Rattle.tcf_message.specs.declared.message.MessageFault.{MessageFault}
 use Rattle.tcf_values.specs.declared.event.EventData.{EventData}
@@ -122,7 +121,7 @@ record Alike (a b : AgentValue) : Type 0 where
 asked_alike : (k : ℕ) (m : Result MessageValue MessageFault) (a b : AgentValue) (pasts : List Past) → Alike a b → asked_by k m a pasts ≡ asked_by k m b pasts
 asked_alike k (Ok (command token service name body)) a b pasts same =
     ap (λ (n : ℕ). answered_by k token (n + 1) (done_by k service name (read_as service name body) a.target) pasts) same.position
-    ∙ ap (λ (t : Target). answered_by k token (b.position + 1) (done_by k service name (read_as service name body) t) pasts) same.target
+    ∙ ap (λ (t : TargetValue). answered_by k token (b.position + 1) (done_by k service name (read_as service name body) t) pasts) same.target
 asked_alike k (Ok (final token body)) a b pasts same = refl
 asked_alike k (Ok (progress token body)) a b pasts same = refl
 asked_alike k (Ok (not_known token)) a b pasts same = refl
@@ -135,7 +134,7 @@ took_alike k None a b pasts same = refl
 took_alike k (Some (taken.Command incoming)) a b pasts same = asked_alike k (reading incoming.raw) a b pasts same
 took_alike k (Some (taken.Closed cause)) a b pasts same =
     ap (λ (n : ℕ). hearing (going_tells k a.target) (n + 1) pasts) same.position
-    ∙ ap (λ (t : Target). hearing (going_tells k t) (b.position + 1) pasts) same.target
+    ∙ ap (λ (t : TargetValue). hearing (going_tells k t) (b.position + 1) pasts) same.target
 took_alike k (Some (taken.Hello incoming)) a b pasts same = refl
 took_alike k (Some (taken.Event incoming)) a b pasts same = refl
 took_alike k (Some (taken.Progress token incoming)) a b pasts same = refl
@@ -156,7 +155,7 @@ state history pasts = record { history = history; pasts = pasts }
 state_is : (history before : List Input) (pasts later : List Past) → history ≡ before → pasts ≡ later → state history pasts ≡ state before later
 state_is history before pasts later one two = ap (λ (h : List Input). state h pasts) one ∙ ap (λ (ps : List Past). state before ps) two
 
-abbrev target_at : List Image → List Input → Target
+abbrev target_at : List Image → List Input → TargetValue
 target_at images history = inputs_after history (new_target images)
 
 -- an agent after this history, of which nothing else is known
@@ -275,7 +274,7 @@ asked_elsewhere images j k (Ok (command token service name body)) a next history
     let read = read_as service name body in
     one_input images (Executed j read service name) history (only k pasts) (only k (asked_by j (Ok (command token service name body)) a (on_one j (taking ∷ []) pasts)))
     (ap (λ (n : ℕ). hearing (done_by j service name read (target_at images history)).events (n + 1) (only k pasts)) (sym same.position)
-    ∙ ap (λ (t : Target). hearing (done_by j service name read t).events (a.position + 1) (only k pasts)) (sym same.target)
+    ∙ ap (λ (t : TargetValue). hearing (done_by j service name read t).events (a.position + 1) (only k pasts)) (sym same.target)
     ∙ answered_elsewhere j k token (a.position + 1) (done_by j service name read a.target) (taking ∷ []) pasts apart)
 asked_elsewhere images j k (Ok (final token body)) a next history pasts same apart = no_input images history (only k pasts) _ (one_elsewhere j k apart (taking ∷ []) pasts)
 asked_elsewhere images j k (Ok (progress token body)) a next history pasts same apart = no_input images history (only k pasts) _ (one_elsewhere j k apart (taking ∷ []) pasts)
@@ -293,7 +292,7 @@ took_elsewhere images j k (Some (taken.Command incoming)) a next history pasts s
 took_elsewhere images j k (Some (taken.Closed cause)) a next history pasts same apart =
     one_input images (Closed j) history (only k pasts) (only k (hearing (going_tells j a.target) (a.position + 1) (on_one j (taking ∷ []) pasts)))
     (ap (λ (n : ℕ). hearing (going_tells j (target_at images history)) (n + 1) (only k pasts)) (sym same.position)
-    ∙ ap (λ (t : Target). hearing (going_tells j t) (a.position + 1) (only k pasts)) (sym same.target)
+    ∙ ap (λ (t : TargetValue). hearing (going_tells j t) (a.position + 1) (only k pasts)) (sym same.target)
     ∙ heard_elsewhere j k (going_tells j a.target) (a.position + 1) (taking ∷ []) pasts apart)
 took_elsewhere images j k (Some (taken.Hello incoming)) a next history pasts same apart = no_input images history (only k pasts) _ (one_elsewhere j k apart (taking ∷ []) pasts)
 took_elsewhere images j k (Some (taken.Event incoming)) a next history pasts same apart = no_input images history (only k pasts) _ (one_elsewhere j k apart (taking ∷ []) pasts)

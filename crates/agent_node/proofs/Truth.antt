@@ -9,12 +9,11 @@ use Rattle.channel_core.specs.Receiving.{delivered as end_delivered, ended as en
 use Rattle.channel_core.specs.Runs.{Call as EndCall, delivering, ending, putting_out}
 use Rattle.target_contexts.specs.declared.process.Image.{Image}
 use Rattle.target_hub.specs.History.{inputs_after}
-use Rattle.target_hub.specs.HubValue.{new_target}
+use Rattle.target_hub.specs.HubValue.{TargetValue, new_target}
 use Rattle.target_hub.specs.Passing.{tick_told, ticked as target_ticked}
 use Rattle.target_hub.specs.Sent.{agent_services, tick_events_told}
 use Rattle.target_hub.specs.declared.input.Input.{Input}
 use Rattle.target_hub.specs.declared.input.Input.TheVariants.{Opened, Ticked}
-use Rattle.target_hub.specs.declared.target.Target.{Target}
 use Rattle.tcf_values.specs.declared.event.EventData.{EventData}
 use Rattle.tcf_values.specs.declared.ids.ContextId.{ContextId}
 use Rattle.agent_node.specs.Agent.{after_giving, after_input, begun, delivered, ended, first_target, instruction_leaves, instruction_tells, is_full, is_refused, opened, ticked, ticked_by}
@@ -37,11 +36,11 @@ use Rattle.list_laws.proofs.AllLists.{all_then}
 
 -- ---- Words of the agent's own
 
-instruction_is : (thread : ContextId) (target : Target) → instruction_tells thread target ≡ tick_told thread target
+instruction_is : (thread : ContextId) (target : TargetValue) → instruction_tells thread target ≡ tick_told thread target
 unfolding instruction_tells
 instruction_is thread target = refl
 
-instruction_left : (thread : ContextId) (target : Target) → instruction_leaves thread target ≡ target_ticked thread target
+instruction_left : (thread : ContextId) (target : TargetValue) → instruction_leaves thread target ≡ target_ticked thread target
 unfolding instruction_leaves
 instruction_left thread target = refl
 

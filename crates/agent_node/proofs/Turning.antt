@@ -13,13 +13,12 @@ use Rattle.command_tables.specs.declared.reading.Reading.{Reading}
 use Rattle.target_contexts.specs.declared.process.Image.{Image}
 use Rattle.target_hub.specs.Answering.{after_reading, executed as hub_executed}
 use Rattle.target_hub.specs.History.{inputs_after, is_live, was_opened, was_closed}
-use Rattle.target_hub.specs.HubValue.{new_target}
+use Rattle.target_hub.specs.HubValue.{TargetValue, new_target}
 use Rattle.target_hub.specs.Passing.{closed as target_closed, closed_told}
 use Rattle.target_hub.specs.Sent.{Told, caller_told, events_told, is_through}
 use Rattle.target_hub.specs.declared.done.Done.{Done}
 use Rattle.target_hub.specs.declared.input.Input.{Input}
 use Rattle.target_hub.specs.declared.input.Input.TheVariants.{Executed, Closed}
-use Rattle.target_hub.specs.declared.target.Target.{Target}
 use Rattle.tcf_message.specs.Message.{MessageValue, command, final, progress, not_known, event, flow, reading}
 use Rattle.tcf_message.specs.declared.message.MessageFault.{MessageFault}
 use Rattle.tcf_values.specs.declared.event.EventData.{EventData}
@@ -49,19 +48,19 @@ read_is : (service name body : List ℕ) → read_as service name body ≡ readi
 unfolding read_as
 read_is service name body = refl
 
-done_is : (k : ℕ) (service name : List ℕ) (reading : Reading) (target : Target) → done_by k service name reading target ≡ hub_executed k service name reading target
+done_is : (k : ℕ) (service name : List ℕ) (reading : Reading) (target : TargetValue) → done_by k service name reading target ≡ hub_executed k service name reading target
 unfolding done_by
 done_is k service name reading target = refl
 
-left_is : (k : ℕ) (reading : Reading) (target : Target) → left_by k reading target ≡ after_reading k reading target
+left_is : (k : ℕ) (reading : Reading) (target : TargetValue) → left_by k reading target ≡ after_reading k reading target
 unfolding left_by
 left_is k reading target = refl
 
-tells_is : (k : ℕ) (target : Target) → going_tells k target ≡ closed_told k target
+tells_is : (k : ℕ) (target : TargetValue) → going_tells k target ≡ closed_told k target
 unfolding going_tells
 tells_is k target = refl
 
-leaves_is : (k : ℕ) (target : Target) → going_leaves k target ≡ target_closed k target
+leaves_is : (k : ℕ) (target : TargetValue) → going_leaves k target ≡ target_closed k target
 unfolding going_leaves
 leaves_is k target = refl
 

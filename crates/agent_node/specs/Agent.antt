@@ -13,12 +13,11 @@ use Rattle.tcf_message.specs.declared.message.MessageFault.{MessageFault}
 use Rattle.tcf_values.specs.declared.event.EventData.{EventData}
 use Rattle.tcf_values.specs.declared.ids.ContextId.{ContextId}
 use Rattle.target_hub.specs.Answering.{after_reading, executed as hub_executed}
-use Rattle.target_hub.specs.HubValue.{new_target}
+use Rattle.target_hub.specs.HubValue.{TargetValue, new_target}
 use Rattle.target_hub.specs.Passing.{closed as target_closed, closed_told, tick_told, ticked as target_ticked}
 use Rattle.command_tables.specs.declared.reading.Reading.{Reading}
 use Rattle.target_hub.specs.declared.done.Done.{Done}
 use Rattle.target_hub.specs.declared.input.Input.TheVariants as inputs
-use Rattle.target_hub.specs.declared.target.Target.{Target}
 use Rattle.agent_node.specs.AgentValue.{AgentValue}
 use Rattle.agent_node.specs.Channels.{unless_closed, answer_queued, changed, channel_at, is_kept, live_count, new_channel, place_of, told_all, with_end}
 use Rattle.agent_node.specs.Numbers.{has_number, no_numbers, with_number}
@@ -37,28 +36,28 @@ unfoldable pub IsRead : List ℕ → List ℕ → Reading → Type 0
 IsRead service name read = IsReading service name read
 
 -- what comes of a command as it is read, and what it leaves of the target
-unfoldable pub done_by : ℕ → List ℕ → List ℕ → Reading → Target → Done
+unfoldable pub done_by : ℕ → List ℕ → List ℕ → Reading → TargetValue → Done
 done_by k service name read target = hub_executed k service name read target
 
-unfoldable pub left_by : ℕ → Reading → Target → Target
+unfoldable pub left_by : ℕ → Reading → TargetValue → TargetValue
 left_by k read target = after_reading k read target
 
 -- what a channel that goes tells and leaves
-unfoldable pub going_tells : ℕ → Target → List EventData
+unfoldable pub going_tells : ℕ → TargetValue → List EventData
 going_tells k target = closed_told k target
 
-unfoldable pub going_leaves : ℕ → Target → Target
+unfoldable pub going_leaves : ℕ → TargetValue → TargetValue
 going_leaves k target = target_closed k target
 
 -- what an instruction tells and leaves; none where the thread doesn't live and run
-unfoldable pub instruction_tells : ContextId → Target → Option (List EventData)
+unfoldable pub instruction_tells : ContextId → TargetValue → Option (List EventData)
 instruction_tells thread target = tick_told thread target
 
-unfoldable pub instruction_leaves : ContextId → Target → Target
+unfoldable pub instruction_leaves : ContextId → TargetValue → TargetValue
 instruction_leaves thread target = target_ticked thread target
 
 -- the target that has these images, and nothing else yet
-unfoldable pub first_target : List Image → Target
+unfoldable pub first_target : List Image → TargetValue
 first_target images = new_target images
 
 -- ---- the agent
@@ -71,7 +70,7 @@ new_agent images = record { target = first_target images; position = 0; numbers 
 abbrev pub is_full : AgentValue → Bool
 is_full a = a.position == 2 ^ 64 - 1
 
-abbrev pub with_target : Target → AgentValue → AgentValue
+abbrev pub with_target : TargetValue → AgentValue → AgentValue
 with_target target a = record a { target = target }
 
 -- an input was the next one, and all channels hear what it tells

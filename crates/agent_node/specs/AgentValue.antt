@@ -2,12 +2,12 @@
 use Rattle.std.specs.Prelude.{ℕ, Bool, List}
 use Rattle.agent_node.specs.NumbersValue.{NumbersValue}
 use Rattle.agent_node.specs.declared.channel.Channel.{Channel}
-use Rattle.target_hub.specs.declared.target.Target.{Target}
+use Rattle.target_hub.specs.HubValue.{TargetValue}
 
 -- an agent: the target, how many inputs it has had, the numbers that were given to channels, and the channels that are
 -- live or of which something is still to be sent, in the order of their opening
 pub record AgentValue : Type 0 where
-  pub target : Target
+  pub target : TargetValue
   pub position : ℕ
   pub numbers : NumbersValue
   pub channels : List Channel

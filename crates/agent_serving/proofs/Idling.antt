@@ -8,7 +8,7 @@ use Rattle.tcf_values.specs.declared.ids.ContextId.TheVariants as ids
 use Rattle.target_contexts.specs.Live.{numbers_of, process_of}
 use Rattle.target_contexts.specs.Named.{is_running}
 use Rattle.target_hub.specs.Passing.{running_in, threads_of as threads_of_all, tick_told}
-use Rattle.target_hub.specs.declared.target.Target.{Target}
+use Rattle.target_hub.specs.HubValue.{TargetValue}
 use Rattle.agent_node.specs.Agent.{after_input, instruction_tells, is_full, ticked, ticked_by}
 use Rattle.agent_node.specs.AgentValue.{AgentValue}
 use Rattle.serving_wires.specs.Row.{Row}
@@ -62,10 +62,10 @@ first_kept keep number (n ∷ numbers) rest is = by_flag (keep n) refl is (first
     by_flag true kept both later = let same : n ≡ number = cc in ap keep (sym same) ∙ kept
     by_flag false left there later = later there
 
-runs_so : (number : ℕ) (target : Target) → is_running (process_of number target.contexts.processes) ≡ true → is_some (tick_told (ids.Thread number 1) target) ≡ true
+runs_so : (number : ℕ) (target : TargetValue) → is_running (process_of number target.contexts.processes) ≡ true → is_some (tick_told (ids.Thread number 1) target) ≡ true
 runs_so number target is = rw is refl
 
-first_runs : (numbers : List ℕ) (thread : ContextId) (threads : List ContextId) (target : Target) → filter (λ number. is_running (process_of number target.contexts.processes)) (numbers_of target.contexts.processes) ≡ numbers
+first_runs : (numbers : List ℕ) (thread : ContextId) (threads : List ContextId) (target : TargetValue) → filter (λ number. is_running (process_of number target.contexts.processes)) (numbers_of target.contexts.processes) ≡ numbers
     → threads_of_all numbers ≡ thread ∷ threads → is_some (tick_told thread target) ≡ true
 first_runs [] thread threads target are is = cc
 first_runs (number ∷ numbers) thread threads target are is =
@@ -195,7 +195,7 @@ rows_same (row ∷ rows) a =
 
 idle_ends : (before after gathered_now : AgentValue) → IsSame after gathered_now → Ends 256 before after → HasGoneOn before gathered_now
 idle_ends before after gathered_now same (inl all) = inl (same.position ∙ all)
-idle_ends before after gathered_now same (inr (inl none)) = inr (inl (ap (λ (t : Target). running_in t.contexts.processes) same.target ∙ none))
+idle_ends before after gathered_now same (inr (inl none)) = inr (inl (ap (λ (t : TargetValue). running_in t.contexts.processes) same.target ∙ none))
 idle_ends before after gathered_now same (inr (inr full)) = inr (inr (ap (λ (n : ℕ). n == 2 ^ 64 - 1) same.position ∙ full))
 
 pub goes_on_while_idle : GoesOnWhileIdle

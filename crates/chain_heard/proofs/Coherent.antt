@@ -15,7 +15,7 @@ use Rattle.knowledge.specs.Learning.{Message, learn_all, learned}
 use Rattle.target_contexts.specs.declared.process.Image.{Image}
 use Rattle.target_hub.specs.Fresh.{target_at}
 use Rattle.target_hub.specs.declared.input.Input.{Input}
-use Rattle.target_hub.specs.declared.target.Target.{Target}
+use Rattle.target_hub.specs.HubValue.{TargetValue}
 use Rattle.target_truth.specs.Holds.{Holds}
 use Rattle.target_truth.specs.Typed.{AreTyped}
 use Rattle.tcf_text.specs.Lines.{Accepted, accepted, last_mark}
@@ -45,7 +45,7 @@ use Rattle.chain_through.proofs.OwnTold.{IsUnmarked}
 
 -- ---- what is kept is a part of what was learned
 
-kept_holds : (messages : List Message) (target : Target) → Holds (learned messages) target → Holds (kept messages) target
+kept_holds : (messages : List Message) (target : TargetValue) → Holds (learned messages) target → Holds (kept messages) target
 kept_holds messages target true_then = record {
   facts = λ fact known. true_then.facts fact (kept_is_learned messages fact known);
   grounded = true_then.grounded;

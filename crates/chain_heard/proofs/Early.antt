@@ -5,13 +5,12 @@ use Rattle.std.proofs.lemmas.List.{append_assoc, append-nil}
 use Rattle.std.proofs.lemmas.List.Elements.{filter-append}
 use Rattle.target_contexts.specs.declared.process.Image.{Image}
 use Rattle.target_hub.specs.History.{IsLegal, input_after, inputs_after, is_live}
-use Rattle.target_hub.specs.HubValue.{new_target}
+use Rattle.target_hub.specs.HubValue.{TargetValue, new_target}
 use Rattle.list_laws.specs.Fronts.{IsFront}
 use Rattle.list_laws.proofs.Splits.{CutAt, cut_at, cut_past, cut_within, filter_mapped}
 use Rattle.target_hub.specs.Received.{answer_of, is_owed, is_through_number, told_of}
 use Rattle.target_hub.specs.Sent.{Told, event_at, executed_by, executed_on, final_at, hello_at, progress_at, sent, sent_after, told_by, told_while_live, unknown_at}
 use Rattle.target_hub.specs.declared.input.Input.{Input}
-use Rattle.target_hub.specs.declared.target.Target.{Target}
 use Rattle.target_truth.specs.Taught.{position_of}
 use Rattle.target_truth.proofs.Positions.{last_at}
 use Rattle.tcf_text.specs.Lines.{Accepted, mark_of}
@@ -24,11 +23,11 @@ use Rattle.list_laws.proofs.AllLists.{all_append, all_filter, all_weaker, all_at
 
 -- ---- behind a position
 
-here_all : (k position : ℕ) (target : Target) (input : Input) → AllByRecursion (λ now. position_of now ≡ position) (told_by k position target input)
+here_all : (k position : ℕ) (target : TargetValue) (input : Input) → AllByRecursion (λ now. position_of now ≡ position) (told_by k position target input)
 here_all k position target input =
     all_cuts (λ now. position_of now ≡ position) (told_by k position target input) (λ front rest last cut. last_at k position target input front rest last cut)
 
-after_all : (k : ℕ) (inputs before : List Input) (target : Target) (low : ℕ) → low ≤ length before + 1 → AllByRecursion (λ now. low ≤ position_of now) (sent_after k before target inputs)
+after_all : (k : ℕ) (inputs before : List Input) (target : TargetValue) (low : ℕ) → low ≤ length before + 1 → AllByRecursion (λ now. low ≤ position_of now) (sent_after k before target inputs)
 after_all k [] before target low below = tt
 after_all k (input ∷ inputs) before target low below =
     let longer : length (before ++ input ∷ []) ≡ length before + 1 = omega (arith, length-append before (input ∷ [])) in
@@ -39,7 +38,7 @@ after_all k (input ∷ inputs) before target low below =
     (λ _. tt))
     (after_all k inputs (before ++ input ∷ []) (input_after input target) low (omega arith))
 
-sent_parts : (k : ℕ) (xs ys before : List Input) (target : Target)
+sent_parts : (k : ℕ) (xs ys before : List Input) (target : TargetValue)
     → sent_after k before target (xs ++ ys) ≡ sent_after k before target xs ++ sent_after k (before ++ xs) (inputs_after xs target) ys
 sent_parts k [] ys before target = ap (λ inputs. sent_after k inputs target ys) (sym (append-nil before))
 sent_parts k (x ∷ xs) ys before target =

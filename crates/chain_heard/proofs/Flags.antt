@@ -9,7 +9,7 @@ use Rattle.target_contexts.specs.declared.process.Image.{Image}
 use Rattle.tcf_values.specs.declared.event.EventData.{EventData}
 use Rattle.target_hub.specs.Answering.{executed}
 use Rattle.target_hub.specs.History.{IsAllowed, IsLegal, input_after, inputs_after, is_live}
-use Rattle.target_hub.specs.HubValue.{new_target}
+use Rattle.target_hub.specs.HubValue.{TargetValue, new_target}
 use Rattle.target_hub.specs.Passing.{closed_told, tick_told}
 use Rattle.target_hub.specs.Sent.{ReadCommand, Told, agent_services, answer_told, caller_told, event_at, events_told, executed_by, executed_on, final_at, hello_at, is_through, progress_at, progress_data, sent, sent_after, tick_events_told, told_by, told_while_live, unknown_at}
 use Rattle.target_hub.specs.declared.done.Answered.{Answered}
@@ -17,7 +17,6 @@ use Rattle.target_hub.specs.declared.done.Answered.TheVariants.{Unknown, Result}
 use Rattle.target_hub.specs.declared.done.Done.{Done}
 use Rattle.target_hub.specs.declared.input.Input.{Input}
 use Rattle.target_hub.specs.declared.input.Input.TheVariants.{Opened, Executed, Ticked, Closed}
-use Rattle.target_hub.specs.declared.target.Target.{Target}
 use Rattle.chain_told.proofs.Agents.Sending.{inputs_push, still_live}
 
 -- whether a final answer goes to a through command
@@ -67,7 +66,7 @@ tick_unflagged : (position : ℕ) (told : Option (List EventData)) → flat_map 
 tick_unflagged position None = refl
 tick_unflagged position (Some events) = events_unflagged position events
 
-flags_by : (k : ℕ) (before : List Input) (target : Target) (input : Input) → IsAllowed before target input
+flags_by : (k : ℕ) (before : List Input) (target : TargetValue) (input : Input) → IsAllowed before target input
     → flat_map flags_of (told_while_live k before target input) ≡ map flag_of (executed_by k input)
 flags_by k before target (Opened channel) allowed =
     unflagged_if (is_live k (before ++ Opened channel ∷ [])) (told_by k (length before + 1) target (Opened channel)) (greeting_unflagged (channel == k) (length before + 1))
@@ -83,7 +82,7 @@ flags_by k before target (Ticked thread) allowed =
 flags_by k before target (Closed channel) allowed =
     unflagged_if (is_live k (before ++ Closed channel ∷ [])) (told_by k (length before + 1) target (Closed channel)) (events_unflagged (length before + 1) (closed_told channel target))
 
-flags_after : (k : ℕ) (images : List Image) (history before inputs : List Input) (target : Target) → IsLegal images history → history ≡ before ++ inputs
+flags_after : (k : ℕ) (images : List Image) (history before inputs : List Input) (target : TargetValue) → IsLegal images history → history ≡ before ++ inputs
     → target ≡ inputs_after before (new_target images) → flat_map flags_of (sent_after k before target inputs) ≡ map flag_of (executed_on k inputs)
 flags_after k images history before [] target legal split made = refl
 flags_after k images history before (input ∷ inputs) target legal split made =

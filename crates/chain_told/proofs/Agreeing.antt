@@ -7,7 +7,7 @@ use Rattle.knowledge.specs.declared.state.StateFact.{StateFact}
 use Rattle.target_contexts.specs.declared.process.Image.{Image}
 use Rattle.target_hub.specs.Fresh.{target_at}
 use Rattle.target_hub.specs.declared.input.Input.{Input}
-use Rattle.target_hub.specs.declared.target.Target.{Target}
+use Rattle.target_hub.specs.HubValue.{TargetValue}
 use Rattle.target_truth.specs.Holds.{Holds, IsStill}
 use Rattle.target_truth.specs.Typed.{AreTyped}
 use Rattle.tcf_values.specs.declared.command.Command.{Command}
@@ -33,7 +33,7 @@ agree_still some more agree still process addr byte is =
     suspended_too (more.states process 1) (some.states process 1) (λ state known. agree.back (state_is process 1 state) known)
     (still process addr byte (agree.part (byte_is process addr byte) is))
 
-agree_holds : (some more : Facts) (target : Target) → Agree some more → Holds more target → Holds some target
+agree_holds : (some more : Facts) (target : TargetValue) → Agree some more → Holds more target → Holds some target
 agree_holds some more target agree holds =
     record {
       facts = λ fact knows. holds.facts fact (agree.part fact knows);

@@ -15,7 +15,7 @@ use Rattle.tcf_values.specs.declared.errors.ErrorReport.{ErrorReport}
 use Rattle.tcf_values.specs.declared.ids.RegisterId.{RegisterId}
 use Rattle.target_contexts.specs.Live.{process_of}
 use Rattle.target_contexts.specs.TargetsValue.{TargetsValue}
-use Rattle.target_contexts.specs.declared.process.Process.{Process}
+use Rattle.target_contexts.specs.ProcessValue.{ProcessValue}
 use Rattle.data_services.specs.Bytes.{part_of, with_part, word_bytes, word_of}
 use Rattle.target_contexts.specs.Changes.{targets_by, with_change, with_change_of}
 use Rattle.data_services.specs.Commands.{data_after, data_effect, data_fault, data_given}
@@ -78,12 +78,12 @@ stays_by : (fault : Option Fault) (left targets : TargetsValue) (number : ℕ) �
 stays_by None left targets number same = same
 stays_by (Some fault) left targets number same = refl
 
-stays_but : (change : Process → Process) (n number : ℕ) (targets : TargetsValue) → nat_eq n number ≡ false → Stays number targets (with_change change n targets)
+stays_but : (change : ProcessValue → ProcessValue) (n number : ℕ) (targets : TargetsValue) → nat_eq n number ≡ false → Stays number targets (with_change change n targets)
 stays_but change n number targets other =
     changed_process change n number targets
     ∙ ap (λ (b : Bool). cond b (option_map change (process_of number targets.processes)) (process_of number targets.processes)) other
 
-stays_named : (change : Process → Process) (named : Option ℕ) (number : ℕ) (targets : TargetsValue) → is_number number named ≡ false → Stays number targets (with_change_of change named targets)
+stays_named : (change : ProcessValue → ProcessValue) (named : Option ℕ) (number : ℕ) (targets : TargetsValue) → is_number number named ≡ false → Stays number targets (with_change_of change named targets)
 stays_named change None number targets other = refl
 stays_named change (Some n) number targets other = stays_but change n number targets other
 
@@ -132,10 +132,10 @@ same_bytes first count bytes memory all within =
     ap (λ (xs : List ℕ). take count xs) (drop_at (take first memory) (bytes ++ rest) first (length-take-le first memory within))
     ∙ take_at bytes rest count all
 
-abbrev in_rows : List (ℕ × Process) → Option ℕ → Option Process
+abbrev in_rows : List (ℕ × ProcessValue) → Option ℕ → Option ProcessValue
 in_rows rows named = option_and_then (λ number. process_of number rows) named
 
-named_after : (change : Process → Process) (named : Option ℕ) (targets : TargetsValue) (process : Process) →
+named_after : (change : ProcessValue → ProcessValue) (named : Option ℕ) (targets : TargetsValue) (process : ProcessValue) →
     in_rows targets.processes named ≡ Some process → in_rows (with_change_of change named targets).processes named ≡ Some (change process)
 named_after change None targets process there = cc
 named_after change (Some n) targets process there =
@@ -143,13 +143,13 @@ named_after change (Some n) targets process there =
     ∙ ap (λ (b : Bool). cond b (option_map change (process_of n targets.processes)) (process_of n targets.processes)) (eq-eqb n n refl)
     ∙ ap (option_map change) there
 
-abbrev got : ℤ → ℤ → Option Process → Bool → Bool → Effect
+abbrev got : ℤ → ℤ → Option ProcessValue → Bool → Bool → Effect
 got addr size process no_size outside =
     effect_by (first_fault ((is_none process, BadContext) ∷ (no_size, BadSize) ∷ (outside, BadAddress) ∷ [])) (gives (Blob (memory_bytes addr size process)))
 
 pub memory_set_is_got : MemorySetIsGot
 memory_set_is_got id addr word size mode bytes targets process there whole answered =
-    let change : Process → Process = with_memory (unsigned_abs addr) bytes in
+    let change : ProcessValue → ProcessValue = with_memory (unsigned_abs addr) bytes in
     let after : TargetsValue = with_change_of change (number_named id) targets in
     let fault : memory_set_fault id addr size bytes targets.processes ≡ None = no_fault _ _ answered in
     let found = passed (is_none (process_named id targets.processes)) BadContext _ fault in
@@ -161,7 +161,7 @@ memory_set_is_got id addr word size mode bytes targets process there whole answe
     let within : unsigned_abs addr ≤ length process.memory = omega (arith, inside addr size sized.0 placed.0, whole) in
     let count : length bytes ≡ unsigned_abs size = eqb-true (length bytes) (unsigned_abs size) (not_false _ filled.0) in
     ap (λ (t : TargetsValue). data_effect (MemGet id addr word size mode) t) left
-    ∙ ap (λ (p : Option Process). got addr size p (is_no_size size) (is_outside addr size)) named
+    ∙ ap (λ (p : Option ProcessValue). got addr size p (is_no_size size) (is_outside addr size)) named
     ∙ ap (λ (b : Bool). got addr size (Some (change process)) b (is_outside addr size)) sized.0
     ∙ ap (λ (b : Bool). got addr size (Some (change process)) false b) placed.0
     ∙ ap (λ (xs : List ℕ). gives (Blob xs)) (same_bytes (unsigned_abs addr) (unsigned_abs size) bytes process.memory count within)
@@ -186,12 +186,12 @@ bytes_back : (bytes : List ℕ) → length bytes ≡ 4 → ((i : ℕ) → get_or
 unfolding word_bytes word_of
 bytes_back bytes four small = le_bytes_4 bytes (from_le_bytes w32 bytes) four small refl
 
-thread_by : (change : Process → Process) (n : ℕ) (targets : TargetsValue) (process : Process) (first : Bool) →
+thread_by : (change : ProcessValue → ProcessValue) (n : ℕ) (targets : TargetsValue) (process : ProcessValue) (first : Bool) →
     cond first (process_of n targets.processes) None ≡ Some process → cond first (process_of n (with_change change n targets).processes) None ≡ Some (change process)
 thread_by change n targets process true there = named_after change (Some n) targets process there
 thread_by change n targets process false there = cc
 
-abbrev read : Option RegisterId → Option Process → Effect
+abbrev read : Option RegisterId → Option ProcessValue → Effect
 read register process =
     effect_by (first_fault ((is_none process, BadContext) ∷ (is_running process, IsRunning) ∷ [])) (gives (Blob (register_bytes register process)))
 
@@ -201,7 +201,7 @@ read_number running number = effect_by (first_fault ((false, BadContext) ∷ (ru
 pub register_set_is_got : RegisterSetIsGot
 register_set_is_got id bytes targets register process named nonzero there has small answered =
     let number : ℕ = word_of bytes in
-    let change : Process → Process = with_word register.index number in
+    let change : ProcessValue → ProcessValue = with_word register.index number in
     let after : TargetsValue = with_change change register.process targets in
     let fault : register_set_fault id bytes targets.processes ≡ None = no_fault _ _ answered in
     let found = passed (is_none (holder_of id targets.processes)) BadContext _ fault in
@@ -218,7 +218,7 @@ register_set_is_got id bytes targets register process named nonzero there has sm
     let four : length bytes ≡ 4 = eqb-true (length bytes) 4 (not_false _ filled.0) in
     ap (λ (t : TargetsValue). data_effect (RegGet id) t) left
     ∙ ap (λ (r : Option RegisterId). read r (holder_of id after.processes)) named
-    ∙ ap (λ (p : Option Process). read (Some register) p) now
+    ∙ ap (λ (p : Option ProcessValue). read (Some register) p) now
     ∙ ap (λ (b : Bool). read_number b (number_in register.index (with_number register.index number process.cpu))) stands
     ∙ ap (λ (n : ℕ). read_number false n) (number_back register.index number process.cpu nonzero has)
     ∙ ap (λ (xs : List ℕ). gives (Blob xs)) (bytes_back bytes four small)

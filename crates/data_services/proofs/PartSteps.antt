@@ -7,7 +7,7 @@ use Rattle.std.proofs.lemmas.Option.{get_or_from_slice_get}
 use Rattle.rv32i_core.specs.declared.registers.Cpu.{Cpu}
 use Rattle.target_contexts.specs.Live.{IsLive, place_of, process_at, process_of, with_process}
 use Rattle.target_contexts.specs.TargetsValue.{TargetsValue}
-use Rattle.target_contexts.specs.declared.process.Process.{Process}
+use Rattle.target_contexts.specs.ProcessValue.{ProcessValue}
 use Rattle.target_contexts.specs.Changes.{with_change, with_change_at}
 use Rattle.data_services.specs.Parts.{bytes_in, bytes_of, cpu_after, is_off, names_off, sizes, with_bytes, with_parts, with_register_bytes}
 use Rattle.data_services.specs.declared.parts.Part.{Part}
@@ -28,7 +28,7 @@ size_step parts i part rest later split back before =
     omega (arith, ap length back, length-drop part.size rest)
 
 -- the bytes of one part more
-pub bytes_step : (rows : List (ℕ × Process)) (parts : List Part) (i : ℕ) (part : Part) (old new all : List ℕ) → drop i parts ≡ part ∷ drop (i + 1) parts → new ≡ old ++ bytes_in part (process_of part.register.process rows) →
+pub bytes_step : (rows : List (ℕ × ProcessValue)) (parts : List Part) (i : ℕ) (part : Part) (old new all : List ℕ) → drop i parts ≡ part ∷ drop (i + 1) parts → new ≡ old ++ bytes_in part (process_of part.register.process rows) →
     old ++ bytes_of rows (drop i parts) ≡ all → new ++ bytes_of rows (drop (i + 1) parts) ≡ all
 bytes_step rows parts i part old new all split added before =
     ap (λ (xs : List ℕ). xs ++ bytes_of rows (drop (i + 1) parts)) added
@@ -37,28 +37,28 @@ bytes_step rows parts i part old new all split added before =
     ∙ before
 
 -- one part that is of a pc that is off is enough
-pub names_found : (rows : List (ℕ × Process)) (parts : List Part) (i : ℕ) (part : Part) → drop i parts ≡ part ∷ drop (i + 1) parts → nat_eq part.register.index 32 ≡ true → true ≡ is_off (process_of part.register.process rows) → names_off rows (drop i parts) ≡ true
+pub names_found : (rows : List (ℕ × ProcessValue)) (parts : List Part) (i : ℕ) (part : Part) → drop i parts ≡ part ∷ drop (i + 1) parts → nat_eq part.register.index 32 ≡ true → true ≡ is_off (process_of part.register.process rows) → names_off rows (drop i parts) ≡ true
 names_found rows parts i part split pc off = ap (λ (ps : List Part). names_off rows ps) split ∙ grind arith
 
 -- ---- a change of one process
 
-pub live_at : (number : ℕ) (rows : List (ℕ × Process)) (process : Process) (place : ℕ) → place_of number rows ≡ Some place → (row : Option (ℕ × Process)) → slice_get rows place ≡ row → option_map (λ (r : ℕ × Process). r.1) row ≡ Some process → IsLive number rows
+pub live_at : (number : ℕ) (rows : List (ℕ × ProcessValue)) (process : ProcessValue) (place : ℕ) → place_of number rows ≡ Some place → (row : Option (ℕ × ProcessValue)) → slice_get rows place ≡ row → option_map (λ (r : ℕ × ProcessValue). r.1) row ≡ Some process → IsLive number rows
 live_at number rows process place found None read there = cc
 live_at number rows process place found (Some row) read there =
-    let facts = position-Some (λ (r : ℕ × Process). nat_eq r.0 number) rows place row found in
+    let facts = position-Some (λ (r : ℕ × ProcessValue). nat_eq r.0 number) rows place row found in
     let same : get_or rows place row ≡ row = get_or_from_slice_get rows place row row read in
-    (place, row, facts.0, same, ap (λ (r : ℕ × Process). r.0) (sym same) ∙ eqb-true (get_or rows place row).0 number facts.1)
+    (place, row, facts.0, same, ap (λ (r : ℕ × ProcessValue). r.0) (sym same) ∙ eqb-true (get_or rows place row).0 number facts.1)
 
-pub live_by : (number : ℕ) (rows : List (ℕ × Process)) (process : Process) (place : Option ℕ) → place_of number rows ≡ place → process_at rows place ≡ Some process → IsLive number rows
+pub live_by : (number : ℕ) (rows : List (ℕ × ProcessValue)) (process : ProcessValue) (place : Option ℕ) → place_of number rows ≡ place → process_at rows place ≡ Some process → IsLive number rows
 live_by number rows process None found there = cc
 live_by number rows process (Some place) found there =
     live_at number rows process place found (slice_get rows place) refl there
 
 -- where a process is found, its number is a live one
-pub live_found : (number : ℕ) (rows : List (ℕ × Process)) (process : Process) → process_of number rows ≡ Some process → IsLive number rows
+pub live_found : (number : ℕ) (rows : List (ℕ × ProcessValue)) (process : ProcessValue) → process_of number rows ≡ Some process → IsLive number rows
 live_found number rows process there = live_by number rows process (place_of number rows) refl there
 
-pub changed_by : (change : Process → Process) (n number : ℕ) (targets : TargetsValue) (found : Option Process) → process_of n targets.processes ≡ found → (same : Bool) → nat_eq n number ≡ same →
+pub changed_by : (change : ProcessValue → ProcessValue) (n number : ℕ) (targets : TargetsValue) (found : Option ProcessValue) → process_of n targets.processes ≡ found → (same : Bool) → nat_eq n number ≡ same →
     process_of number (with_change_at change n found targets).processes ≡ cond same (option_map change (process_of number targets.processes)) (process_of number targets.processes)
 changed_by change n number targets None there true e =
     let missing : process_of number targets.processes ≡ None = ap (λ (m : ℕ). process_of m targets.processes) (sym (eqb-true n number e)) ∙ there in
@@ -66,7 +66,7 @@ changed_by change n number targets None there true e =
 changed_by change n number targets None there false e = refl
 changed_by change n number targets (Some process) there true e =
     let same : n ≡ number = eqb-true n number e in
-    let rows : List (ℕ × Process) = with_process n (change process) targets.processes in
+    let rows : List (ℕ × ProcessValue) = with_process n (change process) targets.processes in
     ap (λ (m : ℕ). process_of m rows) (sym same)
     ∙ (changes_one targets.processes n (change process) (live_found n targets.processes process there)).0
     ∙ sym (ap (option_map change) (ap (λ (m : ℕ). process_of m targets.processes) (sym same) ∙ there))
@@ -74,19 +74,19 @@ changed_by change n number targets (Some process) there false e =
     (changes_one targets.processes n (change process) (live_found n targets.processes process there)).1 number (λ same. eqb-false n number e (sym same))
 
 -- a change of one process changes that one
-pub changed_process : (change : Process → Process) (n number : ℕ) (targets : TargetsValue) →
+pub changed_process : (change : ProcessValue → ProcessValue) (n number : ℕ) (targets : TargetsValue) →
     process_of number (with_change change n targets).processes ≡ cond (nat_eq n number) (option_map change (process_of number targets.processes)) (process_of number targets.processes)
 changed_process change n number targets = changed_by change n number targets (process_of n targets.processes) refl (nat_eq n number) refl
 
-abbrev after : ℕ → List Part → List ℕ → Process → Process
+abbrev after : ℕ → List Part → List ℕ → ProcessValue → ProcessValue
 after number parts bytes process = record process { cpu = cpu_after number parts bytes process.cpu }
 
-unchanged : (number : ℕ) (bytes : List ℕ) (found : Option Process) → found ≡ option_map (λ process. after number [] bytes process) found
+unchanged : (number : ℕ) (bytes : List ℕ) (found : Option ProcessValue) → found ≡ option_map (λ process. after number [] bytes process) found
 unchanged number bytes None = refl
 unchanged number bytes (Some process) = refl
 
 -- the part is first put over, or passed over, and then the others
-one_more : (number : ℕ) (part : Part) (parts : List Part) (bytes : List ℕ) (same : Bool) → nat_eq part.register.process number ≡ same → (found : Option Process) →
+one_more : (number : ℕ) (part : Part) (parts : List Part) (bytes : List ℕ) (same : Bool) → nat_eq part.register.process number ≡ same → (found : Option ProcessValue) →
     option_map (λ process. after number parts (drop part.size bytes) process) (cond same (option_map (with_bytes part (take part.size bytes)) found) found) ≡ option_map (λ process. after number (part ∷ parts) bytes process) found
 one_more number part parts bytes true e None = refl
 one_more number part parts bytes false e None = refl
@@ -98,21 +98,21 @@ pub process_after : (number : ℕ) (parts : List Part) (bytes : List ℕ) (targe
     process_of number (with_parts parts bytes targets).processes ≡ option_map (λ process. after number parts bytes process) (process_of number targets.processes)
 process_after number [] bytes targets = unchanged number bytes (process_of number targets.processes)
 process_after number (part ∷ parts) bytes targets =
-    let change : Process → Process = with_bytes part (take part.size bytes) in
+    let change : ProcessValue → ProcessValue = with_bytes part (take part.size bytes) in
     let n : ℕ = part.register.process in
     process_after number parts (drop part.size bytes) (with_change change n targets)
-    ∙ ap (λ (found : Option Process). option_map (λ process. after number parts (drop part.size bytes) process) found) (changed_process change n number targets)
+    ∙ ap (λ (found : Option ProcessValue). option_map (λ process. after number parts (drop part.size bytes) process) found) (changed_process change n number targets)
     ∙ one_more number part parts bytes (nat_eq n number) refl (process_of number targets.processes)
 
 -- whether a pc is off after the parts, where the process is there and where it isn't
-pub off_there : (number : ℕ) (parts : List Part) (bytes : List ℕ) (targets : TargetsValue) (process : Process) (cpu : Cpu) → Some process ≡ process_of number targets.processes → cpu ≡ cpu_after number parts bytes process.cpu →
+pub off_there : (number : ℕ) (parts : List Part) (bytes : List ℕ) (targets : TargetsValue) (process : ProcessValue) (cpu : Cpu) → Some process ≡ process_of number targets.processes → cpu ≡ cpu_after number parts bytes process.cpu →
     not (nat_eq (cpu.pc % 4) 0) ≡ is_off (process_of number (with_parts parts bytes targets).processes)
 off_there number parts bytes targets process cpu there same =
     ap (λ (c : Cpu). not (nat_eq (c.pc % 4) 0)) same
-    ∙ ap (λ (found : Option Process). is_off (option_map (λ p. after number parts bytes p) found)) there
+    ∙ ap (λ (found : Option ProcessValue). is_off (option_map (λ p. after number parts bytes p) found)) there
     ∙ sym (ap is_off (process_after number parts bytes targets))
 
 pub off_missing : (number : ℕ) (parts : List Part) (bytes : List ℕ) (targets : TargetsValue) → None ≡ process_of number targets.processes → false ≡ is_off (process_of number (with_parts parts bytes targets).processes)
 off_missing number parts bytes targets missing =
-    ap (λ (found : Option Process). is_off (option_map (λ p. after number parts bytes p) found)) missing
+    ap (λ (found : Option ProcessValue). is_off (option_map (λ p. after number parts bytes p) found)) missing
     ∙ sym (ap is_off (process_after number parts bytes targets))

@@ -9,7 +9,7 @@ use Rattle.target_contexts.specs.Changes.{targets_by, with_change, with_change_o
 use Rattle.target_contexts.specs.Named.{number_named}
 use Rattle.target_contexts.specs.Short.{AllShort, IsShort}
 use Rattle.target_contexts.specs.TargetsValue.{TargetsValue}
-use Rattle.target_contexts.specs.declared.process.Process.{Process}
+use Rattle.target_contexts.specs.ProcessValue.{ProcessValue}
 use Rattle.data_services.specs.Bytes.{word_of}
 use Rattle.data_services.specs.Commands.{data_fault, data_left}
 use Rattle.data_services.specs.MemoryRows.{with_memory}
@@ -19,16 +19,16 @@ use Rattle.data_services.specs.Short.{ShortStays}
 use Rattle.data_services.specs.declared.parts.Part.{Part}
 use Rattle.target_contexts.proofs.TheLaws.{change_stays_short}
 
-memory_short : (first : ℕ) (bytes : List ℕ) (process : Process) → IsShort process → IsShort (with_memory first bytes process)
+memory_short : (first : ℕ) (bytes : List ℕ) (process : ProcessValue) → IsShort process → IsShort (with_memory first bytes process)
 memory_short first bytes process is = record { name = is.name; state = is.state }
 
-word_short : (index number : ℕ) (process : Process) → IsShort process → IsShort (with_word index number process)
+word_short : (index number : ℕ) (process : ProcessValue) → IsShort process → IsShort (with_word index number process)
 word_short index number process is = record { name = is.name; state = is.state }
 
-bytes_short : (part : Part) (bytes : List ℕ) (process : Process) → IsShort process → IsShort (with_bytes part bytes process)
+bytes_short : (part : Part) (bytes : List ℕ) (process : ProcessValue) → IsShort process → IsShort (with_bytes part bytes process)
 bytes_short part bytes process is = record { name = is.name; state = is.state }
 
-named_short : (change : Process → Process) (named : Option ℕ) (targets : TargetsValue) → ((process : Process) → IsShort process → IsShort (change process)) → AllShort targets.processes
+named_short : (change : ProcessValue → ProcessValue) (named : Option ℕ) (targets : TargetsValue) → ((process : ProcessValue) → IsShort process → IsShort (change process)) → AllShort targets.processes
     → AllShort (with_change_of change named targets).processes
 named_short change None targets keeps all = all
 named_short change (Some number) targets keeps all = change_stays_short change number targets keeps all

@@ -8,7 +8,7 @@ use Rattle.target_contexts.specs.Changes.{targets_by, with_change, with_change_a
 use Rattle.target_contexts.specs.Live.{IsOrderly, process_of}
 use Rattle.target_contexts.specs.Named.{number_named}
 use Rattle.target_contexts.specs.TargetsValue.{TargetsValue}
-use Rattle.target_contexts.specs.declared.process.Process.{Process}
+use Rattle.target_contexts.specs.ProcessValue.{ProcessValue}
 use Rattle.data_services.specs.Bytes.{word_of}
 use Rattle.data_services.specs.Commands.{data_fault}
 use Rattle.data_services.specs.Laws.{OrderStays, ThreadsStay, thread_part}
@@ -24,17 +24,17 @@ use Rattle.data_services.proofs.PartSteps.{changed_process}
 abbrev Same : ℕ → TargetsValue → TargetsValue → Type 0
 Same number targets left = option_map thread_part (process_of number left.processes) ≡ option_map thread_part (process_of number targets.processes)
 
-same_if : (change : Process → Process) (here : Bool) (found : Option Process) → ((p : Process) → thread_part (change p) ≡ thread_part p) →
+same_if : (change : ProcessValue → ProcessValue) (here : Bool) (found : Option ProcessValue) → ((p : ProcessValue) → thread_part (change p) ≡ thread_part p) →
     option_map thread_part (cond here (option_map change found) found) ≡ option_map thread_part found
 same_if change false found same = refl
 same_if change true None same = refl
 same_if change true (Some p) same = ap Some (same p)
 
-same_change : (change : Process → Process) (n number : ℕ) (targets : TargetsValue) → ((p : Process) → thread_part (change p) ≡ thread_part p) → Same number targets (with_change change n targets)
+same_change : (change : ProcessValue → ProcessValue) (n number : ℕ) (targets : TargetsValue) → ((p : ProcessValue) → thread_part (change p) ≡ thread_part p) → Same number targets (with_change change n targets)
 same_change change n number targets same =
     ap (option_map thread_part) (changed_process change n number targets) ∙ same_if change (nat_eq n number) (process_of number targets.processes) same
 
-same_named : (change : Process → Process) (named : Option ℕ) (number : ℕ) (targets : TargetsValue) → ((p : Process) → thread_part (change p) ≡ thread_part p) → Same number targets (with_change_of change named targets)
+same_named : (change : ProcessValue → ProcessValue) (named : Option ℕ) (number : ℕ) (targets : TargetsValue) → ((p : ProcessValue) → thread_part (change p) ≡ thread_part p) → Same number targets (with_change_of change named targets)
 same_named change None number targets same = refl
 same_named change (Some n) number targets same = same_change change n number targets same
 
@@ -71,14 +71,14 @@ threads_stay _ targets number = refl
 abbrev AreOrderly : TargetsValue → Type 0
 AreOrderly targets = IsOrderly targets.processes targets.next
 
-order_at : (change : Process → Process) (n : ℕ) (found : Option Process) (targets : TargetsValue) → AreOrderly targets → AreOrderly (with_change_at change n found targets)
+order_at : (change : ProcessValue → ProcessValue) (n : ℕ) (found : Option ProcessValue) (targets : TargetsValue) → AreOrderly targets → AreOrderly (with_change_at change n found targets)
 order_at change n None targets orderly = orderly
 order_at change n (Some process) targets orderly = change_stays_orderly targets.processes targets.next n (change process) orderly
 
-order_change : (change : Process → Process) (n : ℕ) (targets : TargetsValue) → AreOrderly targets → AreOrderly (with_change change n targets)
+order_change : (change : ProcessValue → ProcessValue) (n : ℕ) (targets : TargetsValue) → AreOrderly targets → AreOrderly (with_change change n targets)
 order_change change n targets orderly = order_at change n (process_of n targets.processes) targets orderly
 
-order_named : (change : Process → Process) (named : Option ℕ) (targets : TargetsValue) → AreOrderly targets → AreOrderly (with_change_of change named targets)
+order_named : (change : ProcessValue → ProcessValue) (named : Option ℕ) (targets : TargetsValue) → AreOrderly targets → AreOrderly (with_change_of change named targets)
 order_named change None targets orderly = orderly
 order_named change (Some n) targets orderly = order_change change n targets orderly
 

@@ -10,7 +10,7 @@ use Rattle.tcf_values.specs.declared.errors.ErrorReport.{ErrorReport}
 use Rattle.tcf_values.specs.declared.ids.RegisterId.{RegisterId}
 use Rattle.target_contexts.specs.Live.{IsOrderly, process_of}
 use Rattle.target_contexts.specs.TargetsValue.{TargetsValue}
-use Rattle.target_contexts.specs.declared.process.Process.{Process}
+use Rattle.target_contexts.specs.ProcessValue.{ProcessValue}
 use Rattle.target_contexts.specs.declared.process.ThreadState.{ThreadState}
 use Rattle.data_services.specs.Commands.{data_after, data_effect}
 use Rattle.tcf_values.specs.Effects.{gives}
@@ -52,7 +52,7 @@ OthersStay = (command : Command) (targets : TargetsValue) (number : ℕ) → wri
 
 -- ---- threads go on as they are
 
-abbrev pub thread_part : Process → ThreadState × Bool
+abbrev pub thread_part : ProcessValue → ThreadState × Bool
 thread_part process = (process.state, process.attached)
 
 -- whether a thread runs, and whether its process is attached, stays
@@ -69,14 +69,14 @@ OrderStays = (command : Command) (targets : TargetsValue) → IsOrderly targets.
 
 -- from the same range of the same process, whose memory has all its bytes
 abbrev pub MemorySetIsGot : Type 0
-MemorySetIsGot = (id : List ℕ) (addr word size mode : ℤ) (bytes : List ℕ) (targets : TargetsValue) (process : Process) →
+MemorySetIsGot = (id : List ℕ) (addr word size mode : ℤ) (bytes : List ℕ) (targets : TargetsValue) (process : ProcessValue) →
     process_named id targets.processes ≡ Some process → length process.memory ≡ 65536 →
     let set = MemSet id addr word size mode bytes in
     (data_effect set targets).answer ≡ Nothing → data_effect (MemGet id addr word size mode) (data_after set targets) ≡ gives (Blob bytes)
 
 -- from a register other than x0 of a thread that has its 32 registers; a byte is below 256
 abbrev pub RegisterSetIsGot : Type 0
-RegisterSetIsGot = (id bytes : List ℕ) (targets : TargetsValue) (register : RegisterId) (process : Process) →
+RegisterSetIsGot = (id bytes : List ℕ) (targets : TargetsValue) (register : RegisterId) (process : ProcessValue) →
     register_of id ≡ Some register → register.index ≢ 0 → holder_of id targets.processes ≡ Some process → length process.cpu.x ≡ 32 → ((i : ℕ) → slice_index bytes i < 256) →
     let set = RegSet id bytes in
     (data_effect set targets).answer ≡ Nothing → data_effect (RegGet id) (data_after set targets) ≡ gives (Blob bytes)

@@ -5,7 +5,7 @@ use Rattle.tcf_values.specs.declared.event.EventData.{EventData}
 use Rattle.tcf_values.specs.declared.event.EventData.TheVariants.{MemChanged}
 use Rattle.tcf_values.specs.declared.ids.ContextId.TheVariants as ids
 use Rattle.target_contexts.specs.TargetsValue.{TargetsValue}
-use Rattle.target_contexts.specs.declared.process.Process.{Process}
+use Rattle.target_contexts.specs.ProcessValue.{ProcessValue}
 use Rattle.data_services.specs.Bytes.{part_of, with_part}
 use Rattle.target_contexts.specs.Changes.{with_change_of}
 use Rattle.tcf_values.specs.Faults.{first_fault}
@@ -24,14 +24,14 @@ is_outside addr size = int_lt addr (pos 0) || int_lt (pos 65536) (addr +ℤ size
 
 -- ---- get: the bytes of the range
 
-abbrev pub memory_get_fault : List ℕ → ℤ → ℤ → List (ℕ × Process) → Option Fault
+abbrev pub memory_get_fault : List ℕ → ℤ → ℤ → List (ℕ × ProcessValue) → Option Fault
 memory_get_fault id addr size rows = first_fault (
     (is_none (process_named id rows), BadContext)
     ∷ (is_no_size size, BadSize)
     ∷ (is_outside addr size, BadAddress)
     ∷ [])
 
-abbrev pub memory_bytes : ℤ → ℤ → Option Process → List ℕ
+abbrev pub memory_bytes : ℤ → ℤ → Option ProcessValue → List ℕ
 memory_bytes addr size None = []
 memory_bytes addr size (Some process) = part_of (unsigned_abs addr) (unsigned_abs size) process.memory
 
@@ -39,7 +39,7 @@ memory_bytes addr size (Some process) = part_of (unsigned_abs addr) (unsigned_ab
 -- the range
 
 -- a size that isn't negative is the number of bytes
-abbrev pub memory_set_fault : List ℕ → ℤ → ℤ → List ℕ → List (ℕ × Process) → Option Fault
+abbrev pub memory_set_fault : List ℕ → ℤ → ℤ → List ℕ → List (ℕ × ProcessValue) → Option Fault
 memory_set_fault id addr size bytes rows = first_fault (
     (is_none (process_named id rows), BadContext)
     ∷ (is_no_size size, BadSize)
@@ -54,7 +54,7 @@ memory_events (Some number) addr size =
     then MemChanged (context_spelling (ids.Process number)) (record { addr = addr; size = size } ∷ []) ∷ []
     else []
 
-abbrev pub with_memory : ℕ → List ℕ → Process → Process
+abbrev pub with_memory : ℕ → List ℕ → ProcessValue → ProcessValue
 with_memory first bytes process = record process { memory = with_part first bytes process.memory }
 
 abbrev pub memory_after : List ℕ → ℤ → List ℕ → TargetsValue → TargetsValue

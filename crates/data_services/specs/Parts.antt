@@ -7,7 +7,7 @@ use Rattle.rv32i_core.specs.Registers.{register_of as number_of, with_register}
 use Rattle.rv32i_core.specs.declared.registers.Cpu.{Cpu}
 use Rattle.target_contexts.specs.Live.{process_of}
 use Rattle.target_contexts.specs.TargetsValue.{TargetsValue}
-use Rattle.target_contexts.specs.declared.process.Process.{Process}
+use Rattle.target_contexts.specs.ProcessValue.{ProcessValue}
 use Rattle.data_services.specs.Bytes.{part_of, with_part, word_bytes, word_of}
 use Rattle.target_contexts.specs.Changes.{with_change}
 use Rattle.data_services.specs.declared.parts.Part.{Part}
@@ -36,11 +36,11 @@ parts_named list = filter_map part_named list
 
 -- ---- the bytes of parts, in order
 
-abbrev pub bytes_in : Part → Option Process → List ℕ
+abbrev pub bytes_in : Part → Option ProcessValue → List ℕ
 bytes_in part None = []
 bytes_in part (Some process) = part_of part.offset part.size (word_bytes (number_in part.register.index process.cpu))
 
-abbrev pub bytes_of : List (ℕ × Process) → List Part → List ℕ
+abbrev pub bytes_of : List (ℕ × ProcessValue) → List Part → List ℕ
 bytes_of rows parts = flat_map (λ part. bytes_in part (process_of part.register.process rows)) parts
 
 -- ---- bytes put over parts, in order: each part takes as many of them as it has
@@ -53,7 +53,7 @@ with_register_bytes part bytes cpu =
     let index = part.register.index in
     with_number index (word_of (with_part part.offset bytes (word_bytes (number_in index cpu)))) cpu
 
-abbrev pub with_bytes : Part → List ℕ → Process → Process
+abbrev pub with_bytes : Part → List ℕ → ProcessValue → ProcessValue
 with_bytes part bytes process = record process { cpu = with_register_bytes part bytes process.cpu }
 
 abbrev pub with_parts : List Part → List ℕ → TargetsValue → TargetsValue
@@ -70,10 +70,10 @@ cpu_after process (part ∷ parts) bytes cpu =
 
 -- ---- a pc has to be a multiple of 4
 
-abbrev pub is_off : Option Process → Bool
+abbrev pub is_off : Option ProcessValue → Bool
 is_off None = false
 is_off (Some process) = not (process.cpu.pc % 4 == 0)
 
 -- one of the parts is of a pc that is no multiple of 4
-abbrev pub names_off : List (ℕ × Process) → List Part → Bool
+abbrev pub names_off : List (ℕ × ProcessValue) → List Part → Bool
 names_off rows parts = list_any (λ part. (part.register.index == 32) && is_off (process_of part.register.process rows)) parts

@@ -8,7 +8,7 @@ use Rattle.tcf_values.specs.declared.event.EventData.TheVariants.{RegChanged, Re
 use Rattle.tcf_values.specs.declared.ids.RegisterId.{RegisterId}
 use Rattle.tcf_values.specs.declared.values.Location.{Location}
 use Rattle.target_contexts.specs.TargetsValue.{TargetsValue}
-use Rattle.target_contexts.specs.declared.process.Process.{Process}
+use Rattle.target_contexts.specs.ProcessValue.{ProcessValue}
 use Rattle.data_services.specs.Bytes.{word_bytes, word_of}
 use Rattle.target_contexts.specs.Changes.{with_change}
 use Rattle.tcf_values.specs.Faults.{first_fault}
@@ -20,13 +20,13 @@ use Rattle.tcf_values.specs.declared.faults.Fault.TheVariants.{BadContext, IsRun
 
 -- ---- get: the register's four bytes
 
-abbrev pub register_get_fault : List ℕ → List (ℕ × Process) → Option Fault
+abbrev pub register_get_fault : List ℕ → List (ℕ × ProcessValue) → Option Fault
 register_get_fault id rows = first_fault (
     (is_none (holder_of id rows), BadContext)
     ∷ (is_running (holder_of id rows), IsRunning)
     ∷ [])
 
-abbrev pub register_bytes : Option RegisterId → Option Process → List ℕ
+abbrev pub register_bytes : Option RegisterId → Option ProcessValue → List ℕ
 register_bytes (Some register) (Some process) = word_bytes (number_in register.index process.cpu)
 register_bytes (Some register) None = []
 register_bytes None process = []
@@ -37,7 +37,7 @@ abbrev pub is_pc : Option RegisterId → Bool
 is_pc None = false
 is_pc (Some register) = register.index == 32
 
-abbrev pub register_set_fault : List ℕ → List ℕ → List (ℕ × Process) → Option Fault
+abbrev pub register_set_fault : List ℕ → List ℕ → List (ℕ × ProcessValue) → Option Fault
 register_set_fault id bytes rows = first_fault (
     (is_none (holder_of id rows), BadContext)
     ∷ (is_running (holder_of id rows), IsRunning)
@@ -45,7 +45,7 @@ register_set_fault id bytes rows = first_fault (
     ∷ (is_pc (register_of id) && not (word_of bytes % 4 == 0), BadAddress)
     ∷ [])
 
-abbrev pub with_word : ℕ → ℕ → Process → Process
+abbrev pub with_word : ℕ → ℕ → ProcessValue → ProcessValue
 with_word index number process = record process { cpu = with_number index number process.cpu }
 
 abbrev pub register_after : Option RegisterId → ℕ → TargetsValue → TargetsValue
@@ -54,7 +54,7 @@ register_after (Some register) number targets = with_change (with_word register.
 
 -- ---- getm: the bytes of all locations, in order
 
-abbrev pub location_fault : List (ℕ × Process) → Location → Option Fault
+abbrev pub location_fault : List (ℕ × ProcessValue) → Location → Option Fault
 location_fault rows location = first_fault (
     (is_none (holder_of location.register rows), BadContext)
     ∷ (is_running (holder_of location.register rows), IsRunning)
@@ -64,11 +64,11 @@ location_fault rows location = first_fault (
     ∷ [])
 
 -- the fault of the first location that has one
-abbrev pub locations_fault : List (ℕ × Process) → List Location → Option Fault
+abbrev pub locations_fault : List (ℕ × ProcessValue) → List Location → Option Fault
 locations_fault rows [] = None
 locations_fault rows (location ∷ list) = option_or (location_fault rows location) (locations_fault rows list)
 
-abbrev pub registers_get_fault : List Location → List (ℕ × Process) → Option Fault
+abbrev pub registers_get_fault : List Location → List (ℕ × ProcessValue) → Option Fault
 registers_get_fault list rows = if nat_lt 256 (length list) then Some BadSize else locations_fault rows list
 
 -- ---- setm: the bytes go into the locations, in order; registerChanged tells the register where there is one, and

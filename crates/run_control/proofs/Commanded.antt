@@ -15,7 +15,7 @@ use Rattle.target_contexts.specs.Named.{is_running, is_suspended, is_unattached,
 use Rattle.target_contexts.specs.Starting.{new_process, suspended_text, with_started}
 use Rattle.target_contexts.specs.TargetsValue.{TargetsValue}
 use Rattle.target_contexts.specs.declared.process.Image.{Image}
-use Rattle.target_contexts.specs.declared.process.Process.{Process}
+use Rattle.target_contexts.specs.ProcessValue.{ProcessValue}
 use Rattle.target_contexts.specs.declared.process.ThreadState.{ThreadState}
 use Rattle.target_contexts.specs.declared.process.ThreadState.TheVariants.{Running, Suspended}
 use Rattle.run_control.specs.Attaching.{attach_after, attached, detach_after, detached}
@@ -46,15 +46,15 @@ fourth false false true d w x y z free = absurd cc
 fourth false false false true w x y z free = absurd cc
 fourth false false false false w x y z free = refl
 
-resume_stands : (id : List ℕ) (mode count : ℤ) (rows : List (ℕ × Process)) → resume_fault id mode count rows ≡ None → is_running (thread_there id rows) ≡ false
+resume_stands : (id : List ℕ) (mode count : ℤ) (rows : List (ℕ × ProcessValue)) → resume_fault id mode count rows ≡ None → is_running (thread_there id rows) ≡ false
 resume_stands id mode count rows free =
     fourth (is_none (thread_there id rows)) (is_no_mode mode) (is_no_count (most_steps mode) count) (is_running (thread_there id rows)) BadContext Unsupported BadNumber AlreadyRunning free
 
-suspend_attached : (id : List ℕ) (rows : List (ℕ × Process)) → suspend_fault id rows ≡ None → is_unattached (thread_there id rows) ≡ false
+suspend_attached : (id : List ℕ) (rows : List (ℕ × ProcessValue)) → suspend_fault id rows ≡ None → is_unattached (thread_there id rows) ≡ false
 suspend_attached id rows free =
     third (is_none (thread_there id rows)) (is_suspended (thread_there id rows)) (is_unattached (thread_there id rows)) BadContext AlreadyStopped Other free
 
-trace_stands : (id : List ℕ) (count : ℤ) (rows : List (ℕ × Process)) → trace_fault id count rows ≡ None → is_running (thread_there id rows) ≡ false
+trace_stands : (id : List ℕ) (count : ℤ) (rows : List (ℕ × ProcessValue)) → trace_fault id count rows ≡ None → is_running (thread_there id rows) ≡ false
 trace_stands id count rows free =
     third (is_none (thread_there id rows)) (is_no_count (pos 64) count) (is_running (thread_there id rows)) BadContext BadNumber AlreadyRunning free
 
@@ -63,11 +63,11 @@ runs_needs (Running left) stands = absurd cc
 runs_needs (Suspended reason hits) stands = refl
 
 -- a thread that doesn't run has an attached process
-stands_attached : (rows : List (ℕ × Process)) (named : Option ℕ) (n : ℕ) (p : Process) → AreSound rows → is_running (process_at_number named rows) ≡ false → named ≡ Some n → process_of n rows ≡ Some p → p.attached ≡ true
+stands_attached : (rows : List (ℕ × ProcessValue)) (named : Option ℕ) (n : ℕ) (p : ProcessValue) → AreSound rows → is_running (process_at_number named rows) ≡ false → named ≡ Some n → process_of n rows ≡ Some p → p.attached ≡ true
 stands_attached rows named n p sound stands is there =
     sound n p there (runs_needs p.state (sym (ap is_running there) ∙ sym (ap (λ (m : Option ℕ). is_running (process_at_number m rows)) is) ∙ stands))
 
-not_unattached : (rows : List (ℕ × Process)) (named : Option ℕ) (n : ℕ) (p : Process) → is_unattached (process_at_number named rows) ≡ false → named ≡ Some n → process_of n rows ≡ Some p → p.attached ≡ true
+not_unattached : (rows : List (ℕ × ProcessValue)) (named : Option ℕ) (n : ℕ) (p : ProcessValue) → is_unattached (process_at_number named rows) ≡ false → named ≡ Some n → process_of n rows ≡ Some p → p.attached ≡ true
 not_unattached rows named n p checked is there =
     not_false p.attached (sym (ap is_unattached there) ∙ sym (ap (λ (m : Option ℕ). is_unattached (process_at_number m rows)) is) ∙ checked)
 
@@ -83,39 +83,39 @@ left_sound change (Some n) targets given sound = given n refl
 
 -- ---- a trace
 
-next_attached : (step : Step) (p q : Process) → next_by step p ≡ Some q → q.attached ≡ p.attached
+next_attached : (step : Step) (p q : ProcessValue) → next_by step p ≡ Some q → q.attached ≡ p.attached
 next_attached (goes_on cpu memory) p q is =
-    let next : Process = record p { cpu = cpu; memory = memory } in
-    let same : next ≡ q = cc in sym (ap (λ (r : Process). r.attached) same)
+    let next : ProcessValue = record p { cpu = cpu; memory = memory } in
+    let same : next ≡ q = cc in sym (ap (λ (r : ProcessValue). r.attached) same)
 next_attached (ends code) p q is = absurd cc
 next_attached excepts p q is = absurd cc
 
-last_by : (bps : List Placed) (n count : ℕ) (p q : Process) (quiet : Bool) → q.attached ≡ p.attached → ((r : Process) → (last_of r (up_to_hit bps n (run_from count r))).attached ≡ r.attached) → (last_of p (q ∷ cond quiet (up_to_hit bps n (run_from count q)) [])).attached ≡ p.attached
+last_by : (bps : List Placed) (n count : ℕ) (p q : ProcessValue) (quiet : Bool) → q.attached ≡ p.attached → ((r : ProcessValue) → (last_of r (up_to_hit bps n (run_from count r))).attached ≡ r.attached) → (last_of p (q ∷ cond quiet (up_to_hit bps n (run_from count q)) [])).attached ≡ p.attached
 last_by bps n count p q true same rest = rest q ∙ same
 last_by bps n count p q false same rest = same
 
-last_next : (bps : List Placed) (n count : ℕ) (p : Process) (next : Option Process) → ((q : Process) → next ≡ Some q → q.attached ≡ p.attached) → ((r : Process) → (last_of r (up_to_hit bps n (run_from count r))).attached ≡ r.attached) → (last_of p (up_to_hit bps n (option_map_or (λ q. q ∷ run_from count q) next []))).attached ≡ p.attached
+last_next : (bps : List Placed) (n count : ℕ) (p : ProcessValue) (next : Option ProcessValue) → ((q : ProcessValue) → next ≡ Some q → q.attached ≡ p.attached) → ((r : ProcessValue) → (last_of r (up_to_hit bps n (run_from count r))).attached ≡ r.attached) → (last_of p (up_to_hit bps n (option_map_or (λ q. q ∷ run_from count q) next []))).attached ≡ p.attached
 last_next bps n count p None same rest = refl
 last_next bps n count p (Some q) same rest = last_by bps n count p q (is_empty (hits_at bps n q)) (same q refl) rest
 
-last_attached : (bps : List Placed) (n count : ℕ) (p : Process) → (last_of p (up_to_hit bps n (run_from count p))).attached ≡ p.attached
+last_attached : (bps : List Placed) (n count : ℕ) (p : ProcessValue) → (last_of p (up_to_hit bps n (run_from count p))).attached ≡ p.attached
 last_attached bps n zero p = refl
 last_attached bps n (suc count) p = last_next bps n count p (next_of p) (next_attached (machine p.cpu p.memory) p) (last_attached bps n count)
 
-some_same : (p q : Process) (found : Option Process) → found ≡ Some p → Some q ≡ found → p ≡ q
+some_same : (p q : ProcessValue) (found : Option ProcessValue) → found ≡ Some p → Some q ≡ found → p ≡ q
 some_same p q found there is = cc
 
-trace_at : (bps : List Placed) (n count : ℕ) (targets : TargetsValue) (found : Option Process) → process_of n targets.processes ≡ found → ((p : Process) → found ≡ Some p → p.attached ≡ true) → IsOrderly targets.processes targets.next → AreSound targets.processes → AreSound (traced_at bps n count found targets).processes
+trace_at : (bps : List Placed) (n count : ℕ) (targets : TargetsValue) (found : Option ProcessValue) → process_of n targets.processes ≡ found → ((p : ProcessValue) → found ≡ Some p → p.attached ≡ true) → IsOrderly targets.processes targets.next → AreSound targets.processes → AreSound (traced_at bps n count found targets).processes
 trace_at bps n count targets None there checked orderly sound = sound
 trace_at bps n count targets (Some p) there checked orderly sound =
     let trace : Trace = trace_of bps n count p in
-    let change = λ (q : Process). trace.process in
+    let change = λ (q : ProcessValue). trace.process in
     let after : TargetsValue = with_change change n targets in
     let mine : p.attached ≡ true = checked p refl in
     let last : trace.process.attached ≡ p.attached = last_attached bps n count p in
     sound_settled n (trace_fate p trace) after (orderly_change change n targets orderly)
     (λ q found. subst (FateSound (trace_fate p trace))
-    (sym (ap (λ (r : Process). r.attached) (some_same q trace.process (process_of n after.processes) found (ap (option_map change) (sym there) ∙ sym (changed_process change n targets))) ∙ last))
+    (sym (ap (λ (r : ProcessValue). r.attached) (some_same q trace.process (process_of n after.processes) found (ap (option_map change) (sym there) ∙ sym (changed_process change n targets))) ∙ last))
     (fate_sound (Suspended step_text []) p.attached trace.stop (λ _. mine) (λ hits hit. mine)))
     (sound_change change n targets (λ q found needs. last ∙ mine) sound)
 
@@ -128,8 +128,8 @@ new_sound false image needs = absurd cc
 start_sound : (attach : Bool) (targets : TargetsValue) (image : Option Image) → IsOrderly targets.processes targets.next → AreSound targets.processes → AreSound (with_started attach targets image).processes
 start_sound attach targets None orderly sound = sound
 start_sound attach targets (Some image) orderly sound = λ other p there.
-    let new : Process = new_process attach image in
-    let rows : List (ℕ × Process) = targets.processes ++ (targets.next, new) ∷ [] in
+    let new : ProcessValue = new_process attach image in
+    let rows : List (ℕ × ProcessValue) = targets.processes ++ (targets.next, new) ∷ [] in
     let law = starts_one targets.processes targets.next new orderly in
     elim (same_or_other other targets.next) [
       | inl same ↦ subst IsSound (sym (some_same p new (process_of targets.next rows) (ap (λ (m : ℕ). process_of m rows) (sym same) ∙ there) (sym law.0))) (new_sound attach image)

@@ -15,7 +15,7 @@ use Rattle.target_contexts.specs.Named.{number_named, thread_named}
 use Rattle.target_contexts.specs.Starting.{new_process, refusal_for, suspended_text, with_started}
 use Rattle.target_contexts.specs.TargetsValue.{TargetsValue}
 use Rattle.target_contexts.specs.declared.process.Image.{Image}
-use Rattle.target_contexts.specs.declared.process.Process.{Process}
+use Rattle.target_contexts.specs.ProcessValue.{ProcessValue}
 use Rattle.target_contexts.specs.declared.process.ThreadState.TheVariants.{Running, Suspended}
 use Rattle.target_contexts.specs.declared.targets.StartRefusal.{StartRefusal}
 use Rattle.target_contexts.specs.declared.targets.StartRefusal.TheVariants.{Full, Size, Numbers}
@@ -44,16 +44,16 @@ settled_orderly : (n : ℕ) (fate : Fate) (targets : TargetsValue) → AreOrderl
 settled_orderly n (Ends code) targets orderly = end_orderly n targets orderly
 settled_orderly n (Lives state) targets orderly = orderly_change (with_state state) n targets orderly
 
-ticked_orderly : (bps : List Placed) (n : ℕ) (found : Option Process) (targets : TargetsValue) → AreOrderly targets → AreOrderly (ticked_at bps n found targets)
+ticked_orderly : (bps : List Placed) (n : ℕ) (found : Option ProcessValue) (targets : TargetsValue) → AreOrderly targets → AreOrderly (ticked_at bps n found targets)
 ticked_orderly bps n None targets orderly = orderly
 ticked_orderly bps n (Some process) targets orderly =
     settled_orderly n (tick_fate bps n process) (with_change stepped n targets) (orderly_change stepped n targets orderly)
 
-trace_orderly : (bps : List Placed) (n count : ℕ) (found : Option Process) (targets : TargetsValue) → AreOrderly targets → AreOrderly (traced_at bps n count found targets)
+trace_orderly : (bps : List Placed) (n count : ℕ) (found : Option ProcessValue) (targets : TargetsValue) → AreOrderly targets → AreOrderly (traced_at bps n count found targets)
 trace_orderly bps n count None targets orderly = orderly
 trace_orderly bps n count (Some process) targets orderly =
     let trace : Trace = trace_of bps n count process in
-    let change = λ (q : Process). trace.process in
+    let change = λ (q : ProcessValue). trace.process in
     settled_orderly n (trace_fate process trace) (with_change change n targets) (orderly_change change n targets orderly)
 
 -- ---- a start that isn't refused

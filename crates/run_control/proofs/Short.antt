@@ -16,7 +16,7 @@ use Rattle.target_contexts.specs.Named.{number_named, thread_named}
 use Rattle.target_contexts.specs.Short.{AllShort, AreShort, IsShort, IsShortState}
 use Rattle.target_contexts.specs.Starting.{suspended_text}
 use Rattle.target_contexts.specs.TargetsValue.{TargetsValue}
-use Rattle.target_contexts.specs.declared.process.Process.{Process}
+use Rattle.target_contexts.specs.ProcessValue.{ProcessValue}
 use Rattle.target_contexts.specs.declared.process.ThreadState.{ThreadState}
 use Rattle.target_contexts.specs.declared.process.ThreadState.TheVariants.{Running, Suspended}
 use Rattle.run_control.specs.Attaching.{attach_after, attached, detach_after, detached}
@@ -69,7 +69,7 @@ hits_short number attached pc bps ids =
     if_short attached (ids_of (filter hit bps))
     (omega (arith, ids.0, ids_fewer bps, ids_fewer (filter hit bps), filter_fewer hit bps), filter_ids hit bps ids.1)
 
-at_short : (bps : List Placed) (number : ℕ) (process : Process) → AreShort (ids_of bps) → AreShort (hits_at bps number process)
+at_short : (bps : List Placed) (number : ℕ) (process : ProcessValue) → AreShort (ids_of bps) → AreShort (hits_at bps number process)
 at_short bps number process ids = hits_short number process.attached process.cpu.pc bps ids
 
 -- ---- what becomes of a process
@@ -107,7 +107,7 @@ fate_short plain attached (Hit hits) short end = hit_short hits end
 fate_short plain attached (Exit code) short end = tt
 fate_short plain attached Exception short end = exception_short attached _
 
-state_short : (state : ThreadState) (process : Process) → IsShortState state → IsShort process → IsShort (with_state state process)
+state_short : (state : ThreadState) (process : ProcessValue) → IsShortState state → IsShort process → IsShort (with_state state process)
 state_short state process short is = record { name = is.name; state = short }
 
 settled_short : (number : ℕ) (fate : Fate) (targets : TargetsValue) → IsShortFate fate → AllShort targets.processes → AllShort (settled number fate targets).processes
@@ -132,17 +132,17 @@ with_short : (hits : List (List ℕ)) → AreShort hits → IsShortEnd (executed
 with_short [] short = tt
 with_short (hit ∷ hits) short = short
 
-executed_short : (bps : List Placed) (number : ℕ) (process : Process) (step : Step) → AreShort (ids_of bps) → IsShortEnd (executed_by bps number process step)
+executed_short : (bps : List Placed) (number : ℕ) (process : ProcessValue) (step : Step) → AreShort (ids_of bps) → IsShortEnd (executed_by bps number process step)
 executed_short bps number process (goes_on cpu memory) ids = with_short _ (at_short bps number (record process { cpu = cpu; memory = memory }) ids)
 executed_short bps number process (ends code) ids = tt
 executed_short bps number process excepts ids = tt
 
-stepped_short : (step : Step) (process : Process) → IsShort process → IsShort (stepped_by step process)
+stepped_short : (step : Step) (process : ProcessValue) → IsShort process → IsShort (stepped_by step process)
 stepped_short (goes_on cpu memory) process is = record { name = is.name; state = is.state }
 stepped_short (ends code) process is = is
 stepped_short excepts process is = is
 
-tick_at_short : (bps : List Placed) (number : ℕ) (found : Option Process) (targets : TargetsValue) → AreShort (ids_of bps) → ((process : Process) → found ≡ Some process → IsShort process)
+tick_at_short : (bps : List Placed) (number : ℕ) (found : Option ProcessValue) (targets : TargetsValue) → AreShort (ids_of bps) → ((process : ProcessValue) → found ≡ Some process → IsShort process)
     → AllShort targets.processes → AllShort (ticked_at bps number found targets).processes
 tick_at_short bps number None targets ids each all = all
 tick_at_short bps number (Some process) targets ids each all =
@@ -163,37 +163,37 @@ ticks_short thread bps targets ids all = tick_short bps (running_number thread t
 
 -- ---- a trace
 
-abbrev AreShortStates : List Process → Type 0
+abbrev AreShortStates : List ProcessValue → Type 0
 AreShortStates states = AllByRecursion IsShort states
 
-next_short : (step : Step) (process : Process) → IsShort process → IfSome (next_by step process) IsShort
+next_short : (step : Step) (process : ProcessValue) → IsShort process → IfSome (next_by step process) IsShort
 next_short (goes_on cpu memory) process is = record { name = is.name; state = is.state }
 next_short (ends code) process is = tt
 next_short excepts process is = tt
 
-then_short : (found : Option Process) (rest : Process → List Process) → IfSome found IsShort → ((process : Process) → IsShort process → AreShortStates (rest process))
+then_short : (found : Option ProcessValue) (rest : ProcessValue → List ProcessValue) → IfSome found IsShort → ((process : ProcessValue) → IsShort process → AreShortStates (rest process))
     → AreShortStates (option_map_or (λ next. next ∷ rest next) found [])
 then_short None rest short each = tt
 then_short (Some process) rest short each = (short, each process short)
 
-run_short : (count : ℕ) (process : Process) → IsShort process → AreShortStates (run_from count process)
+run_short : (count : ℕ) (process : ProcessValue) → IsShort process → AreShortStates (run_from count process)
 run_short zero process is = tt
 run_short (suc count) process is =
     then_short (next_of process) (run_from count) (next_short (machine process.cpu process.memory) process is) (λ next short. run_short count next short)
 
-if_states : (test : Bool) (states : List Process) → AreShortStates states → AreShortStates (cond test states [])
+if_states : (test : Bool) (states : List ProcessValue) → AreShortStates states → AreShortStates (cond test states [])
 if_states true states all = all
 if_states false states all = tt
 
-up_to_short : (bps : List Placed) (number : ℕ) (states : List Process) → AreShortStates states → AreShortStates (up_to_hit bps number states)
+up_to_short : (bps : List Placed) (number : ℕ) (states : List ProcessValue) → AreShortStates states → AreShortStates (up_to_hit bps number states)
 up_to_short bps number [] all = tt
 up_to_short bps number (state ∷ states) all = (all.0, if_states _ (up_to_hit bps number states) (up_to_short bps number states all.1))
 
-last_short : (process : Process) (states : List Process) → IsShort process → AreShortStates states → IsShort (last_of process states)
+last_short : (process : ProcessValue) (states : List ProcessValue) → IsShort process → AreShortStates states → IsShort (last_of process states)
 last_short process [] is all = is
 last_short process (state ∷ states) is all = last_short state states all.0 all.1
 
-last_hits_short : (bps : List Placed) (number : ℕ) (process : Process) (states : List Process) → AreShort (ids_of bps) → AreShort (last_hits bps number process states)
+last_hits_short : (bps : List Placed) (number : ℕ) (process : ProcessValue) (states : List ProcessValue) → AreShort (ids_of bps) → AreShort (last_hits bps number process states)
 last_hits_short bps number process [] ids = (lit≤ tt, tt)
 last_hits_short bps number process (state ∷ states) ids = at_short bps number (last_of state states) ids
 
@@ -202,12 +202,12 @@ halt_short (goes_on cpu memory) = tt
 halt_short (ends code) = tt
 halt_short excepts = tt
 
-stop_short : (hits : List (List ℕ)) (all : Bool) (last : Process) → AreShort hits → IsShortEnd (stop_by hits all last)
+stop_short : (hits : List (List ℕ)) (all : Bool) (last : ProcessValue) → AreShort hits → IsShortEnd (stop_by hits all last)
 stop_short (hit ∷ hits) all last short = short
 stop_short [] true last short = tt
 stop_short [] false last short = halt_short (machine last.cpu last.memory)
 
-traced_short : (bps : List Placed) (number count : ℕ) (found : Option Process) (targets : TargetsValue) → AreShort (ids_of bps) → ((process : Process) → found ≡ Some process → IsShort process)
+traced_short : (bps : List Placed) (number count : ℕ) (found : Option ProcessValue) (targets : TargetsValue) → AreShort (ids_of bps) → ((process : ProcessValue) → found ≡ Some process → IsShort process)
     → AllShort targets.processes → AllShort (traced_at bps number count found targets).processes
 traced_short bps number count None targets ids each all = all
 traced_short bps number count (Some process) targets ids each all =

@@ -6,7 +6,7 @@ use Rattle.breakpoints.specs.Status.{hits_of}
 use Rattle.target_contexts.specs.Changes.{with_change}
 use Rattle.target_contexts.specs.Live.{IsOrderly, process_of, without}
 use Rattle.target_contexts.specs.TargetsValue.{TargetsValue}
-use Rattle.target_contexts.specs.declared.process.Process.{Process}
+use Rattle.target_contexts.specs.ProcessValue.{ProcessValue}
 use Rattle.target_contexts.specs.declared.process.ThreadState.{ThreadState}
 use Rattle.target_contexts.specs.declared.process.ThreadState.TheVariants.{Running, Suspended}
 use Rattle.run_control.specs.Ending.{end_after}
@@ -25,13 +25,13 @@ use Rattle.run_control.proofs.Steps.{hit_hits, hit_some}
 
 -- ---- a change, and an end
 
-changed_sound : (change : Process → Process) (found : Option Process) (process : Process) → ((p : Process) → found ≡ Some p → IsSound (change p)) → option_map change found ≡ Some process → IsSound process
+changed_sound : (change : ProcessValue → ProcessValue) (found : Option ProcessValue) (process : ProcessValue) → ((p : ProcessValue) → found ≡ Some p → IsSound (change p)) → option_map change found ≡ Some process → IsSound process
 changed_sound change None process keeps there = absurd cc
 changed_sound change (Some p) process keeps there =
     let same : change p ≡ process = cc in subst IsSound same (keeps p refl)
 
 -- where the changed process is sound, all are
-pub sound_change : (change : Process → Process) (n : ℕ) (targets : TargetsValue) → ((p : Process) → process_of n targets.processes ≡ Some p → IsSound (change p)) → AreSound targets.processes → AreSound (with_change change n targets).processes
+pub sound_change : (change : ProcessValue → ProcessValue) (n : ℕ) (targets : TargetsValue) → ((p : ProcessValue) → process_of n targets.processes ≡ Some p → IsSound (change p)) → AreSound targets.processes → AreSound (with_change change n targets).processes
 sound_change change n targets keeps sound other process there =
     elim (same_or_other other n) [
       | inl same ↦ changed_sound change (process_of n targets.processes) process keeps
@@ -69,31 +69,31 @@ attached_by : (number pc : ℕ) (bps : List Placed) (attached : Bool) → is_emp
 attached_by number pc bps true some = refl
 attached_by number pc bps false some = absurd cc
 
-stepped_attached : (step : Step) (process : Process) → (stepped_by step process).attached ≡ process.attached
+stepped_attached : (step : Step) (process : ProcessValue) → (stepped_by step process).attached ≡ process.attached
 stepped_attached (goes_on cpu memory) process = refl
 stepped_attached (ends code) process = refl
 stepped_attached excepts process = refl
 
-stepped_state : (step : Step) (process : Process) → (stepped_by step process).state ≡ process.state
+stepped_state : (step : Step) (process : ProcessValue) → (stepped_by step process).state ≡ process.state
 stepped_state (goes_on cpu memory) process = refl
 stepped_state (ends code) process = refl
 stepped_state excepts process = refl
 
-pub hit_attached : (bps : List Placed) (number : ℕ) (process : Process) (hits : List (List ℕ)) → executed_of bps number process ≡ Hit hits → process.attached ≡ true
+pub hit_attached : (bps : List Placed) (number : ℕ) (process : ProcessValue) (hits : List (List ℕ)) → executed_of bps number process ≡ Hit hits → process.attached ≡ true
 hit_attached bps number process hits hit =
     let step = machine process.cpu process.memory in
-    let after : Process = stepped process in
+    let after : ProcessValue = stepped process in
     sym (stepped_attached step process)
     ∙ attached_by number after.cpu.pc bps after.attached (ap is_empty (hit_hits bps number process hits step hit) ∙ hit_some bps number process hits step hit)
 
 -- a step leaves a sound process sound
-step_sound : (process : Process) → IsSound process → IsSound (stepped process)
+step_sound : (process : ProcessValue) → IsSound process → IsSound (stepped process)
 step_sound process sound needs =
     let step = machine process.cpu process.memory in
     stepped_attached step process ∙ sound (sym (ap needs_debugger (stepped_state step process)) ∙ needs)
 
 -- what becomes of a process leaves all sound
-pub sound_settled : (number : ℕ) (fate : Fate) (targets : TargetsValue) → IsOrderly targets.processes targets.next → ((p : Process) → process_of number targets.processes ≡ Some p → FateSound fate p.attached) → AreSound targets.processes → AreSound (settled number fate targets).processes
+pub sound_settled : (number : ℕ) (fate : Fate) (targets : TargetsValue) → IsOrderly targets.processes targets.next → ((p : ProcessValue) → process_of number targets.processes ≡ Some p → FateSound fate p.attached) → AreSound targets.processes → AreSound (settled number fate targets).processes
 sound_settled number (Ends code) targets orderly fits sound = sound_end number targets orderly sound
 sound_settled number (Lives state) targets orderly fits sound = sound_change (with_state state) number targets fits sound
 
@@ -107,21 +107,21 @@ state_needs : (state : ThreadState) → needs_debugger (counted state) ≡ true 
 state_needs (Running left) needs = counted_needs left needs
 state_needs (Suspended reason hits) needs = needs
 
-pub tick_fate_sound : (bps : List Placed) (number : ℕ) (process : Process) → IsSound process → FateSound (tick_fate bps number process) process.attached
+pub tick_fate_sound : (bps : List Placed) (number : ℕ) (process : ProcessValue) → IsSound process → FateSound (tick_fate bps number process) process.attached
 tick_fate_sound bps number process sound =
     fate_sound (counted process.state) process.attached (executed_of bps number process) (λ needs. sound (state_needs process.state needs)) (hit_attached bps number process)
 
-some_same : (p q : Process) (found : Option Process) → found ≡ Some p → option_map stepped (Some q) ≡ found → p ≡ stepped q
+some_same : (p q : ProcessValue) (found : Option ProcessValue) → found ≡ Some p → option_map stepped (Some q) ≡ found → p ≡ stepped q
 some_same p q found there is = cc
 
-tick_at : (bps : List Placed) (number : ℕ) (targets : TargetsValue) (found : Option Process) → process_of number targets.processes ≡ found → IsOrderly targets.processes targets.next → AreSound targets.processes → AreSound (ticked_at bps number found targets).processes
+tick_at : (bps : List Placed) (number : ℕ) (targets : TargetsValue) (found : Option ProcessValue) → process_of number targets.processes ≡ found → IsOrderly targets.processes targets.next → AreSound targets.processes → AreSound (ticked_at bps number found targets).processes
 tick_at bps number targets None there orderly sound = sound
 tick_at bps number targets (Some process) there orderly sound =
     let mine : IsSound process = sound number process there in
     let after : TargetsValue = with_change stepped number targets in
     sound_settled number (tick_fate bps number process) after (orderly_change stepped number targets orderly)
     (λ p found. subst (FateSound (tick_fate bps number process))
-    (sym (ap (λ (q : Process). q.attached) (some_same p process (process_of number after.processes) found (ap (option_map stepped) (sym there) ∙ sym (changed_process stepped number targets)))
+    (sym (ap (λ (q : ProcessValue). q.attached) (some_same p process (process_of number after.processes) found (ap (option_map stepped) (sym there) ∙ sym (changed_process stepped number targets)))
     ∙ stepped_attached (machine process.cpu process.memory) process))
     (tick_fate_sound bps number process mine))
     (sound_change stepped number targets (λ p found. step_sound p (sound number p found)) sound)

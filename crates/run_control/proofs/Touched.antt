@@ -8,7 +8,7 @@ use Rattle.target_contexts.specs.Laws.{AgreeBut}
 use Rattle.target_contexts.specs.Live.{IsOrderly, process_of}
 use Rattle.target_contexts.specs.Named.{attached_in}
 use Rattle.target_contexts.specs.TargetsValue.{TargetsValue}
-use Rattle.target_contexts.specs.declared.process.Process.{Process}
+use Rattle.target_contexts.specs.ProcessValue.{ProcessValue}
 use Rattle.run_control.specs.Ending.{end_after}
 use Rattle.run_control.specs.Executing.{settled, stepped}
 use Rattle.run_control.specs.Laws.{AreSound, EndsOnce, TicksKeepSound, TouchesOne, exits_in}
@@ -35,7 +35,7 @@ settled_touches : (number : ℕ) (fate : Fate) (targets : TargetsValue) → IsOr
 settled_touches number (Ends code) targets orderly = (ends_one targets.processes targets.next number orderly).1
 settled_touches number (Lives state) targets orderly = λ other differ. others_stay (with_state state) number other targets differ
 
-touches_at : (bps : List Placed) (number : ℕ) (targets : TargetsValue) (found : Option Process) → IsOrderly targets.processes targets.next → AgreeBut number targets.processes (ticked_at bps number found targets).processes
+touches_at : (bps : List Placed) (number : ℕ) (targets : TargetsValue) (found : Option ProcessValue) → IsOrderly targets.processes targets.next → AgreeBut number targets.processes (ticked_at bps number found targets).processes
 touches_at bps number targets None orderly = λ other differ. refl
 touches_at bps number targets (Some process) orderly = λ other differ.
     settled_touches number (tick_fate bps number process) (with_change stepped number targets) (orderly_change stepped number targets orderly) other differ

@@ -15,7 +15,7 @@ use Rattle.tcf_values.specs.declared.values.RunState.TheVariants as told
 use Rattle.target_contexts.specs.Contexts.{context_of as data_of}
 use Rattle.target_contexts.specs.Live.{numbers_of}
 use Rattle.target_contexts.specs.Named.{attached_in, process_at_number, thread_named}
-use Rattle.target_contexts.specs.declared.process.Process.{Process}
+use Rattle.target_contexts.specs.ProcessValue.{ProcessValue}
 use Rattle.target_contexts.specs.declared.process.ThreadState.{ThreadState}
 use Rattle.target_contexts.specs.declared.process.ThreadState.TheVariants.{Running, Suspended}
 use Rattle.run_control.specs.Naming.{is_empty, process_id, process_named, thread_id}
@@ -23,10 +23,10 @@ use Rattle.run_control.specs.Naming.{is_empty, process_id, process_named, thread
 -- ---- RunControl.getContext
 
 -- the data of the live process or thread that a text names
-abbrev pub data_named : List ℕ → List (ℕ × Process) → Option ContextData
+abbrev pub data_named : List ℕ → List (ℕ × ProcessValue) → Option ContextData
 data_named id rows = option_and_then (λ context. data_of context rows) (context_of id)
 
-abbrev pub context_fault : List ℕ → List (ℕ × Process) → Option Fault
+abbrev pub context_fault : List ℕ → List (ℕ × ProcessValue) → Option Fault
 context_fault id rows = first_fault ((is_none (data_named id rows), BadContext) ∷ [])
 
 abbrev pub context_answer : Option ContextData → Answer
@@ -35,7 +35,7 @@ context_answer (Some context) = answers.Context context
 
 -- ---- RunControl.getChildren: of the empty ID all processes, of a process its thread, of a thread none
 
-abbrev pub children_fault : List ℕ → List (ℕ × Process) → Option Fault
+abbrev pub children_fault : List ℕ → List (ℕ × ProcessValue) → Option Fault
 children_fault id rows = first_fault ((not (is_empty id) && is_none (data_named id rows), BadContext) ∷ [])
 
 abbrev pub children_of : Option ContextId → List (List ℕ)
@@ -43,28 +43,28 @@ children_of None = []
 children_of (Some (ids.Process number)) = thread_id number ∷ []
 children_of (Some (ids.Thread number thread)) = []
 
-abbrev pub children_named : List ℕ → List (ℕ × Process) → List (List ℕ)
+abbrev pub children_named : List ℕ → List (ℕ × ProcessValue) → List (List ℕ)
 children_named id rows = if is_empty id then map process_id (numbers_of rows) else children_of (context_of id)
 
 -- ---- RunControl.getState
 
-abbrev pub state_fault : List ℕ → List (ℕ × Process) → Option Fault
+abbrev pub state_fault : List ℕ → List (ℕ × ProcessValue) → Option Fault
 state_fault id rows = first_fault ((is_none (process_at_number (thread_named id) rows), BadContext) ∷ [])
 
 abbrev pub run_state : ℕ → ThreadState → RunState
 run_state pc (Running left) = told.Running
 run_state pc (Suspended reason hits) = told.Suspended pc reason hits
 
-abbrev pub state_answer : Option Process → Answer
+abbrev pub state_answer : Option ProcessValue → Answer
 state_answer None = answers.Nothing
 state_answer (Some process) = answers.State (run_state process.cpu.pc process.state)
 
 -- ---- Processes.getContext
 
-abbrev pub process_fault : List ℕ → List (ℕ × Process) → Option Fault
+abbrev pub process_fault : List ℕ → List (ℕ × ProcessValue) → Option Fault
 process_fault id rows = first_fault ((is_none (process_at_number (process_named id) rows), BadContext) ∷ [])
 
-abbrev pub process_answer_of : ℕ → Option Process → Answer
+abbrev pub process_answer_of : ℕ → Option ProcessValue → Answer
 process_answer_of number None = answers.Nothing
 process_answer_of number (Some process) = answers.Process (record {
   id = process_id number;
@@ -73,17 +73,17 @@ process_answer_of number (Some process) = answers.Process (record {
   can_terminate = true;
 })
 
-abbrev pub process_answer : Option ℕ → List (ℕ × Process) → Answer
+abbrev pub process_answer : Option ℕ → List (ℕ × ProcessValue) → Answer
 process_answer None rows = answers.Nothing
 process_answer (Some number) rows = process_answer_of number (process_at_number (Some number) rows)
 
 -- ---- Processes.getChildren: of the empty ID all processes, or those that are attached, of a process none
 
-abbrev pub processes_fault : List ℕ → List (ℕ × Process) → Option Fault
+abbrev pub processes_fault : List ℕ → List (ℕ × ProcessValue) → Option Fault
 processes_fault id rows = first_fault (
     (not (is_empty id) && is_none (process_at_number (process_named id) rows), BadContext)
     ∷ [])
 
-abbrev pub processes_named : List ℕ → Bool → List (ℕ × Process) → List (List ℕ)
+abbrev pub processes_named : List ℕ → Bool → List (ℕ × ProcessValue) → List (List ℕ)
 processes_named id attached rows =
     if is_empty id then map process_id (if attached then attached_in rows else numbers_of rows) else []

@@ -11,7 +11,7 @@ use Rattle.target_contexts.specs.Live.{process_of}
 use Rattle.target_contexts.specs.Named.{is_attached, is_unattached, process_at_number}
 use Rattle.target_contexts.specs.Starting.{refusal_of, suspended_text}
 use Rattle.target_contexts.specs.TargetsValue.{TargetsValue}
-use Rattle.target_contexts.specs.declared.process.Process.{Process}
+use Rattle.target_contexts.specs.ProcessValue.{ProcessValue}
 use Rattle.target_contexts.specs.declared.process.ThreadState.TheVariants.{Running, Suspended}
 use Rattle.target_contexts.specs.declared.targets.StartRefusal.{StartRefusal}
 use Rattle.target_contexts.specs.declared.targets.StartRefusal.TheVariants as refusals
@@ -19,7 +19,7 @@ use Rattle.run_control.specs.Naming.{process_named}
 use Rattle.run_control.specs.Telling.{added_events, changed_events, resumed_events, statuses_in, suspended_events}
 
 -- the live process that a text names
-abbrev pub process_there : List ℕ → List (ℕ × Process) → Option Process
+abbrev pub process_there : List ℕ → List (ℕ × ProcessValue) → Option ProcessValue
 process_there id rows = process_at_number (process_named id) rows
 
 -- ---- start: the process gets the next number
@@ -42,13 +42,13 @@ start_events bps number targets =
 
 -- ---- attach: the thread is suspended
 
-abbrev pub attach_fault : List ℕ → List (ℕ × Process) → Option Fault
+abbrev pub attach_fault : List ℕ → List (ℕ × ProcessValue) → Option Fault
 attach_fault id rows = first_fault (
     (is_none (process_there id rows), BadContext)
     ∷ (is_attached (process_there id rows), AlreadyAttached)
     ∷ [])
 
-abbrev pub attached : Process → Process
+abbrev pub attached : ProcessValue → ProcessValue
 attached process = record process { attached = true; state = Suspended suspended_text [] }
 
 abbrev pub attach_after : ℕ → TargetsValue → TargetsValue
@@ -61,13 +61,13 @@ attach_events bps number targets =
 
 -- ---- detach: the thread runs, and instructions left to step are forgotten
 
-abbrev pub detach_fault : List ℕ → List (ℕ × Process) → Option Fault
+abbrev pub detach_fault : List ℕ → List (ℕ × ProcessValue) → Option Fault
 detach_fault id rows = first_fault (
     (is_none (process_there id rows), BadContext)
     ∷ (is_unattached (process_there id rows), Other)
     ∷ [])
 
-abbrev pub detached : Process → Process
+abbrev pub detached : ProcessValue → ProcessValue
 detached process = record process { attached = false; state = Running None }
 
 abbrev pub detach_after : ℕ → TargetsValue → TargetsValue

@@ -10,12 +10,12 @@ use Rattle.breakpoints.specs.declared.rows.Placed.{Placed}
 use Rattle.target_contexts.specs.Live.{without}
 use Rattle.target_contexts.specs.Named.{number_named, process_at_number}
 use Rattle.target_contexts.specs.TargetsValue.{TargetsValue}
-use Rattle.target_contexts.specs.declared.process.Process.{Process}
+use Rattle.target_contexts.specs.ProcessValue.{ProcessValue}
 use Rattle.run_control.specs.Naming.{process_id, thread_id}
 use Rattle.run_control.specs.Telling.{statuses_in}
 
 -- RunControl.terminate: a thread's ID stands for its process
-abbrev pub terminate_fault : List ℕ → List (ℕ × Process) → Option Fault
+abbrev pub terminate_fault : List ℕ → List (ℕ × ProcessValue) → Option Fault
 terminate_fault id rows = first_fault ((is_none (process_at_number (number_named id) rows), BadContext) ∷ [])
 
 abbrev pub end_after : ℕ → TargetsValue → TargetsValue

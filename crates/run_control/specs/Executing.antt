@@ -8,7 +8,7 @@ use Rattle.breakpoints.specs.Status.{hits_of}
 use Rattle.target_contexts.specs.Changes.{with_change}
 use Rattle.target_contexts.specs.Live.{process_of}
 use Rattle.target_contexts.specs.TargetsValue.{TargetsValue}
-use Rattle.target_contexts.specs.declared.process.Process.{Process}
+use Rattle.target_contexts.specs.ProcessValue.{ProcessValue}
 use Rattle.target_contexts.specs.declared.process.ThreadState.{ThreadState}
 use Rattle.target_contexts.specs.declared.process.ThreadState.TheVariants.{Suspended}
 use Rattle.run_control.specs.Ending.{end_after, end_events}
@@ -22,16 +22,16 @@ use Rattle.run_control.specs.declared.executing.Fate.TheVariants.{Ends, Lives}
 -- ---- one instruction
 
 -- the process after it; an exit and an exception change nothing
-abbrev pub stepped_by : Step → Process → Process
+abbrev pub stepped_by : Step → ProcessValue → ProcessValue
 stepped_by (goes_on cpu memory) process = record process { cpu = cpu; memory = memory }
 stepped_by (ends code) process = process
 stepped_by excepts process = process
 
-abbrev pub stepped : Process → Process
+abbrev pub stepped : ProcessValue → ProcessValue
 stepped process = stepped_by (machine process.cpu process.memory) process
 
 -- the breakpoints that a thread hits where it stands
-abbrev pub hits_at : List Placed → ℕ → Process → List (List ℕ)
+abbrev pub hits_at : List Placed → ℕ → ProcessValue → List (List ℕ)
 hits_at bps number process = hits_of number process.attached process.cpu.pc bps
 
 abbrev pub executed_with : List (List ℕ) → Executed
@@ -39,12 +39,12 @@ executed_with [] = Plain
 executed_with (hit ∷ hits) = Hit (hit ∷ hits)
 
 -- an executed instruction is followed by the test for breakpoints at the new pc
-abbrev pub executed_by : List Placed → ℕ → Process → Step → Executed
+abbrev pub executed_by : List Placed → ℕ → ProcessValue → Step → Executed
 executed_by bps number process (goes_on cpu memory) = executed_with (hits_at bps number (record process { cpu = cpu; memory = memory }))
 executed_by bps number process (ends code) = Exit code
 executed_by bps number process excepts = Exception
 
-abbrev pub executed_of : List Placed → ℕ → Process → Executed
+abbrev pub executed_of : List Placed → ℕ → ProcessValue → Executed
 executed_of bps number process = executed_by bps number process (machine process.cpu process.memory)
 
 -- ---- what becomes of the process

@@ -9,7 +9,7 @@ use Rattle.breakpoints.specs.declared.rows.Placed.{Placed}
 use Rattle.target_contexts.specs.Laws.{AgreeBut}
 use Rattle.target_contexts.specs.Live.{IsLive, IsOrderly, process_of}
 use Rattle.target_contexts.specs.TargetsValue.{TargetsValue}
-use Rattle.target_contexts.specs.declared.process.Process.{Process}
+use Rattle.target_contexts.specs.ProcessValue.{ProcessValue}
 use Rattle.target_contexts.specs.declared.process.ThreadState.{ThreadState}
 use Rattle.target_contexts.specs.declared.process.ThreadState.TheVariants.{Running, Suspended}
 use Rattle.run_control.specs.Commands.{run_after}
@@ -46,11 +46,11 @@ needs_debugger (Running None) = false
 needs_debugger (Running (Some left)) = true
 needs_debugger (Suspended reason hits) = true
 
-abbrev pub IsSound : Process → Type 0
+abbrev pub IsSound : ProcessValue → Type 0
 IsSound process = needs_debugger process.state ≡ true → process.attached ≡ true
 
-abbrev pub AreSound : List (ℕ × Process) → Type 0
-AreSound rows = (number : ℕ) (process : Process) → process_of number rows ≡ Some process → IsSound process
+abbrev pub AreSound : List (ℕ × ProcessValue) → Type 0
+AreSound rows = (number : ℕ) (process : ProcessValue) → process_of number rows ≡ Some process → IsSound process
 
 -- each command keeps it, whatever breakpoints there are, and so does each tick
 abbrev pub CommandsKeepSound : Type 0

@@ -1,3 +1,4 @@
+pub mod TargetValue
 pub mod Naming
 pub mod Refusing
 pub mod Telling

@@ -10,16 +10,16 @@ use Rattle.target_contexts.specs.Live.{process_of}
 use Rattle.target_contexts.specs.Named.{is_running, is_suspended, is_unattached, process_at_number, thread_named}
 use Rattle.target_contexts.specs.Starting.{suspended_text}
 use Rattle.target_contexts.specs.TargetsValue.{TargetsValue}
-use Rattle.target_contexts.specs.declared.process.Process.{Process}
+use Rattle.target_contexts.specs.ProcessValue.{ProcessValue}
 use Rattle.target_contexts.specs.declared.process.ThreadState.{ThreadState}
 use Rattle.target_contexts.specs.declared.process.ThreadState.TheVariants.{Running, Suspended}
 use Rattle.run_control.specs.Telling.{suspended_events}
 
 -- the live process whose thread a text names
-abbrev pub thread_there : List ℕ → List (ℕ × Process) → Option Process
+abbrev pub thread_there : List ℕ → List (ℕ × ProcessValue) → Option ProcessValue
 thread_there id rows = process_at_number (thread_named id) rows
 
-abbrev pub with_state : ThreadState → Process → Process
+abbrev pub with_state : ThreadState → ProcessValue → ProcessValue
 with_state state process = record process { state = state }
 
 -- ---- resume: mode 0 goes on, and mode 2 steps so many instructions
@@ -37,7 +37,7 @@ most_steps mode = if is_step mode then pos 64 else pos 1
 abbrev pub is_no_count : ℤ → ℤ → Bool
 is_no_count most count = int_lt count (pos 1) || int_lt most count
 
-abbrev pub resume_fault : List ℕ → ℤ → ℤ → List (ℕ × Process) → Option Fault
+abbrev pub resume_fault : List ℕ → ℤ → ℤ → List (ℕ × ProcessValue) → Option Fault
 resume_fault id mode count rows = first_fault (
     (is_none (thread_there id rows), BadContext)
     ∷ (is_no_mode mode, Unsupported)
@@ -54,7 +54,7 @@ resume_after left number targets = with_change (with_state (Running left)) numbe
 
 -- ---- suspend
 
-abbrev pub suspend_fault : List ℕ → List (ℕ × Process) → Option Fault
+abbrev pub suspend_fault : List ℕ → List (ℕ × ProcessValue) → Option Fault
 suspend_fault id rows = first_fault (
     (is_none (thread_there id rows), BadContext)
     ∷ (is_suspended (thread_there id rows), AlreadyStopped)

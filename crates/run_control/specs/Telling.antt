@@ -7,18 +7,18 @@ use Rattle.breakpoints.specs.Statuses.{statuses_of}
 use Rattle.target_contexts.specs.Contexts.{process_data, thread_data}
 use Rattle.target_contexts.specs.Named.{attached_in}
 use Rattle.target_contexts.specs.TargetsValue.{TargetsValue}
-use Rattle.target_contexts.specs.declared.process.Process.{Process}
+use Rattle.target_contexts.specs.ProcessValue.{ProcessValue}
 use Rattle.target_contexts.specs.declared.process.ThreadState.{ThreadState}
 use Rattle.target_contexts.specs.declared.process.ThreadState.TheVariants.{Running, Suspended}
 use Rattle.run_control.specs.Naming.{thread_id}
 
 -- contextAdded, with the process and its thread
-abbrev pub added_events : ℕ → Option Process → List EventData
+abbrev pub added_events : ℕ → Option ProcessValue → List EventData
 added_events number None = []
 added_events number (Some process) = events.CtxAdded (process_data number process ∷ thread_data number process ∷ []) ∷ []
 
 -- contextChanged, with the thread alone
-abbrev pub changed_events : ℕ → Option Process → List EventData
+abbrev pub changed_events : ℕ → Option ProcessValue → List EventData
 changed_events number None = []
 changed_events number (Some process) = events.CtxChanged (thread_data number process ∷ []) ∷ []
 
@@ -27,7 +27,7 @@ abbrev pub stop_events : ℕ → ℕ → ThreadState → List EventData
 stop_events number pc (Running left) = []
 stop_events number pc (Suspended reason hits) = events.Suspended (thread_id number) pc reason hits ∷ []
 
-abbrev pub suspended_events : ℕ → Option Process → List EventData
+abbrev pub suspended_events : ℕ → Option ProcessValue → List EventData
 suspended_events number None = []
 suspended_events number (Some process) = stop_events number process.cpu.pc process.state
 

@@ -8,14 +8,14 @@ use Rattle.target_contexts.specs.Changes.{with_change}
 use Rattle.target_contexts.specs.Live.{process_of}
 use Rattle.target_contexts.specs.Named.{is_running, thread_for}
 use Rattle.target_contexts.specs.TargetsValue.{TargetsValue}
-use Rattle.target_contexts.specs.declared.process.Process.{Process}
+use Rattle.target_contexts.specs.ProcessValue.{ProcessValue}
 use Rattle.target_contexts.specs.declared.process.ThreadState.{ThreadState}
 use Rattle.target_contexts.specs.declared.process.ThreadState.TheVariants.{Running, Suspended}
 use Rattle.run_control.specs.Executing.{executed_of, fate_by, settled, settled_events, step_text, stepped}
 use Rattle.run_control.specs.declared.executing.Fate.{Fate}
 
 -- the process whose thread this is, where it lives and runs
-abbrev pub running_number : ContextId → List (ℕ × Process) → Option ℕ
+abbrev pub running_number : ContextId → List (ℕ × ProcessValue) → Option ℕ
 running_number thread rows =
     option_and_then (λ number. if is_running (process_of number rows) then Some number else None) (thread_for thread)
 
@@ -28,18 +28,18 @@ abbrev pub counted : ThreadState → ThreadState
 counted (Running left) = counted_by left
 counted (Suspended reason hits) = Suspended reason hits
 
-abbrev pub tick_fate : List Placed → ℕ → Process → Fate
+abbrev pub tick_fate : List Placed → ℕ → ProcessValue → Fate
 tick_fate bps number process = fate_by (counted process.state) process.attached (executed_of bps number process)
 
 -- the instruction is executed, and then its process is suspended, ends or goes on
-abbrev pub ticked_at : List Placed → ℕ → Option Process → TargetsValue → TargetsValue
+abbrev pub ticked_at : List Placed → ℕ → Option ProcessValue → TargetsValue → TargetsValue
 ticked_at bps number None targets = targets
 ticked_at bps number (Some process) targets = settled number (tick_fate bps number process) (with_change stepped number targets)
 
 abbrev pub ticked : List Placed → ℕ → TargetsValue → TargetsValue
 ticked bps number targets = ticked_at bps number (process_of number targets.processes) targets
 
-abbrev pub ticked_events_at : List Placed → ℕ → Option Process → TargetsValue → List EventData
+abbrev pub ticked_events_at : List Placed → ℕ → Option ProcessValue → TargetsValue → List EventData
 ticked_events_at bps number None after = []
 ticked_events_at bps number (Some process) after = settled_events bps number (tick_fate bps number process) after
 

@@ -11,7 +11,7 @@ use Rattle.target_contexts.specs.Changes.{with_change}
 use Rattle.target_contexts.specs.Live.{process_of}
 use Rattle.target_contexts.specs.Named.{is_running}
 use Rattle.target_contexts.specs.TargetsValue.{TargetsValue}
-use Rattle.target_contexts.specs.declared.process.Process.{Process}
+use Rattle.target_contexts.specs.ProcessValue.{ProcessValue}
 use Rattle.target_contexts.specs.declared.process.ThreadState.TheVariants.{Suspended}
 use Rattle.run_control.specs.Executing.{fate_by, hits_at, settled, settled_events, step_text}
 use Rattle.run_control.specs.Naming.{is_empty}
@@ -21,7 +21,7 @@ use Rattle.run_control.specs.declared.executing.Executed.TheVariants.{Plain, Hit
 use Rattle.run_control.specs.declared.executing.Fate.{Fate}
 use Rattle.run_control.specs.declared.tracing.Traced.{Traced}
 
-abbrev pub trace_fault : List ℕ → ℤ → List (ℕ × Process) → Option Fault
+abbrev pub trace_fault : List ℕ → ℤ → List (ℕ × ProcessValue) → Option Fault
 trace_fault id count rows = first_fault (
     (is_none (thread_there id rows), BadContext)
     ∷ (is_no_count (pos 64) count, BadNumber)
@@ -31,37 +31,37 @@ trace_fault id count rows = first_fault (
 -- ---- the states of a trace
 
 -- the process after one instruction, where its machine goes on
-abbrev pub next_by : Step → Process → Option Process
+abbrev pub next_by : Step → ProcessValue → Option ProcessValue
 next_by (goes_on cpu memory) process = Some (record process { cpu = cpu; memory = memory })
 next_by (ends code) process = None
 next_by excepts process = None
 
-abbrev pub next_of : Process → Option Process
+abbrev pub next_of : ProcessValue → Option ProcessValue
 next_of process = next_by (machine process.cpu process.memory) process
 
 -- the states that a process comes to, one after the other, as far as its machine goes on and so many at most
-abbrev pub run_from : ℕ → Process → List Process
+abbrev pub run_from : ℕ → ProcessValue → List ProcessValue
 run_from zero process = []
 run_from (suc count) process = option_map_or (λ next. next ∷ run_from count next) (next_of process) []
 
 -- up to the first that hits a breakpoint, with that one
-abbrev pub up_to_hit : List Placed → ℕ → List Process → List Process
+abbrev pub up_to_hit : List Placed → ℕ → List ProcessValue → List ProcessValue
 up_to_hit bps number [] = []
 up_to_hit bps number (state ∷ states) =
     state ∷ (if is_empty (hits_at bps number state) then up_to_hit bps number states else [])
 
-abbrev pub states_of : List Placed → ℕ → ℕ → Process → List Process
+abbrev pub states_of : List Placed → ℕ → ℕ → ProcessValue → List ProcessValue
 states_of bps number count process = up_to_hit bps number (run_from count process)
 
 -- the state in which a trace stops; the first where no instruction is executed
-abbrev pub last_of : Process → List Process → Process
+abbrev pub last_of : ProcessValue → List ProcessValue → ProcessValue
 last_of process [] = process
 last_of process (state ∷ states) = last_of state states
 
 -- ---- why it stops
 
 -- the hits in the last state; none where no instruction is executed
-abbrev pub last_hits : List Placed → ℕ → Process → List Process → List (List ℕ)
+abbrev pub last_hits : List Placed → ℕ → ProcessValue → List ProcessValue → List (List ℕ)
 last_hits bps number process [] = []
 last_hits bps number process (state ∷ states) = hits_at bps number (last_of state states)
 
@@ -72,56 +72,56 @@ halt_by (ends code) = Exit code
 halt_by excepts = Exception
 
 -- breakpoints are hit, or all instructions that were asked for are executed, or the machine doesn't go on
-abbrev pub stop_by : List (List ℕ) → Bool → Process → Executed
+abbrev pub stop_by : List (List ℕ) → Bool → ProcessValue → Executed
 stop_by hits all last =
     if not (is_empty hits) then Hit hits
     else if all then Plain
     else halt_by (machine last.cpu last.memory)
 
-abbrev pub stop_of : List Placed → ℕ → ℕ → Process → List Process → Executed
+abbrev pub stop_of : List Placed → ℕ → ℕ → ProcessValue → List ProcessValue → Executed
 stop_of bps number count process states =
     stop_by (last_hits bps number process states) (length states == count) (last_of process states)
 
 -- ---- the addresses of the executed instructions
 
 -- an ECALL that exits is executed, and an instruction that raises an exception isn't
-abbrev pub exit_address : Process → Executed → List ℕ
+abbrev pub exit_address : ProcessValue → Executed → List ℕ
 exit_address last Plain = []
 exit_address last (Hit hits) = []
 exit_address last (Exit code) = last.cpu.pc ∷ []
 exit_address last Exception = []
 
 -- each state but the last has executed the instruction at its pc
-abbrev pub addresses_of : Process → List Process → Executed → List ℕ
+abbrev pub addresses_of : ProcessValue → List ProcessValue → Executed → List ℕ
 addresses_of process states stop =
     map (λ state. state.cpu.pc) (take (length states) (process ∷ states)) ++ exit_address (last_of process states) stop
 
 -- ---- the trace as a whole
 
 pub record Trace : Type 0 where
-  pub process : Process  -- as it is then
+  pub process : ProcessValue  -- as it is then
   pub addresses : List ℕ  -- of the executed instructions, in order
   pub stop : Executed  -- why it stops
 
-abbrev pub trace_by : List Placed → ℕ → ℕ → Process → List Process → Trace
+abbrev pub trace_by : List Placed → ℕ → ℕ → ProcessValue → List ProcessValue → Trace
 trace_by bps number count process states =
     let stop = stop_of bps number count process states in
     record { process = last_of process states; addresses = addresses_of process states stop; stop = stop }
 
-abbrev pub trace_of : List Placed → ℕ → ℕ → Process → Trace
+abbrev pub trace_of : List Placed → ℕ → ℕ → ProcessValue → Trace
 trace_of bps number count process = trace_by bps number count process (states_of bps number count process)
 
 -- ---- what becomes of the process: where all are executed, its thread is suspended by the step
 
-abbrev pub trace_fate : Process → Trace → Fate
+abbrev pub trace_fate : ProcessValue → Trace → Fate
 trace_fate process trace = fate_by (Suspended step_text []) process.attached trace.stop
 
-abbrev pub traced_of : List Placed → ℕ → ℕ → Process → Traced
+abbrev pub traced_of : List Placed → ℕ → ℕ → ProcessValue → Traced
 traced_of bps number count process =
     let trace = trace_of bps number count process in
     record { addresses = trace.addresses; fate = trace_fate process trace }
 
-abbrev pub traced_at : List Placed → ℕ → ℕ → Option Process → TargetsValue → TargetsValue
+abbrev pub traced_at : List Placed → ℕ → ℕ → Option ProcessValue → TargetsValue → TargetsValue
 traced_at bps number count None targets = targets
 traced_at bps number count (Some process) targets =
     let trace = trace_of bps number count process in
@@ -130,7 +130,7 @@ traced_at bps number count (Some process) targets =
 abbrev pub trace_after : List Placed → ℕ → ℕ → TargetsValue → TargetsValue
 trace_after bps count number targets = traced_at bps number count (process_of number targets.processes) targets
 
-abbrev pub traced_events_at : List Placed → ℕ → ℕ → Option Process → TargetsValue → List EventData
+abbrev pub traced_events_at : List Placed → ℕ → ℕ → Option ProcessValue → TargetsValue → List EventData
 traced_events_at bps number count None after = []
 traced_events_at bps number count (Some process) after =
     settled_events bps number (trace_fate process (trace_of bps number count process)) after
@@ -138,7 +138,7 @@ traced_events_at bps number count (Some process) after =
 abbrev pub trace_events : List Placed → ℕ → ℕ → TargetsValue → TargetsValue → List EventData
 trace_events bps count number targets after = traced_events_at bps number count (process_of number targets.processes) after
 
-abbrev pub addresses_at : List Placed → ℕ → ℕ → Option Process → List ℕ
+abbrev pub addresses_at : List Placed → ℕ → ℕ → Option ProcessValue → List ℕ
 addresses_at bps number count None = []
 addresses_at bps number count (Some process) = (trace_of bps number count process).addresses
 

@@ -9,10 +9,10 @@ use Rattle.target_contexts.specs.Short.{AllShort, ChangeStaysShort, EndStaysShor
 use Rattle.target_contexts.specs.Starting.{first_state, new_process, suspended_text, with_started}
 use Rattle.target_contexts.specs.TargetsValue.{TargetsValue}
 use Rattle.target_contexts.specs.declared.process.Image.{Image}
-use Rattle.target_contexts.specs.declared.process.Process.{Process}
+use Rattle.target_contexts.specs.ProcessValue.{ProcessValue}
 use Rattle.list_laws.proofs.AllLists.{all_take, all_append, all_drop}
 
-abbrev IsRow : ℕ × Process → Type 0
+abbrev IsRow : ℕ × ProcessValue → Type 0
 IsRow row = IsShort row.1
 
 -- ---- lists
@@ -29,19 +29,19 @@ all_get P (x ∷ xs) (suc i) all = all_get P xs i all.1
 
 -- ---- a process that is found
 
-row_short : (row : Option (ℕ × Process)) → IfSome row IsRow → IfSome (option_map (λ (r : ℕ × Process). r.1) row) IsShort
+row_short : (row : Option (ℕ × ProcessValue)) → IfSome row IsRow → IfSome (option_map (λ (r : ℕ × ProcessValue). r.1) row) IsShort
 row_short None short = tt
 row_short (Some row) short = short
 
-at_short : (rows : List (ℕ × Process)) (place : Option ℕ) → AllShort rows → IfSome (process_at rows place) IsShort
+at_short : (rows : List (ℕ × ProcessValue)) (place : Option ℕ) → AllShort rows → IfSome (process_at rows place) IsShort
 at_short rows None all = tt
 at_short rows (Some place) all = row_short (slice_get rows place) (all_get IsRow rows place all)
 
-of_short : (rows : List (ℕ × Process)) (number : ℕ) → AllShort rows → IfSome (process_of number rows) IsShort
+of_short : (rows : List (ℕ × ProcessValue)) (number : ℕ) → AllShort rows → IfSome (process_of number rows) IsShort
 of_short rows number all = at_short rows (place_of number rows) all
 
 pub found_is_short : FoundIsShort
-found_is_short rows number process all found = subst (λ (o : Option Process). IfSome o IsShort) found (of_short rows number all)
+found_is_short rows number process all found = subst (λ (o : Option ProcessValue). IfSome o IsShort) found (of_short rows number all)
 
 -- ---- a start
 
@@ -73,15 +73,15 @@ start_stays_short file attach targets all = started_short attach targets (image_
 
 -- ---- a change
 
-with_row_short : (process : Process) (rows : List (ℕ × Process)) (place : ℕ) (row : Option (ℕ × Process)) → IsShort process → AllShort rows → AllShort (with_row process rows place row)
+with_row_short : (process : ProcessValue) (rows : List (ℕ × ProcessValue)) (place : ℕ) (row : Option (ℕ × ProcessValue)) → IsShort process → AllShort rows → AllShort (with_row process rows place row)
 with_row_short process rows place None short all = all
 with_row_short process rows place (Some row) short all = all_set IsRow rows place (row.0, process) short all
 
-with_at_short : (process : Process) (rows : List (ℕ × Process)) (place : Option ℕ) → IsShort process → AllShort rows → AllShort (with_at process rows place)
+with_at_short : (process : ProcessValue) (rows : List (ℕ × ProcessValue)) (place : Option ℕ) → IsShort process → AllShort rows → AllShort (with_at process rows place)
 with_at_short process rows None short all = all
 with_at_short process rows (Some place) short all = with_row_short process rows place (slice_get rows place) short all
 
-changed_short : (change : Process → Process) (number : ℕ) (found : Option Process) (targets : TargetsValue) → ((process : Process) → IsShort process → IsShort (change process)) → IfSome found IsShort
+changed_short : (change : ProcessValue → ProcessValue) (number : ℕ) (found : Option ProcessValue) (targets : TargetsValue) → ((process : ProcessValue) → IsShort process → IsShort (change process)) → IfSome found IsShort
     → AllShort targets.processes → AllShort (with_change_at change number found targets).processes
 changed_short change number None targets keeps short all = all
 changed_short change number (Some process) targets keeps short all =
@@ -93,7 +93,7 @@ change_stays_short change number targets keeps all =
 
 -- ---- an end
 
-without_short : (rows : List (ℕ × Process)) (place : Option ℕ) → AllShort rows → AllShort (without_at rows place)
+without_short : (rows : List (ℕ × ProcessValue)) (place : Option ℕ) → AllShort rows → AllShort (without_at rows place)
 without_short rows None all = all
 without_short rows (Some place) all = all_append IsRow (take place rows) (drop (suc place) rows) (all_take IsRow place rows all) (all_drop IsRow (suc place) rows all)
 

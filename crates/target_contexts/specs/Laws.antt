@@ -1,27 +1,27 @@
 -- The laws of a list of live processes: to start, change or end one leaves the others as they are, and the list orderly.
 use Rattle.std.specs.Prelude.{ℕ, ◌≡◌, ◌≢◌, ◌+◌, ◌^◌, ◌<◌, List, [], ◌∷◌, ◌++◌, length, Some}
 use Rattle.target_contexts.specs.Live.{IsLive, IsOrderly, numbers_of, process_of, with_process, without}
-use Rattle.target_contexts.specs.declared.process.Process.{Process}
+use Rattle.target_contexts.specs.ProcessValue.{ProcessValue}
 
 -- under every number but this one there is the process that was there
-abbrev pub AgreeBut : ℕ → List (ℕ × Process) → List (ℕ × Process) → Type 0
+abbrev pub AgreeBut : ℕ → List (ℕ × ProcessValue) → List (ℕ × ProcessValue) → Type 0
 AgreeBut number old new = (other : ℕ) → other ≢ number → process_of other new ≡ process_of other old
 
 -- the process that starts is the one of its number
 abbrev pub StartsOne : Type 0
-StartsOne = (rows : List (ℕ × Process)) (next : ℕ) (process : Process) → IsOrderly rows next →
+StartsOne = (rows : List (ℕ × ProcessValue)) (next : ℕ) (process : ProcessValue) → IsOrderly rows next →
     let new = rows ++ (next, process) ∷ [] in
     (process_of next new ≡ Some process) × AgreeBut next rows new
 
 -- the process that is written is the one of its number, and no number changes
 abbrev pub ChangesOne : Type 0
-ChangesOne = (rows : List (ℕ × Process)) (number : ℕ) (process : Process) → IsLive number rows →
+ChangesOne = (rows : List (ℕ × ProcessValue)) (number : ℕ) (process : ProcessValue) → IsLive number rows →
     let new = with_process number process rows in
     (process_of number new ≡ Some process) × AgreeBut number rows new × (numbers_of new ≡ numbers_of rows)
 
 -- the process that ends is gone
 abbrev pub EndsOne : Type 0
-EndsOne = (rows : List (ℕ × Process)) (next number : ℕ) → IsOrderly rows next →
+EndsOne = (rows : List (ℕ × ProcessValue)) (next number : ℕ) → IsOrderly rows next →
     let new = without number rows in
     (IsLive number new → ⊥) × AgreeBut number rows new
 
@@ -29,13 +29,13 @@ EndsOne = (rows : List (ℕ × Process)) (next number : ℕ) → IsOrderly rows 
 
 -- where there is room for one more, and a number for it
 abbrev pub StartStaysOrderly : Type 0
-StartStaysOrderly = (rows : List (ℕ × Process)) (next : ℕ) (process : Process) → IsOrderly rows next →
+StartStaysOrderly = (rows : List (ℕ × ProcessValue)) (next : ℕ) (process : ProcessValue) → IsOrderly rows next →
     length rows < 64 → next < 2 ^ 32 → IsOrderly (rows ++ (next, process) ∷ []) (next + 1)
 
 -- whether or not there is a process of this number
 abbrev pub ChangeStaysOrderly : Type 0
-ChangeStaysOrderly = (rows : List (ℕ × Process)) (next number : ℕ) (process : Process) → IsOrderly rows next →
+ChangeStaysOrderly = (rows : List (ℕ × ProcessValue)) (next number : ℕ) (process : ProcessValue) → IsOrderly rows next →
     IsOrderly (with_process number process rows) next
 
 abbrev pub EndStaysOrderly : Type 0
-EndStaysOrderly = (rows : List (ℕ × Process)) (next number : ℕ) → IsOrderly rows next → IsOrderly (without number rows) next
+EndStaysOrderly = (rows : List (ℕ × ProcessValue)) (next number : ℕ) → IsOrderly rows next → IsOrderly (without number rows) next

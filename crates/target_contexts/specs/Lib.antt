@@ -1,3 +1,4 @@
+pub mod ProcessValue
 pub mod TargetsValue
 pub mod Images
 pub mod Live

@@ -5,7 +5,7 @@ use Rattle.tcf_values.specs.Ids.{context_of}
 use Rattle.tcf_values.specs.declared.ids.ContextId.{ContextId}
 use Rattle.tcf_values.specs.declared.ids.ContextId.TheVariants as ids
 use Rattle.target_contexts.specs.Live.{numbers_of, process_of}
-use Rattle.target_contexts.specs.declared.process.Process.{Process}
+use Rattle.target_contexts.specs.ProcessValue.{ProcessValue}
 use Rattle.target_contexts.specs.declared.process.ThreadState.{ThreadState}
 use Rattle.target_contexts.specs.declared.process.ThreadState.TheVariants.{Running, Suspended}
 
@@ -27,7 +27,7 @@ abbrev pub thread_named : List ℕ → Option ℕ
 thread_named id = option_and_then thread_for (context_of id)
 
 -- the live process of a number, where there is a number
-abbrev pub process_at_number : Option ℕ → List (ℕ × Process) → Option Process
+abbrev pub process_at_number : Option ℕ → List (ℕ × ProcessValue) → Option ProcessValue
 process_at_number number rows = option_and_then (λ n. process_of n rows) number
 
 -- the thread runs
@@ -37,22 +37,22 @@ runs (Suspended reason hits) = false
 
 -- ---- a live process, where it is there
 
-abbrev pub is_running : Option Process → Bool
+abbrev pub is_running : Option ProcessValue → Bool
 is_running None = false
 is_running (Some process) = runs process.state
 
-abbrev pub is_suspended : Option Process → Bool
+abbrev pub is_suspended : Option ProcessValue → Bool
 is_suspended None = false
 is_suspended (Some process) = not (runs process.state)
 
-abbrev pub is_attached : Option Process → Bool
+abbrev pub is_attached : Option ProcessValue → Bool
 is_attached None = false
 is_attached (Some process) = process.attached
 
-abbrev pub is_unattached : Option Process → Bool
+abbrev pub is_unattached : Option ProcessValue → Bool
 is_unattached None = false
 is_unattached (Some process) = not process.attached
 
 -- the numbers of the attached processes, in order
-abbrev pub attached_in : List (ℕ × Process) → List ℕ
+abbrev pub attached_in : List (ℕ × ProcessValue) → List ℕ
 attached_in rows = filter (λ number. is_attached (process_of number rows)) (numbers_of rows)

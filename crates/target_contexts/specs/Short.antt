@@ -5,7 +5,7 @@ use Rattle.target_contexts.specs.Changes.{with_change}
 use Rattle.target_contexts.specs.Live.{process_of, without}
 use Rattle.target_contexts.specs.Starting.{started}
 use Rattle.target_contexts.specs.TargetsValue.{TargetsValue}
-use Rattle.target_contexts.specs.declared.process.Process.{Process}
+use Rattle.target_contexts.specs.ProcessValue.{ProcessValue}
 use Rattle.target_contexts.specs.declared.process.ThreadState.{ThreadState}
 use Rattle.target_contexts.specs.declared.process.ThreadState.TheVariants.{Running, Suspended}
 
@@ -18,25 +18,25 @@ IsShortState (Running left) = Unit {0}
 IsShortState (Suspended reason hits) = (length reason ≤ 255) × AreShort hits
 
 -- an image is found under a name of at most 65,536 bytes
-pub record IsShort (process : Process) : Type 0 where
+pub record IsShort (process : ProcessValue) : Type 0 where
   pub name : length process.name ≤ 65536
   pub state : IsShortState process.state
 
-abbrev pub AllShort : List (ℕ × Process) → Type 0
+abbrev pub AllShort : List (ℕ × ProcessValue) → Type 0
 AllShort rows = AllByRecursion (λ row. IsShort row.1) rows
 
 -- ---- the laws: where all are short, each that is found is, and all are after a start, a change and an end
 
 abbrev pub FoundIsShort : Type 0
-FoundIsShort = (rows : List (ℕ × Process)) (number : ℕ) (process : Process) → AllShort rows → process_of number rows ≡ Some process → IsShort process
+FoundIsShort = (rows : List (ℕ × ProcessValue)) (number : ℕ) (process : ProcessValue) → AllShort rows → process_of number rows ≡ Some process → IsShort process
 
 abbrev pub StartStaysShort : Type 0
 StartStaysShort = (file : List ℕ) (attach : Bool) (targets : TargetsValue) → AllShort targets.processes → AllShort (started file attach targets).processes
 
 -- where the change keeps each process short
 abbrev pub ChangeStaysShort : Type 0
-ChangeStaysShort = (change : Process → Process) (number : ℕ) (targets : TargetsValue) → ((process : Process) → IsShort process → IsShort (change process)) →
+ChangeStaysShort = (change : ProcessValue → ProcessValue) (number : ℕ) (targets : TargetsValue) → ((process : ProcessValue) → IsShort process → IsShort (change process)) →
     AllShort targets.processes → AllShort (with_change change number targets).processes
 
 abbrev pub EndStaysShort : Type 0
-EndStaysShort = (rows : List (ℕ × Process)) (number : ℕ) → AllShort rows → AllShort (without number rows)
+EndStaysShort = (rows : List (ℕ × ProcessValue)) (number : ℕ) → AllShort rows → AllShort (without number rows)

@@ -4,7 +4,7 @@ use Rattle.rv32i_core.specs.Bytes.{image_memory}
 use Rattle.target_contexts.specs.TargetsValue.{TargetsValue}
 use Rattle.target_contexts.specs.Images.{image_of}
 use Rattle.target_contexts.specs.declared.process.Image.{Image}
-use Rattle.target_contexts.specs.declared.process.Process.{Process}
+use Rattle.target_contexts.specs.ProcessValue.{ProcessValue}
 use Rattle.target_contexts.specs.declared.process.ThreadState.{ThreadState}
 use Rattle.target_contexts.specs.declared.process.ThreadState.TheVariants.{Running, Suspended}
 use Rattle.target_contexts.specs.declared.targets.StartRefusal.{StartRefusal}
@@ -38,7 +38,7 @@ first_state true = Suspended suspended_text []
 first_state false = Running None
 
 -- the image at the address 0, all registers and pc 0
-abbrev pub new_process : Bool → Image → Process
+abbrev pub new_process : Bool → Image → ProcessValue
 new_process attach image = record {
   name = image.name;
   attached = attach;

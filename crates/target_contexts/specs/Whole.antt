@@ -4,10 +4,10 @@ use Rattle.std.specs.List.{AllByRecursion}
 use Rattle.rv32i_core.specs.Laws.{IsCpu, IsMemory}
 use Rattle.target_contexts.specs.Starting.{first_state, new_process}
 use Rattle.target_contexts.specs.declared.process.Image.{Image}
-use Rattle.target_contexts.specs.declared.process.Process.{Process}
+use Rattle.target_contexts.specs.ProcessValue.{ProcessValue}
 
 -- its processor has 32 registers and a pc of 32 bits each, and its memory 65,536 bytes
-pub record IsWhole (process : Process) : Type 0 where
+pub record IsWhole (process : ProcessValue) : Type 0 where
   pub cpu : IsCpu process.cpu
   pub memory : IsMemory process.memory
 

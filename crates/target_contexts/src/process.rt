@@ -4,6 +4,7 @@ ghost use Rattle.target_contexts.specs.Starting.{first_state, new_process, suspe
 
 use rv32i_core::{Cpu, Memory};
 use std::alloc::{AllocError, Global};
+use std::marker::Model;
 use tcf_values::{Bytes, Duplicate, Text, Texts};
 
 /// A program's bytes under a name. A process is started from it.
@@ -23,7 +24,7 @@ pub enum ThreadState {
     Suspended { reason: Text, hits: Texts },
 }
 
-/// A process with its one thread.
+/// A process with its one thread. Contracts see a record of the same fields.
 #[derive(Drop)]
 pub struct Process {
     /// The name of its image.
@@ -33,6 +34,14 @@ pub struct Process {
     pub state: ThreadState,
     pub cpu: Cpu,
     pub memory: Memory,
+}
+
+impl Model for Process {
+    ghost use Rattle.target_contexts.specs.ProcessValue.{ProcessValue};
+
+    ghost Value = { ProcessValue };
+
+    ghost view = { λ p. record { name = p.name; attached = p.attached; state = p.state; cpu = p.cpu; memory = p.memory } };
 }
 
 #[tactic(auto, unfolding(crate::specs::Starting::suspended_text))]

@@ -9,11 +9,11 @@ use Rattle.target_hub.specs.HubValue.{new_target}
 use Rattle.target_hub.specs.Sendable.{IsBounded}
 use Rattle.target_hub.specs.declared.input.Input.{Input}
 use Rattle.target_hub.specs.declared.input.Input.TheVariants.{Opened, Executed, Ticked, Closed}
-use Rattle.target_hub.specs.declared.target.Target.{Target}
+use Rattle.run_control.specs.TargetValue.{TargetValue}
 use Rattle.target_hub.proofs.Histories.{inputs_append, stays_consistent}
 use Rattle.target_hub.proofs.Sends.{commands_short, ticks_short}
 
-abbrev after : List Image → List Input → Target
+abbrev after : List Image → List Input → TargetValue
 after images inputs = inputs_after inputs (new_target images)
 
 -- the front of a legal list is legal
@@ -26,7 +26,7 @@ bounded_by images inputs legal short =
     let holds = stays_consistent images inputs legal in
     record { processes = short; orderly = holds.processes; listed = holds.breakpoints; properties = holds.properties }
 
-input_short : (input : Input) (target : Target) → IsBounded target → AllShort (input_after input target).contexts.processes
+input_short : (input : Input) (target : TargetValue) → IsBounded target → AllShort (input_after input target).contexts.processes
 input_short (Opened channel) target bounded = bounded.processes
 input_short (Executed channel reading service name) target bounded = commands_short channel reading target bounded
 input_short (Ticked thread) target bounded = ticks_short thread target bounded
@@ -38,7 +38,7 @@ all_short images before (input ∷ rest) legal short =
     let together = append_assoc before (input ∷ []) rest in
     let bounded = bounded_by images before (front_legal images before (input ∷ rest) legal) short in
     let next : AllShort (after images (before ++ input ∷ [])).contexts.processes =
-    subst (λ (target : Target). AllShort target.contexts.processes) (sym (inputs_append before (input ∷ []) (new_target images))) (input_short input (after images before) bounded) in
+    subst (λ (target : TargetValue). AllShort target.contexts.processes) (sym (inputs_append before (input ∷ []) (new_target images))) (input_short input (after images before) bounded) in
     subst (λ (inputs : List Input). AllShort (after images inputs).contexts.processes) together
     (all_short images (before ++ input ∷ []) rest (subst (IsLegal images) (sym together) legal) next)
 

@@ -40,7 +40,7 @@ use Rattle.target_hub.specs.BreakpointsRows.{ask_answer, ask_fault, breakpoints_
 use Rattle.target_hub.specs.BreakpointsRows as bp_rows
 use Rattle.target_hub.specs.Execution.{effect_in, exec_effect}
 use Rattle.target_hub.specs.Limits.{AreEvents, AreReadable}
-use Rattle.target_hub.specs.declared.target.Target.{Target}
+use Rattle.run_control.specs.TargetValue.{TargetValue}
 use Rattle.target_hub.proofs.Lists.{all_mapped}
 use Rattle.target_hub.proofs.Told.{added_fit, changed_fit, end_fits, status_fits, statuses_fit, suspended_fit, trace_fits}
 use Rattle.list_laws.proofs.Flags.{second_false}
@@ -221,7 +221,7 @@ either_told : (test : Bool) (one other : Effect) → AreEvents one.events → Ar
 either_told true one other fit also = fit
 either_told false one other fit also = also
 
-pub breakpoints_told : (channel : ℕ) (command : Command) (target : Target) → IsReadable command → AreReadable target.breakpoints → AreEvents (breakpoints_effect channel command target).events
+pub breakpoints_told : (channel : ℕ) (command : Command) (target : TargetValue) → IsReadable command → AreReadable target.breakpoints → AreEvents (breakpoints_effect channel command target).events
 breakpoints_told channel command target readable all =
     let attached = attached_in target.contexts.processes in
     let answer = gives (ask_answer command attached target.breakpoints) in
@@ -230,7 +230,7 @@ breakpoints_told channel command target readable all =
 
 -- ---- every service
 
-told_in : (name : CommandName) (channel : ℕ) (command : Command) (target : Target) → IsReadable command → AreReadable target.breakpoints → AreEvents (effect_in name channel command target).events
+told_in : (name : CommandName) (channel : ℕ) (command : Command) (target : TargetValue) → IsReadable command → AreReadable target.breakpoints → AreEvents (effect_in name channel command target).events
 told_in (service.Locator name) channel command target readable all = tt
 told_in (service.RunControl name) channel command target readable all = run_told command target.breakpoints target.contexts
 told_in (service.Breakpoints name) channel command target readable all = breakpoints_told channel command target readable all
@@ -239,6 +239,6 @@ told_in (service.Registers name) channel command target readable all = data_told
 told_in (service.Processes name) channel command target readable all = run_told command target.breakpoints target.contexts
 told_in (service.Trace name) channel command target readable all = run_told command target.breakpoints target.contexts
 
-pub exec_told : (channel : ℕ) (command : Command) (target : Target) → IsReadable command → AreReadable target.breakpoints → AreEvents (exec_effect channel command target).events
+pub exec_told : (channel : ℕ) (command : Command) (target : TargetValue) → IsReadable command → AreReadable target.breakpoints → AreEvents (exec_effect channel command target).events
 unfolding exec_effect
 exec_told channel command target readable all = told_in (named_as command) channel command target readable all

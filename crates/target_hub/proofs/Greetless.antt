@@ -26,14 +26,14 @@ use Rattle.service_names.specs.declared.commands.CommandName.TheVariants as serv
 use Rattle.target_contexts.specs.Live.{process_of}
 use Rattle.target_contexts.specs.Named.{attached_in, is_suspended, number_named, thread_named}
 use Rattle.target_contexts.specs.TargetsValue.{TargetsValue}
-use Rattle.target_contexts.specs.declared.process.Process.{Process}
+use Rattle.target_contexts.specs.ProcessValue.{ProcessValue}
 use Rattle.target_contexts.specs.declared.process.ThreadState.{ThreadState}
 use Rattle.target_contexts.specs.declared.process.ThreadState.TheVariants.{Running, Suspended}
 use Rattle.target_hub.specs.BreakpointsRows as bp_rows
 use Rattle.target_hub.specs.BreakpointsRows.{ask_answer, ask_fault, breakpoints_effect, effect_of, removed_events, status_events}
 use Rattle.target_hub.specs.Execution.{effect_in, exec_effect}
 use Rattle.target_hub.specs.Laws.{AreNoHello, ClosingsTellNoHello, CommandsTellNoHello, IsNoHello, TicksTellNoHello}
-use Rattle.target_hub.specs.declared.target.Target.{Target}
+use Rattle.run_control.specs.TargetValue.{TargetValue}
 use Rattle.tcf_values.specs.Effects.{effect_by, failed, gives}
 use Rattle.tcf_values.specs.declared.command.Command.{Command}
 use Rattle.tcf_values.specs.declared.command.Command.TheVariants.{GetContext, GetChildren, GetState, Resume, Suspend, Terminate, MemGet, MemSet, RegGet, RegSet, RegGetm, RegSetm, ProcContext, ProcChildren, ProcStart, ProcAttach, ProcDetach, ProcTerminate, TraceRun}
@@ -76,11 +76,11 @@ statuses_all attached (row ∷ rows) = (tt, statuses_all attached rows)
 statuses_told : (bps : List Placed) (targets : TargetsValue) → AreNoHello (statuses_in bps targets)
 statuses_told bps targets = statuses_all (attached_in targets.processes) bps
 
-added_told : (number : ℕ) (process : Option Process) → AreNoHello (added_events number process)
+added_told : (number : ℕ) (process : Option ProcessValue) → AreNoHello (added_events number process)
 added_told number None = tt
 added_told number (Some process) = (tt, tt)
 
-changed_told : (number : ℕ) (process : Option Process) → AreNoHello (changed_events number process)
+changed_told : (number : ℕ) (process : Option ProcessValue) → AreNoHello (changed_events number process)
 changed_told number None = tt
 changed_told number (Some process) = (tt, tt)
 
@@ -88,7 +88,7 @@ stop_told : (number pc : ℕ) (state : ThreadState) → AreNoHello (stop_events 
 stop_told number pc (Running left) = tt
 stop_told number pc (Suspended reason hits) = (tt, tt)
 
-suspended_told : (number : ℕ) (process : Option Process) → AreNoHello (suspended_events number process)
+suspended_told : (number : ℕ) (process : Option ProcessValue) → AreNoHello (suspended_events number process)
 suspended_told number None = tt
 suspended_told number (Some process) = stop_told number process.cpu.pc process.state
 
@@ -122,11 +122,11 @@ hit_told : (bps : List Placed) (number : ℕ) (plain : ThreadState) (attached : 
 hit_told bps number plain attached after [] = suspended_told number (process_of number after.processes)
 hit_told bps number plain attached after (hit ∷ hits) = suspended_told number (process_of number after.processes)
 
-exception_told : (bps : List Placed) (number : ℕ) (plain : ThreadState) (attached : Bool) (after : TargetsValue) (process : Process) → AreNoHello (settled_events bps number (fate_by plain attached (executed_by bps number process excepts)) after)
+exception_told : (bps : List Placed) (number : ℕ) (plain : ThreadState) (attached : Bool) (after : TargetsValue) (process : ProcessValue) → AreNoHello (settled_events bps number (fate_by plain attached (executed_by bps number process excepts)) after)
 exception_told bps number plain true after process = suspended_told number (process_of number after.processes)
 exception_told bps number plain false after process = end_told bps number exception_code after
 
-executed_told : (bps : List Placed) (number : ℕ) (plain : ThreadState) (attached : Bool) (after : TargetsValue) (process : Process) (step : Step)
+executed_told : (bps : List Placed) (number : ℕ) (plain : ThreadState) (attached : Bool) (after : TargetsValue) (process : ProcessValue) (step : Step)
     → AreNoHello (settled_events bps number (fate_by plain attached (executed_by bps number process step)) after)
 executed_told bps number plain attached after process (goes_on cpu memory) = hit_told bps number plain attached after _
 executed_told bps number plain attached after process (ends code) = end_told bps number code after
@@ -139,13 +139,13 @@ halt_told bps number plain attached after (ends code) = end_told bps number code
 halt_told bps number plain true after excepts = suspended_told number (process_of number after.processes)
 halt_told bps number plain false after excepts = end_told bps number exception_code after
 
-stopped_told : (bps : List Placed) (number : ℕ) (plain : ThreadState) (attached : Bool) (after : TargetsValue) (hits : List (List ℕ)) (all : Bool) (last : Process)
+stopped_told : (bps : List Placed) (number : ℕ) (plain : ThreadState) (attached : Bool) (after : TargetsValue) (hits : List (List ℕ)) (all : Bool) (last : ProcessValue)
     → AreNoHello (settled_events bps number (fate_by plain attached (stop_by hits all last)) after)
 stopped_told bps number plain attached after (hit ∷ hits) all last = suspended_told number (process_of number after.processes)
 stopped_told bps number plain attached after [] true last = suspended_told number (process_of number after.processes)
 stopped_told bps number plain attached after [] false last = halt_told bps number plain attached after (machine last.cpu last.memory)
 
-traced_told : (bps : List Placed) (number count : ℕ) (process : Option Process) (after : TargetsValue) → AreNoHello (traced_events_at bps number count process after)
+traced_told : (bps : List Placed) (number count : ℕ) (process : Option ProcessValue) (after : TargetsValue) → AreNoHello (traced_events_at bps number count process after)
 traced_told bps number count None after = tt
 traced_told bps number count (Some process) after =
     let states = states_of bps number count process in
@@ -233,7 +233,7 @@ either_effect : (test : Bool) (one other : Effect) → AreNoHello one.events →
 either_effect true one other first second = first
 either_effect false one other first second = second
 
-breakpoints_told : (channel : ℕ) (command : Command) (target : Target) → AreNoHello (breakpoints_effect channel command target).events
+breakpoints_told : (channel : ℕ) (command : Command) (target : TargetValue) → AreNoHello (breakpoints_effect channel command target).events
 breakpoints_told channel command target =
     let attached = attached_in target.contexts.processes in
     let answer = gives (ask_answer command attached target.breakpoints) in
@@ -242,7 +242,7 @@ breakpoints_told channel command target =
 
 -- ---- by every input
 
-told_in : (name : CommandName) (channel : ℕ) (command : Command) (target : Target) → AreNoHello (effect_in name channel command target).events
+told_in : (name : CommandName) (channel : ℕ) (command : Command) (target : TargetValue) → AreNoHello (effect_in name channel command target).events
 told_in (service.Locator name) channel command target = tt
 told_in (service.RunControl name) channel command target = run_told command target.breakpoints target.contexts
 told_in (service.Breakpoints name) channel command target = breakpoints_told channel command target
@@ -251,7 +251,7 @@ told_in (service.Registers name) channel command target = data_told command targ
 told_in (service.Processes name) channel command target = run_told command target.breakpoints target.contexts
 told_in (service.Trace name) channel command target = run_told command target.breakpoints target.contexts
 
-exec_told : (channel : ℕ) (command : Command) (target : Target) → AreNoHello (exec_effect channel command target).events
+exec_told : (channel : ℕ) (command : Command) (target : TargetValue) → AreNoHello (exec_effect channel command target).events
 unfolding exec_effect
 exec_told channel command target = told_in (named_as command) channel command target
 
@@ -260,7 +260,7 @@ commands_greetless channel service name (readings.Known command) target = exec_t
 commands_greetless channel service name readings.Unknown target = tt
 commands_greetless channel service name (readings.Bad index code) target = tt
 
-ticked_told : (bps : List Placed) (number : ℕ) (process : Option Process) (after : TargetsValue) → AreNoHello (ticked_events_at bps number process after)
+ticked_told : (bps : List Placed) (number : ℕ) (process : Option ProcessValue) (after : TargetsValue) → AreNoHello (ticked_events_at bps number process after)
 ticked_told bps number None after = tt
 ticked_told bps number (Some process) after =
     executed_told bps number (counted process.state) process.attached after process (machine process.cpu process.memory)

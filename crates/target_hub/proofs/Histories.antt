@@ -21,7 +21,7 @@ use Rattle.run_control.specs.Laws.{AreSound, IsSound, needs_debugger}
 use Rattle.target_contexts.specs.Live.{IsOrderly, process_of}
 use Rattle.target_contexts.specs.TargetsValue.{TargetsValue}
 use Rattle.target_contexts.specs.declared.process.Image.{Image}
-use Rattle.target_contexts.specs.declared.process.Process.{Process}
+use Rattle.target_contexts.specs.ProcessValue.{ProcessValue}
 use Rattle.target_contexts.specs.declared.process.ThreadState.{ThreadState}
 use Rattle.target_hub.specs.Execution.{after_in, exec_after}
 use Rattle.target_hub.specs.History.{IsAllowed, IsLegal, closes, input_after, inputs_after, was_closed, was_opened}
@@ -30,7 +30,7 @@ use Rattle.target_hub.specs.HubValue.{new_target}
 use Rattle.target_hub.specs.Limits.{AreReadable}
 use Rattle.target_hub.specs.declared.input.Input.{Input}
 use Rattle.target_hub.specs.declared.input.Input.TheVariants.{Opened, Executed, Ticked, Closed}
-use Rattle.target_hub.specs.declared.target.Target.{Target}
+use Rattle.run_control.specs.TargetValue.{TargetValue}
 use Rattle.breakpoints.proofs.TheLaws.{list_stays_orderly}
 use Rattle.command_tables.proofs.TheLaws.{known_are_readable}
 use Rattle.data_services.proofs.TheLaws.{order_stays, threads_stay}
@@ -38,7 +38,7 @@ use Rattle.run_control.proofs.TheLaws.{commands_keep_order, commands_keep_sound,
 use Rattle.target_hub.proofs.Kept.{after_readable, others_readable}
 use Rattle.target_hub.proofs.Owned.{going_owns, gone_owns, list_append, silent_owns}
 
-pub inputs_append : (xs ys : List Input) (target : Target) → inputs_after (xs ++ ys) target ≡ inputs_after ys (inputs_after xs target)
+pub inputs_append : (xs ys : List Input) (target : TargetValue) → inputs_after (xs ++ ys) target ≡ inputs_after ys (inputs_after xs target)
 inputs_append [] ys target = refl
 inputs_append (x ∷ xs) ys target = inputs_append xs ys (input_after x target)
 
@@ -56,7 +56,7 @@ pub record AreKept (before : List Input) (rows : List Placed) : Type 0 where
 
 -- ---- the processes through a command
 
-sound_at : (found : Option Process) (process : Process) → option_map thread_part (Some process) ≡ option_map thread_part found → ((p : Process) → found ≡ Some p → IsSound p) → IsSound process
+sound_at : (found : Option ProcessValue) (process : ProcessValue) → option_map thread_part (Some process) ≡ option_map thread_part found → ((p : ProcessValue) → found ≡ Some p → IsSound p) → IsSound process
 sound_at None process same sound = absurd cc
 sound_at (Some p) process same sound =
     let parts : thread_part process ≡ thread_part p = ap (λ (o : Option (ThreadState × Bool)). unwrap_or o (thread_part p)) same in
@@ -80,7 +80,7 @@ data_fine c contexts fine = record {
   threads = data_sound c contexts fine.threads;
 }
 
-fine_in : (name : CommandName) (channel : ℕ) (c : Command) (target : Target) → AreFine target.contexts → AreFine (after_in name channel c target).contexts
+fine_in : (name : CommandName) (channel : ℕ) (c : Command) (target : TargetValue) → AreFine target.contexts → AreFine (after_in name channel c target).contexts
 fine_in (service.Locator name) channel c target fine = fine
 fine_in (service.RunControl name) channel c target fine = run_fine c target.breakpoints target.contexts fine
 fine_in (service.Breakpoints name) channel c target fine = fine
@@ -89,16 +89,16 @@ fine_in (service.Registers name) channel c target fine = data_fine c target.cont
 fine_in (service.Processes name) channel c target fine = run_fine c target.breakpoints target.contexts fine
 fine_in (service.Trace name) channel c target fine = run_fine c target.breakpoints target.contexts fine
 
-exec_fine : (channel : ℕ) (c : Command) (target : Target) → AreFine target.contexts → AreFine (exec_after channel c target).contexts
+exec_fine : (channel : ℕ) (c : Command) (target : TargetValue) → AreFine target.contexts → AreFine (exec_after channel c target).contexts
 unfolding exec_after
 exec_fine channel c target fine = fine_in (named_as c) channel c target fine
 
-reading_fine : (channel : ℕ) (reading : Reading) (name service : List ℕ) (target : Target) → AreFine target.contexts → AreFine (input_after (Executed channel reading service name) target).contexts
+reading_fine : (channel : ℕ) (reading : Reading) (name service : List ℕ) (target : TargetValue) → AreFine target.contexts → AreFine (input_after (Executed channel reading service name) target).contexts
 reading_fine channel (Known c) name service target fine = exec_fine channel c target fine
 reading_fine channel Unknown name service target fine = fine
 reading_fine channel (Bad index code) name service target fine = fine
 
-fine_after : (input : Input) (target : Target) → AreFine target.contexts → AreFine (input_after input target).contexts
+fine_after : (input : Input) (target : TargetValue) → AreFine target.contexts → AreFine (input_after input target).contexts
 fine_after (Opened channel) target fine = fine
 fine_after (Executed channel reading service name) target fine = reading_fine channel reading name service target fine
 fine_after (Ticked thread) target fine = record {
@@ -168,7 +168,7 @@ going_kept before channel rows kept = record {
       ];
 }
 
-kept_in : (name : CommandName) (before : List Input) (input : Input) (channel : ℕ) (c : Command) (target : Target) → ((other : ℕ) → closes other input ≡ false) → was_closed channel before ≡ false → IsReadable c
+kept_in : (name : CommandName) (before : List Input) (input : Input) (channel : ℕ) (c : Command) (target : TargetValue) → ((other : ℕ) → closes other input ≡ false) → was_closed channel before ≡ false → IsReadable c
     → AreKept before target.breakpoints → AreKept (before ++ input ∷ []) (after_in name channel c target).breakpoints
 kept_in (service.Locator name) before input channel c target shut_none live readable kept = same_kept before input target.breakpoints shut_none kept
 kept_in (service.RunControl name) before input channel c target shut_none live readable kept = same_kept before input target.breakpoints shut_none kept
@@ -178,12 +178,12 @@ kept_in (service.Registers name) before input channel c target shut_none live re
 kept_in (service.Processes name) before input channel c target shut_none live readable kept = same_kept before input target.breakpoints shut_none kept
 kept_in (service.Trace name) before input channel c target shut_none live readable kept = same_kept before input target.breakpoints shut_none kept
 
-exec_kept : (before : List Input) (input : Input) (channel : ℕ) (c : Command) (target : Target) → ((other : ℕ) → closes other input ≡ false) → was_closed channel before ≡ false → IsReadable c
+exec_kept : (before : List Input) (input : Input) (channel : ℕ) (c : Command) (target : TargetValue) → ((other : ℕ) → closes other input ≡ false) → was_closed channel before ≡ false → IsReadable c
     → AreKept before target.breakpoints → AreKept (before ++ input ∷ []) (exec_after channel c target).breakpoints
 unfolding exec_after
 exec_kept before input channel c target shut_none live readable kept = kept_in (named_as c) before input channel c target shut_none live readable kept
 
-kept_after : (before : List Input) (input : Input) (target : Target) → IsAllowed before target input → AreKept before target.breakpoints → AreKept (before ++ input ∷ []) (input_after input target).breakpoints
+kept_after : (before : List Input) (input : Input) (target : TargetValue) → IsAllowed before target input → AreKept before target.breakpoints → AreKept (before ++ input ∷ []) (input_after input target).breakpoints
 kept_after before (Opened channel) target allowed kept = same_kept before (Opened channel) target.breakpoints (λ _. refl) kept
 kept_after before (Executed channel (Known c) service name) target allowed kept =
     exec_kept before (Executed channel (Known c) service name) channel c target (λ _. refl)
@@ -196,11 +196,11 @@ kept_after before (Closed channel) target allowed kept = going_kept before chann
 
 -- ---- whole lists of inputs
 
-pub record Stands (before : List Input) (target : Target) : Type 0 where
+pub record Stands (before : List Input) (target : TargetValue) : Type 0 where
   pub fine : AreFine target.contexts
   pub kept : AreKept before target.breakpoints
 
-stands_all : (images : List Image) (before rest : List Input) (target : Target) → target ≡ inputs_after before (new_target images) → IsLegal images (before ++ rest) → Stands before target
+stands_all : (images : List Image) (before rest : List Input) (target : TargetValue) → target ≡ inputs_after before (new_target images) → IsLegal images (before ++ rest) → Stands before target
     → Stands (before ++ rest) (inputs_after rest target)
 stands_all images before [] target made legal stands = subst (λ bs. Stands bs target) (sym (append-nil before)) stands
 stands_all images before (input ∷ rest) target made legal stands =

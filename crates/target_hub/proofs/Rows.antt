@@ -31,7 +31,7 @@ use Rattle.target_contexts.specs.Named.{attached_in, process_at_number, thread_n
 use Rattle.target_contexts.specs.Starting.{new_process, refusal_for, started, with_started}
 use Rattle.target_contexts.specs.TargetsValue.{TargetsValue}
 use Rattle.target_contexts.specs.declared.process.Image.{Image}
-use Rattle.target_contexts.specs.declared.process.Process.{Process}
+use Rattle.target_contexts.specs.ProcessValue.{ProcessValue}
 use Rattle.run_control.specs.Asking.{context_answer, data_named, process_answer, process_answer_of, state_answer}
 use Rattle.run_control.specs.Attaching.{start_fault, start_fault_for}
 use Rattle.run_control.specs.Commands.{run_fault, run_left, trace_given}
@@ -40,7 +40,7 @@ use Rattle.run_control.specs.Steering.{thread_there}
 use Rattle.target_hub.specs.BreakpointsRows.{ask_fault, effect_of, props_answer, status_answer}
 use Rattle.target_hub.specs.Execution.{exec_effect}
 use Rattle.target_hub.specs.Limits.{AreReadable}
-use Rattle.target_hub.specs.declared.target.Target.{Target}
+use Rattle.run_control.specs.TargetValue.{TargetValue}
 use Rattle.target_contexts.proofs.TheLaws.{starts_one}
 use Rattle.target_hub.proofs.Told.{instances_fit, process_within, thread_within}
 use Rattle.breakpoints.specs.declared.rows.Placed.{Placed}
@@ -73,11 +73,11 @@ abbrev pub IfContext : Option ContextData → Type 0
 IfContext None = Unit {0}
 IfContext (Some context) = IsContext context
 
-process_context : (number : ℕ) (found : Option Process) → IfContext (option_map (λ process. process_data number process) found)
+process_context : (number : ℕ) (found : Option ProcessValue) → IfContext (option_map (λ process. process_data number process) found)
 process_context number None = tt
 process_context number (Some process) = process_within number process
 
-thread_context : (number : ℕ) (found : Option Process) → IfContext (option_map (λ process. thread_data number process) found)
+thread_context : (number : ℕ) (found : Option ProcessValue) → IfContext (option_map (λ process. thread_data number process) found)
 thread_context number None = tt
 thread_context number (Some process) = thread_within number process
 
@@ -85,13 +85,13 @@ if_first : (test : Bool) (found : Option ContextData) → IfContext found → If
 if_first true found within = within
 if_first false found within = tt
 
-data_within : (context : ContextId) (rows : List (ℕ × Process)) → IfContext (data_of context rows)
+data_within : (context : ContextId) (rows : List (ℕ × ProcessValue)) → IfContext (data_of context rows)
 data_within (ids.Process number) rows = process_context number (process_of number rows)
 data_within (ids.Thread number thread) rows =
     let found = process_of number rows in
     if_first (thread == 1) (option_map (λ process. thread_data number process) found) (thread_context number found)
 
-named_within : (rows : List (ℕ × Process)) (context : Option ContextId) → IfContext (option_and_then (λ c. data_of c rows) context)
+named_within : (rows : List (ℕ × ProcessValue)) (context : Option ContextId) → IfContext (option_and_then (λ c. data_of c rows) context)
 named_within rows None = tt
 named_within rows (Some context) = data_within context rows
 
@@ -101,19 +101,19 @@ context_row (Some context) within none = (refl, within)
 
 -- ---- states and processes
 
-state_row : (found : Option Process) → first_fault ((is_none found, faults.BadContext) ∷ []) ≡ None → IsOfRow ErrorState (state_answer found)
+state_row : (found : Option ProcessValue) → first_fault ((is_none found, faults.BadContext) ∷ []) ≡ None → IsOfRow ErrorState (state_answer found)
 state_row None none = absurd cc
 state_row (Some process) none = tt
 
-process_of_row : (number : ℕ) (found : Option Process) → first_fault ((is_none found, faults.BadContext) ∷ []) ≡ None → IsOfRow (ErrorThen Kind.Process) (process_answer_of number found)
+process_of_row : (number : ℕ) (found : Option ProcessValue) → first_fault ((is_none found, faults.BadContext) ∷ []) ≡ None → IsOfRow (ErrorThen Kind.Process) (process_answer_of number found)
 process_of_row number None none = absurd cc
 process_of_row number (Some process) none = refl
 
-process_row : (named : Option ℕ) (rows : List (ℕ × Process)) → first_fault ((is_none (process_at_number named rows), faults.BadContext) ∷ []) ≡ None → IsOfRow (ErrorThen Kind.Process) (process_answer named rows)
+process_row : (named : Option ℕ) (rows : List (ℕ × ProcessValue)) → first_fault ((is_none (process_at_number named rows), faults.BadContext) ∷ []) ≡ None → IsOfRow (ErrorThen Kind.Process) (process_answer named rows)
 process_row None rows none = absurd cc
 process_row (Some number) rows none = process_of_row number (process_of number rows) none
 
-there_row : (number : ℕ) (found : Option Process) (process : Process) → found ≡ Some process → IsOfRow (ErrorThen Kind.Process) (process_answer_of number found)
+there_row : (number : ℕ) (found : Option ProcessValue) (process : ProcessValue) → found ≡ Some process → IsOfRow (ErrorThen Kind.Process) (process_answer_of number found)
 there_row number None process there = absurd cc
 there_row number (Some other) process there = refl
 
@@ -138,7 +138,7 @@ done_by : (attached : List ℕ) (refused : Bool) (removed : List (List ℕ)) (ad
 done_by attached true removed added changed = lit< tt
 done_by attached false removed added changed = tt
 
-done_row : (channel : ℕ) (command : Command) (target : Target) → IsOfRow ErrorAlone (effect_of (attached_in target.contexts.processes) (done channel command target.breakpoints)).answer
+done_row : (channel : ℕ) (command : Command) (target : TargetValue) → IsOfRow ErrorAlone (effect_of (attached_in target.contexts.processes) (done channel command target.breakpoints)).answer
 done_row channel command target =
     let rows = target.breakpoints in
     done_by (attached_in target.contexts.processes) (is_refused channel command rows) (removed_by channel command rows) (added_by command) (changed_by command rows)
@@ -166,7 +166,7 @@ status_row attached (Some props) none = (refl, instances_fit props attached)
 
 -- ---- every command
 
-pub exec_answers : (channel : ℕ) (command : Command) (target : Target) → IsOrderly target.contexts.processes target.contexts.next → AreReadable target.breakpoints
+pub exec_answers : (channel : ℕ) (command : Command) (target : TargetValue) → IsOrderly target.contexts.processes target.contexts.next → AreReadable target.breakpoints
     → IsAnswerTo command (exec_effect channel command target).answer
 unfolding exec_effect
 exec_answers channel Sync target orderly all = tt

@@ -23,7 +23,7 @@ use Rattle.target_contexts.specs.TargetsValue.{TargetsValue}
 use Rattle.target_hub.specs.Answering.{refusal}
 use Rattle.target_hub.specs.Execution.{after_in, effect_in, exec_after, exec_effect}
 use Rattle.target_hub.specs.Sendable.{AnswersAreSendable, AreSendable, ClosingsTellSendable, CommandsKeepShort, CommandsTellSendable, HasNoZero, IsBounded, IsSendable, IsSendableEvent, TicksKeepShort, TicksTellSendable}
-use Rattle.target_hub.specs.declared.target.Target.{Target}
+use Rattle.run_control.specs.TargetValue.{TargetValue}
 use Rattle.command_tables.proofs.TheLaws.{known_are_readable}
 use Rattle.data_services.proofs.TheLaws.{short_stays}
 use Rattle.reply_tables.proofs.TheLaws.{answers_fit, events_fit, refusals_fit}
@@ -78,7 +78,7 @@ if_sendable (Some told) small = sendable told small
 
 -- ---- what is bounded stays so
 
-now_bounded : (target : Target) → IsBounded target → AreBounded target.breakpoints target.contexts
+now_bounded : (target : TargetValue) → IsBounded target → AreBounded target.breakpoints target.contexts
 now_bounded target bounded = record {
   short = bounded.processes;
   few = bounded.orderly.few;
@@ -86,7 +86,7 @@ now_bounded target bounded = record {
   listed = bounded.listed.few;
 }
 
-ids_short : (target : Target) → IsBounded target → AreShort (ids_of target.breakpoints)
+ids_short : (target : TargetValue) → IsBounded target → AreShort (ids_of target.breakpoints)
 ids_short target bounded = ids_words target.breakpoints bounded.listed.few bounded.properties
 
 unless_fault : (P : TargetsValue → Type 0) (fault : Option Fault) (left targets : TargetsValue) → P (targets_by fault left targets) → fault ≡ None → P left
@@ -94,7 +94,7 @@ unless_fault P None left targets holds none = holds
 unless_fault P (Some fault) left targets holds none = absurd cc
 
 -- the target after a command of run control that isn't refused
-left_bounded : (command : Command) (target : Target) → IsBounded target → run_fault command target.contexts ≡ None
+left_bounded : (command : Command) (target : TargetValue) → IsBounded target → run_fault command target.contexts ≡ None
     → AreBounded target.breakpoints (run_left command target.breakpoints target.contexts)
 left_bounded command target bounded none =
     let bps = target.breakpoints in
@@ -110,7 +110,7 @@ left_bounded command target bounded none =
 
 -- ---- commands
 
-told_in : (name : CommandName) (channel : ℕ) (command : Command) (target : Target) → IsReadable command → IsBounded target → AreSmall (effect_in name channel command target).events
+told_in : (name : CommandName) (channel : ℕ) (command : Command) (target : TargetValue) → IsReadable command → IsBounded target → AreSmall (effect_in name channel command target).events
 told_in (service.Locator name) channel command target readable bounded = tt
 told_in (service.RunControl name) channel command target readable bounded =
     run_told command target.breakpoints target.contexts (left_bounded command target bounded)
@@ -122,7 +122,7 @@ told_in (service.Processes name) channel command target readable bounded =
 told_in (service.Trace name) channel command target readable bounded =
     run_told command target.breakpoints target.contexts (left_bounded command target bounded)
 
-exec_sendable : (channel : ℕ) (command : Command) (target : Target) → IsReadable command → IsBounded target → AreSendable (exec_effect channel command target).events
+exec_sendable : (channel : ℕ) (command : Command) (target : TargetValue) → IsReadable command → IsBounded target → AreSendable (exec_effect channel command target).events
 unfolding exec_effect
 exec_sendable channel command target readable bounded =
     sendable (exec_effect channel command target).events (told_in (named_as command) channel command target readable bounded)
@@ -136,7 +136,7 @@ refusal_fits : (command : Option CommandName) (code : ℕ) → IsSendable (refus
 refusal_fits None code = tt
 refusal_fits (Some command) code = refusals_fit (row_named command) code
 
-exec_fits : (channel : ℕ) (command : Command) (target : Target) → IsBounded target → length (answer_data command (exec_effect channel command target).answer) ≤ 1048576
+exec_fits : (channel : ℕ) (command : Command) (target : TargetValue) → IsBounded target → length (answer_data command (exec_effect channel command target).answer) ≤ 1048576
 exec_fits channel command target bounded =
     answers_fit command (exec_effect channel command target).answer
     (exec_answer_small channel command target (now_bounded target bounded) (λ none. (left_bounded command target bounded none).short))
@@ -146,7 +146,7 @@ answers_sendable channel service name (Known command) target bounded = exec_fits
 answers_sendable channel service name Unknown target bounded = tt
 answers_sendable channel service name (Bad index code) target bounded = refusal_fits (name_in service name) code
 
-short_in : (name : CommandName) (channel : ℕ) (command : Command) (target : Target) → IsBounded target → AllShort (after_in name channel command target).contexts.processes
+short_in : (name : CommandName) (channel : ℕ) (command : Command) (target : TargetValue) → IsBounded target → AllShort (after_in name channel command target).contexts.processes
 short_in (service.Locator name) channel command target bounded = bounded.processes
 short_in (service.RunControl name) channel command target bounded = commands_keep_short command target.breakpoints target.contexts (ids_short target bounded) bounded.processes
 short_in (service.Breakpoints name) channel command target bounded = bounded.processes
@@ -155,7 +155,7 @@ short_in (service.Registers name) channel command target bounded = short_stays c
 short_in (service.Processes name) channel command target bounded = commands_keep_short command target.breakpoints target.contexts (ids_short target bounded) bounded.processes
 short_in (service.Trace name) channel command target bounded = commands_keep_short command target.breakpoints target.contexts (ids_short target bounded) bounded.processes
 
-exec_short : (channel : ℕ) (command : Command) (target : Target) → IsBounded target → AllShort (exec_after channel command target).contexts.processes
+exec_short : (channel : ℕ) (command : Command) (target : TargetValue) → IsBounded target → AllShort (exec_after channel command target).contexts.processes
 unfolding exec_after
 exec_short channel command target bounded = short_in (named_as command) channel command target bounded
 

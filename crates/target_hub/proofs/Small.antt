@@ -24,7 +24,7 @@ use Rattle.target_contexts.specs.Live.{numbers_of, process_of}
 use Rattle.target_contexts.specs.Named.{attached_in, is_attached}
 use Rattle.target_contexts.specs.Short.{AllShort, IsShort, IsShortState}
 use Rattle.target_contexts.specs.TargetsValue.{TargetsValue}
-use Rattle.target_contexts.specs.declared.process.Process.{Process}
+use Rattle.target_contexts.specs.ProcessValue.{ProcessValue}
 use Rattle.target_contexts.specs.declared.process.ThreadState.{ThreadState}
 use Rattle.target_contexts.specs.declared.process.ThreadState.TheVariants.{Running, Suspended}
 use Rattle.target_hub.specs.Limits.{AreReadable}
@@ -100,9 +100,9 @@ instances_small props attached few =
 pub status_small : (attached : List ℕ) (props : BpProps) → length attached ≤ 64 → is_bp props ≡ true → IsSmallEvent (status_event attached props)
 status_small attached props few within = (id_word props within, instances_small props attached few)
 
-pub attached_few : (rows : List (ℕ × Process)) → length rows ≤ 64 → length (attached_in rows) ≤ 64
+pub attached_few : (rows : List (ℕ × ProcessValue)) → length rows ≤ 64 → length (attached_in rows) ≤ 64
 attached_few rows few =
-    omega (arith, few, filter_fewer (λ number. is_attached (process_of number rows)) (numbers_of rows), length-map rows (λ (row : ℕ × Process). row.0))
+    omega (arith, few, filter_fewer (λ number. is_attached (process_of number rows)) (numbers_of rows), length-map rows (λ (row : ℕ × ProcessValue). row.0))
 
 pub statuses_small : (bps : List Placed) (targets : TargetsValue) → AreBounded bps targets → AreSmall (statuses_in bps targets)
 statuses_small bps targets bounded =
@@ -112,24 +112,24 @@ statuses_small bps targets bounded =
 
 -- ---- contexts
 
-pub process_small : (number : ℕ) (process : Process) → IsShort process → IsSmallContext (process_data number process)
+pub process_small : (number : ℕ) (process : ProcessValue) → IsShort process → IsSmallContext (process_data number process)
 process_small number process is = record { id = process_word number; parent = tt; process = process_word number; name = is.name }
 
-pub thread_small : (number : ℕ) (process : Process) → IsSmallContext (thread_data number process)
+pub thread_small : (number : ℕ) (process : ProcessValue) → IsSmallContext (thread_data number process)
 thread_small number process = record { id = thread_word number; parent = process_word number; process = process_word number; name = tt }
 
-found_by : (rows : List (ℕ × Process)) (number : ℕ) (found : Option Process) → process_of number rows ≡ found → AllShort rows → IfSome found IsShort
+found_by : (rows : List (ℕ × ProcessValue)) (number : ℕ) (found : Option ProcessValue) → process_of number rows ≡ found → AllShort rows → IfSome found IsShort
 found_by rows number None there all = tt
 found_by rows number (Some process) there all = found_is_short rows number process all there
 
-pub found_short : (rows : List (ℕ × Process)) (number : ℕ) → AllShort rows → IfSome (process_of number rows) IsShort
+pub found_short : (rows : List (ℕ × ProcessValue)) (number : ℕ) → AllShort rows → IfSome (process_of number rows) IsShort
 found_short rows number all = found_by rows number (process_of number rows) refl all
 
-pub added_small : (number : ℕ) (process : Option Process) → IfSome process IsShort → AreSmall (added_events number process)
+pub added_small : (number : ℕ) (process : Option ProcessValue) → IfSome process IsShort → AreSmall (added_events number process)
 added_small number None is = tt
 added_small number (Some process) is = (record { few = lit≤ tt; named = lit≤ tt; small = (process_small number process is, (thread_small number process, tt)) }, tt)
 
-pub changed_small : (number : ℕ) (process : Option Process) → AreSmall (changed_events number process)
+pub changed_small : (number : ℕ) (process : Option ProcessValue) → AreSmall (changed_events number process)
 changed_small number None = tt
 changed_small number (Some process) = (record { few = lit≤ tt; named = lit≤ tt; small = (thread_small number process, tt) }, tt)
 
@@ -137,7 +137,7 @@ stop_small : (number pc : ℕ) (state : ThreadState) → IsShortState state → 
 stop_small number pc (Running left) short = tt
 stop_small number pc (Suspended reason hits) short = ((thread_word number, short.0, short.1), tt)
 
-pub suspended_small : (number : ℕ) (process : Option Process) → IfSome process IsShort → AreSmall (suspended_events number process)
+pub suspended_small : (number : ℕ) (process : Option ProcessValue) → IfSome process IsShort → AreSmall (suspended_events number process)
 suspended_small number None is = tt
 suspended_small number (Some process) is = stop_small number process.cpu.pc process.state is.state
 
@@ -160,7 +160,7 @@ exception_small : (bps : List Placed) (number : ℕ) (plain : ThreadState) (atta
 exception_small bps number plain true after bounded = suspended_small number (process_of number after.processes) (found_short after.processes number bounded.short)
 exception_small bps number plain false after bounded = end_small bps number exception_code after bounded
 
-pub executed_small : (bps : List Placed) (number : ℕ) (plain : ThreadState) (attached : Bool) (after : TargetsValue) (process : Process) (step : Step) → AreBounded bps after
+pub executed_small : (bps : List Placed) (number : ℕ) (plain : ThreadState) (attached : Bool) (after : TargetsValue) (process : ProcessValue) (step : Step) → AreBounded bps after
     → AreSmall (settled_events bps number (fate_by plain attached (executed_by bps number process step)) after)
 executed_small bps number plain attached after process (goes_on cpu memory) bounded = hit_small bps number plain attached after _ bounded
 executed_small bps number plain attached after process (ends code) bounded = end_small bps number code after bounded
@@ -172,7 +172,7 @@ halt_small bps number plain attached after (goes_on cpu memory) bounded = suspen
 halt_small bps number plain attached after (ends code) bounded = end_small bps number code after bounded
 halt_small bps number plain attached after excepts bounded = exception_small bps number plain attached after bounded
 
-pub stop_all_small : (bps : List Placed) (number : ℕ) (plain : ThreadState) (attached : Bool) (after : TargetsValue) (hits : List (List ℕ)) (all : Bool) (last : Process) → AreBounded bps after
+pub stop_all_small : (bps : List Placed) (number : ℕ) (plain : ThreadState) (attached : Bool) (after : TargetsValue) (hits : List (List ℕ)) (all : Bool) (last : ProcessValue) → AreBounded bps after
     → AreSmall (settled_events bps number (fate_by plain attached (stop_by hits all last)) after)
 stop_all_small bps number plain attached after (hit ∷ hits) all last bounded = suspended_small number (process_of number after.processes) (found_short after.processes number bounded.short)
 stop_all_small bps number plain attached after [] true last bounded = suspended_small number (process_of number after.processes) (found_short after.processes number bounded.short)

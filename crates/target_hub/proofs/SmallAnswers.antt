@@ -42,13 +42,13 @@ use Rattle.target_contexts.specs.Live.{numbers_of, process_of}
 use Rattle.target_contexts.specs.Named.{attached_in, process_at_number, thread_named}
 use Rattle.target_contexts.specs.Short.{AllShort, IsShort, IsShortState}
 use Rattle.target_contexts.specs.TargetsValue.{TargetsValue}
-use Rattle.target_contexts.specs.declared.process.Process.{Process}
+use Rattle.target_contexts.specs.ProcessValue.{ProcessValue}
 use Rattle.target_contexts.specs.declared.process.ThreadState.{ThreadState}
 use Rattle.target_contexts.specs.declared.process.ThreadState.TheVariants.{Running, Suspended}
 use Rattle.target_hub.specs.BreakpointsRows.{ask_answer, ask_fault, breakpoints_effect, effect_of, props_answer, status_answer}
 use Rattle.target_hub.specs.Execution.{effect_in, exec_effect}
 use Rattle.target_hub.specs.LocatorRows.{locator_answer}
-use Rattle.target_hub.specs.declared.target.Target.{Target}
+use Rattle.run_control.specs.TargetValue.{TargetValue}
 use Rattle.reply_tables.proofs.TheLaws.{reports_are_small}
 use Rattle.target_hub.proofs.Rows.{IfReadable, found_readable}
 use Rattle.target_hub.proofs.Small.{AreBounded, attached_few, found_short, ids_words, instances_small, process_small, process_word, thread_small, thread_word}
@@ -67,11 +67,11 @@ answer_by (Some fault) given small = failed_small fault
 
 -- ---- contexts and states
 
-process_context : (number : ℕ) (found : Option Process) → IfSome found IsShort → IfSome (option_map (λ process. process_data number process) found) IsSmallContext
+process_context : (number : ℕ) (found : Option ProcessValue) → IfSome found IsShort → IfSome (option_map (λ process. process_data number process) found) IsSmallContext
 process_context number None is = tt
 process_context number (Some process) is = process_small number process is
 
-thread_context : (number : ℕ) (found : Option Process) → IfSome (option_map (λ process. thread_data number process) found) IsSmallContext
+thread_context : (number : ℕ) (found : Option ProcessValue) → IfSome (option_map (λ process. thread_data number process) found) IsSmallContext
 thread_context number None = tt
 thread_context number (Some process) = thread_small number process
 
@@ -79,11 +79,11 @@ if_first : (test : Bool) (found : Option ContextData) → IfSome found IsSmallCo
 if_first true found small = small
 if_first false found small = tt
 
-of_context : (context : ContextId) (rows : List (ℕ × Process)) → AllShort rows → IfSome (data_of context rows) IsSmallContext
+of_context : (context : ContextId) (rows : List (ℕ × ProcessValue)) → AllShort rows → IfSome (data_of context rows) IsSmallContext
 of_context (ids.Process number) rows all = process_context number (process_of number rows) (found_short rows number all)
 of_context (ids.Thread number thread) rows all = if_first (thread == 1) _ (thread_context number (process_of number rows))
 
-named_small : (context : Option ContextId) (rows : List (ℕ × Process)) → AllShort rows → IfSome (option_and_then (λ c. data_of c rows) context) IsSmallContext
+named_small : (context : Option ContextId) (rows : List (ℕ × ProcessValue)) → AllShort rows → IfSome (option_and_then (λ c. data_of c rows) context) IsSmallContext
 named_small None rows all = tt
 named_small (Some context) rows all = of_context context rows all
 
@@ -95,19 +95,19 @@ state_small : (pc : ℕ) (state : ThreadState) → IsShortState state → IsSmal
 state_small pc (Running left) short = tt
 state_small pc (Suspended reason hits) short = short
 
-state_of_small : (found : Option Process) → IfSome found IsShort → IsSmallAnswer (state_answer found)
+state_of_small : (found : Option ProcessValue) → IfSome found IsShort → IsSmallAnswer (state_answer found)
 state_of_small None is = tt
 state_of_small (Some process) is = state_small process.cpu.pc process.state is.state
 
-at_number : (rows : List (ℕ × Process)) (number : Option ℕ) → AllShort rows → IfSome (process_at_number number rows) IsShort
+at_number : (rows : List (ℕ × ProcessValue)) (number : Option ℕ) → AllShort rows → IfSome (process_at_number number rows) IsShort
 at_number rows None all = tt
 at_number rows (Some number) all = found_short rows number all
 
-process_of_small : (number : ℕ) (found : Option Process) → IfSome found IsShort → IsSmallAnswer (process_answer_of number found)
+process_of_small : (number : ℕ) (found : Option ProcessValue) → IfSome found IsShort → IsSmallAnswer (process_answer_of number found)
 process_of_small number None is = tt
 process_of_small number (Some process) is = record { id = process_word number; name = is.name }
 
-process_answer_small : (rows : List (ℕ × Process)) (number : Option ℕ) → AllShort rows → IsSmallAnswer (process_answer number rows)
+process_answer_small : (rows : List (ℕ × ProcessValue)) (number : Option ℕ) → AllShort rows → IsSmallAnswer (process_answer number rows)
 process_answer_small rows None all = tt
 process_answer_small rows (Some number) all = process_of_small number (process_of number rows) (found_short rows number all)
 
@@ -116,8 +116,8 @@ process_answer_small rows (Some number) all = process_of_small number (process_o
 numbers_words : (numbers : List ℕ) → length numbers ≤ 64 → AreWords (map process_id numbers)
 numbers_words numbers few = (omega (arith, few, length-map numbers process_id), all_map IsWord process_id numbers process_word)
 
-numbers_few : (rows : List (ℕ × Process)) → length rows ≤ 64 → length (numbers_of rows) ≤ 64
-numbers_few rows few = omega (arith, few, length-map rows (λ (row : ℕ × Process). row.0))
+numbers_few : (rows : List (ℕ × ProcessValue)) → length rows ≤ 64 → length (numbers_of rows) ≤ 64
+numbers_few rows few = omega (arith, few, length-map rows (λ (row : ℕ × ProcessValue). row.0))
 
 either_words : (test : Bool) (one other : List (List ℕ)) → AreWords one → AreWords other → AreWords (cond test one other)
 either_words true one other words also = words
@@ -128,14 +128,14 @@ children_words None = (lit≤ tt, tt)
 children_words (Some (ids.Process number)) = (lit≤ tt, (thread_word number, tt))
 children_words (Some (ids.Thread number thread)) = (lit≤ tt, tt)
 
-named_words : (id : List ℕ) (rows : List (ℕ × Process)) → length rows ≤ 64 → AreWords (children_named id rows)
+named_words : (id : List ℕ) (rows : List (ℕ × ProcessValue)) → length rows ≤ 64 → AreWords (children_named id rows)
 named_words id rows few = either_words (is_empty id) (map process_id (numbers_of rows)) _ (numbers_words (numbers_of rows) (numbers_few rows few)) (children_words (context_of id))
 
 either_numbers : (test : Bool) (one other : List ℕ) → length one ≤ 64 → length other ≤ 64 → length (cond test one other) ≤ 64
 either_numbers true one other few also = few
 either_numbers false one other few also = also
 
-processes_words : (id : List ℕ) (attached : Bool) (rows : List (ℕ × Process)) → length rows ≤ 64 → AreWords (processes_named id attached rows)
+processes_words : (id : List ℕ) (attached : Bool) (rows : List (ℕ × ProcessValue)) → length rows ≤ 64 → AreWords (processes_named id attached rows)
 processes_words id attached rows few =
     let numbers = cond attached (attached_in rows) (numbers_of rows) in
     either_words (is_empty id) (map process_id numbers) [] (numbers_words numbers (either_numbers attached (attached_in rows) (numbers_of rows) (attached_few rows few) (numbers_few rows few)))
@@ -172,7 +172,7 @@ size_few : (size : ℤ) → is_no_size size ≡ false → unsigned_abs size ≤ 
 size_few (pos n) sized = ltb-false 65536 n (or_parts (int_lt (pos n) (pos 0)) (int_lt (pos 65536) (pos n)) sized).1
 size_few (negsuc n) sized = absurd cc
 
-memory_few : (addr size : ℤ) (found : Option Process) → unsigned_abs size ≤ 65536 → length (memory_bytes addr size found) ≤ 65536
+memory_few : (addr size : ℤ) (found : Option ProcessValue) → unsigned_abs size ≤ 65536 → length (memory_bytes addr size found) ≤ 65536
 memory_few addr size None few = lit≤ tt
 memory_few addr size (Some process) few = omega (arith, few, part_few (unsigned_abs addr) (unsigned_abs size) process.memory)
 
@@ -180,21 +180,21 @@ word_four : (number : ℕ) → length (word_bytes number) ≡ 4
 unfolding word_bytes
 word_four number = refl
 
-register_few : (register : Option RegisterId) (found : Option Process) → length (register_bytes register found) ≤ 65536
+register_few : (register : Option RegisterId) (found : Option ProcessValue) → length (register_bytes register found) ≤ 65536
 register_few None found = lit≤ tt
 register_few (Some register) None = lit≤ tt
 register_few (Some register) (Some process) = omega (arith, word_four (number_in register.index process.cpu))
 
-word_part : (offset size index : ℕ) (process : Process) → length (part_of offset size (word_bytes (number_in index process.cpu))) ≤ 4
+word_part : (offset size index : ℕ) (process : ProcessValue) → length (part_of offset size (word_bytes (number_in index process.cpu))) ≤ 4
 word_part offset size index process =
     let word = word_bytes (number_in index process.cpu) in
     omega (arith, length-take size (drop offset word), length-drop offset word, word_four (number_in index process.cpu))
 
-in_few : (register : RegisterId) (offset size : ℕ) (found : Option Process) → length (bytes_in (record { register = register; offset = offset; size = size }) found) ≤ 4
+in_few : (register : RegisterId) (offset size : ℕ) (found : Option ProcessValue) → length (bytes_in (record { register = register; offset = offset; size = size }) found) ≤ 4
 in_few register offset size None = lit≤ tt
 in_few register offset size (Some process) = word_part offset size register.index process
 
-one_few : (register : Option RegisterId) (location : Location) (list : List Location) (rows : List (ℕ × Process)) → length (bytes_of rows (parts_named list)) ≤ 4 * length list
+one_few : (register : Option RegisterId) (location : Location) (list : List Location) (rows : List (ℕ × ProcessValue)) → length (bytes_of rows (parts_named list)) ≤ 4 * length list
     → length (bytes_of rows (cons_option (option_map (λ (r : RegisterId). record { register = r; offset = unsigned_abs location.offset; size = unsigned_abs location.size }) register) (parts_named list))) ≤ 4 * length list + 4
 one_few None location list rows few = omega arith
 one_few (Some r) location list rows few =
@@ -204,7 +204,7 @@ one_few (Some r) location list rows few =
     omega (arith, few, length-append (bytes_in (record { register = r; offset = offset; size = size }) found) (bytes_of rows (parts_named list)), in_few r offset size found)
 
 -- four bytes of each location
-all_few : (list : List Location) (rows : List (ℕ × Process)) → length (bytes_of rows (parts_named list)) ≤ 4 * length list
+all_few : (list : List Location) (rows : List (ℕ × ProcessValue)) → length (bytes_of rows (parts_named list)) ≤ 4 * length list
 all_few [] rows = omega arith
 all_few (location ∷ list) rows = omega (arith, one_few (register_of location.register) location list rows (all_few list rows))
 
@@ -212,7 +212,7 @@ unless_many : (many : Bool) (fault : Fault) (other : Option Fault) → cond many
 unless_many true fault other none = absurd cc
 unless_many false fault other none = refl
 
-getm_few : (list : List Location) (rows : List (ℕ × Process)) → nat_lt 256 (length list) ≡ false → length (bytes_of rows (parts_named list)) ≤ 65536
+getm_few : (list : List Location) (rows : List (ℕ × ProcessValue)) → nat_lt 256 (length list) ≡ false → length (bytes_of rows (parts_named list)) ≤ 65536
 getm_few list rows few = omega (arith, ltb-false 256 (length list) few, all_few list rows)
 
 data_answer : (command : Command) (targets : TargetsValue) → data_fault command targets ≡ None → IsSmallAnswer (data_given command targets).answer
@@ -227,7 +227,7 @@ changed_answer : (attached : List ℕ) (refused : Bool) (removed : List (List �
 changed_answer attached true removed added changed = reports_are_small 1
 changed_answer attached false removed added changed = tt
 
-change_answer : (channel : ℕ) (command : Command) (target : Target) → IsSmallAnswer (effect_of (attached_in target.contexts.processes) (done channel command target.breakpoints)).answer
+change_answer : (channel : ℕ) (command : Command) (target : TargetValue) → IsSmallAnswer (effect_of (attached_in target.contexts.processes) (done channel command target.breakpoints)).answer
 change_answer channel command target =
     let rows = target.breakpoints in
     changed_answer (attached_in target.contexts.processes) (is_refused channel command rows) (removed_by channel command rows) (added_by command) (changed_by command rows)
@@ -240,7 +240,7 @@ status_answer_small : (attached : List ℕ) (found : Option BpProps) → length 
 status_answer_small attached None few = tt
 status_answer_small attached (Some props) few = instances_small props attached few
 
-ask_small : (command : Command) (target : Target) → AreBounded target.breakpoints target.contexts → IsSmallAnswer (ask_answer command (attached_in target.contexts.processes) target.breakpoints)
+ask_small : (command : Command) (target : TargetValue) → AreBounded target.breakpoints target.contexts → IsSmallAnswer (ask_answer command (attached_in target.contexts.processes) target.breakpoints)
 ask_small BpIds target bounded = ids_words target.breakpoints bounded.listed bounded.properties
 ask_small (BpProperties id) target bounded = props_small (props_of id target.breakpoints) (found_readable id target.breakpoints bounded.properties)
 ask_small (BpGetStatus id) target bounded =
@@ -252,7 +252,7 @@ either_answer : (test : Bool) (one other : Effect) → IsSmallAnswer one.answer 
 either_answer true one other small also = small
 either_answer false one other small also = also
 
-breakpoints_answer : (channel : ℕ) (command : Command) (target : Target) → AreBounded target.breakpoints target.contexts → IsSmallAnswer (breakpoints_effect channel command target).answer
+breakpoints_answer : (channel : ℕ) (command : Command) (target : TargetValue) → AreBounded target.breakpoints target.contexts → IsSmallAnswer (breakpoints_effect channel command target).answer
 breakpoints_answer channel command target bounded =
     let attached = attached_in target.contexts.processes in
     let answer = gives (ask_answer command attached target.breakpoints) in
@@ -275,7 +275,7 @@ run_small command bps targets bounded after =
 data_small : (command : Command) (targets : TargetsValue) → IsSmallAnswer (data_effect command targets).answer
 data_small command targets = answer_by (data_fault command targets) (data_given command targets) (data_answer command targets)
 
-answer_in : (name : CommandName) (channel : ℕ) (command : Command) (target : Target) → AreBounded target.breakpoints target.contexts
+answer_in : (name : CommandName) (channel : ℕ) (command : Command) (target : TargetValue) → AreBounded target.breakpoints target.contexts
     → (run_fault command target.contexts ≡ None → AllShort (run_left command target.breakpoints target.contexts).processes) → IsSmallAnswer (effect_in name channel command target).answer
 answer_in (service.Locator name) channel command target bounded after = locator_small command
 answer_in (service.RunControl name) channel command target bounded after = run_small command target.breakpoints target.contexts bounded after
@@ -285,7 +285,7 @@ answer_in (service.Registers name) channel command target bounded after = data_s
 answer_in (service.Processes name) channel command target bounded after = run_small command target.breakpoints target.contexts bounded after
 answer_in (service.Trace name) channel command target bounded after = run_small command target.breakpoints target.contexts bounded after
 
-pub exec_answer_small : (channel : ℕ) (command : Command) (target : Target) → AreBounded target.breakpoints target.contexts
+pub exec_answer_small : (channel : ℕ) (command : Command) (target : TargetValue) → AreBounded target.breakpoints target.contexts
     → (run_fault command target.contexts ≡ None → AllShort (run_left command target.breakpoints target.contexts).processes) → IsSmallAnswer (exec_effect channel command target).answer
 unfolding exec_effect
 exec_answer_small channel command target bounded after = answer_in (named_as command) channel command target bounded after

@@ -44,12 +44,12 @@ use Rattle.rv32i_core.specs.Machine.{machine}
 use Rattle.target_contexts.specs.Live.{process_of}
 use Rattle.target_contexts.specs.Named.{attached_in, is_suspended, number_named, thread_named}
 use Rattle.target_contexts.specs.TargetsValue.{TargetsValue}
-use Rattle.target_contexts.specs.declared.process.Process.{Process}
+use Rattle.target_contexts.specs.ProcessValue.{ProcessValue}
 use Rattle.target_contexts.specs.declared.process.ThreadState.TheVariants.{Suspended}
 use Rattle.target_hub.specs.BreakpointsRows.{ask_answer, ask_fault, breakpoints_effect, effect_of, removed_events, status_events}
 use Rattle.target_hub.specs.BreakpointsRows as bp_rows
 use Rattle.target_hub.specs.Limits.{AreReadable}
-use Rattle.target_hub.specs.declared.target.Target.{Target}
+use Rattle.run_control.specs.TargetValue.{TargetValue}
 use Rattle.tcf_values.proofs.TheLaws.{register_round_trip}
 use Rattle.target_hub.proofs.Given.{AreProps, added_readable, changed_readable}
 use Rattle.target_hub.proofs.Lists.{all_mapped}
@@ -74,7 +74,7 @@ of_small : (events : ℕ → List EventData) (number : Option ℕ) → ((n : ℕ
 of_small events None each = tt
 of_small events (Some n) each = each n
 
-traced_small : (bps : List Placed) (number count : ℕ) (process : Option Process) (after : TargetsValue) → AreBounded bps after → AreSmall (traced_events_at bps number count process after)
+traced_small : (bps : List Placed) (number count : ℕ) (process : Option ProcessValue) (after : TargetsValue) → AreBounded bps after → AreSmall (traced_events_at bps number count process after)
 traced_small bps number count None after bounded = tt
 traced_small bps number count (Some process) after bounded =
     let states = states_of bps number count process in
@@ -151,14 +151,14 @@ spelling_size id =
       name_size (id.index == 32) id.index,
     )
 
-held_word : (text : List ℕ) (register : Option RegisterId) (rows : List (ℕ × Process)) → register_of text ≡ register → is_none (option_and_then (process_with rows) register) ≡ false → IsWord text
+held_word : (text : List ℕ) (register : Option RegisterId) (rows : List (ℕ × ProcessValue)) → register_of text ≡ register → is_none (option_and_then (process_with rows) register) ≡ false → IsWord text
 held_word text None rows there held = absurd cc
 held_word text (Some register) rows there held =
     let spelled : text ≡ register_spelling register = ((register_round_trip text register).0 there).1 in
     let few = spelling_size register in
     rw spelled few
 
-pub register_word : (text : List ℕ) (rows : List (ℕ × Process)) → is_none (holder_of text rows) ≡ false → IsWord text
+pub register_word : (text : List ℕ) (rows : List (ℕ × ProcessValue)) → is_none (holder_of text rows) ≡ false → IsWord text
 register_word text rows held = held_word text (register_of text) rows refl held
 
 or_none : (one other : Option Fault) → option_or one other ≡ None → one ≡ None
@@ -177,7 +177,7 @@ memory_small : (number : Option ℕ) (addr size : ℤ) → AreSmall (memory_even
 memory_small None addr size = tt
 memory_small (Some number) addr size = if_small _ (MemChanged _ _) (process_word number, lit≤ tt)
 
-several_small : (list : List Location) (rows : List (ℕ × Process)) → locations_fault rows list ≡ None → AreSmall (events_from (slice_get list 0) list)
+several_small : (list : List Location) (rows : List (ℕ × ProcessValue)) → locations_fault rows list ≡ None → AreSmall (events_from (slice_get list 0) list)
 several_small [] rows none = tt
 several_small (first ∷ list) rows none =
     let held = passes (is_none (holder_of first.register rows)) BadContext _ (or_none (location_fault rows first) (locations_fault rows list) none) in
@@ -268,7 +268,7 @@ either_told : (test : Bool) (one other : Effect) → AreSmall one.events → Are
 either_told true one other small also = small
 either_told false one other small also = also
 
-pub breakpoints_told : (channel : ℕ) (command : Command) (target : Target) → IsReadable command → AreBounded target.breakpoints target.contexts → AreSmall (breakpoints_effect channel command target).events
+pub breakpoints_told : (channel : ℕ) (command : Command) (target : TargetValue) → IsReadable command → AreBounded target.breakpoints target.contexts → AreSmall (breakpoints_effect channel command target).events
 breakpoints_told channel command target readable bounded =
     let attached = attached_in target.contexts.processes in
     let answer = gives (ask_answer command attached target.breakpoints) in
@@ -278,7 +278,7 @@ breakpoints_told channel command target readable bounded =
 
 -- ---- a tick
 
-ticked_small : (bps : List Placed) (number : ℕ) (process : Option Process) (after : TargetsValue) → AreBounded bps after → AreSmall (ticked_events_at bps number process after)
+ticked_small : (bps : List Placed) (number : ℕ) (process : Option ProcessValue) (after : TargetsValue) → AreBounded bps after → AreSmall (ticked_events_at bps number process after)
 ticked_small bps number None after bounded = tt
 ticked_small bps number (Some process) after bounded =
     executed_small bps number (counted process.state) process.attached after process (machine process.cpu process.memory) bounded

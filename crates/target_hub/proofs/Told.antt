@@ -19,7 +19,7 @@ use Rattle.target_contexts.specs.Contexts.{process_data, thread_data}
 use Rattle.target_contexts.specs.Live.{process_of}
 use Rattle.target_contexts.specs.Named.{attached_in}
 use Rattle.target_contexts.specs.TargetsValue.{TargetsValue}
-use Rattle.target_contexts.specs.declared.process.Process.{Process}
+use Rattle.target_contexts.specs.ProcessValue.{ProcessValue}
 use Rattle.target_contexts.specs.declared.process.ThreadState.{ThreadState}
 use Rattle.target_contexts.specs.declared.process.ThreadState.TheVariants.{Running, Suspended}
 use Rattle.run_control.specs.Ending.{end_events}
@@ -29,7 +29,7 @@ use Rattle.run_control.specs.Ticking.{counted, running_number, ticked_events, ti
 use Rattle.run_control.specs.Tracing.{halt_by, last_hits, last_of, states_of, stop_by, trace_events, traced_events_at}
 use Rattle.target_hub.specs.Limits.{AreEvents}
 use Rattle.target_hub.specs.Passing.{tick_told}
-use Rattle.target_hub.specs.declared.target.Target.{Target}
+use Rattle.run_control.specs.TargetValue.{TargetValue}
 use Rattle.rv32i_core.proofs.TheLaws.{ends_are_signed}
 use Rattle.list_laws.proofs.Flags.{and_first}
 use Rattle.list_laws.proofs.AllLists.{all_map}
@@ -79,21 +79,21 @@ statuses_fit attached rows = all_map IsEvent (λ (row : Placed). status_event at
 
 -- ---- contexts
 
-pub process_within : (number : ℕ) (process : Process) → IsContext (process_data number process)
+pub process_within : (number : ℕ) (process : ProcessValue) → IsContext (process_data number process)
 process_within number process = (lit< tt, lit< tt)
 
-pub powers_within : (number : ℕ) (process : Process) (attached : Bool) → IsContext (thread_data number (record process { attached = attached }))
+pub powers_within : (number : ℕ) (process : ProcessValue) (attached : Bool) → IsContext (thread_data number (record process { attached = attached }))
 powers_within number process true = (lit< tt, lit< tt)
 powers_within number process false = (lit< tt, lit< tt)
 
-pub thread_within : (number : ℕ) (process : Process) → IsContext (thread_data number process)
+pub thread_within : (number : ℕ) (process : ProcessValue) → IsContext (thread_data number process)
 thread_within number process = powers_within number process process.attached
 
-pub added_fit : (number : ℕ) (process : Option Process) → AreEvents (added_events number process)
+pub added_fit : (number : ℕ) (process : Option ProcessValue) → AreEvents (added_events number process)
 added_fit number None = tt
 added_fit number (Some process) = ((process_within number process, (thread_within number process, tt)), tt)
 
-pub changed_fit : (number : ℕ) (process : Option Process) → AreEvents (changed_events number process)
+pub changed_fit : (number : ℕ) (process : Option ProcessValue) → AreEvents (changed_events number process)
 changed_fit number None = tt
 changed_fit number (Some process) = ((thread_within number process, tt), tt)
 
@@ -101,7 +101,7 @@ stop_fits : (number pc : ℕ) (state : ThreadState) → AreEvents (stop_events n
 stop_fits number pc (Running left) = tt
 stop_fits number pc (Suspended reason hits) = (tt, tt)
 
-pub suspended_fit : (number : ℕ) (process : Option Process) → AreEvents (suspended_events number process)
+pub suspended_fit : (number : ℕ) (process : Option ProcessValue) → AreEvents (suspended_events number process)
 suspended_fit number None = tt
 suspended_fit number (Some process) = stop_fits number process.cpu.pc process.state
 
@@ -120,11 +120,11 @@ with_fit : (bps : List Placed) (number : ℕ) (plain : ThreadState) (attached : 
 with_fit bps number plain attached after [] = suspended_fit number _
 with_fit bps number plain attached after (hit ∷ hits) = suspended_fit number _
 
-exception_fit : (bps : List Placed) (number : ℕ) (plain : ThreadState) (attached : Bool) (after : TargetsValue) (process : Process) → AreEvents (settled_events bps number (fate_by plain attached (executed_by bps number process excepts)) after)
+exception_fit : (bps : List Placed) (number : ℕ) (plain : ThreadState) (attached : Bool) (after : TargetsValue) (process : ProcessValue) → AreEvents (settled_events bps number (fate_by plain attached (executed_by bps number process excepts)) after)
 exception_fit bps number plain true after process = suspended_fit number _
 exception_fit bps number plain false after process = end_fits bps number exception_code after (lit< {m = 1} {n = 2 ^ 63} tt)
 
-executed_fit : (bps : List Placed) (number : ℕ) (plain : ThreadState) (attached : Bool) (after : TargetsValue) (process : Process) (step : Step) → EndsSigned step
+executed_fit : (bps : List Placed) (number : ℕ) (plain : ThreadState) (attached : Bool) (after : TargetsValue) (process : ProcessValue) (step : Step) → EndsSigned step
     → AreEvents (settled_events bps number (fate_by plain attached (executed_by bps number process step)) after)
 executed_fit bps number plain attached after process (goes_on cpu memory) fits = with_fit bps number plain attached after _
 executed_fit bps number plain attached after process (ends code) fits = end_fits bps number code after (code_fits code fits)
@@ -137,7 +137,7 @@ halt_fit bps number plain attached after (ends code) fits = end_fits bps number 
 halt_fit bps number plain true after excepts fits = suspended_fit number _
 halt_fit bps number plain false after excepts fits = end_fits bps number exception_code after (lit< {m = 1} {n = 2 ^ 63} tt)
 
-stop_fit : (bps : List Placed) (number : ℕ) (plain : ThreadState) (attached : Bool) (after : TargetsValue) (hits : List (List ℕ)) (all : Bool) (last : Process)
+stop_fit : (bps : List Placed) (number : ℕ) (plain : ThreadState) (attached : Bool) (after : TargetsValue) (hits : List (List ℕ)) (all : Bool) (last : ProcessValue)
     → AreEvents (settled_events bps number (fate_by plain attached (stop_by hits all last)) after)
 stop_fit bps number plain attached after (hit ∷ hits) all last = suspended_fit number _
 stop_fit bps number plain attached after [] true last = suspended_fit number _
@@ -145,7 +145,7 @@ stop_fit bps number plain attached after [] false last = halt_fit bps number pla
 
 -- ---- a tick, and a trace
 
-ticked_fit : (bps : List Placed) (number : ℕ) (process : Option Process) (after : TargetsValue) → AreEvents (ticked_events_at bps number process after)
+ticked_fit : (bps : List Placed) (number : ℕ) (process : Option ProcessValue) (after : TargetsValue) → AreEvents (ticked_events_at bps number process after)
 ticked_fit bps number None after = tt
 ticked_fit bps number (Some process) after =
     executed_fit bps number (counted process.state) process.attached after process (machine process.cpu process.memory) (ends_are_signed process.cpu process.memory)
@@ -154,10 +154,10 @@ tick_fit_of : (bps : List Placed) (targets : TargetsValue) (number : Option ℕ)
 tick_fit_of bps targets None = tt
 tick_fit_of bps targets (Some number) = ticked_fit bps number (process_of number targets.processes) _
 
-pub tick_fits : (thread : ContextId) (target : Target) → IfSome (tick_told thread target) AreEvents
+pub tick_fits : (thread : ContextId) (target : TargetValue) → IfSome (tick_told thread target) AreEvents
 tick_fits thread target = tick_fit_of target.breakpoints target.contexts (running_number thread target.contexts.processes)
 
-traced_fit : (bps : List Placed) (number count : ℕ) (process : Option Process) (after : TargetsValue) → AreEvents (traced_events_at bps number count process after)
+traced_fit : (bps : List Placed) (number count : ℕ) (process : Option ProcessValue) (after : TargetsValue) → AreEvents (traced_events_at bps number count process after)
 traced_fit bps number count None after = tt
 traced_fit bps number count (Some process) after =
     let states = states_of bps number count process in

@@ -18,7 +18,7 @@ use Rattle.target_contexts.specs.Changes.{targets_by}
 use Rattle.target_contexts.specs.Live.{process_of}
 use Rattle.target_contexts.specs.Named.{attached_in, thread_named}
 use Rattle.target_contexts.specs.TargetsValue.{TargetsValue}
-use Rattle.target_contexts.specs.declared.process.Process.{Process}
+use Rattle.target_contexts.specs.ProcessValue.{ProcessValue}
 use Rattle.run_control.specs.Asking.{context_answer, data_named, process_answer, process_answer_of, state_answer}
 use Rattle.run_control.specs.Commands.{run_after, run_effect, run_fault, run_given, run_left, trace_given}
 use Rattle.run_control.specs.Naming.{process_named}
@@ -26,7 +26,7 @@ use Rattle.run_control.specs.Steering.{thread_there}
 use Rattle.target_hub.specs.BreakpointsRows.{ask_fault, breakpoints_after, effect_of}
 use Rattle.target_hub.specs.Execution.{exec_after, exec_effect}
 use Rattle.target_hub.specs.Laws.{AskingChangesNothing, AskingIsTheSame, FailureChangesNothing}
-use Rattle.target_hub.specs.declared.target.Target.{Target}
+use Rattle.run_control.specs.TargetValue.{TargetValue}
 use Rattle.data_services.proofs.TheLaws.{failure_changes_nothing}
 use Rattle.breakpoints.specs.declared.rows.Placed.{Placed}
 
@@ -44,10 +44,10 @@ given_alone : (fault : Option Fault) (answer : Answer) → (effect_by fault (giv
 given_alone None answer = refl
 given_alone (Some fault) answer = nothing_told fault
 
-with_same : (target : Target) (contexts : TargetsValue) → contexts ≡ target.contexts → record target { contexts = contexts } ≡ target
+with_same : (target : TargetValue) (contexts : TargetsValue) → contexts ≡ target.contexts → record target { contexts = contexts } ≡ target
 with_same target contexts same = rw same
 
-asked : (target : Target) (fault : Option Fault) (answer : Answer) →
+asked : (target : TargetValue) (fault : Option Fault) (answer : Answer) →
     (record target { contexts = targets_by fault target.contexts target.contexts } ≡ target) × ((effect_by fault (gives answer)).events ≡ [])
 asked target fault answer = (with_same target _ (same_by fault target.contexts), given_alone fault answer)
 
@@ -105,15 +105,15 @@ context_none : (found : Option ContextData) → IsNoFailure (context_answer foun
 context_none None = tt
 context_none (Some context) = tt
 
-state_none : (found : Option Process) → IsNoFailure (state_answer found)
+state_none : (found : Option ProcessValue) → IsNoFailure (state_answer found)
 state_none None = tt
 state_none (Some process) = tt
 
-there_none : (number : ℕ) (found : Option Process) → IsNoFailure (process_answer_of number found)
+there_none : (number : ℕ) (found : Option ProcessValue) → IsNoFailure (process_answer_of number found)
 there_none number None = tt
 there_none number (Some process) = tt
 
-process_none : (named : Option ℕ) (rows : List (ℕ × Process)) → IsNoFailure (process_answer named rows)
+process_none : (named : Option ℕ) (rows : List (ℕ × ProcessValue)) → IsNoFailure (process_answer named rows)
 process_none None rows = tt
 process_none (Some number) rows = there_none number (process_of number rows)
 
@@ -130,30 +130,30 @@ run_none (TraceRun id count) bps targets after = trace_none bps (unsigned_abs co
 run_none _ bps targets after = tt
 
 -- an error comes of a fault alone
-by_fault : (target : Target) (fault : Option Fault) (left : TargetsValue) (given : Effect) (report : ErrorReport) → IsNoFailure given.answer → (effect_by fault given).answer ≡ answers.Failed report →
+by_fault : (target : TargetValue) (fault : Option Fault) (left : TargetsValue) (given : Effect) (report : ErrorReport) → IsNoFailure given.answer → (effect_by fault given).answer ≡ answers.Failed report →
     (record target { contexts = targets_by fault left target.contexts } ≡ target) × ((effect_by fault given).events ≡ [])
 by_fault target None left given report none same = absurd (failed_is_none given.answer report none same)
 by_fault target (Some fault) left given report none same = (refl, nothing_told fault)
 
-run_nothing : (command : Command) (target : Target) (report : ErrorReport) → (run_effect command target.breakpoints target.contexts).answer ≡ answers.Failed report →
+run_nothing : (command : Command) (target : TargetValue) (report : ErrorReport) → (run_effect command target.breakpoints target.contexts).answer ≡ answers.Failed report →
     (record target { contexts = run_after command target.breakpoints target.contexts } ≡ target) × ((run_effect command target.breakpoints target.contexts).events ≡ [])
 run_nothing command target report same =
     let left = run_left command target.breakpoints target.contexts in
     by_fault target (run_fault command target.contexts) left (run_given command target.breakpoints target.contexts left) report
     (run_none command target.breakpoints target.contexts left) same
 
-data_nothing : (command : Command) (target : Target) (report : ErrorReport) → (data_effect command target.contexts).answer ≡ answers.Failed report →
+data_nothing : (command : Command) (target : TargetValue) (report : ErrorReport) → (data_effect command target.contexts).answer ≡ answers.Failed report →
     (record target { contexts = data_after command target.contexts } ≡ target) × ((data_effect command target.contexts).events ≡ [])
 data_nothing command target report same =
     let kept = failure_changes_nothing command target.contexts report same in (with_same target (data_after command target.contexts) kept.0, kept.1)
 
-change_nothing : (target : Target) (attached : List ℕ) (refused : Bool) (new : List Placed) (removed : List (List ℕ)) (added changed : List BpProps) (report : ErrorReport) →
+change_nothing : (target : TargetValue) (attached : List ℕ) (refused : Bool) (new : List Placed) (removed : List (List ℕ)) (added changed : List BpProps) (report : ErrorReport) →
     (effect_of attached (cond refused (Failed 1) (Changed removed added changed))).answer ≡ answers.Failed report →
     (record target { breakpoints = cond refused target.breakpoints new } ≡ target) × ((effect_of attached (cond refused (Failed 1) (Changed removed added changed))).events ≡ [])
 change_nothing target attached true new removed added changed report same = (refl, refl)
 change_nothing target attached false new removed added changed report same = absurd cc
 
-changed_nothing : (channel : ℕ) (command : Command) (target : Target) (report : ErrorReport) →
+changed_nothing : (channel : ℕ) (command : Command) (target : TargetValue) (report : ErrorReport) →
     (effect_of (attached_in target.contexts.processes) (done channel command target.breakpoints)).answer ≡ answers.Failed report →
     (breakpoints_after channel command target ≡ target) × ((effect_of (attached_in target.contexts.processes) (done channel command target.breakpoints)).events ≡ [])
 changed_nothing channel command target report same =

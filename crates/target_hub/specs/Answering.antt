@@ -12,7 +12,7 @@ use Rattle.target_hub.specs.Execution.{exec_after, exec_effect}
 use Rattle.target_hub.specs.declared.done.Answered.{Answered}
 use Rattle.target_hub.specs.declared.done.Answered.TheVariants.{Unknown, Result}
 use Rattle.target_hub.specs.declared.done.Done.{Done}
-use Rattle.target_hub.specs.declared.target.Target.{Target}
+use Rattle.run_control.specs.TargetValue.{TargetValue}
 
 -- the answer in its canonical data
 abbrev pub written : Command → Effect → Done
@@ -30,12 +30,12 @@ abbrev pub refusal : Option CommandName → ℕ → Answered
 refusal None code = Unknown
 refusal (Some command) code = Result (refusal_data (row_named command) code)
 
-abbrev pub executed : ℕ → List ℕ → List ℕ → Reading → Target → Done
+abbrev pub executed : ℕ → List ℕ → List ℕ → Reading → TargetValue → Done
 executed channel service name (readings.Known command) target = written command (exec_effect channel command target)
 executed channel service name readings.Unknown target = only Unknown
 executed channel service name (readings.Bad index code) target = only (refusal (name_in service name) code)
 
-abbrev pub after_reading : ℕ → Reading → Target → Target
+abbrev pub after_reading : ℕ → Reading → TargetValue → TargetValue
 after_reading channel (readings.Known command) target = exec_after channel command target
 after_reading channel readings.Unknown target = target
 after_reading channel (readings.Bad index code) target = target

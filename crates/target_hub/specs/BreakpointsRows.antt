@@ -22,7 +22,7 @@ use Rattle.breakpoints.specs.Statuses.{status_event}
 use Rattle.breakpoints.specs.declared.breakpoints.BpDone.{BpDone}
 use Rattle.breakpoints.specs.declared.breakpoints.BpDone.TheVariants.{Failed, Changed}
 use Rattle.run_control.specs.Naming.{is_empty}
-use Rattle.target_hub.specs.declared.target.Target.{Target}
+use Rattle.run_control.specs.TargetValue.{TargetValue}
 use Rattle.breakpoints.specs.declared.rows.Placed.{Placed}
 
 -- ---- the commands that change the list: what was taken out, what is new, what is changed, each where there is some,
@@ -52,7 +52,7 @@ effect_of attached (Changed removed added changed) =
 -- ---- the commands that ask
 
 -- a breakpoint that isn't there, or an ID, other than the empty one, of no live process or thread
-abbrev pub ask_fault : Command → Target → Option Fault
+abbrev pub ask_fault : Command → TargetValue → Option Fault
 ask_fault (BpProperties id) target = first_fault ((is_none (props_of id target.breakpoints), Other) ∷ [])
 ask_fault (BpGetStatus id) target = first_fault ((is_none (props_of id target.breakpoints), Other) ∷ [])
 ask_fault (BpCapabilities id) target =
@@ -76,11 +76,11 @@ ask_answer _ attached rows = answers.Nothing
 
 -- ---- both
 
-abbrev pub breakpoints_effect : ℕ → Command → Target → Effect
+abbrev pub breakpoints_effect : ℕ → Command → TargetValue → Effect
 breakpoints_effect channel command target =
     let attached = attached_in target.contexts.processes in
     if changes_list command then effect_of attached (done channel command target.breakpoints)
     else effect_by (ask_fault command target) (gives (ask_answer command attached target.breakpoints))
 
-abbrev pub breakpoints_after : ℕ → Command → Target → Target
+abbrev pub breakpoints_after : ℕ → Command → TargetValue → TargetValue
 breakpoints_after channel command target = record target { breakpoints = after channel command target.breakpoints }

@@ -10,11 +10,11 @@ use Rattle.service_names.specs.declared.commands.CommandName.{CommandName}
 use Rattle.service_names.specs.declared.commands.CommandName.TheVariants as service
 use Rattle.target_hub.specs.BreakpointsRows.{breakpoints_after, breakpoints_effect}
 use Rattle.target_hub.specs.LocatorRows.{locator_answer}
-use Rattle.target_hub.specs.declared.target.Target.{Target}
+use Rattle.run_control.specs.TargetValue.{TargetValue}
 
 -- ---- what it gives
 
-abbrev pub effect_in : CommandName → ℕ → Command → Target → Effect
+abbrev pub effect_in : CommandName → ℕ → Command → TargetValue → Effect
 effect_in (service.Locator name) channel command target = gives (locator_answer command)
 effect_in (service.RunControl name) channel command target = run_effect command target.breakpoints target.contexts
 effect_in (service.Breakpoints name) channel command target = breakpoints_effect channel command target
@@ -24,18 +24,18 @@ effect_in (service.Processes name) channel command target = run_effect command t
 effect_in (service.Trace name) channel command target = run_effect command target.breakpoints target.contexts
 
 -- the events, the progress and the answer of a command of a channel
-unfoldable pub exec_effect : ℕ → Command → Target → Effect
+unfoldable pub exec_effect : ℕ → Command → TargetValue → Effect
 exec_effect channel command target = effect_in (named_as command) channel command target
 
 -- ---- what it leaves
 
-abbrev pub after_run : Command → Target → Target
+abbrev pub after_run : Command → TargetValue → TargetValue
 after_run command target = record target { contexts = run_after command target.breakpoints target.contexts }
 
-abbrev pub after_data : Command → Target → Target
+abbrev pub after_data : Command → TargetValue → TargetValue
 after_data command target = record target { contexts = data_after command target.contexts }
 
-abbrev pub after_in : CommandName → ℕ → Command → Target → Target
+abbrev pub after_in : CommandName → ℕ → Command → TargetValue → TargetValue
 after_in (service.Locator name) channel command target = target
 after_in (service.RunControl name) channel command target = after_run command target
 after_in (service.Breakpoints name) channel command target = breakpoints_after channel command target
@@ -45,5 +45,5 @@ after_in (service.Processes name) channel command target = after_run command tar
 after_in (service.Trace name) channel command target = after_run command target
 
 -- the target after a command of a channel
-unfoldable pub exec_after : ℕ → Command → Target → Target
+unfoldable pub exec_after : ℕ → Command → TargetValue → TargetValue
 exec_after channel command target = after_in (named_as command) channel command target

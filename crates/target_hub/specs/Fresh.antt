@@ -19,10 +19,10 @@ use Rattle.target_hub.specs.Ordered.{IsChannelOf, through}
 use Rattle.target_hub.specs.Sent.{executed_on, is_through}
 use Rattle.target_hub.specs.declared.input.Input.{Input}
 use Rattle.target_hub.specs.declared.input.Input.TheVariants.{Executed}
-use Rattle.target_hub.specs.declared.target.Target.{Target}
+use Rattle.run_control.specs.TargetValue.{TargetValue}
 
 -- the target after so many inputs
-abbrev pub target_at : List Image → List Input → ℕ → Target
+abbrev pub target_at : List Image → List Input → ℕ → TargetValue
 target_at images history position = inputs_after (take position history) (new_target images)
 
 -- the data of the answer to a command that only asks: it is the same for every channel

@@ -8,18 +8,18 @@ use Rattle.target_hub.specs.HubValue.{new_target}
 use Rattle.target_hub.specs.Passing.{closed, tick_told, ticked}
 use Rattle.target_hub.specs.declared.input.Input.{Input}
 use Rattle.target_hub.specs.declared.input.Input.TheVariants.{Opened, Executed, Ticked, Closed}
-use Rattle.target_hub.specs.declared.target.Target.{Target}
+use Rattle.run_control.specs.TargetValue.{TargetValue}
 
 -- ---- what inputs make of the target
 
-abbrev pub input_after : Input → Target → Target
+abbrev pub input_after : Input → TargetValue → TargetValue
 input_after (Opened channel) target = target
 input_after (Executed channel reading service name) target = after_reading channel reading target
 input_after (Ticked thread) target = ticked thread target
 input_after (Closed channel) target = closed channel target
 
 -- one input after the other
-abbrev pub inputs_after : List Input → Target → Target
+abbrev pub inputs_after : List Input → TargetValue → TargetValue
 inputs_after [] target = target
 inputs_after (input ∷ inputs) target = inputs_after inputs (input_after input target)
 
@@ -48,7 +48,7 @@ is_live channel inputs = was_opened channel inputs && not (was_closed channel in
 
 -- after these inputs, which made this target: a channel opens once, one that executes or closes is live, what it executes
 -- is a reading of these names, and a thread that executes an instruction lives and runs
-abbrev pub IsAllowed : List Input → Target → Input → Type 0
+abbrev pub IsAllowed : List Input → TargetValue → Input → Type 0
 IsAllowed before target (Opened channel) = was_opened channel before ≡ false
 IsAllowed before target (Executed channel reading service name) = (is_live channel before ≡ true) × IsReading service name reading
 IsAllowed before target (Ticked thread) = IsSome (tick_told thread target)

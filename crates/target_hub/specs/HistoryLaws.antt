@@ -9,9 +9,9 @@ use Rattle.target_hub.specs.HubValue.{new_target}
 use Rattle.target_hub.specs.Limits.{AreReadable}
 use Rattle.target_hub.specs.Sendable.{IsBounded}
 use Rattle.target_hub.specs.declared.input.Input.{Input}
-use Rattle.target_hub.specs.declared.target.Target.{Target}
+use Rattle.run_control.specs.TargetValue.{TargetValue}
 
-pub record IsConsistent (target : Target) : Type 0 where
+pub record IsConsistent (target : TargetValue) : Type 0 where
   pub processes : IsOrderly target.contexts.processes target.contexts.next  -- at most 64, under numbers that rise
   pub threads : AreSound target.contexts.processes  -- a suspended one's process is attached
   pub breakpoints : AreListed target.breakpoints  -- at most 256, under IDs that differ

@@ -12,27 +12,27 @@ use Rattle.tcf_values.specs.declared.ids.ContextId.{ContextId}
 use Rattle.target_hub.specs.Answering.{executed}
 use Rattle.target_hub.specs.Execution.{exec_after, exec_effect}
 use Rattle.target_hub.specs.Passing.{closed, closed_told, tick_told}
-use Rattle.target_hub.specs.declared.target.Target.{Target}
+use Rattle.run_control.specs.TargetValue.{TargetValue}
 
 -- a command that an error answers changes nothing, and no event tells of it
 abbrev pub FailureChangesNothing : Type 0
-FailureChangesNothing = (channel : ℕ) (command : Command) (target : Target) (report : ErrorReport) →
+FailureChangesNothing = (channel : ℕ) (command : Command) (target : TargetValue) (report : ErrorReport) →
     (exec_effect channel command target).answer ≡ Failed report →
     (exec_after channel command target ≡ target) × ((exec_effect channel command target).events ≡ [])
 
 -- a command that only asks changes nothing, and no event tells of it
 abbrev pub AskingChangesNothing : Type 0
-AskingChangesNothing = (channel : ℕ) (command : Command) (target : Target) → changes command ≡ false →
+AskingChangesNothing = (channel : ℕ) (command : Command) (target : TargetValue) → changes command ≡ false →
     (exec_after channel command target ≡ target) × ((exec_effect channel command target).events ≡ [])
 
 -- and all channels get the same answer to it
 abbrev pub AskingIsTheSame : Type 0
-AskingIsTheSame = (one other : ℕ) (command : Command) (target : Target) → changes command ≡ false →
+AskingIsTheSame = (one other : ℕ) (command : Command) (target : TargetValue) → changes command ≡ false →
     exec_effect one command target ≡ exec_effect other command target
 
 -- a channel that has gone owns no breakpoint
 abbrev pub GoneOwnsNothing : Type 0
-GoneOwnsNothing = (channel : ℕ) (target : Target) → owned_by channel (closed channel target).breakpoints ≡ []
+GoneOwnsNothing = (channel : ℕ) (target : TargetValue) → owned_by channel (closed channel target).breakpoints ≡ []
 
 -- ---- no event of the target is a Hello, by which each end of a channel names its own services
 
@@ -44,11 +44,11 @@ abbrev pub AreNoHello : List EventData → Type 0
 AreNoHello told = AllByRecursion IsNoHello told
 
 abbrev pub CommandsTellNoHello : Type 0
-CommandsTellNoHello = (channel : ℕ) (service name : List ℕ) (reading : Reading) (target : Target) →
+CommandsTellNoHello = (channel : ℕ) (service name : List ℕ) (reading : Reading) (target : TargetValue) →
     AreNoHello (executed channel service name reading target).events
 
 abbrev pub TicksTellNoHello : Type 0
-TicksTellNoHello = (thread : ContextId) (target : Target) → IfSome (tick_told thread target) AreNoHello
+TicksTellNoHello = (thread : ContextId) (target : TargetValue) → IfSome (tick_told thread target) AreNoHello
 
 abbrev pub ClosingsTellNoHello : Type 0
-ClosingsTellNoHello = (channel : ℕ) (target : Target) → AreNoHello (closed_told channel target)
+ClosingsTellNoHello = (channel : ℕ) (target : TargetValue) → AreNoHello (closed_told channel target)

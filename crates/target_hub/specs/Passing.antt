@@ -7,16 +7,16 @@ use Rattle.breakpoints.specs.Rows.{ids_of, others, owned_by}
 use Rattle.run_control.specs.Ticking.{tick_after, tick_events}
 use Rattle.target_contexts.specs.Live.{numbers_of, process_of}
 use Rattle.target_contexts.specs.Named.{is_running}
-use Rattle.target_contexts.specs.declared.process.Process.{Process}
+use Rattle.target_contexts.specs.ProcessValue.{ProcessValue}
 use Rattle.target_hub.specs.BreakpointsRows.{removed_events}
-use Rattle.target_hub.specs.declared.target.Target.{Target}
+use Rattle.run_control.specs.TargetValue.{TargetValue}
 
 -- ---- one instruction of a thread, where it lives and runs
 
-abbrev pub ticked : ContextId → Target → Target
+abbrev pub ticked : ContextId → TargetValue → TargetValue
 ticked thread target = record target { contexts = tick_after target.breakpoints thread target.contexts }
 
-abbrev pub tick_told : ContextId → Target → Option (List EventData)
+abbrev pub tick_told : ContextId → TargetValue → Option (List EventData)
 tick_told thread target = tick_events target.breakpoints thread target.contexts
 
 -- the one thread of each process
@@ -24,13 +24,13 @@ abbrev pub threads_of : List ℕ → List ContextId
 threads_of numbers = map (λ number. ids.Thread number 1) numbers
 
 -- the threads that run, in the order of their processes
-abbrev pub running_in : List (ℕ × Process) → List ContextId
+abbrev pub running_in : List (ℕ × ProcessValue) → List ContextId
 running_in rows = threads_of (filter (λ number. is_running (process_of number rows)) (numbers_of rows))
 
 -- ---- a channel that goes takes its breakpoints with it, and contextRemoved tells them where there are some
 
-abbrev pub closed : ℕ → Target → Target
+abbrev pub closed : ℕ → TargetValue → TargetValue
 closed channel target = record target { breakpoints = others channel target.breakpoints }
 
-abbrev pub closed_told : ℕ → Target → List EventData
+abbrev pub closed_told : ℕ → TargetValue → List EventData
 closed_told channel target = removed_events (ids_of (owned_by channel target.breakpoints))

@@ -16,7 +16,7 @@ use Rattle.target_hub.specs.Limits.{AreReadable}
 use Rattle.target_hub.specs.Passing.{closed_told, tick_told, ticked}
 use Rattle.target_hub.specs.declared.done.Answered.{Answered}
 use Rattle.target_hub.specs.declared.done.Answered.TheVariants.{Unknown, Result}
-use Rattle.target_hub.specs.declared.target.Target.{Target}
+use Rattle.run_control.specs.TargetValue.{TargetValue}
 
 abbrev pub HasNoZero : List ℕ → Type 0
 HasNoZero text = list_any (λ byte. byte == 0) text ≡ false
@@ -36,36 +36,36 @@ IsSendable (Result body) = length body ≤ 1048576
 
 -- ---- what the target holds is bounded
 
-pub record IsBounded (target : Target) : Type 0 where
+pub record IsBounded (target : TargetValue) : Type 0 where
   pub processes : AllShort target.contexts.processes  -- their names, reasons and hits
   pub orderly : IsOrderly target.contexts.processes target.contexts.next  -- at most 64
   pub listed : AreListed target.breakpoints  -- at most 256
   pub properties : AreReadable target.breakpoints  -- texts of limited lengths
 
 -- what always holds of a hub's target: where memory was wanting, nothing is known of the processes
-pub record IsHeld (spent : Bool) (target : Target) : Type 0 where
+pub record IsHeld (spent : Bool) (target : TargetValue) : Type 0 where
   pub processes : spent ≡ false → AllShort target.contexts.processes
   pub properties : AreReadable target.breakpoints
 
 -- ---- the laws: then what is told and answered can be sent
 
 abbrev pub CommandsTellSendable : Type 0
-CommandsTellSendable = (channel : ℕ) (service name : List ℕ) (reading : Reading) (target : Target) → IsReading service name reading → IsBounded target →
+CommandsTellSendable = (channel : ℕ) (service name : List ℕ) (reading : Reading) (target : TargetValue) → IsReading service name reading → IsBounded target →
     AreSendable (executed channel service name reading target).events
 
 abbrev pub AnswersAreSendable : Type 0
-AnswersAreSendable = (channel : ℕ) (service name : List ℕ) (reading : Reading) (target : Target) → IsBounded target →
+AnswersAreSendable = (channel : ℕ) (service name : List ℕ) (reading : Reading) (target : TargetValue) → IsBounded target →
     IsSendable (executed channel service name reading target).answer
 
 abbrev pub TicksTellSendable : Type 0
-TicksTellSendable = (thread : ContextId) (target : Target) → IsBounded target → IfSome (tick_told thread target) AreSendable
+TicksTellSendable = (thread : ContextId) (target : TargetValue) → IsBounded target → IfSome (tick_told thread target) AreSendable
 
 abbrev pub ClosingsTellSendable : Type 0
-ClosingsTellSendable = (channel : ℕ) (target : Target) → IsBounded target → AreSendable (closed_told channel target)
+ClosingsTellSendable = (channel : ℕ) (target : TargetValue) → IsBounded target → AreSendable (closed_told channel target)
 
 -- and names, reasons and hits stay short
 abbrev pub CommandsKeepShort : Type 0
-CommandsKeepShort = (channel : ℕ) (reading : Reading) (target : Target) → IsBounded target → AllShort (after_reading channel reading target).contexts.processes
+CommandsKeepShort = (channel : ℕ) (reading : Reading) (target : TargetValue) → IsBounded target → AllShort (after_reading channel reading target).contexts.processes
 
 abbrev pub TicksKeepShort : Type 0
-TicksKeepShort = (thread : ContextId) (target : Target) → IsBounded target → AllShort (ticked thread target).contexts.processes
+TicksKeepShort = (thread : ContextId) (target : TargetValue) → IsBounded target → AllShort (ticked thread target).contexts.processes

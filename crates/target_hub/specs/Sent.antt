@@ -16,7 +16,7 @@ use Rattle.target_hub.specs.declared.done.Answered.TheVariants.{Unknown, Result}
 use Rattle.target_hub.specs.declared.done.Done.{Done}
 use Rattle.target_hub.specs.declared.input.Input.{Input}
 use Rattle.target_hub.specs.declared.input.Input.TheVariants.{Opened, Executed, Ticked, Closed}
-use Rattle.target_hub.specs.declared.target.Target.{Target}
+use Rattle.run_control.specs.TargetValue.{TargetValue}
 
 -- What a channel is told: each message with its position, which is the number of the history's inputs up to and with the
 -- one that made it, and the data of its final answers with whether they go to a through command. An answer has no token
@@ -70,7 +70,7 @@ executed_told k position channel reading done =
     events_told position done.events ++ (if channel == k then caller_told position reading done else [])
 
 -- what the live channel k is told by an input that comes to this target
-abbrev pub told_by : ℕ → ℕ → Target → Input → List Told
+abbrev pub told_by : ℕ → ℕ → TargetValue → Input → List Told
 told_by k position target (Opened channel) = if channel == k then hello_at position agent_services ∷ [] else []
 told_by k position target (Executed channel reading service name) =
     executed_told k position channel reading (executed channel service name reading target)
@@ -78,12 +78,12 @@ told_by k position target (Ticked thread) = tick_events_told position (tick_told
 told_by k position target (Closed channel) = events_told position (closed_told channel target)
 
 -- what an input tells k: a channel is live from the input that opens it until the one that closes it
-abbrev pub told_while_live : ℕ → List Input → Target → Input → List Told
+abbrev pub told_while_live : ℕ → List Input → TargetValue → Input → List Told
 told_while_live k before target input =
     if is_live k (before ++ input ∷ []) then told_by k (length before + 1) target input else []
 
 -- what these inputs, which come after those before them to this target, tell k
-abbrev pub sent_after : ℕ → List Input → Target → List Input → List Told
+abbrev pub sent_after : ℕ → List Input → TargetValue → List Input → List Told
 sent_after k before target [] = []
 sent_after k before target (input ∷ inputs) =
     told_while_live k before target input ++ sent_after k (before ++ input ∷ []) (input_after input target) inputs

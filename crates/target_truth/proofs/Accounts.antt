@@ -13,7 +13,7 @@ use Rattle.knowledge.specs.declared.state.StateFact.TheVariants as told
 use Rattle.rv32i_core.specs.declared.registers.Cpu.{Cpu}
 use Rattle.target_contexts.specs.Contexts.{process_data, thread_data}
 use Rattle.target_contexts.specs.Named.{runs}
-use Rattle.target_contexts.specs.declared.process.Process.{Process}
+use Rattle.target_contexts.specs.ProcessValue.{ProcessValue}
 use Rattle.target_contexts.specs.declared.process.ThreadState.{ThreadState}
 use Rattle.target_contexts.specs.declared.process.ThreadState.TheVariants.{Running, Suspended}
 use Rattle.target_truth.specs.Holds.{state_fact}
@@ -37,7 +37,7 @@ same_text a b id one two = (bytes_eq-Decides a b).1 (((context_round_trip a id).
 
 -- ---- processes that come and go
 
-pub none_accounts : (number : ℕ) (is : Option Process) (changes : List Change) → Accounts number None is changes
+pub none_accounts : (number : ℕ) (is : Option ProcessValue) (changes : List Change) → Accounts number None is changes
 none_accounts number is changes = record {
   process = λ id x named knows. absurd (none-some x knows);
   thread = λ id x named knows. absurd (none-some x knows);
@@ -50,7 +50,7 @@ abbrev pub changes_gone : ℕ → List ℕ → List ℕ → List Change
 changes_gone number tid pid =
     context_gone tid ∷ state_gone number 1 ∷ thread_registers_gone number 1 ∷ bytes_gone number ∷ context_gone pid ∷ bytes_gone number ∷ statuses_gone ∷ []
 
-pub gone_accounts : (number : ℕ) (was is : Option Process) (tid pid : List ℕ) → context_of tid ≡ Some (contexts.Thread number 1)
+pub gone_accounts : (number : ℕ) (was is : Option ProcessValue) (tid pid : List ℕ) → context_of tid ≡ Some (contexts.Thread number 1)
     → context_of pid ≡ Some (contexts.Process number) → Accounts number was is (changes_gone number tid pid)
 gone_accounts number was is tid pid thread process = record {
   process = λ id x named knows. inr (or_right (bytes_eq tid id) _ (or_left (bytes_eq pid id) _ (same_text pid id (contexts.Process number) process named)));
@@ -62,11 +62,11 @@ gone_accounts number was is tid pid thread process = record {
 
 -- ---- a process that stays
 
-kept_process : (number : ℕ) (old new : Process) (x : ContextData) → new.name ≡ old.name → option_map (process_data number) (Some old) ≡ Some x
+kept_process : (number : ℕ) (old new : ProcessValue) (x : ContextData) → new.name ≡ old.name → option_map (process_data number) (Some old) ≡ Some x
     → option_map (process_data number) (Some new) ≡ Some x
 kept_process number old new x name knows = ap (λ n. Some (process_data number (record old { name = n }))) name ∙ knows
 
-kept_thread : (number : ℕ) (old new : Process) (x : ContextData) → new.attached ≡ old.attached → option_map (thread_data number) (Some old) ≡ Some x
+kept_thread : (number : ℕ) (old new : ProcessValue) (x : ContextData) → new.attached ≡ old.attached → option_map (thread_data number) (Some old) ≡ Some x
     → option_map (thread_data number) (Some new) ≡ Some x
 kept_thread number old new x attached knows = ap (λ a. Some (thread_data number (record old { attached = a }))) attached ∙ knows
 
@@ -75,7 +75,7 @@ abbrev pub changes_switched : ℕ → ContextData → List Change
 changes_switched number context =
     context_told context.id context ∷ state_gone number 1 ∷ thread_registers_gone number 1 ∷ bytes_gone number ∷ statuses_gone ∷ []
 
-pub switched_accounts : (number : ℕ) (old new : Process) (given : ContextData) → context_of given.id ≡ Some (contexts.Thread number 1)
+pub switched_accounts : (number : ℕ) (old new : ProcessValue) (given : ContextData) → context_of given.id ≡ Some (contexts.Thread number 1)
     → new.name ≡ old.name → Accounts number (Some old) (Some new) (changes_switched number given)
 switched_accounts number old new given thread name = record {
   process = λ id x named knows. inl (kept_process number old new x name knows);
@@ -89,7 +89,7 @@ switched_accounts number old new given thread name = record {
 abbrev pub changes_moved : ℕ → StateFact → List Change → List Change
 changes_moved number state rest = bytes_gone number ∷ thread_registers_gone number 1 ∷ state_told number 1 state ∷ rest
 
-pub moved_accounts : (number : ℕ) (old new : Process) (state : StateFact) (rest : List Change) → new.name ≡ old.name → new.attached ≡ old.attached
+pub moved_accounts : (number : ℕ) (old new : ProcessValue) (state : StateFact) (rest : List Change) → new.name ≡ old.name → new.attached ≡ old.attached
     → Accounts number (Some old) (Some new) (changes_moved number state rest)
 moved_accounts number old new state rest name attached = record {
   process = λ id x named knows. inl (kept_process number old new x name knows);
@@ -104,7 +104,7 @@ runs_fact : (s : ThreadState) → runs s ≡ true → state_fact s ≡ told.Runn
 runs_fact (Running left) is = refl
 runs_fact (Suspended reason hits) is = absurd (true≢false (sym is))
 
-pub running_accounts : (number : ℕ) (old new : Process) (changes : List Change) → new.name ≡ old.name → new.attached ≡ old.attached
+pub running_accounts : (number : ℕ) (old new : ProcessValue) (changes : List Change) → new.name ≡ old.name → new.attached ≡ old.attached
     → runs old.state ≡ true → runs new.state ≡ true → Accounts number (Some old) (Some new) changes
 running_accounts number old new changes name attached ran run = record {
   process = λ id x named knows. inl (kept_process number old new x name knows);
@@ -126,7 +126,7 @@ byte_by number addr x first bytes memory still changes fits touched knows =
       | inr e ↦ inl (ap (λ o. not still && is_byte x o) (kept_outside first bytes memory addr fits e) ∙ knows)
     ]
 
-pub memory_accounts : (number : ℕ) (old : Process) (first : ℕ) (bytes : List ℕ) (changes : List Change) → first ≤ length old.memory
+pub memory_accounts : (number : ℕ) (old : ProcessValue) (first : ℕ) (bytes : List ℕ) (changes : List Change) → first ≤ length old.memory
     → ((addr x : ℕ) → is_within first (length bytes) addr ≡ true → IsTouched changes (byte_is number addr x))
     → Accounts number (Some old) (Some (record old { memory = with_part first bytes old.memory })) changes
 memory_accounts number old first bytes changes fits touched = record {
@@ -140,7 +140,7 @@ memory_accounts number old first bytes changes fits touched = record {
 number_by : (stopped : Bool) (a b x : ℕ) → b ≡ a → cond stopped None (Some a) ≡ Some x → cond stopped None (Some b) ≡ Some x
 number_by stopped a b x same knows = ap (λ n. cond stopped None (Some n)) same ∙ knows
 
-pub register_accounts : (number at : ℕ) (thread : ℕ) (old : Process) (cpu : Cpu) → thread ≡ 1
+pub register_accounts : (number at : ℕ) (thread : ℕ) (old : ProcessValue) (cpu : Cpu) → thread ≡ 1
     → ((index : ℕ) → index ≤ 32 → index ≢ at → number_in index cpu ≡ number_in index old.cpu)
     → Accounts number (Some old) (Some (record old { cpu = cpu })) (register_gone number thread at ∷ [])
 register_accounts number at thread old cpu one same = record {
@@ -156,10 +156,10 @@ register_accounts number at thread old cpu one same = record {
 }
 
 -- a process without its registers
-abbrev pub without_cpu : Process → List ℕ × (ThreadState × List ℕ)
+abbrev pub without_cpu : ProcessValue → List ℕ × (ThreadState × List ℕ)
 without_cpu process = (process.name, (process.state, process.memory))
 
-pub cpu_accounts : (number : ℕ) (was is : Option Process) → option_map without_cpu is ≡ option_map without_cpu was
+pub cpu_accounts : (number : ℕ) (was is : Option ProcessValue) → option_map without_cpu is ≡ option_map without_cpu was
     → option_map (λ p. p.attached) is ≡ option_map (λ p. p.attached) was → Accounts number was is (registers_gone ∷ [])
 cpu_accounts number None is same attached = none_accounts number is (registers_gone ∷ [])
 cpu_accounts number (Some old) None same attached = absurd (none-some (without_cpu old) same)

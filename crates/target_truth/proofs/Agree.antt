@@ -13,8 +13,8 @@ use Rattle.knowledge.specs.declared.state.StateFact.{StateFact}
 use Rattle.target_contexts.specs.Contexts.{process_data, thread_data, context_of as data_of}
 use Rattle.target_contexts.specs.Laws.{AgreeBut}
 use Rattle.target_contexts.specs.Named.{attached_in}
-use Rattle.target_contexts.specs.declared.process.Process.{Process}
-use Rattle.target_hub.specs.declared.target.Target.{Target}
+use Rattle.target_contexts.specs.ProcessValue.{ProcessValue}
+use Rattle.run_control.specs.TargetValue.{TargetValue}
 use Rattle.target_truth.specs.Holds.{data_in, process_in}
 use Rattle.target_truth.proofs.Changes.{IsSo, covered, is_bytes, touches}
 use Rattle.target_truth.proofs.Seen.{byte_seen, number_seen, seen, state_seen}
@@ -31,7 +31,7 @@ IsTouched changes fact = list_any (touches fact) changes ≡ true
 
 -- ---- one process, as it was and as it is
 
-pub record Accounts (number : ℕ) (was is : Option Process) (changes : List Change) : Type 0 where
+pub record Accounts (number : ℕ) (was is : Option ProcessValue) (changes : List Change) : Type 0 where
   pub process : (id : List ℕ) (x : ContextData) → context_of id ≡ Some (contexts.Process number) → option_map (process_data number) was ≡ Some x
       → (option_map (process_data number) is ≡ Some x) ⊎ IsTouched changes (context_is id x)
   pub thread : (id : List ℕ) (x : ContextData) → context_of id ≡ Some (contexts.Thread number 1) → option_map (thread_data number) was ≡ Some x
@@ -41,7 +41,7 @@ pub record Accounts (number : ℕ) (was is : Option Process) (changes : List Cha
   pub byte : (addr x : ℕ) → byte_seen addr x was ≡ true → (byte_seen addr x is ≡ true) ⊎ IsTouched changes (byte_is number addr x)
 
 -- a process that is as it was
-pub same_accounts : (number : ℕ) (process : Option Process) (changes : List Change) → Accounts number process process changes
+pub same_accounts : (number : ℕ) (process : Option ProcessValue) (changes : List Change) → Accounts number process process changes
 same_accounts number process changes = record {
   process = λ id x named knows. inl knows;
   thread = λ id x named knows. inl knows;
@@ -52,10 +52,10 @@ same_accounts number process changes = record {
 
 -- ---- contexts, by what the ID names
 
-pub data_named : (id : List ℕ) (context : ContextId) (target : Target) → context_of id ≡ Some context → data_in id target ≡ data_of context target.contexts.processes
+pub data_named : (id : List ℕ) (context : ContextId) (target : TargetValue) → context_of id ≡ Some context → data_in id target ≡ data_of context target.contexts.processes
 data_named id context target named = ap (option_and_then (λ c. data_of c target.contexts.processes)) named
 
-context_by : (before now : Target) (changes : List Change) → ((p : ℕ) → Accounts p (process_in p before) (process_in p now) changes)
+context_by : (before now : TargetValue) (changes : List Change) → ((p : ℕ) → Accounts p (process_in p before) (process_in p now) changes)
     → (id : List ℕ) (x : ContextData) (found : Option ContextId) → context_of id ≡ found → option_and_then (λ c. data_of c before.contexts.processes) found ≡ Some x
     → (option_and_then (λ c. data_of c now.contexts.processes) found ≡ Some x) ⊎ IsTouched changes (context_is id x)
 context_by before now changes each id x None named knows = absurd (none-some x knows)
@@ -74,7 +74,7 @@ context_by before now changes each id x (Some (contexts.Thread number thread)) n
 
 -- ---- all facts
 
-pub led : (before now : Target) (changes : List Change) → AllByRecursion (IsSo now) changes → list_any is_bytes changes ≡ false
+pub led : (before now : TargetValue) (changes : List Change) → AllByRecursion (IsSo now) changes → list_any is_bytes changes ≡ false
     → ((p : ℕ) → Accounts p (process_in p before) (process_in p now) changes)
     → ((id : List ℕ) (x : BpProps) → props_of id before.breakpoints ≡ Some x → (props_of id now.breakpoints ≡ Some x) ⊎ IsTouched changes (properties_are id x))
     → ((id : List ℕ) (x : BpStatus) → status_of id (attached_in before.contexts.processes) before.breakpoints ≡ Some x
@@ -111,7 +111,7 @@ led before now changes so none each properties statuses = covered before now cha
 
 -- ---- where one process may be another
 
-each_but : (number : ℕ) (before now : Target) (changes : List Change) → AgreeBut number before.contexts.processes now.contexts.processes
+each_but : (number : ℕ) (before now : TargetValue) (changes : List Change) → AgreeBut number before.contexts.processes now.contexts.processes
     → Accounts number (process_in number before) (process_in number now) changes → (p : ℕ) → Accounts p (process_in p before) (process_in p now) changes
 each_but number before now changes others here p =
     elim (cases_Bool (p == number)) [
@@ -119,7 +119,7 @@ each_but number before now changes others here p =
       | inr e ↦ subst (λ o. Accounts p (process_in p before) o changes) (sym (others p (eqb-false p number e))) (same_accounts p (process_in p before) changes)
     ]
 
-pub led_at : (number : ℕ) (before now : Target) (was is : Option Process) (changes : List Change) → AllByRecursion (IsSo now) changes → list_any is_bytes changes ≡ false
+pub led_at : (number : ℕ) (before now : TargetValue) (was is : Option ProcessValue) (changes : List Change) → AllByRecursion (IsSo now) changes → list_any is_bytes changes ≡ false
     → AgreeBut number before.contexts.processes now.contexts.processes → now.breakpoints ≡ before.breakpoints
     → process_in number before ≡ was → process_in number now ≡ is → Accounts number was is changes
     → ((id : List ℕ) (x : BpStatus) → status_of id (attached_in before.contexts.processes) before.breakpoints ≡ Some x

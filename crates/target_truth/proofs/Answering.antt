@@ -5,7 +5,7 @@ use Rattle.reply_tables.specs.Answers.{answer_read}
 use Rattle.reply_tables.specs.Limits.{IsAnswerTo}
 use Rattle.reply_tables.specs.Written.{IsTyped, answer_data}
 use Rattle.knowledge.specs.Rows.{answer_changes}
-use Rattle.target_hub.specs.declared.target.Target.{Target}
+use Rattle.run_control.specs.TargetValue.{TargetValue}
 use Rattle.target_truth.specs.Taught.{answer_by, answer_message}
 use Rattle.target_truth.proofs.Changes.{IsSo, Moves, answer_moves, other_moves}
 use Rattle.target_truth.proofs.Decoding.{answer_back}
@@ -21,12 +21,12 @@ use Rattle.tcf_values.specs.declared.errors.ErrorReport.{ErrorReport}
 use Rattle.tcf_values.specs.declared.faults.Fault.{Fault}
 use Rattle.target_hub.proofs.Rows.{code_small}
 
-pub record IsTrueAnswer (target : Target) (command : Command) (answer : Answer) : Type 0 where
+pub record IsTrueAnswer (target : TargetValue) (command : Command) (answer : Answer) : Type 0 where
   pub limits : IsAnswerTo command answer
   pub typed : IsTyped answer
   pub so : AllByRecursion (IsSo target) (answer_changes command answer)
 
-pub answered : (target : Target) (command : Command) (answer : Answer) → IsTrueAnswer target command answer → Moves target target (answer_message command (answer_data command answer))
+pub answered : (target : TargetValue) (command : Command) (answer : Answer) → IsTrueAnswer target command answer → Moves target target (answer_message command (answer_data command answer))
 answered target command answer is =
     elim (answer_back command answer is.limits is.typed) [
       | inl e ↦ subst (λ (read : Option Answer). Moves target target (answer_by command read)) (sym e) (answer_moves target command answer is.so)
@@ -34,11 +34,11 @@ answered target command answer is =
     ]
 
 -- an answer that can tell nothing, whatever it is read as
-silent_by : (target : Target) (command : Command) (read : Option Answer) → ((answer : Answer) → answer_changes command answer ≡ []) → Moves target target (answer_by command read)
+silent_by : (target : TargetValue) (command : Command) (read : Option Answer) → ((answer : Answer) → answer_changes command answer ≡ []) → Moves target target (answer_by command read)
 silent_by target command None silent = other_moves target
 silent_by target command (Some answer) silent = answer_moves target command answer (subst (AllByRecursion (IsSo target)) (sym (silent answer)) tt)
 
-pub unheard : (target : Target) (command : Command) (body : List ℕ) → ((answer : Answer) → answer_changes command answer ≡ []) → Moves target target (answer_message command body)
+pub unheard : (target : TargetValue) (command : Command) (body : List ℕ) → ((answer : Answer) → answer_changes command answer ≡ []) → Moves target target (answer_message command body)
 unheard target command body silent = silent_by target command (answer_read command body) silent
 
 -- ---- a command that fails is answered by a report, which tells nothing
@@ -53,7 +53,7 @@ failed_silent (RegGet id) report = refl
 failed_silent (RegGetm list) report = refl
 failed_silent _ report = refl
 
-pub answer_by_fault : (target : Target) (command : Command) (fault : Option Fault) (given : Effect) → (fault ≡ None → IsTrueAnswer target command given.answer)
+pub answer_by_fault : (target : TargetValue) (command : Command) (fault : Option Fault) (given : Effect) → (fault ≡ None → IsTrueAnswer target command given.answer)
     → IsTrueAnswer target command (effect_by fault given).answer
 unfolding failed
 answer_by_fault target command None given is = is refl

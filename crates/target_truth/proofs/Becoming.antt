@@ -7,8 +7,8 @@ use Rattle.target_contexts.specs.Laws.{AgreeBut}
 use Rattle.target_contexts.specs.Live.{IsOrderly, Rise, numbers_of, process_of}
 use Rattle.target_contexts.specs.Named.{is_attached}
 use Rattle.target_contexts.specs.TargetsValue.{TargetsValue}
-use Rattle.target_contexts.specs.declared.process.Process.{Process}
-use Rattle.target_hub.specs.declared.target.Target.{Target}
+use Rattle.target_contexts.specs.ProcessValue.{ProcessValue}
+use Rattle.run_control.specs.TargetValue.{TargetValue}
 use Rattle.target_truth.specs.Holds.{process_in}
 use Rattle.target_contexts.proofs.TheLaws.{changes_one}
 use Rattle.target_truth.proofs.First.{Stays, StaysAttached}
@@ -17,20 +17,20 @@ use Rattle.data_services.proofs.PartSteps.{live_found}
 
 -- ---- a change
 
-pub record Becomes (number : ℕ) (old new : TargetsValue) (process : Process) : Type 0 where
+pub record Becomes (number : ℕ) (old new : TargetsValue) (process : ProcessValue) : Type 0 where
   pub found : process_of number new.processes ≡ Some process
   pub others : AgreeBut number old.processes new.processes
   pub numbers : numbers_of new.processes ≡ numbers_of old.processes
   pub next : new.next ≡ old.next
 
-pub changed : (change : Process → Process) (number : ℕ) (targets : TargetsValue) (process : Process) → process_of number targets.processes ≡ Some process
+pub changed : (change : ProcessValue → ProcessValue) (number : ℕ) (targets : TargetsValue) (process : ProcessValue) → process_of number targets.processes ≡ Some process
     → Becomes number targets (with_change change number targets) (change process)
 changed change number targets process found =
     let is = changes_one targets.processes number (change process) (live_found number targets.processes process found) in
-    subst (λ (o : Option Process). Becomes number targets (with_change_at change number o targets) (change process)) (sym found)
+    subst (λ (o : Option ProcessValue). Becomes number targets (with_change_at change number o targets) (change process)) (sym found)
     (record { found = is.0; others = is.1; numbers = is.2; next = refl })
 
-pub twice : (number : ℕ) (one two three : TargetsValue) (process last : Process) → Becomes number one two process → Becomes number two three last → Becomes number one three last
+pub twice : (number : ℕ) (one two three : TargetsValue) (process last : ProcessValue) → Becomes number one two process → Becomes number two three last → Becomes number one three last
 twice number one two three process last first second = record {
   found = second.found;
   others = λ other differ. second.others other differ ∙ first.others other differ;
@@ -39,10 +39,10 @@ twice number one two three process last first second = record {
 }
 
 -- the numbers stay in order
-pub orderly : (number : ℕ) (old new : TargetsValue) (process : Process) → Becomes number old new process → IsOrderly old.processes old.next → IsOrderly new.processes new.next
+pub orderly : (number : ℕ) (old new : TargetsValue) (process : ProcessValue) → Becomes number old new process → IsOrderly old.processes old.next → IsOrderly new.processes new.next
 orderly number old new process becomes was =
     let counted : length new.processes ≡ length old.processes =
-    sym (length-map new.processes (λ (row : ℕ × Process). row.0)) ∙ ap length becomes.numbers ∙ length-map old.processes (λ (row : ℕ × Process). row.0) in
+    sym (length-map new.processes (λ (row : ℕ × ProcessValue). row.0)) ∙ ap length becomes.numbers ∙ length-map old.processes (λ (row : ℕ × ProcessValue). row.0) in
     record {
       few = subst (λ n. n ≤ 64) (sym counted) was.few;
       rising = subst (λ n. Rise 0 (numbers_of new.processes) n) (sym becomes.next) (subst (λ ns. Rise 0 ns old.next) (sym becomes.numbers) was.rising);
@@ -51,10 +51,10 @@ orderly number old new process becomes was =
 
 -- ---- the target with other processes
 
-abbrev pub with_contexts : TargetsValue → Target → Target
+abbrev pub with_contexts : TargetsValue → TargetValue → TargetValue
 with_contexts contexts target = record target { contexts = contexts }
 
-pub stays : (number : ℕ) (target : Target) (contexts : TargetsValue) (old new : Process) → process_in number target ≡ Some old → Becomes number target.contexts contexts new → new.name ≡ old.name
+pub stays : (number : ℕ) (target : TargetValue) (contexts : TargetsValue) (old new : ProcessValue) → process_in number target ≡ Some old → Becomes number target.contexts contexts new → new.name ≡ old.name
     → Stays number target (with_contexts contexts target) old new
 stays number target contexts old new was becomes name = record {
   differs = record { others = becomes.others; breakpoints = refl };
@@ -64,7 +64,7 @@ stays number target contexts old new was becomes name = record {
 }
 
 -- a process that stays attached, or not
-attached_by : (number : ℕ) (target : Target) (contexts : TargetsValue) (old new : Process) → process_in number target ≡ Some old → Becomes number target.contexts contexts new → new.attached ≡ old.attached
+attached_by : (number : ℕ) (target : TargetValue) (contexts : TargetsValue) (old new : ProcessValue) → process_in number target ≡ Some old → Becomes number target.contexts contexts new → new.attached ≡ old.attached
     → (n : ℕ) → is_attached (process_of n contexts.processes) ≡ is_attached (process_of n target.contexts.processes)
 attached_by number target contexts old new was becomes attached n =
     elim (cases_Bool (nat_eq n number)) [
@@ -76,7 +76,7 @@ attached_by number target contexts old new was becomes attached n =
       | inr e ↦ ap is_attached (becomes.others n (eqb-false n number e))
     ]
 
-pub stays_attached : (number : ℕ) (target : Target) (contexts : TargetsValue) (old new : Process) → process_in number target ≡ Some old → Becomes number target.contexts contexts new → new.name ≡ old.name
+pub stays_attached : (number : ℕ) (target : TargetValue) (contexts : TargetsValue) (old new : ProcessValue) → process_in number target ≡ Some old → Becomes number target.contexts contexts new → new.name ≡ old.name
     → new.attached ≡ old.attached → StaysAttached number target (with_contexts contexts target) old new
 stays_attached number target contexts old new was becomes name attached = record {
   stays = stays number target contexts old new was becomes name;
@@ -85,13 +85,13 @@ stays_attached number target contexts old new was becomes name attached = record
 }
 
 -- the live process of a number is changed
-pub change_stays : (change : Process → Process) (number : ℕ) (target : Target) (old : Process) → process_in number target ≡ Some old → (change old).name ≡ old.name → (change old).attached ≡ old.attached
+pub change_stays : (change : ProcessValue → ProcessValue) (number : ℕ) (target : TargetValue) (old : ProcessValue) → process_in number target ≡ Some old → (change old).name ≡ old.name → (change old).attached ≡ old.attached
     → StaysAttached number target (with_contexts (with_change change number target.contexts) target) old (change old)
 change_stays change number target old was name attached =
     stays_attached number target (with_change change number target.contexts) old (change old) was (changed change number target.contexts old was) name attached
 
 -- what stays as it is
-pub rests : (number : ℕ) (target : Target) (process : Process) → process_in number target ≡ Some process → StaysAttached number target target process process
+pub rests : (number : ℕ) (target : TargetValue) (process : ProcessValue) → process_in number target ≡ Some process → StaysAttached number target target process process
 rests number target process there = record {
   stays = record {
     differs = record { others = λ other differ. refl; breakpoints = refl };

@@ -6,7 +6,7 @@ use Rattle.breakpoints.specs.Rows.{is_among, props_of}
 use Rattle.knowledge.specs.Changes.{of_each}
 use Rattle.knowledge.specs.Facts.{properties_are, status_is}
 use Rattle.knowledge.specs.Rows.{removed_properties, told_properties}
-use Rattle.target_hub.specs.declared.target.Target.{Target}
+use Rattle.run_control.specs.TargetValue.{TargetValue}
 use Rattle.target_truth.proofs.Agree.{IsTouched}
 use Rattle.target_truth.proofs.Changes.{IsSo, is_bytes, touches}
 use Rattle.target_truth.proofs.Texts.{turned}
@@ -15,12 +15,12 @@ use Rattle.tcf_values.specs.declared.values.BpStatus.{BpStatus}
 use Rattle.list_laws.proofs.Flags.{or_then}
 
 -- what is told is so
-pub told_so : (now : Target) (list : List BpProps) → AllByRecursion (λ props. props_of props.id now.breakpoints ≡ Some props) list
+pub told_so : (now : TargetValue) (list : List BpProps) → AllByRecursion (λ props. props_of props.id now.breakpoints ≡ Some props) list
     → AllByRecursion (IsSo now) (of_each told_properties list)
 told_so now [] there = tt
 told_so now (props ∷ list) there = (there.0, (tt, told_so now list there.1))
 
-pub removed_so : (now : Target) (ids : List (List ℕ)) → AllByRecursion (IsSo now) (of_each removed_properties ids)
+pub removed_so : (now : TargetValue) (ids : List (List ℕ)) → AllByRecursion (IsSo now) (of_each removed_properties ids)
 removed_so now [] = tt
 removed_so now (id ∷ ids) = (tt, (tt, removed_so now ids))
 

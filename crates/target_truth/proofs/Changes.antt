@@ -6,7 +6,7 @@ use Rattle.knowledge.specs.Changes.{Change, after, after_all, all_gone, state_to
 use Rattle.knowledge.specs.Facts.{Fact, Facts, IsPart, Knows, context_is, state_is, register_is, byte_is, properties_are, status_is, is_suspended}
 use Rattle.knowledge.specs.Learning.{Message, bad_event_taken, event_taken, answer_taken, other_taken, changes_of, learn}
 use Rattle.knowledge.specs.Rows.{answer_changes}
-use Rattle.target_hub.specs.declared.target.Target.{Target}
+use Rattle.run_control.specs.TargetValue.{TargetValue}
 use Rattle.target_truth.specs.Holds.{Holds}
 use Rattle.knowledge.proofs.TheLaws.{learning_is_monotone}
 use Rattle.target_truth.proofs.Based.{IsCalm, change_based, event_keeps, still_in}
@@ -20,32 +20,32 @@ pub use Rattle.target_truth.proofs.Origins.{is_bytes, touches}
 
 -- ---- what a change tells is so of the target
 
-abbrev pub IsSo : Target → Change → Type 0
+abbrev pub IsSo : TargetValue → Change → Type 0
 IsSo target change = IsAmong (seen target) change
 
 -- then it keeps what is known a part of what is true
-pub part_kept : (target : Target) (change : Change) (known : Facts) → IsSo target change → IsPart known (seen target) → IsPart (after change known) (seen target)
+pub part_kept : (target : TargetValue) (change : Change) (known : Facts) → IsSo target change → IsPart known (seen target) → IsPart (after change known) (seen target)
 part_kept target change known so part = after_part (seen target) known change so part
 
-pub parts_kept : (target : Target) (changes : List Change) (known : Facts) → AllByRecursion (IsSo target) changes → IsPart known (seen target) → IsPart (after_all changes known) (seen target)
+pub parts_kept : (target : TargetValue) (changes : List Change) (known : Facts) → AllByRecursion (IsSo target) changes → IsPart known (seen target) → IsPart (after_all changes known) (seen target)
 parts_kept target [] known so part = part
 parts_kept target (change ∷ changes) known so part = parts_kept target changes (after change known) so.1 (part_kept target change known so.0 part)
 
 -- ---- two targets
 
 -- changes that touch each fact that isn't so any more, and tell what is so now, lead from the one target to the other
-pub covered : (before now : Target) (changes : List Change) → AllByRecursion (IsSo now) changes → list_any is_bytes changes ≡ false
+pub covered : (before now : TargetValue) (changes : List Change) → AllByRecursion (IsSo now) changes → list_any is_bytes changes ≡ false
     → ((fact : Fact) → Knows (seen before) fact → Knows (seen now) fact ⊎ (list_any (touches fact) changes ≡ true))
     → IsPart (after_all changes (seen before)) (seen now)
 covered before now changes so none touched = all_part (seen now) (seen before) changes so none touched
 
 -- ---- one message, by which the target becomes another
 
-pub record Moves (before now : Target) (message : Message) : Type 0 where
+pub record Moves (before now : TargetValue) (message : Message) : Type 0 where
   pub part : IsPart (learn message (seen before)) (seen now)
   pub based : (known : Facts) → IsPart known (seen before) → IsBased known → IsBased (learn message known)
 
-pub moved : (before now : Target) (message : Message) (known : Facts) → Moves before now message → Holds known before → Holds (learn message known) now
+pub moved : (before now : TargetValue) (message : Message) (known : Facts) → Moves before now message → Holds known before → Holds (learn message known) now
 moved before now message known moves holds =
     let part : IsPart known (seen before) = holds_seen known before holds in
     let learned : IsPart (learn message known) (learn message (seen before)) = learning_is_monotone message known (seen before) holds.grounded part in
@@ -53,12 +53,12 @@ moved before now message known moves holds =
     (moves.based known part (record { grounded = holds.grounded; still = holds.still }))
 
 -- without a message
-pub rested : (before now : Target) (known : Facts) → IsPart (seen before) (seen now) → Holds known before → Holds known now
+pub rested : (before now : TargetValue) (known : Facts) → IsPart (seen before) (seen now) → Holds known before → Holds known now
 rested before now known part holds =
     seen_holds known now (λ fact knows. part fact (holds_seen known before holds fact knows)) (record { grounded = holds.grounded; still = holds.still })
 
 -- a message that is so of the target as it is now, where what could be known of it before is still so
-pub moves_after : (before now : Target) (message : Message) → IsPart (seen before) (seen now) → Moves now now message → Moves before now message
+pub moves_after : (before now : TargetValue) (message : Message) → IsPart (seen before) (seen now) → Moves now now message → Moves before now message
 moves_after before now message part moves = record {
   part = λ fact knows. moves.part fact (learning_is_monotone message (seen before) (seen now) (seen_based before).grounded part fact knows);
   based = λ known some based. moves.based known (λ fact knows. part fact (some fact knows)) based;
@@ -68,7 +68,7 @@ moves_after before now message part moves = record {
 pub event_based : (event : EventData) (known : Facts) → IsBased known → IsBased (learn (event_taken event) known)
 event_based event known based = event_keeps event known based
 
-pub event_moves : (before now : Target) (event : EventData) → IsPart (learn (event_taken event) (seen before)) (seen now) → Moves before now (event_taken event)
+pub event_moves : (before now : TargetValue) (event : EventData) → IsPart (learn (event_taken event) (seen before)) (seen now) → Moves before now (event_taken event)
 event_moves before now event part = record {
   part = part;
   based = λ known some based. event_based event known based;
@@ -83,19 +83,19 @@ none_part more known (byte_is p place x) knows = absurd (true≢false (sym knows
 none_part more known (properties_are id x) knows = absurd (none-some x knows)
 none_part more known (status_is id x) knows = absurd (none-some x knows)
 
-pub hello_moves : (before now : Target) (message : Message) → changes_of message ≡ all_gone ∷ [] → Moves before now message
+pub hello_moves : (before now : TargetValue) (message : Message) → changes_of message ≡ all_gone ∷ [] → Moves before now message
 hello_moves before now message gone = record {
   part = subst (λ changes. IsPart (after_all changes (seen before)) (seen now)) (sym gone) (none_part (seen now) (seen before));
   based = λ known some based. subst (λ changes. IsBased (after_all changes known)) (sym gone) (change_based all_gone known tt based);
 }
 
-pub bad_moves : (before now : Target) → Moves before now bad_event_taken
+pub bad_moves : (before now : TargetValue) → Moves before now bad_event_taken
 bad_moves before now = record {
   part = none_part (seen now) (seen before);
   based = λ known some based. change_based all_gone known tt based;
 }
 
-pub other_moves : (target : Target) → Moves target target other_taken
+pub other_moves : (target : TargetValue) → Moves target target other_taken
 other_moves target = record {
   part = λ fact knows. knows;
   based = λ known some based. based;
@@ -103,20 +103,20 @@ other_moves target = record {
 
 -- ---- an answer that tells what is so. That a thread runs is told only of one that isn't known as suspended
 
-so_calm : (target : Target) (change : Change) (known : Facts) → IsSo target change → IsSteady change → IsPart known (seen target) → IsCalm change known
+so_calm : (target : TargetValue) (change : Change) (known : Facts) → IsSo target change → IsSteady change → IsPart known (seen target) → IsCalm change known
 so_calm target (state_told process thread state) known so steady part = λ is.
     sym (ap is_suspended so) ∙ still_in (known.states process thread) ((seen target).states process thread) (λ x. part (state_is process thread x)) is
 so_calm target (state_gone process thread) known so steady part = steady
 so_calm target _ known so steady part = tt
 
-steady_based : (target : Target) (changes : List Change) (known : Facts) → AllByRecursion (IsSo target) changes → AllByRecursion IsSteady changes
+steady_based : (target : TargetValue) (changes : List Change) (known : Facts) → AllByRecursion (IsSo target) changes → AllByRecursion IsSteady changes
     → IsPart known (seen target) → IsBased known → IsBased (after_all changes known)
 steady_based target [] known so steady part based = based
 steady_based target (change ∷ changes) known so steady part based =
     steady_based target changes (after change known) so.1 steady.1 (part_kept target change known so.0 part)
     (change_based change known (so_calm target change known so.0 steady.0 part) based)
 
-pub answer_moves : (target : Target) (command : Command) (answer : Answer) → AllByRecursion (IsSo target) (answer_changes command answer)
+pub answer_moves : (target : TargetValue) (command : Command) (answer : Answer) → AllByRecursion (IsSo target) (answer_changes command answer)
     → Moves target target (answer_taken command answer)
 answer_moves target command answer so = record {
   part = parts_kept target (answer_changes command answer) (seen target) so (λ fact knows. knows);

@@ -2,8 +2,8 @@
 use Rattle.std.proofs.Common.{ℕ}
 use Rattle.json_values.specs.Contexts.{IsContext}
 use Rattle.target_contexts.specs.Contexts.{thread_data}
-use Rattle.target_contexts.specs.declared.process.Process.{Process}
+use Rattle.target_contexts.specs.ProcessValue.{ProcessValue}
 use Rattle.target_hub.proofs.Told.{powers_within}
 
-pub thread_fits : (number : ℕ) (process : Process) → IsContext (thread_data number process)
+pub thread_fits : (number : ℕ) (process : ProcessValue) → IsContext (thread_data number process)
 thread_fits number process = powers_within number process process.attached

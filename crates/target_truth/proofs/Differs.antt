@@ -10,8 +10,8 @@ use Rattle.knowledge.specs.Rows.{event_changes}
 use Rattle.run_control.specs.Naming.{process_id, thread_id}
 use Rattle.target_contexts.specs.Laws.{AgreeBut}
 use Rattle.target_contexts.specs.Named.{attached_in}
-use Rattle.target_contexts.specs.declared.process.Process.{Process}
-use Rattle.target_hub.specs.declared.target.Target.{Target}
+use Rattle.target_contexts.specs.ProcessValue.{ProcessValue}
+use Rattle.run_control.specs.TargetValue.{TargetValue}
 use Rattle.target_truth.specs.Holds.{process_in}
 use Rattle.tcf_values.proofs.TheLaws.{context_round_trip}
 use Rattle.target_truth.proofs.Agree.{IsTouched}
@@ -24,23 +24,23 @@ use Rattle.tcf_values.specs.declared.values.BpProps.{BpProps}
 use Rattle.tcf_values.specs.declared.values.BpStatus.{BpStatus}
 
 -- what an event makes of all that could be known of the one target could be known of the other
-abbrev pub Leads : Target → Target → EventData → Type 0
+abbrev pub Leads : TargetValue → TargetValue → EventData → Type 0
 Leads before now event = IsPart (learn (event_taken event) (seen before)) (seen now)
 
 -- one process may be another, and all else is the same
-pub record DiffersAt (number : ℕ) (before now : Target) : Type 0 where
+pub record DiffersAt (number : ℕ) (before now : TargetValue) : Type 0 where
   pub others : AgreeBut number before.contexts.processes now.contexts.processes
   pub breakpoints : now.breakpoints ≡ before.breakpoints
 
 -- a process that stays, with its name
-pub record Stays (number : ℕ) (before now : Target) (old new : Process) : Type 0 where
+pub record Stays (number : ℕ) (before now : TargetValue) (old new : ProcessValue) : Type 0 where
   pub differs : DiffersAt number before now
   pub was : process_in number before ≡ Some old
   pub is : process_in number now ≡ Some new
   pub name : new.name ≡ old.name
 
 -- and stays attached, or not
-pub record StaysAttached (number : ℕ) (before now : Target) (old new : Process) : Type 0 where
+pub record StaysAttached (number : ℕ) (before now : TargetValue) (old new : ProcessValue) : Type 0 where
   pub stays : Stays number before now old new
   pub attached : new.attached ≡ old.attached
   pub all : attached_in now.contexts.processes ≡ attached_in before.contexts.processes
@@ -55,7 +55,7 @@ pub thread_named : (number : ℕ) → IsNumber number → context_of (thread_id 
 thread_named number is = (context_round_trip (thread_id number) (contexts.Thread number 1)).1 ((is, (omega arith, omega arith)), refl)
 
 -- an event that makes these changes leads on where they do
-pub by_changes : (before now : Target) (event : EventData) (changes : List Change) → event_changes event ≡ changes
+pub by_changes : (before now : TargetValue) (event : EventData) (changes : List Change) → event_changes event ≡ changes
     → IsPart (after_all changes (seen before)) (seen now) → Leads before now event
 by_changes before now event changes is part = subst (λ all. IsPart (after_all all (seen before)) (seen now)) (sym is) part
 
@@ -69,7 +69,7 @@ pub status_kept : (attached : List ℕ) (status : BpStatus) (was is : Option BpP
 status_kept attached status None is kept knows = absurd (none-some status knows)
 status_kept attached status (Some props) is kept knows = ap (status_by attached) (kept props refl) ∙ knows
 
-pub status_same : (before now : Target) (changes : List Change) → attached_in now.contexts.processes ≡ attached_in before.contexts.processes → now.breakpoints ≡ before.breakpoints
+pub status_same : (before now : TargetValue) (changes : List Change) → attached_in now.contexts.processes ≡ attached_in before.contexts.processes → now.breakpoints ≡ before.breakpoints
     → (id : List ℕ) (x : BpStatus) → status_of id (attached_in before.contexts.processes) before.breakpoints ≡ Some x
     → (status_of id (attached_in now.contexts.processes) now.breakpoints ≡ Some x) ⊎ IsTouched changes (status_is id x)
 status_same before now changes all same id x knows =

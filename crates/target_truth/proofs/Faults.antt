@@ -4,7 +4,7 @@ use Rattle.std.specs.Option.{option_or}
 use Rattle.std.proofs.lemmas.Option.{none-some}
 use Rattle.target_contexts.specs.Changes.{targets_by}
 use Rattle.target_contexts.specs.TargetsValue.{TargetsValue}
-use Rattle.target_hub.specs.declared.target.Target.{Target}
+use Rattle.run_control.specs.TargetValue.{TargetValue}
 use Rattle.target_truth.proofs.Becoming.{with_contexts}
 use Rattle.target_truth.proofs.Tells.{Tell}
 use Rattle.tcf_values.specs.Effects.{effect_by, failed}
@@ -12,7 +12,7 @@ use Rattle.tcf_values.specs.declared.effect.Effect.{Effect}
 use Rattle.tcf_values.specs.declared.faults.Fault.{Fault}
 
 -- what a command tells where no check fails, it tells in all
-pub by_fault : (fault : Option Fault) (target : Target) (left : TargetsValue) (given : Effect) → (fault ≡ None → Tell target (with_contexts left target) given.events)
+pub by_fault : (fault : Option Fault) (target : TargetValue) (left : TargetsValue) (given : Effect) → (fault ≡ None → Tell target (with_contexts left target) given.events)
     → Tell target (with_contexts (targets_by fault left target.contexts) target) (effect_by fault given).events
 unfolding failed
 by_fault None target left given tell = tell refl

@@ -7,10 +7,10 @@ use Rattle.knowledge.specs.declared.state.StateFact.TheVariants as told
 use Rattle.run_control.specs.Naming.{process_id, thread_id}
 use Rattle.target_contexts.specs.Contexts.{process_data, thread_data}
 use Rattle.target_contexts.specs.Named.{runs}
-use Rattle.target_contexts.specs.declared.process.Process.{Process}
+use Rattle.target_contexts.specs.ProcessValue.{ProcessValue}
 use Rattle.target_contexts.specs.declared.process.ThreadState.{ThreadState}
 use Rattle.target_contexts.specs.declared.process.ThreadState.TheVariants.{Running, Suspended}
-use Rattle.target_hub.specs.declared.target.Target.{Target}
+use Rattle.run_control.specs.TargetValue.{TargetValue}
 use Rattle.target_truth.specs.Holds.{process_in, state_fact}
 use Rattle.target_truth.proofs.Accounts.{changes_gone, changes_moved, changes_switched, gone_accounts, moved_accounts, none_accounts, switched_accounts}
 use Rattle.target_truth.proofs.Agree.{data_named, led_at}
@@ -30,7 +30,7 @@ pub use Rattle.target_truth.proofs.FirstBreakpoints.{AreThere, OthersStay, chang
 
 -- ---- processes
 
-came_by : (number : ℕ) (before now : Target) (process : Process) (of_process of_thread : ContextData) → of_process ≡ process_data number process
+came_by : (number : ℕ) (before now : TargetValue) (process : ProcessValue) (of_process of_thread : ContextData) → of_process ≡ process_data number process
     → of_thread ≡ thread_data number process → context_of of_process.id ≡ Some (contexts.Process number) → context_of of_thread.id ≡ Some (contexts.Thread number 1)
     → DiffersAt number before now → process_in number before ≡ None → process_in number now ≡ Some process
     → Leads before now (events.CtxAdded (of_process ∷ of_thread ∷ []))
@@ -41,13 +41,13 @@ came_by number before now process of_process of_thread one two named_one named_t
     )
     refl differs.others differs.breakpoints none some (none_accounts number (Some process) _) (λ id x knows. inr refl)
 
-pub came : (number : ℕ) (before now : Target) (process : Process) → IsNumber number → DiffersAt number before now
+pub came : (number : ℕ) (before now : TargetValue) (process : ProcessValue) → IsNumber number → DiffersAt number before now
     → process_in number before ≡ None → process_in number now ≡ Some process
     → Leads before now (events.CtxAdded (process_data number process ∷ thread_data number process ∷ []))
 came number before now process is differs none some =
     came_by number before now process (process_data number process) (thread_data number process) refl refl (process_named number is) (thread_named number is) differs none some
 
-switched_by : (number : ℕ) (before now : Target) (old new : Process) (given : ContextData) → given ≡ thread_data number new
+switched_by : (number : ℕ) (before now : TargetValue) (old new : ProcessValue) (given : ContextData) → given ≡ thread_data number new
     → context_of given.id ≡ Some (contexts.Thread number 1) → Stays number before now old new → Leads before now (events.CtxChanged (given ∷ []))
 switched_by number before now old new given one named stays =
     by_changes before now (events.CtxChanged (given ∷ [])) (changes_switched number given)
@@ -56,12 +56,12 @@ switched_by number before now old new given one named stays =
     (data_named given.id (contexts.Thread number 1) now named ∙ (ap (option_map (thread_data number)) stays.is ∙ ap (λ x. Some x) (sym one)), (tt, (tt, (tt, (tt, tt)))))
     refl stays.differs.others stays.differs.breakpoints stays.was stays.is (switched_accounts number old new given named stays.name) (λ id x knows. inr refl))
 
-pub switched : (number : ℕ) (before now : Target) (old new : Process) → IsNumber number → Stays number before now old new
+pub switched : (number : ℕ) (before now : TargetValue) (old new : ProcessValue) → IsNumber number → Stays number before now old new
     → Leads before now (events.CtxChanged (thread_data number new ∷ []))
 switched number before now old new is stays =
     switched_by number before now old new (thread_data number new) refl (thread_named number is) stays
 
-went_by : (number : ℕ) (before now : Target) (tid pid : List ℕ) → context_of tid ≡ Some (contexts.Thread number 1)
+went_by : (number : ℕ) (before now : TargetValue) (tid pid : List ℕ) → context_of tid ≡ Some (contexts.Thread number 1)
     → context_of pid ≡ Some (contexts.Process number) → DiffersAt number before now → process_in number now ≡ None
     → Leads before now (events.CtxRemoved (tid ∷ pid ∷ []))
 went_by number before now tid pid thread process differs none =
@@ -71,26 +71,26 @@ went_by number before now tid pid thread process differs none =
     (led_at number before now (process_in number before) None (changes_gone number tid pid) (tt, (tt, (tt, (tt, (tt, (tt, (tt, tt)))))))
     refl differs.others differs.breakpoints refl none (gone_accounts number (process_in number before) None tid pid thread process) (λ id x knows. inr refl))
 
-pub went : (number : ℕ) (before now : Target) → IsNumber number → DiffersAt number before now → process_in number now ≡ None
+pub went : (number : ℕ) (before now : TargetValue) → IsNumber number → DiffersAt number before now → process_in number now ≡ None
     → Leads before now (events.CtxRemoved (thread_id number ∷ process_id number ∷ []))
 went number before now is differs none =
     went_by number before now (thread_id number) (process_id number) (thread_named number is) (process_named number is) differs none
 
-pub exited : (target : Target) (id : List ℕ) (code : ℤ) → Leads target target (events.Exited id code)
+pub exited : (target : TargetValue) (id : List ℕ) (code : ℤ) → Leads target target (events.Exited id code)
 exited target id code = λ fact knows. knows
 
 -- ---- threads
 
 -- its state is told, and so is the pc, where it is suspended
-state_is_so : (number : ℕ) (now : Target) (new : Process) (state : ThreadState) → process_in number now ≡ Some new → new.state ≡ state
+state_is_so : (number : ℕ) (now : TargetValue) (new : ProcessValue) (state : ThreadState) → process_in number now ≡ Some new → new.state ≡ state
     → (seen now).states number 1 ≡ Some (state_fact state)
 state_is_so number now new state there is = ap state_seen there ∙ ap (λ s. Some (state_fact s)) is
 
-pc_is_so : (number : ℕ) (now : Target) (new : Process) (reason : List ℕ) (hits : List (List ℕ)) → process_in number now ≡ Some new → new.state ≡ Suspended reason hits
+pc_is_so : (number : ℕ) (now : TargetValue) (new : ProcessValue) (reason : List ℕ) (hits : List (List ℕ)) → process_in number now ≡ Some new → new.state ≡ Suspended reason hits
     → (seen now).registers number 1 32 ≡ Some new.cpu.pc
 pc_is_so number now new reason hits there is = ap (number_seen 32) there ∙ ap (λ s. cond (runs s) None (Some new.cpu.pc)) is
 
-stopped_by : (number : ℕ) (before now : Target) (old new : Process) (reason : List ℕ) (hits : List (List ℕ)) (tid : List ℕ)
+stopped_by : (number : ℕ) (before now : TargetValue) (old new : ProcessValue) (reason : List ℕ) (hits : List (List ℕ)) (tid : List ℕ)
     → context_of tid ≡ Some (contexts.Thread number 1) → StaysAttached number before now old new → new.state ≡ Suspended reason hits
     → Leads before now (events.Suspended tid new.cpu.pc reason hits)
 stopped_by number before now old new reason hits tid thread is suspended =
@@ -102,13 +102,13 @@ stopped_by number before now old new reason hits tid thread is suspended =
     (moved_accounts number old new (told.Suspended reason hits) (register_read number 1 32 new.cpu.pc ∷ []) is.stays.name is.attached)
     (status_same before now changes is.all is.stays.differs.breakpoints))
 
-pub stopped : (number : ℕ) (before now : Target) (old new : Process) (reason : List ℕ) (hits : List (List ℕ)) → IsNumber number
+pub stopped : (number : ℕ) (before now : TargetValue) (old new : ProcessValue) (reason : List ℕ) (hits : List (List ℕ)) → IsNumber number
     → StaysAttached number before now old new → new.state ≡ Suspended reason hits
     → Leads before now (events.Suspended (thread_id number) new.cpu.pc reason hits)
 stopped number before now old new reason hits is stays suspended =
     stopped_by number before now old new reason hits (thread_id number) (thread_named number is) stays suspended
 
-went_on_by : (number : ℕ) (before now : Target) (old new : Process) (left : Option ℕ) (tid : List ℕ) → context_of tid ≡ Some (contexts.Thread number 1)
+went_on_by : (number : ℕ) (before now : TargetValue) (old new : ProcessValue) (left : Option ℕ) (tid : List ℕ) → context_of tid ≡ Some (contexts.Thread number 1)
     → StaysAttached number before now old new → new.state ≡ Running left → Leads before now (events.Resumed tid)
 went_on_by number before now old new left tid thread is running =
     let changes : List Change = changes_moved number told.Running [] in
@@ -117,7 +117,7 @@ went_on_by number before now old new left tid thread is running =
     refl is.stays.differs.others is.stays.differs.breakpoints is.stays.was is.stays.is (moved_accounts number old new told.Running [] is.stays.name is.attached)
     (status_same before now changes is.all is.stays.differs.breakpoints))
 
-pub went_on : (number : ℕ) (before now : Target) (old new : Process) (left : Option ℕ) → IsNumber number
+pub went_on : (number : ℕ) (before now : TargetValue) (old new : ProcessValue) (left : Option ℕ) → IsNumber number
     → StaysAttached number before now old new → new.state ≡ Running left
     → Leads before now (events.Resumed (thread_id number))
 went_on number before now old new left is stays running =

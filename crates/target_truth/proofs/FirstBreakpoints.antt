@@ -9,7 +9,7 @@ use Rattle.knowledge.specs.Facts.{properties_are, status_is}
 use Rattle.knowledge.specs.Rows.{event_changes, removed_properties, told_properties}
 use Rattle.target_contexts.specs.Live.{process_of}
 use Rattle.target_contexts.specs.Named.{attached_in}
-use Rattle.target_hub.specs.declared.target.Target.{Target}
+use Rattle.run_control.specs.TargetValue.{TargetValue}
 use Rattle.target_truth.specs.Holds.{process_in}
 use Rattle.target_truth.proofs.Agree.{Accounts, IsTouched, led, same_accounts}
 use Rattle.target_truth.proofs.BreakpointsTold.{removed_none, removed_so, removed_touched, removed_touched_status, told_none, told_so, told_touched, told_touched_status}
@@ -29,13 +29,13 @@ abbrev pub AreThere : List BpProps → List Placed → Type 0
 AreThere list rows = AllByRecursion (λ props. props_of props.id rows ≡ Some props) list
 
 -- no process is another
-contexts_same : (before now : Target) (changes : List Change) → now.contexts ≡ before.contexts → (p : ℕ) → Accounts p (process_in p before) (process_in p now) changes
+contexts_same : (before now : TargetValue) (changes : List Change) → now.contexts ≡ before.contexts → (p : ℕ) → Accounts p (process_in p before) (process_in p now) changes
 contexts_same before now changes same p =
     subst (λ process. Accounts p (process_in p before) process changes) (sym (ap (λ contexts. process_of p contexts.processes) same))
     (same_accounts p (process_in p before) changes)
 
 -- a status follows from the properties
-status_from : (before now : Target) → now.contexts ≡ before.contexts → (id : List ℕ) (x : BpStatus)
+status_from : (before now : TargetValue) → now.contexts ≡ before.contexts → (id : List ℕ) (x : BpStatus)
     → ((props : BpProps) → props_of id before.breakpoints ≡ Some props → props_of id now.breakpoints ≡ Some props)
     → status_of id (attached_in before.contexts.processes) before.breakpoints ≡ Some x → status_of id (attached_in now.contexts.processes) now.breakpoints ≡ Some x
 status_from before now same id x kept knows =
@@ -43,7 +43,7 @@ status_from before now same id x kept knows =
     ∙ status_kept (attached_in before.contexts.processes) x (props_of id before.breakpoints) (props_of id now.breakpoints) kept knows
 
 -- what isn't named stays, and what is named is touched
-properties_but : (before now : Target) (ids : List (List ℕ)) (changes : List Change) → OthersStay ids before.breakpoints now.breakpoints
+properties_but : (before now : TargetValue) (ids : List (List ℕ)) (changes : List Change) → OthersStay ids before.breakpoints now.breakpoints
     → ((id : List ℕ) (x : BpProps) → is_among ids id ≡ true → IsTouched changes (properties_are id x))
     → (id : List ℕ) (x : BpProps) → props_of id before.breakpoints ≡ Some x → (props_of id now.breakpoints ≡ Some x) ⊎ IsTouched changes (properties_are id x)
 properties_but before now ids changes stay touched id x knows =
@@ -52,7 +52,7 @@ properties_but before now ids changes stay touched id x knows =
       | inr e ↦ inl (stay id x e knows)
     ]
 
-status_but : (before now : Target) (ids : List (List ℕ)) (changes : List Change) → now.contexts ≡ before.contexts → OthersStay ids before.breakpoints now.breakpoints
+status_but : (before now : TargetValue) (ids : List (List ℕ)) (changes : List Change) → now.contexts ≡ before.contexts → OthersStay ids before.breakpoints now.breakpoints
     → ((id : List ℕ) (x : BpStatus) → is_among ids id ≡ true → IsTouched changes (status_is id x))
     → (id : List ℕ) (x : BpStatus) → status_of id (attached_in before.contexts.processes) before.breakpoints ≡ Some x
     → (status_of id (attached_in now.contexts.processes) now.breakpoints ≡ Some x) ⊎ IsTouched changes (status_is id x)
@@ -62,7 +62,7 @@ status_but before now ids changes same stay touched id x knows =
       | inr e ↦ inl (status_from before now same id x (λ props. stay id props e) knows)
     ]
 
-pub put : (before now : Target) (list : List BpProps) → now.contexts ≡ before.contexts → AreThere list now.breakpoints
+pub put : (before now : TargetValue) (list : List BpProps) → now.contexts ≡ before.contexts → AreThere list now.breakpoints
     → OthersStay (map (λ props. props.id) list) before.breakpoints now.breakpoints → Leads before now (events.BpAdded list)
 put before now list same there stay =
     let changes : List Change = of_each told_properties list in
@@ -70,17 +70,17 @@ put before now list same there stay =
     led before now changes (told_so now list there) (told_none list) (contexts_same before now changes same)
     (properties_but before now ids changes stay (told_touched list)) (status_but before now ids changes same stay (told_touched_status list))
 
-pub changed : (before now : Target) (list : List BpProps) → now.contexts ≡ before.contexts → AreThere list now.breakpoints
+pub changed : (before now : TargetValue) (list : List BpProps) → now.contexts ≡ before.contexts → AreThere list now.breakpoints
     → OthersStay (map (λ props. props.id) list) before.breakpoints now.breakpoints → Leads before now (events.BpChanged list)
 changed before now list same there stay = put before now list same there stay
 
-pub taken_out : (before now : Target) (ids : List (List ℕ)) → now.contexts ≡ before.contexts → OthersStay ids before.breakpoints now.breakpoints
+pub taken_out : (before now : TargetValue) (ids : List (List ℕ)) → now.contexts ≡ before.contexts → OthersStay ids before.breakpoints now.breakpoints
     → Leads before now (events.BpRemoved ids)
 taken_out before now ids same stay =
     let changes : List Change = of_each removed_properties ids in
     led before now changes (removed_so now ids) (removed_none ids) (contexts_same before now changes same)
     (properties_but before now ids changes stay (removed_touched ids)) (status_but before now ids changes same stay (removed_touched_status ids))
 
-pub status_is_so : (target : Target) (id : List ℕ) (status : BpStatus) → status_of id (attached_in target.contexts.processes) target.breakpoints ≡ Some status
+pub status_is_so : (target : TargetValue) (id : List ℕ) (status : BpStatus) → status_of id (attached_in target.contexts.processes) target.breakpoints ≡ Some status
     → Leads target target (events.BpStatusIs id status)
 status_is_so target id status is = parts_kept target (event_changes (events.BpStatusIs id status)) (seen target) (is, tt) (λ fact knows. knows)

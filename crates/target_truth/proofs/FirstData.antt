@@ -12,8 +12,8 @@ use Rattle.knowledge.specs.Rows.{changed_register, is_outside, memory_changes}
 use Rattle.run_control.specs.Naming.{process_id}
 use Rattle.rv32i_core.specs.declared.registers.Cpu.{Cpu}
 use Rattle.target_contexts.specs.Named.{attached_in}
-use Rattle.target_contexts.specs.declared.process.Process.{Process}
-use Rattle.target_hub.specs.declared.target.Target.{Target}
+use Rattle.target_contexts.specs.ProcessValue.{ProcessValue}
+use Rattle.run_control.specs.TargetValue.{TargetValue}
 use Rattle.target_truth.specs.Holds.{process_in}
 use Rattle.target_truth.proofs.Accounts.{cpu_accounts, memory_accounts, register_accounts, without_cpu}
 use Rattle.target_truth.proofs.Agree.{IsTouched, led, led_at}
@@ -42,7 +42,7 @@ range_told number range is = by (is_outside range.addr range.size) (unsigned_abs
     by false true is = refl
     by false false is = refl
 
-range_so : (number : ℕ) (now : Target) (addr size : ℤ) (none : Bool) → AllByRecursion (IsSo now) (range_changes number addr size none)
+range_so : (number : ℕ) (now : TargetValue) (addr size : ℤ) (none : Bool) → AllByRecursion (IsSo now) (range_changes number addr size none)
 range_so number now addr size true = tt
 range_so number now addr size false = (tt, tt)
 
@@ -63,7 +63,7 @@ range_touched number addr size count place x true empty sized within = absurd (n
 range_touched number addr size count place x false empty sized within =
     ap (λ b. b || false) (and_from _ _ (eq-eqb number number refl) (ap (λ n. is_within (unsigned_abs addr) n place) sized ∙ within))
 
-memory_by : (number : ℕ) (before now : Target) (old : Process) (addr size : ℤ) (bytes pid : List ℕ) → context_of pid ≡ Some (contexts.Process number)
+memory_by : (number : ℕ) (before now : TargetValue) (old : ProcessValue) (addr size : ℤ) (bytes pid : List ℕ) → context_of pid ≡ Some (contexts.Process number)
     → StaysAttached number before now old (record old { memory = with_part (unsigned_abs addr) bytes old.memory }) → length old.memory ≡ 65536 → is_outside addr size ≡ false
     → unsigned_abs size ≡ length bytes → Leads before now (events.MemChanged pid (record { addr = addr; size = size } ∷ []))
 memory_by number before now old addr size bytes pid process is full in_memory sized =
@@ -77,7 +77,7 @@ memory_by number before now old addr size bytes pid process is full in_memory si
     (memory_accounts number old (unsigned_abs addr) bytes changes fits (λ place x within. range_touched number addr size (length bytes) place x none refl sized within))
     (status_same before now changes is.all is.stays.differs.breakpoints))
 
-pub memory_set : (number : ℕ) (before now : Target) (old new : Process) (addr size : ℤ) (bytes : List ℕ) → IsNumber number
+pub memory_set : (number : ℕ) (before now : TargetValue) (old new : ProcessValue) (addr size : ℤ) (bytes : List ℕ) → IsNumber number
     → StaysAttached number before now old new → length old.memory ≡ 65536 → is_outside addr size ≡ false → unsigned_abs size ≡ length bytes
     → new ≡ record old { memory = with_part (unsigned_abs addr) bytes old.memory }
     → Leads before now (events.MemChanged (process_id number) (record { addr = addr; size = size } ∷ []))
@@ -85,7 +85,7 @@ memory_set number before now old new addr size bytes is stays full inside sized 
     memory_by number before now old addr size bytes (process_id number) (process_named number is)
     (subst (λ process. StaysAttached number before now old process) new_is stays) full inside sized
 
-register_by : (before now : Target) (old : Process) (id : List ℕ) (register : RegisterId) (cpu : Cpu) → register_of id ≡ Some register → register.thread ≡ 1
+register_by : (before now : TargetValue) (old : ProcessValue) (id : List ℕ) (register : RegisterId) (cpu : Cpu) → register_of id ≡ Some register → register.thread ≡ 1
     → StaysAttached register.process before now old (record old { cpu = cpu })
     → ((index : ℕ) → index ≤ 32 → index ≢ register.index → number_in index cpu ≡ number_in index old.cpu) → Leads before now (events.RegChanged id)
 register_by before now old id register cpu named one is same =
@@ -95,20 +95,20 @@ register_by before now old id register cpu named one is same =
     is.stays.was is.stays.is (register_accounts register.process register.index register.thread old cpu one same)
     (status_same before now changes is.all is.stays.differs.breakpoints))
 
-pub register_set : (before now : Target) (old new : Process) (id : List ℕ) (register : RegisterId) (cpu : Cpu) → register_of id ≡ Some register → register.thread ≡ 1
+pub register_set : (before now : TargetValue) (old new : ProcessValue) (id : List ℕ) (register : RegisterId) (cpu : Cpu) → register_of id ≡ Some register → register.thread ≡ 1
     → StaysAttached register.process before now old new → new ≡ record old { cpu = cpu }
     → ((index : ℕ) → index ≤ 32 → index ≢ register.index → number_in index cpu ≡ number_in index old.cpu)
     → Leads before now (events.RegChanged id)
 register_set before now old new id register cpu is one stays new_is same =
     register_by before now old id register cpu is one (subst (λ process. StaysAttached register.process before now old process) new_is stays) same
 
-pub record ButCpus (before now : Target) : Type 0 where
+pub record ButCpus (before now : TargetValue) : Type 0 where
   pub processes : (number : ℕ) → option_map without_cpu (process_in number now) ≡ option_map without_cpu (process_in number before)
   pub attached : (number : ℕ) → option_map (λ p. p.attached) (process_in number now) ≡ option_map (λ p. p.attached) (process_in number before)
   pub all : attached_in now.contexts.processes ≡ attached_in before.contexts.processes
   pub breakpoints : now.breakpoints ≡ before.breakpoints
 
-pub registers_set : (before now : Target) → ButCpus before now → Leads before now events.RegsChanged
+pub registers_set : (before now : TargetValue) → ButCpus before now → Leads before now events.RegsChanged
 registers_set before now same =
     led before now (registers_gone ∷ []) (tt, tt) refl
     (λ p. cpu_accounts p (process_in p before) (process_in p now) (same.processes p) (same.attached p))

@@ -17,7 +17,7 @@ use Rattle.target_contexts.specs.Changes.{with_change, with_change_of}
 use Rattle.target_contexts.specs.Named.{number_named}
 use Rattle.target_contexts.specs.TargetsValue.{TargetsValue}
 use Rattle.target_contexts.specs.Whole.{IsWhole}
-use Rattle.target_contexts.specs.declared.process.Process.{Process}
+use Rattle.target_contexts.specs.ProcessValue.{ProcessValue}
 use Rattle.target_truth.proofs.Fit.{IsFit, change_fit}
 use Rattle.target_truth.proofs.FitRun.{fault_fit}
 use Rattle.tcf_values.specs.Faults.{first_fault}
@@ -44,7 +44,7 @@ part_bytes first part bytes are all =
 part_length : (first : ℕ) (part bytes : List ℕ) → first + length part ≤ length bytes → length (with_part first part bytes) ≡ length bytes
 part_length first part bytes within = simp (length-append, length-take, length-drop) (omega arith)
 
-memory_whole : (first : ℕ) (bytes : List ℕ) (process : Process) → first + length bytes ≤ 65536 → AreBytes bytes → IsWhole process → IsWhole (with_memory first bytes process)
+memory_whole : (first : ℕ) (bytes : List ℕ) (process : ProcessValue) → first + length bytes ≤ 65536 → AreBytes bytes → IsWhole process → IsWhole (with_memory first bytes process)
 memory_whole first bytes process within are is = record {
   cpu = is.cpu;
   memory = record {
@@ -53,7 +53,7 @@ memory_whole first bytes process within are is = record {
   };
 }
 
-named_fit : (change : Process → Process) (named : Option ℕ) (targets : TargetsValue) → IsFit targets → ((process : Process) → IsWhole process → IsWhole (change process))
+named_fit : (change : ProcessValue → ProcessValue) (named : Option ℕ) (targets : TargetsValue) → IsFit targets → ((process : ProcessValue) → IsWhole process → IsWhole (change process))
     → IsFit (with_change_of change named targets)
 named_fit change None targets fit keeps = fit
 named_fit change (Some number) targets fit keeps = change_fit change number targets fit keeps
@@ -104,7 +104,7 @@ DomainOf {A = A} f = A
 abbrev Part : Type 0
 Part = DomainOf bytes_in
 
-part_whole : (part : Part) (bytes : List ℕ) (process : Process) → AreBytes bytes → IsWhole process → IsWhole (with_bytes part bytes process)
+part_whole : (part : Part) (bytes : List ℕ) (process : ProcessValue) → AreBytes bytes → IsWhole process → IsWhole (with_bytes part bytes process)
 part_whole part bytes process are is =
     let old = word_bytes (number_in part.register.index process.cpu) in
     record {

@@ -23,7 +23,7 @@ use Rattle.target_contexts.specs.Starting.{new_process, refusal_for, suspended_t
 use Rattle.target_contexts.specs.TargetsValue.{TargetsValue}
 use Rattle.target_contexts.specs.Whole.{IsWhole}
 use Rattle.target_contexts.specs.declared.process.Image.{Image}
-use Rattle.target_contexts.specs.declared.process.Process.{Process}
+use Rattle.target_contexts.specs.ProcessValue.{ProcessValue}
 use Rattle.target_contexts.specs.declared.process.ThreadState.{ThreadState}
 use Rattle.target_contexts.specs.declared.process.ThreadState.TheVariants.{Running, Suspended}
 use Rattle.target_contexts.specs.declared.targets.StartRefusal.TheVariants.{Full, Numbers, Size}
@@ -38,13 +38,13 @@ use Rattle.breakpoints.specs.declared.rows.Placed.{Placed}
 
 -- ---- a thread, and what becomes of a process
 
-state_whole : (state : ThreadState) (process : Process) → IsWhole process → IsWhole (with_state state process)
+state_whole : (state : ThreadState) (process : ProcessValue) → IsWhole process → IsWhole (with_state state process)
 state_whole state process is = record { cpu = is.cpu; memory = is.memory }
 
-attached_whole : (process : Process) → IsWhole process → IsWhole (attached process)
+attached_whole : (process : ProcessValue) → IsWhole process → IsWhole (attached process)
 attached_whole process is = record { cpu = is.cpu; memory = is.memory }
 
-detached_whole : (process : Process) → IsWhole process → IsWhole (detached process)
+detached_whole : (process : ProcessValue) → IsWhole process → IsWhole (detached process)
 detached_whole process is = record { cpu = is.cpu; memory = is.memory }
 
 state_fit : (state : ThreadState) (number : ℕ) (targets : TargetsValue) → IsFit targets → IsFit (with_change (with_state state) number targets)
@@ -60,7 +60,7 @@ exception_fit number plain true targets fit = state_fit (Suspended exception_tex
 exception_fit number plain false targets fit = end_fit number targets fit
 
 -- by the machine's step
-settled_fit : (bps : List Placed) (number : ℕ) (process : Process) (plain : ThreadState) (attached : Bool) (step : Step) (targets : TargetsValue) → IsFit targets
+settled_fit : (bps : List Placed) (number : ℕ) (process : ProcessValue) (plain : ThreadState) (attached : Bool) (step : Step) (targets : TargetsValue) → IsFit targets
     → IsFit (settled number (fate_by plain attached (executed_by bps number process step)) targets)
 settled_fit bps number process plain attached (goes_on cpu memory) targets fit =
     hits_fit number plain attached (hits_at bps number (record process { cpu = cpu; memory = memory })) targets fit
@@ -73,7 +73,7 @@ halted_fit number plain attached (ends code) targets fit = end_fit number target
 halted_fit number plain attached excepts targets fit = exception_fit number plain attached targets fit
 
 -- by why a trace stops
-stopped_fit : (number : ℕ) (plain : ThreadState) (attached : Bool) (hits : List (List ℕ)) (all : Bool) (last : Process) (targets : TargetsValue) → IsFit targets
+stopped_fit : (number : ℕ) (plain : ThreadState) (attached : Bool) (hits : List (List ℕ)) (all : Bool) (last : ProcessValue) (targets : TargetsValue) → IsFit targets
     → IsFit (settled number (fate_by plain attached (stop_by hits all last)) targets)
 stopped_fit number plain attached (hit ∷ hits) all last targets fit = state_fit (Suspended breakpoint_text (hit ∷ hits)) number targets fit
 stopped_fit number plain attached [] true last targets fit = state_fit plain number targets fit
@@ -81,15 +81,15 @@ stopped_fit number plain attached [] false last targets fit = halted_fit number 
 
 -- ---- one instruction
 
-stepped_whole : (step : Step) (process : Process) → LeavesWhole step → IsWhole process → IsWhole (stepped_by step process)
+stepped_whole : (step : Step) (process : ProcessValue) → LeavesWhole step → IsWhole process → IsWhole (stepped_by step process)
 stepped_whole (goes_on cpu memory) process step is = record { cpu = step.0; memory = step.1 }
 stepped_whole (ends code) process step is = is
 stepped_whole excepts process step is = is
 
-one_whole : (process : Process) → IsWhole process → IsWhole (stepped process)
+one_whole : (process : ProcessValue) → IsWhole process → IsWhole (stepped process)
 one_whole process is = stepped_whole (machine process.cpu process.memory) process (steps_stay_within process.cpu process.memory is.cpu is.memory) is
 
-ticked_fit : (bps : List Placed) (number : ℕ) (found : Option Process) (targets : TargetsValue) → IsFit targets → IsFit (ticked_at bps number found targets)
+ticked_fit : (bps : List Placed) (number : ℕ) (found : Option ProcessValue) (targets : TargetsValue) → IsFit targets → IsFit (ticked_at bps number found targets)
 ticked_fit bps number None targets fit = fit
 ticked_fit bps number (Some process) targets fit =
     settled_fit bps number process (counted process.state) process.attached (machine process.cpu process.memory) (with_change stepped number targets)
@@ -104,34 +104,34 @@ tick_fit bps thread targets fit = tick_by bps (running_number thread targets.pro
 
 -- ---- several
 
-next_whole : (step : Step) (process : Process) → LeavesWhole step → IfSome (next_by step process) IsWhole
+next_whole : (step : Step) (process : ProcessValue) → LeavesWhole step → IfSome (next_by step process) IsWhole
 next_whole (goes_on cpu memory) process step = record { cpu = step.0; memory = step.1 }
 next_whole (ends code) process step = tt
 next_whole excepts process step = tt
 
-run_by : (next : Option Process) (run : Process → List Process) → IfSome next IsWhole → ((process : Process) → IsWhole process → AllByRecursion IsWhole (run process))
+run_by : (next : Option ProcessValue) (run : ProcessValue → List ProcessValue) → IfSome next IsWhole → ((process : ProcessValue) → IsWhole process → AllByRecursion IsWhole (run process))
     → AllByRecursion IsWhole (option_map_or (λ process. process ∷ run process) next [])
 run_by None run is all = tt
 run_by (Some process) run is all = (is, all process is)
 
-run_whole : (count : ℕ) (process : Process) → IsWhole process → AllByRecursion IsWhole (run_from count process)
+run_whole : (count : ℕ) (process : ProcessValue) → IsWhole process → AllByRecursion IsWhole (run_from count process)
 run_whole zero process is = tt
 run_whole (suc count) process is =
     run_by (next_of process) (run_from count) (next_whole (machine process.cpu process.memory) process (steps_stay_within process.cpu process.memory is.cpu is.memory)) (run_whole count)
 
-hit_by : (goes : Bool) (states : List Process) → AllByRecursion IsWhole states → AllByRecursion IsWhole (cond goes states [])
+hit_by : (goes : Bool) (states : List ProcessValue) → AllByRecursion IsWhole states → AllByRecursion IsWhole (cond goes states [])
 hit_by true states all = all
 hit_by false states all = tt
 
-hit_whole : (bps : List Placed) (number : ℕ) (states : List Process) → AllByRecursion IsWhole states → AllByRecursion IsWhole (up_to_hit bps number states)
+hit_whole : (bps : List Placed) (number : ℕ) (states : List ProcessValue) → AllByRecursion IsWhole states → AllByRecursion IsWhole (up_to_hit bps number states)
 hit_whole bps number [] all = tt
 hit_whole bps number (state ∷ states) all = (all.0, hit_by (is_empty (hits_at bps number state)) (up_to_hit bps number states) (hit_whole bps number states all.1))
 
-last_whole : (process : Process) (states : List Process) → IsWhole process → AllByRecursion IsWhole states → IsWhole (last_of process states)
+last_whole : (process : ProcessValue) (states : List ProcessValue) → IsWhole process → AllByRecursion IsWhole states → IsWhole (last_of process states)
 last_whole process [] is all = is
 last_whole process (state ∷ states) is all = last_whole state states all.0 all.1
 
-traced_fit : (bps : List Placed) (number count : ℕ) (found : Option Process) (targets : TargetsValue) → IsFit targets → ((process : Process) → found ≡ Some process → IsWhole process)
+traced_fit : (bps : List Placed) (number count : ℕ) (found : Option ProcessValue) (targets : TargetsValue) → IsFit targets → ((process : ProcessValue) → found ≡ Some process → IsWhole process)
     → IsFit (traced_at bps number count found targets)
 traced_fit bps number count None targets fit whole = fit
 traced_fit bps number count (Some process) targets fit whole =

@@ -10,9 +10,9 @@ use Rattle.target_hub.specs.HubValue.{new_target}
 use Rattle.target_hub.specs.declared.input.Input.{Input}
 use Rattle.target_hub.specs.declared.input.Input.TheVariants.{Opened, Executed, Ticked, Closed}
 use Rattle.command_tables.proofs.TheLaws.{known_are_readable}
-use Rattle.target_hub.specs.declared.target.Target.{Target}
+use Rattle.run_control.specs.TargetValue.{TargetValue}
 
-pub inputs_append : (some more : List Input) (target : Target) → inputs_after (some ++ more) target ≡ inputs_after more (inputs_after some target)
+pub inputs_append : (some more : List Input) (target : TargetValue) → inputs_after (some ++ more) target ≡ inputs_after more (inputs_after some target)
 inputs_append [] more target = refl
 inputs_append (input ∷ some) more target = inputs_append some more (input_after input target)
 
@@ -30,7 +30,7 @@ IsReadInput (Executed channel (Bad index code) service name) = Unit {0}
 IsReadInput (Ticked thread) = Unit {0}
 IsReadInput (Closed channel) = Unit {0}
 
-read_input : (before : List Input) (target : Target) (input : Input) → IsAllowed before target input → IsReadInput input
+read_input : (before : List Input) (target : TargetValue) (input : Input) → IsAllowed before target input → IsReadInput input
 read_input before target (Opened channel) allowed = tt
 read_input before target (Executed channel (Known command) service name) allowed = (known_are_readable service name command allowed.1).1
 read_input before target (Executed channel Unknown service name) allowed = tt

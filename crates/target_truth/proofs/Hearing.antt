@@ -3,7 +3,7 @@ use Rattle.std.proofs.Common.{◌≡◌, true, List, [], ◌∷◌, ◌++◌, re
 use Rattle.std.specs.List.{AllByRecursion}
 use Rattle.knowledge.specs.Learning.{Message}
 use Rattle.target_hub.specs.Sent.{ReadCommand, Told}
-use Rattle.target_hub.specs.declared.target.Target.{Target}
+use Rattle.run_control.specs.TargetValue.{TargetValue}
 use Rattle.target_truth.specs.Listening.{Hears, hears, hears_nothing, is_event, left_after, misses}
 use Rattle.target_truth.specs.Taught.{message_of, open_after, taught}
 use Rattle.target_truth.proofs.Changes.{Moves}
@@ -49,14 +49,14 @@ event_heard commands event messages is (misses now other heard) = absurd cc
 
 -- ---- what is heard leads on
 
-pub heard_so : (target : Target) (commands : List ReadCommand) (told : List Told) (messages : List Message) → Hears commands told messages
+pub heard_so : (target : TargetValue) (commands : List ReadCommand) (told : List Told) (messages : List Message) → Hears commands told messages
     → AllByRecursion (Moves target target) (taught commands told) → AllByRecursion (Moves target target) messages
 heard_so target commands told messages hears_nothing so = tt
 heard_so target commands told messages (hears {rest = rest} {messages = later} now heard) so =
     (so.0, heard_so target (open_after now commands) rest later heard so.1)
 heard_so target commands told messages (misses {rest = rest} now other heard) so = heard_so target (open_after now commands) rest messages heard so.1
 
-pub heard_leads : (before now : Target) (commands : List ReadCommand) (told : List Told) (messages : List Message) → Hears commands told messages
+pub heard_leads : (before now : TargetValue) (commands : List ReadCommand) (told : List Told) (messages : List Message) → Hears commands told messages
     → Lead before now (taught commands told) → IsSilentFirst before now told → Lead before now messages
 heard_leads before now commands told messages hears_nothing lead silent = lead
 heard_leads before now commands told messages (hears {rest = rest} {messages = later} first heard) lead silent =
@@ -66,16 +66,16 @@ heard_leads before now commands told messages (misses {rest = rest} first other 
 
 -- ---- and so does what is heard of a front
 
-pub front_so : (target : Target) (commands : List ReadCommand) (front rest : List Told) (last : Told)
+pub front_so : (target : TargetValue) (commands : List ReadCommand) (front rest : List Told) (last : Told)
     → AllByRecursion (Moves target target) (taught commands (front ++ last ∷ rest)) → AllByRecursion (Moves target target) (taught commands (front ++ last ∷ []))
 front_so target commands [] rest last so = (so.0, tt)
 front_so target commands (told ∷ front) rest last so = (so.0, front_so target (open_after told commands) front rest last so.1)
 
-pub front_leads : (before now : Target) (commands : List ReadCommand) (front rest : List Told) (last : Told) → Lead before now (taught commands (front ++ last ∷ rest))
+pub front_leads : (before now : TargetValue) (commands : List ReadCommand) (front rest : List Told) (last : Told) → Lead before now (taught commands (front ++ last ∷ rest))
     → Lead before now (taught commands (front ++ last ∷ []))
 front_leads before now commands [] rest last lead = (lead.0, tt)
 front_leads before now commands (told ∷ front) rest last lead = (lead.0, front_so now (open_after told commands) front rest last lead.1)
 
-pub front_silent : (before now : Target) (front rest : List Told) (last : Told) → IsSilentFirst before now (front ++ last ∷ rest) → IsSilentFirst before now (front ++ last ∷ [])
+pub front_silent : (before now : TargetValue) (front rest : List Told) (last : Told) → IsSilentFirst before now (front ++ last ∷ rest) → IsSilentFirst before now (front ++ last ∷ [])
 front_silent before now [] rest last silent = silent
 front_silent before now (told ∷ front) rest last silent = silent

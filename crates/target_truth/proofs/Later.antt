@@ -11,7 +11,7 @@ use Rattle.target_hub.specs.Fresh.{target_at}
 use Rattle.target_hub.specs.History.{IsAllowed, IsLegal, input_after, opens}
 use Rattle.target_hub.specs.Sent.{ReadCommand, Told, agent_services, executed_by, executed_on, hello_at, sent_after, told_by, told_while_live}
 use Rattle.target_hub.specs.declared.input.Input.{Input}
-use Rattle.target_hub.specs.declared.target.Target.{Target}
+use Rattle.run_control.specs.TargetValue.{TargetValue}
 use Rattle.target_truth.specs.Holds.{Holds}
 use Rattle.target_truth.specs.Listening.{Hears, LaterListenersKnowTruth, left_after, target_after}
 use Rattle.target_truth.specs.Taught.{open_after, position_of, taught}
@@ -29,12 +29,12 @@ use Rattle.target_truth.proofs.Whole.{IsGood}
 -- ---- one input
 
 -- what is told behind a message of it is so
-behind_one : (target : Target) (commands : List ReadCommand) (earlier left : List Told) (begin : Told)
+behind_one : (target : TargetValue) (commands : List ReadCommand) (earlier left : List Told) (begin : Told)
     → AllByRecursion (Moves target target) (taught commands (earlier ++ begin ∷ left)) → AllByRecursion (Moves target target) (taught (left_after (earlier ++ begin ∷ []) commands) left)
 behind_one target commands [] left begin so = so.1
 behind_one target commands (told ∷ earlier) left begin so = behind_one target (open_after told commands) earlier left begin so.1
 
-behind_lead : (before now : Target) (commands : List ReadCommand) (earlier left : List Told) (begin : Told)
+behind_lead : (before now : TargetValue) (commands : List ReadCommand) (earlier left : List Told) (begin : Told)
     → Lead before now (taught commands (earlier ++ begin ∷ left)) → AllByRecursion (Moves now now) (taught (left_after (earlier ++ begin ∷ []) commands) left)
 behind_lead before now commands [] left begin lead = lead.1
 behind_lead before now commands (told ∷ earlier) left begin lead = behind_one now (open_after told commands) earlier left begin lead.1
@@ -44,7 +44,7 @@ none_behind : (one : Told) (earlier left : List Told) (begin : Told) → one ∷
 none_behind one [] left begin is = cc
 none_behind one (told ∷ earlier) left begin is = absurd (nothing_there earlier left begin cc)
 
-behind_so : (k : ℕ) (before : List Input) (target : Target) (input : Input) (commands : List ReadCommand) (earlier left : List Told) (begin : Told) → IsGood target
+behind_so : (k : ℕ) (before : List Input) (target : TargetValue) (input : Input) (commands : List ReadCommand) (earlier left : List Told) (begin : Told) → IsGood target
     → IsAllowed before target input → told_by k (length before + 1) target input ≡ earlier ++ begin ∷ left
     → AllByRecursion (Moves (input_after input target) (input_after input target)) (taught (left_after (earlier ++ begin ∷ []) (executed_by k input ++ commands)) left)
 behind_so k before target input commands earlier left begin good allowed told =
@@ -60,7 +60,7 @@ behind_so k before target input commands earlier left begin good allowed told =
     ]
 
 -- whatever is heard of what is so
-so_holds : (target : Target) (commands : List ReadCommand) (told : List Told) (messages : List Message) (known : Facts) → Hears commands told messages
+so_holds : (target : TargetValue) (commands : List ReadCommand) (told : List Told) (messages : List Message) (known : Facts) → Hears commands told messages
     → AllByRecursion (Moves target target) (taught commands told) → Holds known target → Holds (learn_all messages known) target
 so_holds target commands told messages known heard so holds =
     all_kept target target messages known (stays target messages (heard_so target commands told messages heard so)) holds
@@ -72,7 +72,7 @@ left_append [] more commands = refl
 left_append (told ∷ some) more commands = left_append some more (open_after told commands)
 
 -- the commands that are left behind a message of an input, of those that are left behind all of it
-left_later : (k : ℕ) (before : List Input) (target : Target) (input : Input) (commands : List ReadCommand) (some : List Told) → IsAllowed before target input
+left_later : (k : ℕ) (before : List Input) (target : TargetValue) (input : Input) (commands : List ReadCommand) (some : List Told) → IsAllowed before target input
     → left_after (told_while_live k before target input ++ some) (executed_by k input ++ commands) ≡ left_after some commands
 left_later k before target input commands some allowed =
     left_append (told_while_live k before target input) some (executed_by k input ++ commands)
@@ -119,7 +119,7 @@ from_here images k before inputs input legal typed earlier front rest left begin
           let then : Holds (learn_all parts.second newly) (target_at images ((before ++ input ∷ []) ++ inputs) (position_of last)) =
           each_true images k (before ++ input ∷ []) inputs newly (subst (IsLegal images) (sym together) legal) typed
           (λ live. subst (Holds newly) (left_by images before input) (so_holds now awaited left parts.first known parts.of_some so known_now)) more rest last
-          (ap (λ (t : Target). sent_after k (before ++ input ∷ []) t inputs) (sym (left_by images before input)) ∙ found.2) parts.second
+          (ap (λ (t : TargetValue). sent_after k (before ++ input ∷ []) t inputs) (sym (left_by images before input)) ∙ found.2) parts.second
           (subst (λ (commands : List ReadCommand). Hears commands (more ++ last ∷ []) parts.second) none parts.of_more) in
           let learned : learn_all messages known ≡ learn_all parts.second newly =
           ap (λ (all : List Message). learn_all all known) parts.both ∙ learn_append parts.first parts.second known in
@@ -146,7 +146,7 @@ from_any images k before (input ∷ inputs) legal typed earlier front rest begin
           ∙ left_later k before target input (executed_on k inputs) (later ++ begin ∷ []) (legal before input inputs refl) in
           let then : Holds (learn_all messages known) (target_at images ((before ++ input ∷ []) ++ inputs) (position_of last)) =
           from_any images k (before ++ input ∷ []) inputs (subst (IsLegal images) (sym together) legal) typed later front rest begin last
-          (ap (λ (t : Target). sent_after k (before ++ input ∷ []) t inputs) (sym (left_by images before input)) ∙ found.2) known
+          (ap (λ (t : TargetValue). sent_after k (before ++ input ∷ []) t inputs) (sym (left_by images before input)) ∙ found.2) known
           (subst (λ (history : List Input). Holds known (target_at images history (position_of begin))) (sym together) holds) messages
           (subst (λ (commands : List ReadCommand). Hears commands (front ++ last ∷ []) messages) awaited heard) in
           subst (λ (history : List Input). Holds (learn_all messages known) (target_at images history (position_of last))) together then

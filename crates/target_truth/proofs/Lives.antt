@@ -6,7 +6,7 @@ use Rattle.target_hub.specs.History.{IsAllowed, closes, is_live, opens, was_clos
 use Rattle.target_hub.specs.Sent.{Told, executed_by}
 use Rattle.target_hub.specs.declared.input.Input.{Input}
 use Rattle.target_hub.specs.declared.input.Input.TheVariants.{Opened, Executed, Ticked, Closed}
-use Rattle.target_hub.specs.declared.target.Target.{Target}
+use Rattle.run_control.specs.TargetValue.{TargetValue}
 
 -- ---- live channels
 
@@ -38,7 +38,7 @@ stays_live k before input other is =
     live_after k before input ∙ by_live (was_opened k before) (opens k input) (was_closed k before) (closes k input) other is
 
 -- a channel that isn't live after an input executes nothing by it
-pub executes_none : (k : ℕ) (before : List Input) (target : Target) (input : Input) → IsAllowed before target input → is_live k (before ++ input ∷ []) ≡ false
+pub executes_none : (k : ℕ) (before : List Input) (target : TargetValue) (input : Input) → IsAllowed before target input → is_live k (before ++ input ∷ []) ≡ false
     → executed_by k input ≡ []
 executes_none k before target (Opened channel) allowed gone = refl
 executes_none k before target (Executed channel reading service name) allowed gone =

@@ -8,10 +8,10 @@ use Rattle.knowledge.specs.Changes.{bytes_read, has_byte, is_byte, is_still}
 use Rattle.knowledge.specs.Facts.{is_suspended}
 use Rattle.knowledge.specs.Rows.{are_of_range, range_read}
 use Rattle.target_contexts.specs.Named.{runs}
-use Rattle.target_contexts.specs.declared.process.Process.{Process}
+use Rattle.target_contexts.specs.ProcessValue.{ProcessValue}
 use Rattle.target_contexts.specs.declared.process.ThreadState.{ThreadState}
 use Rattle.target_contexts.specs.declared.process.ThreadState.TheVariants.{Running, Suspended}
-use Rattle.target_hub.specs.declared.target.Target.{Target}
+use Rattle.run_control.specs.TargetValue.{TargetValue}
 use Rattle.target_truth.specs.Holds.{process_in, state_fact}
 use Rattle.target_truth.proofs.Changes.{IsSo}
 use Rattle.target_truth.proofs.KeptBytes.{get_drop}
@@ -37,13 +37,13 @@ still_state : (state : ThreadState) → is_suspended (Some (state_fact state)) �
 still_state (Running left) still = still
 still_state (Suspended reason hits) still = refl
 
-bytes_so : (number : ℕ) (target : Target) (process : Process) (first count : ℕ) → process_in number target ≡ Some process
+bytes_so : (number : ℕ) (target : TargetValue) (process : ProcessValue) (first count : ℕ) → process_in number target ≡ Some process
     → is_still number (seen target) ≡ true → (place byte : ℕ) → has_byte first (part_of first count process.memory) place byte ≡ true → (seen target).bytes number place byte ≡ true
 bytes_so number target process first count there still place byte has =
-    let stopped : is_suspended (state_seen (Some process)) ≡ true = subst (λ (o : Option Process). is_suspended (state_seen o) ≡ true) there still in
+    let stopped : is_suspended (state_seen (Some process)) ≡ true = subst (λ (o : Option ProcessValue). is_suspended (state_seen o) ≡ true) there still in
     ap (byte_seen place byte) there ∙ and_from _ _ (still_state process.state stopped) (part_byte first count place byte process.memory has)
 
-pub range_so : (number : ℕ) (target : Target) (process : Process) (addr size : ℤ) → process_in number target ≡ Some process
+pub range_so : (number : ℕ) (target : TargetValue) (process : ProcessValue) (addr size : ℤ) → process_in number target ≡ Some process
     → AllByRecursion (IsSo target) (range_read number addr size (part_of (unsigned_abs addr) (unsigned_abs size) process.memory))
 range_so number target process addr size there =
     let bytes = part_of (unsigned_abs addr) (unsigned_abs size) process.memory in

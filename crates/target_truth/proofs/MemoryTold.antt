@@ -10,8 +10,8 @@ use Rattle.knowledge.specs.Facts.{IsPart}
 use Rattle.knowledge.specs.Rows as learned
 use Rattle.target_contexts.specs.Changes.{with_change, with_change_of}
 use Rattle.target_contexts.specs.Named.{process_at_number}
-use Rattle.target_contexts.specs.declared.process.Process.{Process}
-use Rattle.target_hub.specs.declared.target.Target.{Target}
+use Rattle.target_contexts.specs.ProcessValue.{ProcessValue}
+use Rattle.run_control.specs.TargetValue.{TargetValue}
 use Rattle.target_truth.specs.Holds.{process_in}
 use Rattle.target_truth.proofs.Becoming.{change_stays, with_contexts}
 use Rattle.target_truth.proofs.First.{StaysAttached, memory_set}
@@ -33,14 +33,14 @@ empty_list : (bytes : List ℕ) → length bytes ≡ 0 → bytes ≡ []
 empty_list [] none = refl
 empty_list (byte ∷ bytes) none = absurd (omega arith)
 
-same_at : (number n : ℕ) (old new : Process) (before now : Target) (same : Bool) → nat_eq n number ≡ same → StaysAttached number before now old new → new ≡ old → process_in n now ≡ process_in n before
+same_at : (number n : ℕ) (old new : ProcessValue) (before now : TargetValue) (same : Bool) → nat_eq n number ≡ same → StaysAttached number before now old new → new ≡ old → process_in n now ≡ process_in n before
 same_at number n old new before now true e stays is =
     let named : n ≡ number = eqb-true n number e in
-    ap (λ (m : ℕ). process_in m now) named ∙ stays.stays.is ∙ ap (λ (p : Process). Some p) is ∙ sym (ap (λ (m : ℕ). process_in m before) named ∙ stays.stays.was)
+    ap (λ (m : ℕ). process_in m now) named ∙ stays.stays.is ∙ ap (λ (p : ProcessValue). Some p) is ∙ sym (ap (λ (m : ℕ). process_in m before) named ∙ stays.stays.was)
 same_at number n old new before now false e stays is = stays.stays.differs.others n (eqb-false n number e)
 
 -- a process that is put in place of itself
-still_seen : (number : ℕ) (before now : Target) (old new : Process) → StaysAttached number before now old new → new ≡ old → now.breakpoints ≡ before.breakpoints → IsPart (seen before) (seen now)
+still_seen : (number : ℕ) (before now : TargetValue) (old new : ProcessValue) → StaysAttached number before now old new → new ≡ old → now.breakpoints ≡ before.breakpoints → IsPart (seen before) (seen now)
 still_seen number before now old new stays is breakpoints =
     same_seen before now (λ n. same_at number n old new before now (nat_eq n number) refl stays is) stays.all (λ id. ap (λ rows. props_of id rows) breakpoints)
 
@@ -52,7 +52,7 @@ pub record Fits (addr size : ℤ) (bytes : List ℕ) : Type 0 where
   pub whole_addr : IsWhole addr
   pub whole_size : IsWhole size
 
-memory_told : (number : ℕ) (addr size : ℤ) (bytes : List ℕ) (target : Target) (old : Process) → IsGood target → Fits addr size bytes → process_in number target ≡ Some old
+memory_told : (number : ℕ) (addr size : ℤ) (bytes : List ℕ) (target : TargetValue) (old : ProcessValue) → IsGood target → Fits addr size bytes → process_in number target ≡ Some old
     → (some : Bool) → int_lt (pos 0) size ≡ some
     → Tell target (with_contexts (with_change (with_memory (unsigned_abs addr) bytes) number target.contexts) target)
     (cond some (events.MemChanged (context_spelling (contexts.Process number)) (record { addr = addr; size = size } ∷ []) ∷ []) [])
@@ -80,12 +80,12 @@ memory_told number addr size bytes target old good fits there false e =
     let same : with_part (unsigned_abs addr) bytes old.memory ≡ old.memory = ap (λ (xs : List ℕ). with_part (unsigned_abs addr) xs old.memory) none ∙ nothing_put (unsigned_abs addr) old.memory in
     still_seen number target now old (change old) stays (ap (λ (xs : List ℕ). record old { memory = xs }) same) refl
 
-memory_at : (number : ℕ) (addr size : ℤ) (bytes : List ℕ) (target : Target) (found : Option Process) → IsGood target → Fits addr size bytes → process_in number target ≡ found
+memory_at : (number : ℕ) (addr size : ℤ) (bytes : List ℕ) (target : TargetValue) (found : Option ProcessValue) → IsGood target → Fits addr size bytes → process_in number target ≡ found
     → is_none found ≡ false → Tell target (with_contexts (with_change (with_memory (unsigned_abs addr) bytes) number target.contexts) target) (memory_events (Some number) addr size)
 memory_at number addr size bytes target None good fits there some = cc
 memory_at number addr size bytes target (Some old) good fits there some = memory_told number addr size bytes target old good fits there (int_lt (pos 0) size) refl
 
-pub memory_of : (addr size : ℤ) (bytes : List ℕ) (target : Target) (named : Option ℕ) → IsGood target → Fits addr size bytes
+pub memory_of : (addr size : ℤ) (bytes : List ℕ) (target : TargetValue) (named : Option ℕ) → IsGood target → Fits addr size bytes
     → is_none (process_at_number named target.contexts.processes) ≡ false
     → Tell target (with_contexts (with_change_of (with_memory (unsigned_abs addr) bytes) named target.contexts) target) (memory_events named addr size)
 memory_of addr size bytes target None good fits some = cc

@@ -14,7 +14,7 @@ use Rattle.target_hub.specs.declared.done.Answered.TheVariants as answered
 use Rattle.target_hub.specs.declared.done.Done.{Done}
 use Rattle.target_hub.specs.declared.input.Input.{Input}
 use Rattle.target_hub.specs.declared.input.Input.TheVariants.{Opened, Executed, Ticked, Closed}
-use Rattle.target_hub.specs.declared.target.Target.{Target}
+use Rattle.run_control.specs.TargetValue.{TargetValue}
 use Rattle.target_truth.specs.Taught.{position_of}
 use Rattle.target_truth.proofs.Fronts.{inputs_append}
 use Rattle.command_tables.specs.declared.reading.Reading.{Reading}
@@ -58,7 +58,7 @@ tick_at : (position : ℕ) (found : Option (List EventData)) → AreAt position 
 tick_at position None = tt
 tick_at position (Some events) = events_at position events
 
-told_at : (k position : ℕ) (target : Target) (input : Input) → AreAt position (told_by k position target input)
+told_at : (k position : ℕ) (target : TargetValue) (input : Input) → AreAt position (told_by k position target input)
 told_at k position target (Opened channel) = hello_is_at (channel == k) position
 told_at k position target (Executed channel reading service name) = executed_at k position channel reading (executed channel service name reading target)
 told_at k position target (Ticked thread) = tick_at position (tick_told thread target)
@@ -68,7 +68,7 @@ one_at : (position : ℕ) (front rest : List Told) (last : Told) → AreAt posit
 one_at position [] rest last all = all.0
 one_at position (told ∷ front) rest last all = one_at position front rest last all.1
 
-pub last_at : (k position : ℕ) (target : Target) (input : Input) (front rest : List Told) (last : Told) → told_by k position target input ≡ front ++ last ∷ rest → position_of last ≡ position
+pub last_at : (k position : ℕ) (target : TargetValue) (input : Input) (front rest : List Told) (last : Told) → told_by k position target input ≡ front ++ last ∷ rest → position_of last ≡ position
 last_at k position target input front rest last is = one_at position front rest last (subst (AreAt position) is (told_at k position target input))
 
 -- ---- the target at that position

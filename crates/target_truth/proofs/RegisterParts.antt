@@ -5,19 +5,19 @@ use Rattle.target_contexts.specs.Changes.{with_change, with_change_at}
 use Rattle.target_contexts.specs.Laws.{AgreeBut}
 use Rattle.target_contexts.specs.Live.{numbers_of, process_of}
 use Rattle.target_contexts.specs.TargetsValue.{TargetsValue}
-use Rattle.target_contexts.specs.declared.process.Process.{Process}
+use Rattle.target_contexts.specs.ProcessValue.{ProcessValue}
 use Rattle.target_contexts.proofs.TheLaws.{changes_one}
 use Rattle.target_truth.proofs.Becoming.{Becomes}
 use Rattle.data_services.proofs.PartSteps.{changed_process, live_found}
 
 -- ---- a change of one process
 
-numbers_by : (change : Process → Process) (n : ℕ) (targets : TargetsValue) (found : Option Process) → process_of n targets.processes ≡ found
+numbers_by : (change : ProcessValue → ProcessValue) (n : ℕ) (targets : TargetsValue) (found : Option ProcessValue) → process_of n targets.processes ≡ found
     → numbers_of (with_change_at change n found targets).processes ≡ numbers_of targets.processes
 numbers_by change n targets None there = refl
 numbers_by change n targets (Some process) there = (changes_one targets.processes n (change process) (live_found n targets.processes process there)).2
 
-same_numbers : (change : Process → Process) (n : ℕ) (targets : TargetsValue) → numbers_of (with_change change n targets).processes ≡ numbers_of targets.processes
+same_numbers : (change : ProcessValue → ProcessValue) (n : ℕ) (targets : TargetsValue) → numbers_of (with_change change n targets).processes ≡ numbers_of targets.processes
 same_numbers change n targets = numbers_by change n targets (process_of n targets.processes) refl
 
 -- ---- bytes put over parts of registers
@@ -30,15 +30,15 @@ item_of {A = A} list = A
 abbrev pub Part : Type 0
 Part = item_of (parts_named [])
 
-abbrev pub with_cpu_after : ℕ → List Part → List ℕ → Process → Process
+abbrev pub with_cpu_after : ℕ → List Part → List ℕ → ProcessValue → ProcessValue
 with_cpu_after number parts bytes process = record process { cpu = cpu_after number parts bytes process.cpu }
 
-unchanged : (number : ℕ) (bytes : List ℕ) (found : Option Process) → found ≡ option_map (λ process. with_cpu_after number [] bytes process) found
+unchanged : (number : ℕ) (bytes : List ℕ) (found : Option ProcessValue) → found ≡ option_map (λ process. with_cpu_after number [] bytes process) found
 unchanged number bytes None = refl
 unchanged number bytes (Some process) = refl
 
 -- the part is first put over, or passed over, and then the others
-one_more : (number : ℕ) (part : Part) (parts : List Part) (bytes : List ℕ) (same : Bool) → nat_eq part.register.process number ≡ same → (found : Option Process) →
+one_more : (number : ℕ) (part : Part) (parts : List Part) (bytes : List ℕ) (same : Bool) → nat_eq part.register.process number ≡ same → (found : Option ProcessValue) →
     option_map (λ process. with_cpu_after number parts (drop part.size bytes) process) (cond same (option_map (with_bytes part (take part.size bytes)) found) found) ≡ option_map (λ process. with_cpu_after number (part ∷ parts) bytes process) found
 one_more number part parts bytes true e None = refl
 one_more number part parts bytes false e None = refl
@@ -50,31 +50,31 @@ pub process_after : (number : ℕ) (parts : List Part) (bytes : List ℕ) (targe
     process_of number (with_parts parts bytes targets).processes ≡ option_map (λ process. with_cpu_after number parts bytes process) (process_of number targets.processes)
 process_after number [] bytes targets = unchanged number bytes (process_of number targets.processes)
 process_after number (part ∷ parts) bytes targets =
-    let change : Process → Process = with_bytes part (take part.size bytes) in
+    let change : ProcessValue → ProcessValue = with_bytes part (take part.size bytes) in
     let n : ℕ = part.register.process in
     process_after number parts (drop part.size bytes) (with_change change n targets)
-    ∙ ap (λ (found : Option Process). option_map (λ process. with_cpu_after number parts (drop part.size bytes) process) found) (changed_process change n number targets)
+    ∙ ap (λ (found : Option ProcessValue). option_map (λ process. with_cpu_after number parts (drop part.size bytes) process) found) (changed_process change n number targets)
     ∙ one_more number part parts bytes (nat_eq n number) refl (process_of number targets.processes)
 
-next_by : (change : Process → Process) (n : ℕ) (targets : TargetsValue) (found : Option Process) → (with_change_at change n found targets).next ≡ targets.next
+next_by : (change : ProcessValue → ProcessValue) (n : ℕ) (targets : TargetsValue) (found : Option ProcessValue) → (with_change_at change n found targets).next ≡ targets.next
 next_by change n targets None = refl
 next_by change n targets (Some process) = refl
 
 next_after : (parts : List Part) (bytes : List ℕ) (targets : TargetsValue) → (with_parts parts bytes targets).next ≡ targets.next
 next_after [] bytes targets = refl
 next_after (part ∷ parts) bytes targets =
-    let change : Process → Process = with_bytes part (take part.size bytes) in
+    let change : ProcessValue → ProcessValue = with_bytes part (take part.size bytes) in
     let n : ℕ = part.register.process in
     next_after parts (drop part.size bytes) (with_change change n targets) ∙ next_by change n targets (process_of n targets.processes)
 
 pub numbers_after : (parts : List Part) (bytes : List ℕ) (targets : TargetsValue) → numbers_of (with_parts parts bytes targets).processes ≡ numbers_of targets.processes
 numbers_after [] bytes targets = refl
 numbers_after (part ∷ parts) bytes targets =
-    let change : Process → Process = with_bytes part (take part.size bytes) in
+    let change : ProcessValue → ProcessValue = with_bytes part (take part.size bytes) in
     numbers_after parts (drop part.size bytes) (with_change change part.register.process targets) ∙ same_numbers change part.register.process targets
 
 -- where they leave the other processes as they are
-pub parts_become : (number : ℕ) (parts : List Part) (bytes : List ℕ) (targets : TargetsValue) (process : Process) → process_of number targets.processes ≡ Some process
+pub parts_become : (number : ℕ) (parts : List Part) (bytes : List ℕ) (targets : TargetsValue) (process : ProcessValue) → process_of number targets.processes ≡ Some process
     → AgreeBut number targets.processes (with_parts parts bytes targets).processes → Becomes number targets (with_parts parts bytes targets) (with_cpu_after number parts bytes process)
 parts_become number parts bytes targets process found others = record {
   found = process_after number parts bytes targets ∙ ap (option_map (λ p. with_cpu_after number parts bytes p)) found;

@@ -8,8 +8,8 @@ use Rattle.data_services.specs.Bytes.{part_of, word_bytes}
 use Rattle.data_services.specs.Parts.{bytes_in, bytes_of, number_in, parts_named}
 use Rattle.data_services.specs.RegisterRows.{location_fault, locations_fault}
 use Rattle.knowledge.specs.Rows.{whole_read, is_part, parts_read}
-use Rattle.target_contexts.specs.declared.process.Process.{Process}
-use Rattle.target_hub.specs.declared.target.Target.{Target}
+use Rattle.target_contexts.specs.ProcessValue.{ProcessValue}
+use Rattle.run_control.specs.TargetValue.{TargetValue}
 use Rattle.target_truth.proofs.Changes.{IsSo}
 use Rattle.target_truth.proofs.Faults.{both_passed, check_passed}
 use Rattle.target_truth.proofs.Holders.{IsHeld, held_found}
@@ -29,7 +29,7 @@ part_size : (offset size : ℕ) (bytes : List ℕ) → length bytes ≡ 4 → of
 part_size offset size bytes four fits = omega (arith, four, fits, length-take size (drop offset bytes), length-drop offset bytes)
 
 -- the bytes of one location, and those of the others behind it
-one_split : (target : Target) (location : Location) (list : List Location) (register : RegisterId) (process : Process) → IsHeld target location.register register process
+one_split : (target : TargetValue) (location : Location) (list : List Location) (register : RegisterId) (process : ProcessValue) → IsHeld target location.register register process
     → bytes_of target.contexts.processes (parts_named (location ∷ list))
     ≡ part_of (unsigned_abs location.offset) (unsigned_abs location.size) (word_bytes (number_in register.index process.cpu)) ++ bytes_of target.contexts.processes (parts_named list)
 one_split target location list register process is =
@@ -37,9 +37,9 @@ one_split target location list register process is =
     let offset = unsigned_abs location.offset in
     let size = unsigned_abs location.size in
     ap (λ (o : Option RegisterId). bytes_of rows (cons_option (option_map (λ (r : RegisterId). record { register = r; offset = offset; size = size }) o) (parts_named list))) is.holder.read
-    ∙ ap (λ (o : Option Process). bytes_in (record { register = register; offset = offset; size = size }) o ++ bytes_of rows (parts_named list)) is.holder.there
+    ∙ ap (λ (o : Option ProcessValue). bytes_in (record { register = register; offset = offset; size = size }) o ++ bytes_of rows (parts_named list)) is.holder.there
 
-one_so : (target : Target) (location : Location) (list : List Location) (register : RegisterId) (process : Process) (bytes rest : List ℕ) → IsHeld target location.register register process
+one_so : (target : TargetValue) (location : Location) (list : List Location) (register : RegisterId) (process : ProcessValue) (bytes rest : List ℕ) → IsHeld target location.register register process
     → bytes ≡ part_of (unsigned_abs location.offset) (unsigned_abs location.size) (word_bytes (number_in register.index process.cpu)) ++ rest
     → AllByRecursion (IsSo target) (parts_read list rest) → AllByRecursion (IsSo target) (parts_read (location ∷ list) bytes)
 one_so target location list register process bytes rest is split others =
@@ -54,7 +54,7 @@ one_so target location list register process bytes rest is split others =
     (whole_so target location.register register process offset size is))
     (subst (λ (xs : List ℕ). AllByRecursion (IsSo target) (parts_read list xs)) (sym (ap (drop size) split ∙ drop_at piece rest size sized)) others))
 
-pub parts_so : (target : Target) (list : List Location) → IsGood target → locations_fault target.contexts.processes list ≡ None
+pub parts_so : (target : TargetValue) (list : List Location) → IsGood target → locations_fault target.contexts.processes list ≡ None
     → AllByRecursion (IsSo target) (parts_read list (bytes_of target.contexts.processes (parts_named list)))
 parts_so target [] good none = tt
 parts_so target (location ∷ list) good none =

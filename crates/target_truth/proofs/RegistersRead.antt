@@ -14,8 +14,8 @@ use Rattle.rv32i_core.proofs.TheLaws.{reads_are_words}
 use Rattle.rv32i_core.specs.Laws.{IsCpu, IsWord}
 use Rattle.rv32i_core.specs.Registers.{register_of as number_of}
 use Rattle.rv32i_core.specs.declared.registers.Cpu.{Cpu}
-use Rattle.target_contexts.specs.declared.process.Process.{Process}
-use Rattle.target_hub.specs.declared.target.Target.{Target}
+use Rattle.target_contexts.specs.ProcessValue.{ProcessValue}
+use Rattle.run_control.specs.TargetValue.{TargetValue}
 use Rattle.target_truth.proofs.Changes.{IsSo}
 use Rattle.target_truth.proofs.Holders.{IsHeld}
 use Rattle.target_truth.proofs.Seen.{number_seen}
@@ -35,7 +35,7 @@ word_back : (number : ℕ) → number < 2 ^ 32 → from_le_bytes w32 (word_bytes
 unfolding word_bytes
 word_back number small = from_le_bytes-to_le_bytes_4 number small
 
-word_so : (target : Target) (id : List ℕ) (register : RegisterId) (process : Process) → IsHeld target id register process
+word_so : (target : TargetValue) (id : List ℕ) (register : RegisterId) (process : ProcessValue) → IsHeld target id register process
     → IsSo target (register_read register.process register.thread register.index (from_le_bytes w32 (word_bytes (number_in register.index process.cpu))))
 word_so target id register process held =
     let number = number_in register.index process.cpu in
@@ -53,7 +53,7 @@ pub word_whole : (number : ℕ) → part_of 0 4 (word_bytes number) ≡ word_byt
 word_whole number = take_all 4 (word_bytes number) (omega (arith, word_four number))
 
 -- part of a register's bytes tells it where that is the whole of them
-pub whole_so : (target : Target) (id : List ℕ) (register : RegisterId) (process : Process) (offset size : ℕ) → IsHeld target id register process
+pub whole_so : (target : TargetValue) (id : List ℕ) (register : RegisterId) (process : ProcessValue) (offset size : ℕ) → IsHeld target id register process
     → AllByRecursion (IsSo target) (whole_read id (part_of offset size (word_bytes (number_in register.index process.cpu))))
 whole_so target id register process offset size held =
     let word = word_bytes (number_in register.index process.cpu) in

@@ -12,8 +12,8 @@ use Rattle.rv32i_core.specs.declared.registers.Cpu.{Cpu}
 use Rattle.target_contexts.specs.Changes.{with_change}
 use Rattle.target_contexts.specs.Live.{process_of}
 use Rattle.target_contexts.specs.Named.{is_attached}
-use Rattle.target_contexts.specs.declared.process.Process.{Process}
-use Rattle.target_hub.specs.declared.target.Target.{Target}
+use Rattle.target_contexts.specs.ProcessValue.{ProcessValue}
+use Rattle.run_control.specs.TargetValue.{TargetValue}
 use Rattle.target_truth.proofs.Becoming.{change_stays, stays_attached, with_contexts}
 use Rattle.target_truth.proofs.First.{ButCpus, Leads, register_set, registers_set, without_cpu}
 use Rattle.target_truth.proofs.Holders.{IsHolder, holder_found, index_small}
@@ -43,7 +43,7 @@ other_number : (put index number : ℕ) (cpu : Cpu) → put ≤ 32 → index ≤
 other_number put index number cpu most few differ =
     other_by put index number cpu most few differ (nat_lt put 32) (nat_eq put 0) (nat_lt index 32) (nat_eq index 0) refl refl
 
-register_told : (id : List ℕ) (number : ℕ) (target : Target) (register : RegisterId) (old : Process) → IsHolder target id register old
+register_told : (id : List ℕ) (number : ℕ) (target : TargetValue) (register : RegisterId) (old : ProcessValue) → IsHolder target id register old
     → Leads target (with_contexts (register_after (Some register) number target.contexts) target) (RegChanged id)
 register_told id number target register old held =
     let change = with_word register.index number in
@@ -51,7 +51,7 @@ register_told id number target register old held =
     (change_stays change register.process target old held.there refl refl) refl
     (λ index few differ. other_number register.index index number old.cpu (index_small id register held.read) few differ)
 
-pub register_of_named : (id : List ℕ) (number : ℕ) (target : Target) → is_none (holder_of id target.contexts.processes) ≡ false
+pub register_of_named : (id : List ℕ) (number : ℕ) (target : TargetValue) → is_none (holder_of id target.contexts.processes) ≡ false
     → Leads target (with_contexts (register_after (register_of id) number target.contexts) target) (RegChanged id)
 register_of_named id number target some =
     let found = holder_found target id some in
@@ -60,22 +60,22 @@ register_of_named id number target some =
 
 -- ---- parts of registers
 
-view_stays : {A : Type 0} → (view : Process → A) (change : Process → Process) (found : Option Process) → ((process : Process) → view (change process) ≡ view process)
+view_stays : {A : Type 0} → (view : ProcessValue → A) (change : ProcessValue → ProcessValue) (found : Option ProcessValue) → ((process : ProcessValue) → view (change process) ≡ view process)
     → option_map view (option_map change found) ≡ option_map view found
 view_stays view change None same = refl
 view_stays view change (Some process) same = ap (λ seen. Some seen) (same process)
 
-attached_stays : (number : ℕ) (parts : List Part) (bytes : List ℕ) (found : Option Process) → is_attached (option_map (λ process. with_cpu_after number parts bytes process) found) ≡ is_attached found
+attached_stays : (number : ℕ) (parts : List Part) (bytes : List ℕ) (found : Option ProcessValue) → is_attached (option_map (λ process. with_cpu_after number parts bytes process) found) ≡ is_attached found
 attached_stays number parts bytes None = refl
 attached_stays number parts bytes (Some process) = refl
 
-but_cpus : (parts : List Part) (bytes : List ℕ) (target : Target) → ButCpus target (with_contexts (with_parts parts bytes target.contexts) target)
+but_cpus : (parts : List Part) (bytes : List ℕ) (target : TargetValue) → ButCpus target (with_contexts (with_parts parts bytes target.contexts) target)
 but_cpus parts bytes target =
     let rows = target.contexts.processes in
     let left = with_parts parts bytes target.contexts in
     record {
       processes = λ number. ap (option_map without_cpu) (process_after number parts bytes target.contexts) ∙ view_stays without_cpu (λ process. with_cpu_after number parts bytes process) (process_of number rows) (λ process. refl);
-      attached = λ number. ap (option_map (λ (p : Process). p.attached)) (process_after number parts bytes target.contexts) ∙ view_stays (λ (p : Process). p.attached) (λ process. with_cpu_after number parts bytes process) (process_of number rows) (λ process. refl);
+      attached = λ number. ap (option_map (λ (p : ProcessValue). p.attached)) (process_after number parts bytes target.contexts) ∙ view_stays (λ (p : ProcessValue). p.attached) (λ process. with_cpu_after number parts bytes process) (process_of number rows) (λ process. refl);
       all = attached_same rows left.processes (numbers_after parts bytes target.contexts)
           (λ number. ap is_attached (process_after number parts bytes target.contexts) ∙ attached_stays number parts bytes (process_of number rows));
       breakpoints = refl;
@@ -106,7 +106,7 @@ passed_over number register (part ∷ parts) bytes cpu all differ =
     ap (cpu_after number parts (drop part.size bytes)) (cond-false (nat_eq part.register.process number) (with_register_bytes part (take part.size bytes) cpu) cpu other)
     ∙ passed_over number register parts (drop part.size bytes) cpu all.1 differ
 
-nothing_over : (number : ℕ) (register : RegisterId) (parts : List Part) (bytes : List ℕ) (found : Option Process) → AreOf register parts → number ≢ register.process
+nothing_over : (number : ℕ) (register : RegisterId) (parts : List Part) (bytes : List ℕ) (found : Option ProcessValue) → AreOf register parts → number ≢ register.process
     → option_map (λ process. with_cpu_after number parts bytes process) found ≡ found
 nothing_over number register parts bytes None all differ = refl
 nothing_over number register parts bytes (Some process) all differ = ap (λ (cpu : Cpu). Some (record process { cpu = cpu })) (passed_over number register parts bytes process.cpu all differ)
@@ -124,7 +124,7 @@ beside index process register (part ∷ parts) bytes cpu all most few differ =
     (cond (nat_eq part.register.process process) (with_register_bytes part (take part.size bytes) cpu) cpu) all.1 most few differ
     ∙ beside_by register.index index part.register.index _ cpu (nat_eq part.register.process process) (ap (λ (r : RegisterId). r.index) all.0) most few differ
 
-one_told : (id : List ℕ) (parts : List Part) (bytes : List ℕ) (target : Target) (register : RegisterId) (old : Process) → ((r : RegisterId) → register_of id ≡ Some r → AreOf r parts) → IsHolder target id register old
+one_told : (id : List ℕ) (parts : List Part) (bytes : List ℕ) (target : TargetValue) (register : RegisterId) (old : ProcessValue) → ((r : RegisterId) → register_of id ≡ Some r → AreOf r parts) → IsHolder target id register old
     → Leads target (with_contexts (with_parts parts bytes target.contexts) target) (RegChanged id)
 one_told id parts bytes target register old all held =
     let rows = target.contexts.processes in
@@ -140,7 +140,7 @@ one_told id parts bytes target register old all held =
     refl
     (λ index few differ. beside index number register parts bytes old.cpu of (index_small id register held.read) few differ)
 
-pub registers_told : (first : Location) (list : List Location) (bytes : List ℕ) (target : Target) → is_none (holder_of first.register target.contexts.processes) ≡ false
+pub registers_told : (first : Location) (list : List Location) (bytes : List ℕ) (target : TargetValue) → is_none (holder_of first.register target.contexts.processes) ≡ false
     → (one : Bool) → name_one first.register (first ∷ list) ≡ one
     → Tell target (with_contexts (with_parts (parts_named (first ∷ list)) bytes target.contexts) target) (cond one (RegChanged first.register ∷ []) (RegsChanged ∷ []))
 registers_told first list bytes target some true one =

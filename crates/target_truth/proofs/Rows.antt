@@ -9,7 +9,7 @@ use Rattle.target_contexts.specs.Changes.{targets_by}
 use Rattle.target_contexts.specs.TargetsValue.{TargetsValue}
 use Rattle.target_hub.specs.BreakpointsRows.{ask_fault}
 use Rattle.target_hub.specs.Execution.{exec_after, exec_effect}
-use Rattle.target_hub.specs.declared.target.Target.{Target}
+use Rattle.run_control.specs.TargetValue.{TargetValue}
 use Rattle.target_truth.proofs.Answering.{unheard}
 use Rattle.target_truth.proofs.Becoming.{with_contexts}
 use Rattle.target_truth.proofs.Changes.{Moves}
@@ -31,15 +31,15 @@ use Rattle.target_hub.proofs.Unchanged.{same_by}
 -- ---- events
 
 -- a command that asks changes nothing and tells nothing
-asks : (fault : Option Fault) (target : Target) (answer : Answer) → Tell target (with_contexts (targets_by fault target.contexts target.contexts) target) (effect_by fault (gives answer)).events
+asks : (fault : Option Fault) (target : TargetValue) (answer : Answer) → Tell target (with_contexts (targets_by fault target.contexts target.contexts) target) (effect_by fault (gives answer)).events
 asks fault target answer = by_fault fault target target.contexts (gives answer) (λ none fact knows. knows)
 
-quiet : (fault : Option Fault) (target : Target) (answer : Answer) → Tell target target (effect_by fault (gives answer)).events
+quiet : (fault : Option Fault) (target : TargetValue) (answer : Answer) → Tell target target (effect_by fault (gives answer)).events
 unfolding failed
 quiet None target answer = λ fact knows. knows
 quiet (Some fault) target answer = λ fact knows. knows
 
-pub events_tell : (channel : ℕ) (command : Command) (target : Target) → IsGood target → IsReadable command → Tells channel command target
+pub events_tell : (channel : ℕ) (command : Command) (target : TargetValue) → IsGood target → IsReadable command → Tells channel command target
 unfolding exec_after exec_effect
 events_tell channel Sync target good readable = λ fact knows. knows
 events_tell channel GetPeers target good readable = λ fact knows. knows
@@ -77,11 +77,11 @@ events_tell channel (TraceRun id count) target good readable = trace channel id 
 -- ---- answers
 
 -- of a command that asks, of the same target
-asked : (fault : Option Fault) (target : Target) (message : Message) → Moves target target message
+asked : (fault : Option Fault) (target : TargetValue) (message : Message) → Moves target target message
     → Moves (with_contexts (targets_by fault target.contexts target.contexts) target) (with_contexts (targets_by fault target.contexts target.contexts) target) message
 asked fault target message moves = subst (λ (contexts : TargetsValue). Moves (with_contexts contexts target) (with_contexts contexts target) message) (sym (same_by fault target.contexts)) moves
 
-pub answers_so : (channel : ℕ) (command : Command) (target : Target) → IsGood target → IsReadable command
+pub answers_so : (channel : ℕ) (command : Command) (target : TargetValue) → IsGood target → IsReadable command
     → Moves (exec_after channel command target) (exec_after channel command target) (reply channel command target)
 unfolding exec_after
 answers_so channel (GetContext id) target good readable = asked (run_fault (GetContext id) target.contexts) target _ (get_context channel id target good)

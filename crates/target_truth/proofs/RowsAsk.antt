@@ -20,13 +20,13 @@ use Rattle.run_control.specs.Asking.{context_answer, context_fault, run_state, s
 use Rattle.target_contexts.specs.Contexts.{context_of as data_of, process_data, thread_data}
 use Rattle.target_contexts.specs.Live.{process_of}
 use Rattle.target_contexts.specs.Named.{attached_in, number_for, process_at_number, runs, thread_for}
-use Rattle.target_contexts.specs.declared.process.Process.{Process}
+use Rattle.target_contexts.specs.ProcessValue.{ProcessValue}
 use Rattle.target_contexts.specs.declared.process.ThreadState.{ThreadState}
 use Rattle.target_contexts.specs.declared.process.ThreadState.TheVariants.{Running, Suspended}
 use Rattle.target_hub.specs.BreakpointsRows.{ask_fault, props_answer, status_answer}
 use Rattle.target_hub.specs.Execution.{exec_effect}
 use Rattle.target_hub.specs.Limits.{AreReadable}
-use Rattle.target_hub.specs.declared.target.Target.{Target}
+use Rattle.run_control.specs.TargetValue.{TargetValue}
 use Rattle.target_truth.specs.Holds.{data_in, process_in, state_fact}
 use Rattle.target_truth.specs.Taught.{answer_message}
 use Rattle.target_truth.proofs.Answering.{IsTrueAnswer, answer_by_fault, answered}
@@ -56,32 +56,32 @@ use Rattle.target_hub.proofs.Told.{process_within as process_fits}
 use Rattle.breakpoints.specs.declared.rows.Placed.{Placed}
 
 -- the answer to a command of a channel, as it is taken
-abbrev pub reply : ℕ → Command → Target → Message
+abbrev pub reply : ℕ → Command → TargetValue → Message
 reply channel command target = answer_message command (answer_data command (exec_effect channel command target).answer)
 
 -- what is answered is so
-abbrev pub Answers : ℕ → Command → Target → Type 0
+abbrev pub Answers : ℕ → Command → TargetValue → Type 0
 Answers channel command target = Moves target target (reply channel command target)
 
 -- ---- contexts
 
-of_process : (told : Process → ContextData) (found : Option Process) → ((process : Process) → IsContext (told process)) → IfSome (option_map told found) IsContext
+of_process : (told : ProcessValue → ContextData) (found : Option ProcessValue) → ((process : ProcessValue) → IsContext (told process)) → IfSome (option_map told found) IsContext
 of_process told None fits = tt
 of_process told (Some process) fits = fits process
 
-data_within : (rows : List (ℕ × Process)) (context : Option ContextId) → IfSome (option_and_then (λ c. data_of c rows) context) IsContext
+data_within : (rows : List (ℕ × ProcessValue)) (context : Option ContextId) → IfSome (option_and_then (λ c. data_of c rows) context) IsContext
 data_within rows None = tt
 data_within rows (Some (ids.Process number)) = of_process (process_data number) (process_of number rows) (process_fits number)
 data_within rows (Some (ids.Thread number thread)) =
     cond_both (thread == 1) (option_map (λ process. thread_data number process) (process_of number rows)) None (λ found. IfSome found IsContext)
     (λ is. of_process (thread_data number) (process_of number rows) (thread_fits number)) (λ isnt. tt)
 
-context_so : (id : List ℕ) (target : Target) (found : Option ContextData) → data_in id target ≡ found → IfSome found IsContext → is_none found ≡ false
+context_so : (id : List ℕ) (target : TargetValue) (found : Option ContextData) → data_in id target ≡ found → IfSome found IsContext → is_none found ≡ false
     → IsTrueAnswer target (commands.GetContext id) (context_answer found)
 context_so id target None is within some = absurd cc
 context_so id target (Some context) is within some = record { limits = (refl, within); typed = tt; so = (is, tt) }
 
-pub get_context : (channel : ℕ) (id : List ℕ) (target : Target) → IsGood target → Answers channel (commands.GetContext id) target
+pub get_context : (channel : ℕ) (id : List ℕ) (target : TargetValue) → IsGood target → Answers channel (commands.GetContext id) target
 unfolding exec_effect
 get_context channel id target good =
     answered target (commands.GetContext id) _ (answer_by_fault target (commands.GetContext id) (context_fault id target.contexts.processes) _ (λ none.
@@ -89,7 +89,7 @@ get_context channel id target good =
 
 -- ---- states
 
-thread_so : (target : Target) (number thread : ℕ) (process : Process) (state : ThreadState) → process_in number target ≡ Some process → (thread == 1) ≡ true → process.state ≡ state
+thread_so : (target : TargetValue) (number thread : ℕ) (process : ProcessValue) (state : ThreadState) → process_in number target ≡ Some process → (thread == 1) ≡ true → process.state ≡ state
     → AllByRecursion (IsSo target) (state_changes (run_state process.cpu.pc state) number thread)
 thread_so target number thread process (Running left) there one is =
     (cond-true (thread == 1) (state_seen (process_in number target)) None one ∙ ap state_seen there ∙ ap (λ (s : ThreadState). Some (state_fact s)) is, tt)
@@ -102,7 +102,7 @@ pc_typed : (pc : ℕ) (state : ThreadState) → pc < 2 ^ 32 → IsTypedState (ru
 pc_typed pc (Running left) small = tt
 pc_typed pc (Suspended reason hits) small = small
 
-found_state : (id : List ℕ) (target : Target) (number thread : ℕ) (found : Option Process) → IsGood target → context_of id ≡ Some (ids.Thread number thread) → (thread == 1) ≡ true
+found_state : (id : List ℕ) (target : TargetValue) (number thread : ℕ) (found : Option ProcessValue) → IsGood target → context_of id ≡ Some (ids.Thread number thread) → (thread == 1) ≡ true
     → process_in number target ≡ found → is_none found ≡ false → IsTrueAnswer target (commands.GetState id) (state_answer found)
 found_state id target number thread None good is one there some = absurd cc
 found_state id target number thread (Some process) good is one there some = record {
@@ -112,20 +112,20 @@ found_state id target number thread (Some process) good is one there some = reco
       (thread_so target number thread process process.state there one refl);
 }
 
-thread_state : (id : List ℕ) (target : Target) (number thread : ℕ) (test : Bool) → IsGood target → context_of id ≡ Some (ids.Thread number thread) → (thread == 1) ≡ test
+thread_state : (id : List ℕ) (target : TargetValue) (number thread : ℕ) (test : Bool) → IsGood target → context_of id ≡ Some (ids.Thread number thread) → (thread == 1) ≡ test
     → is_none (process_at_number (cond test (Some number) None) target.contexts.processes) ≡ false
     → IsTrueAnswer target (commands.GetState id) (state_answer (process_at_number (cond test (Some number) None) target.contexts.processes))
 thread_state id target number thread false good is one some = absurd cc
 thread_state id target number thread true good is one some = found_state id target number thread (process_in number target) good is one refl some
 
-state_so : (id : List ℕ) (target : Target) (context : Option ContextId) → IsGood target → context_of id ≡ context
+state_so : (id : List ℕ) (target : TargetValue) (context : Option ContextId) → IsGood target → context_of id ≡ context
     → is_none (process_at_number (option_and_then thread_for context) target.contexts.processes) ≡ false
     → IsTrueAnswer target (commands.GetState id) (state_answer (process_at_number (option_and_then thread_for context) target.contexts.processes))
 state_so id target None good is some = absurd cc
 state_so id target (Some (ids.Process number)) good is some = absurd cc
 state_so id target (Some (ids.Thread number thread)) good is some = thread_state id target number thread (thread == 1) good is refl some
 
-pub get_state : (channel : ℕ) (id : List ℕ) (target : Target) → IsGood target → Answers channel (commands.GetState id) target
+pub get_state : (channel : ℕ) (id : List ℕ) (target : TargetValue) → IsGood target → Answers channel (commands.GetState id) target
 unfolding exec_effect
 get_state channel id target good =
     answered target (commands.GetState id) _ (answer_by_fault target (commands.GetState id) (state_fault id target.contexts.processes) _ (λ none.
@@ -142,18 +142,18 @@ found_readable id (row ∷ rows) all =
     cond_both (bytes_eq id row.props.id) (Some row) (find (λ (r : Placed). bytes_eq id r.props.id) rows) (λ found. IfSome (option_map (λ (r : Placed). r.props) found) IsReadableBp)
     (λ is. all.0) (λ isnt. found_readable id rows all.1)
 
-properties_so : (id : List ℕ) (target : Target) (found : Option BpProps) → props_of id target.breakpoints ≡ found → IfSome found IsReadableBp → is_none found ≡ false
+properties_so : (id : List ℕ) (target : TargetValue) (found : Option BpProps) → props_of id target.breakpoints ≡ found → IfSome found IsReadableBp → is_none found ≡ false
     → IsTrueAnswer target (commands.BpProperties id) (props_answer found)
 properties_so id target None is readable some = absurd cc
 properties_so id target (Some props) is readable some = record { limits = (refl, readable); typed = tt; so = (is, tt) }
 
-pub get_properties : (channel : ℕ) (id : List ℕ) (target : Target) → IsGood target → Answers channel (commands.BpProperties id) target
+pub get_properties : (channel : ℕ) (id : List ℕ) (target : TargetValue) → IsGood target → Answers channel (commands.BpProperties id) target
 unfolding exec_effect
 get_properties channel id target good =
     answered target (commands.BpProperties id) _ (answer_by_fault target (commands.BpProperties id) (ask_fault (commands.BpProperties id) target) _ (λ none.
     properties_so id target (props_of id target.breakpoints) refl (found_readable id target.breakpoints good.consistent.properties) (check_passed _ _ _ none).0))
 
-status_so : (id : List ℕ) (target : Target) (found : Option BpProps) → props_of id target.breakpoints ≡ found → is_none found ≡ false
+status_so : (id : List ℕ) (target : TargetValue) (found : Option BpProps) → props_of id target.breakpoints ≡ found → is_none found ≡ false
     → IsTrueAnswer target (commands.BpGetStatus id) (status_answer (option_map (λ props. record { instances = instances_of props (attached_in target.contexts.processes) }) found))
 status_so id target None is some = absurd cc
 status_so id target (Some props) is some = record {
@@ -162,7 +162,7 @@ status_so id target (Some props) is some = record {
   so = (ap (option_map (λ (p : BpProps). record { instances = instances_of p (attached_in target.contexts.processes) })) is, tt);
 }
 
-pub get_status : (channel : ℕ) (id : List ℕ) (target : Target) → IsGood target → Answers channel (commands.BpGetStatus id) target
+pub get_status : (channel : ℕ) (id : List ℕ) (target : TargetValue) → IsGood target → Answers channel (commands.BpGetStatus id) target
 unfolding exec_effect
 get_status channel id target good =
     answered target (commands.BpGetStatus id) _ (answer_by_fault target (commands.BpGetStatus id) (ask_fault (commands.BpGetStatus id) target) _ (λ none.
@@ -170,7 +170,7 @@ get_status channel id target good =
 
 -- ---- memory
 
-memory_found : (id : List ℕ) (addr word size mode : ℤ) (target : Target) (context : ContextId) (number : ℕ) (found : Option Process) → IsGood target → context_of id ≡ Some context
+memory_found : (id : List ℕ) (addr word size mode : ℤ) (target : TargetValue) (context : ContextId) (number : ℕ) (found : Option ProcessValue) → IsGood target → context_of id ≡ Some context
     → process_for context ≡ number → process_in number target ≡ found → is_none found ≡ false → IsTrueAnswer target (commands.MemGet id addr word size mode) (answers.Blob (memory_bytes addr size found))
 memory_found id addr word size mode target context number None good is named there some = absurd cc
 memory_found id addr word size mode target context number (Some process) good is named there some =
@@ -182,14 +182,14 @@ memory_found id addr word size mode target context number (Some process) good is
           (subst (λ n. AllByRecursion (IsSo target) (range_read n addr size bytes)) (sym named) (range_so number target process addr size there));
     }
 
-memory_thread : (id : List ℕ) (addr word size mode : ℤ) (target : Target) (number thread : ℕ) (test : Bool) → IsGood target → context_of id ≡ Some (ids.Thread number thread)
+memory_thread : (id : List ℕ) (addr word size mode : ℤ) (target : TargetValue) (number thread : ℕ) (test : Bool) → IsGood target → context_of id ≡ Some (ids.Thread number thread)
     → is_none (process_at_number (cond test (Some number) None) target.contexts.processes) ≡ false
     → IsTrueAnswer target (commands.MemGet id addr word size mode) (answers.Blob (memory_bytes addr size (process_at_number (cond test (Some number) None) target.contexts.processes)))
 memory_thread id addr word size mode target number thread false good is some = absurd cc
 memory_thread id addr word size mode target number thread true good is some =
     memory_found id addr word size mode target (ids.Thread number thread) number (process_in number target) good is refl refl some
 
-memory_so : (id : List ℕ) (addr word size mode : ℤ) (target : Target) (context : Option ContextId) → IsGood target → context_of id ≡ context
+memory_so : (id : List ℕ) (addr word size mode : ℤ) (target : TargetValue) (context : Option ContextId) → IsGood target → context_of id ≡ context
     → is_none (process_at_number (option_and_then number_for context) target.contexts.processes) ≡ false
     → IsTrueAnswer target (commands.MemGet id addr word size mode) (answers.Blob (memory_bytes addr size (process_at_number (option_and_then number_for context) target.contexts.processes)))
 memory_so id addr word size mode target None good is some = absurd cc
@@ -197,7 +197,7 @@ memory_so id addr word size mode target (Some (ids.Process number)) good is some
     memory_found id addr word size mode target (ids.Process number) number (process_in number target) good is refl refl some
 memory_so id addr word size mode target (Some (ids.Thread number thread)) good is some = memory_thread id addr word size mode target number thread (thread == 1) good is some
 
-pub get_memory : (channel : ℕ) (id : List ℕ) (addr word size mode : ℤ) (target : Target) → IsGood target
+pub get_memory : (channel : ℕ) (id : List ℕ) (addr word size mode : ℤ) (target : TargetValue) → IsGood target
     → Answers channel (commands.MemGet id addr word size mode) target
 unfolding exec_effect
 get_memory channel id addr word size mode target good =
@@ -207,7 +207,7 @@ get_memory channel id addr word size mode target good =
 
 -- ---- registers
 
-register_so : (id : List ℕ) (target : Target) → IsGood target → register_get_fault id target.contexts.processes ≡ None
+register_so : (id : List ℕ) (target : TargetValue) → IsGood target → register_get_fault id target.contexts.processes ≡ None
     → IsTrueAnswer target (commands.RegGet id) (answers.Blob (register_bytes (register_of id) (holder_of id target.contexts.processes)))
 register_so id target good none =
     let some = check_passed _ _ _ none in
@@ -216,19 +216,19 @@ register_so id target good none =
     let process = found.1 in
     let number = number_in register.index process.cpu in
     let bytes : register_bytes (register_of id) (holder_of id target.contexts.processes) ≡ word_bytes number =
-    ap (λ (o : Option RegisterId). register_bytes o (holder_of id target.contexts.processes)) found.2.holder.read ∙ ap (λ (o : Option Process). register_bytes (Some register) o) found.2.holder.holder in
+    ap (λ (o : Option RegisterId). register_bytes o (holder_of id target.contexts.processes)) found.2.holder.read ∙ ap (λ (o : Option ProcessValue). register_bytes (Some register) o) found.2.holder.holder in
     subst (λ (xs : List ℕ). IsTrueAnswer target (commands.RegGet id) (answers.Blob xs)) (sym bytes) (record {
       limits = refl;
       typed = blob_typed (word_bytes number) (word_typed number);
       so = subst (λ (xs : List ℕ). AllByRecursion (IsSo target) (whole_read id xs)) (word_whole number) (whole_so target id register process 0 4 found.2);
     })
 
-pub get_register : (channel : ℕ) (id : List ℕ) (target : Target) → IsGood target → Answers channel (commands.RegGet id) target
+pub get_register : (channel : ℕ) (id : List ℕ) (target : TargetValue) → IsGood target → Answers channel (commands.RegGet id) target
 unfolding exec_effect
 get_register channel id target good =
     answered target (commands.RegGet id) _ (answer_by_fault target (commands.RegGet id) (register_get_fault id target.contexts.processes) _ (register_so id target good))
 
-registers_so : (list : List Location) (target : Target) → IsGood target → registers_get_fault list target.contexts.processes ≡ None
+registers_so : (list : List Location) (target : TargetValue) → IsGood target → registers_get_fault list target.contexts.processes ≡ None
     → IsTrueAnswer target (commands.RegGetm list) (answers.Blob (bytes_of target.contexts.processes (parts_named list)))
 registers_so list target good none = record {
   limits = refl;
@@ -236,7 +236,7 @@ registers_so list target good none = record {
   so = parts_so target list good (check_passed _ _ _ none).1;
 }
 
-pub get_registers : (channel : ℕ) (list : List Location) (target : Target) → IsGood target → IsReadable (commands.RegGetm list)
+pub get_registers : (channel : ℕ) (list : List Location) (target : TargetValue) → IsGood target → IsReadable (commands.RegGetm list)
     → Answers channel (commands.RegGetm list) target
 unfolding exec_effect
 get_registers channel list target good readable =

@@ -14,7 +14,7 @@ use Rattle.target_hub.specs.BreakpointsRows.{added_events, effect_of, removed_ev
 use Rattle.target_hub.specs.Execution.{exec_after, exec_effect}
 use Rattle.target_hub.specs.Limits.{AreReadable}
 use Rattle.target_hub.specs.Passing.{closed, closed_told}
-use Rattle.target_hub.specs.declared.target.Target.{Target}
+use Rattle.run_control.specs.TargetValue.{TargetValue}
 use Rattle.target_truth.proofs.Differs.{status_kept}
 use Rattle.target_truth.proofs.First.{AreThere, OthersStay, changed as leads_changed, put, taken_out}
 use Rattle.target_truth.proofs.Listed.{Row, added_there, changed_there, stays_before, stays_beside, stays_unswitched, stays_without, switched_there}
@@ -31,14 +31,14 @@ use Rattle.list_laws.proofs.AllLists.{all_append}
 
 -- ---- a target with another list
 
-abbrev listing : Target → List Row → Target
+abbrev listing : TargetValue → List Row → TargetValue
 listing target rows = record target { breakpoints = rows }
 
-abbrev attached_of : Target → List ℕ
+abbrev attached_of : TargetValue → List ℕ
 attached_of target = attached_in target.contexts.processes
 
 -- where each breakpoint stays, all that was true is true
-all_stay : (target : Target) (rows : List Row) → OthersStay [] target.breakpoints rows → IsPart (seen target) (seen (listing target rows))
+all_stay : (target : TargetValue) (rows : List Row) → OthersStay [] target.breakpoints rows → IsPart (seen target) (seen (listing target rows))
 all_stay target rows stay (context_is id context) knows = knows
 all_stay target rows stay (state_is process thread state) knows = knows
 all_stay target rows stay (register_is process thread index value) knows = knows
@@ -49,7 +49,7 @@ all_stay target rows stay (status_is id status) knows =
 
 -- ---- what is told of breakpoints that are there
 
-added_told : (before now : Target) (list : List BpProps) → now.contexts ≡ before.contexts → AreProps list → AreThere list now.breakpoints
+added_told : (before now : TargetValue) (list : List BpProps) → now.contexts ≡ before.contexts → AreProps list → AreThere list now.breakpoints
     → OthersStay (map (λ props. props.id) list) before.breakpoints now.breakpoints → AllByRecursion (IsTold before now) (added_events list)
 added_told before now [] same fit there stay = tt
 added_told before now (props ∷ list) same fit there stay = (record { limits = fit; typed = tt; leads = put before now (props ∷ list) same there stay }, tt)
@@ -60,7 +60,7 @@ all_same ids rows id props other found = found
 
 -- ---- some are taken out, and then others are added
 
-put_told : (target : Target) (rows : List Row) (removed : List (List ℕ)) (added : List BpProps) → OthersStay removed target.breakpoints rows → AreProps added → AreThere added rows
+put_told : (target : TargetValue) (rows : List Row) (removed : List (List ℕ)) (added : List BpProps) → OthersStay removed target.breakpoints rows → AreProps added → AreThere added rows
     → Tell target (listing target rows) (effect_of (attached_of target) (Changed removed added [])).events
 put_told target rows [] [] stay fit there = all_stay target rows stay
 put_told target rows [] (props ∷ list) stay fit there =
@@ -78,7 +78,7 @@ put_told target rows (id ∷ ids) added stay fit there =
 
 -- ---- some are changed
 
-changes_told : (target : Target) (rows : List Row) (list : List BpProps) → OthersStay (map (λ props. props.id) list) target.breakpoints rows → AreProps list → AreThere list rows
+changes_told : (target : TargetValue) (rows : List Row) (list : List BpProps) → OthersStay (map (λ props. props.id) list) target.breakpoints rows → AreProps list → AreThere list rows
     → Tell target (listing target rows) (effect_of (attached_of target) (Changed [] [] list)).events
 changes_told target rows [] stay fit there = all_stay target rows stay
 changes_told target rows (props ∷ list) stay fit there =
@@ -89,7 +89,7 @@ changes_told target rows (props ∷ list) stay fit there =
 
 -- ---- a command that is refused changes nothing
 
-unless : (target : Target) (rows : List Row) (removed : List (List ℕ)) (added list : List BpProps) (refused : Bool)
+unless : (target : TargetValue) (rows : List Row) (removed : List (List ℕ)) (added list : List BpProps) (refused : Bool)
     → (refused ≡ false → Tell target (listing target rows) (effect_of (attached_of target) (Changed removed added list)).events)
     → Tell target (listing target (cond refused target.breakpoints rows)) (effect_of (attached_of target) (cond refused (Failed 1) (Changed removed added list))).events
 unless target rows removed added list true tells = λ fact knows. knows
@@ -100,7 +100,7 @@ unless target rows removed added list false tells = tells refl
 owned_stay : (channel : ℕ) (rows : List Row) → OthersStay (ids_of (owned_by channel rows)) rows (others channel rows)
 owned_stay channel rows id props other found = stays_without (λ row. row.channel == channel) id rows props other found
 
-pub set : (channel : ℕ) (list : List BpProps) (target : Target) → IsGood target → IsReadable (commands.BpSet list) → Tells channel (commands.BpSet list) target
+pub set : (channel : ℕ) (list : List BpProps) (target : TargetValue) → IsGood target → IsReadable (commands.BpSet list) → Tells channel (commands.BpSet list) target
 unfolding exec_after exec_effect
 set channel list target good readable =
     let rows = target.breakpoints in
@@ -110,7 +110,7 @@ set channel list target good readable =
     (λ id props other found. stays_before id (others channel rows) _ props (owned_stay channel rows id props other found))
     readable (added_there channel list (others channel rows) place))
 
-pub add : (channel : ℕ) (props : BpProps) (target : Target) → IsGood target → IsReadable (commands.BpAdd props) → Tells channel (commands.BpAdd props) target
+pub add : (channel : ℕ) (props : BpProps) (target : TargetValue) → IsGood target → IsReadable (commands.BpAdd props) → Tells channel (commands.BpAdd props) target
 unfolding exec_after exec_effect
 add channel props target good readable =
     let rows = target.breakpoints in
@@ -120,7 +120,7 @@ add channel props target good readable =
     (λ id was other found. stays_before id rows _ was found)
     (readable, tt) (added_there channel (props ∷ []) rows place))
 
-pub change : (channel : ℕ) (props : BpProps) (target : Target) → IsGood target → IsReadable (commands.BpChange props) → Tells channel (commands.BpChange props) target
+pub change : (channel : ℕ) (props : BpProps) (target : TargetValue) → IsGood target → IsReadable (commands.BpChange props) → Tells channel (commands.BpChange props) target
 unfolding exec_after exec_effect
 change channel props target good readable =
     let rows = target.breakpoints in
@@ -135,7 +135,7 @@ switched_fit : (enabled : Bool) (ids : List (List ℕ)) (rows : List Row) → Ar
 switched_fit enabled ids rows fit =
     all_picked (λ (props : BpProps). is_bp props ≡ true) (λ (row : Row). is_bp row.props ≡ true) (λ (row : Row). with_flag enabled row.props) (is_switched enabled ids) rows (λ row is. is) fit
 
-flags_told : (enabled : Bool) (ids : List (List ℕ)) (target : Target) → IsGood target
+flags_told : (enabled : Bool) (ids : List (List ℕ)) (target : TargetValue) → IsGood target
     → Tell target (listing target (with_flags enabled ids target.breakpoints)) (effect_of (attached_of target) (Changed [] [] (switched enabled ids target.breakpoints))).events
 flags_told enabled ids target good =
     let rows = target.breakpoints in
@@ -143,19 +143,19 @@ flags_told enabled ids target good =
     (λ id was other found. stays_unswitched enabled ids id rows was other found)
     (switched_fit enabled ids rows good.consistent.properties) (switched_there enabled ids rows good.consistent.breakpoints.differ)
 
-pub enable : (channel : ℕ) (ids : List (List ℕ)) (target : Target) → IsGood target → Tells channel (commands.BpEnable ids) target
+pub enable : (channel : ℕ) (ids : List (List ℕ)) (target : TargetValue) → IsGood target → Tells channel (commands.BpEnable ids) target
 unfolding exec_after exec_effect
 enable channel ids target good =
     let rows = target.breakpoints in
     unless target (with_flags true ids rows) [] [] (switched true ids rows) (is_refused channel (commands.BpEnable ids) rows) (λ named. flags_told true ids target good)
 
-pub disable : (channel : ℕ) (ids : List (List ℕ)) (target : Target) → IsGood target → Tells channel (commands.BpDisable ids) target
+pub disable : (channel : ℕ) (ids : List (List ℕ)) (target : TargetValue) → IsGood target → Tells channel (commands.BpDisable ids) target
 unfolding exec_after exec_effect
 disable channel ids target good =
     let rows = target.breakpoints in
     unless target (with_flags false ids rows) [] [] (switched false ids rows) (is_refused channel (commands.BpDisable ids) rows) (λ named. flags_told false ids target good)
 
-pub remove : (channel : ℕ) (ids : List (List ℕ)) (target : Target) → IsGood target → Tells channel (commands.BpRemove ids) target
+pub remove : (channel : ℕ) (ids : List (List ℕ)) (target : TargetValue) → IsGood target → Tells channel (commands.BpRemove ids) target
 unfolding exec_after exec_effect
 remove channel ids target good =
     let rows = target.breakpoints in
@@ -166,9 +166,9 @@ remove channel ids target good =
 
 -- ---- a channel that goes
 
-gone_told : (target : Target) (rows : List Row) (removed : List (List ℕ)) → OthersStay removed target.breakpoints rows → Tell target (listing target rows) (removed_events removed)
+gone_told : (target : TargetValue) (rows : List Row) (removed : List (List ℕ)) → OthersStay removed target.breakpoints rows → Tell target (listing target rows) (removed_events removed)
 gone_told target rows [] stay = all_stay target rows stay
 gone_told target rows (id ∷ ids) stay = (record { limits = tt; typed = tt; leads = taken_out target (listing target rows) (id ∷ ids) refl stay }, tt)
 
-pub close : (channel : ℕ) (target : Target) → IsGood target → Tell target (closed channel target) (closed_told channel target)
+pub close : (channel : ℕ) (target : TargetValue) → IsGood target → Tell target (closed channel target) (closed_told channel target)
 close channel target good = gone_told target (others channel target.breakpoints) (ids_of (owned_by channel target.breakpoints)) (owned_stay channel target.breakpoints)

@@ -9,7 +9,7 @@ use Rattle.data_services.specs.Named.{holder_of, process_named}
 use Rattle.data_services.specs.RegisterRows.{location_fault, locations_fault, name_one, register_after, register_set_fault, registers_after, registers_events, registers_get_fault, registers_set_fault}
 use Rattle.target_contexts.specs.Named.{number_named}
 use Rattle.target_hub.specs.Execution.{exec_after, exec_effect}
-use Rattle.target_hub.specs.declared.target.Target.{Target}
+use Rattle.run_control.specs.TargetValue.{TargetValue}
 use Rattle.target_truth.proofs.Becoming.{with_contexts}
 use Rattle.target_truth.proofs.Faults.{both_passed, by_fault, check_passed}
 use Rattle.target_truth.proofs.MemoryTold.{Fits, memory_of}
@@ -27,7 +27,7 @@ use Rattle.tcf_values.specs.declared.values.Location.{Location}
 
 -- ---- memory
 
-pub set_memory : (channel : ℕ) (id : List ℕ) (addr word size mode : ℤ) (bytes : List ℕ) (target : Target) → IsGood target
+pub set_memory : (channel : ℕ) (id : List ℕ) (addr word size mode : ℤ) (bytes : List ℕ) (target : TargetValue) → IsGood target
     → IsReadable (commands.MemSet id addr word size mode bytes) → Tells channel (commands.MemSet id addr word size mode bytes) target
 unfolding exec_after exec_effect
 set_memory channel id addr word size mode bytes target good readable =
@@ -49,7 +49,7 @@ set_memory channel id addr word size mode bytes target good readable =
 
 -- ---- registers
 
-pub set_register : (channel : ℕ) (id bytes : List ℕ) (target : Target) → IsGood target → Tells channel (commands.RegSet id bytes) target
+pub set_register : (channel : ℕ) (id bytes : List ℕ) (target : TargetValue) → IsGood target → Tells channel (commands.RegSet id bytes) target
 unfolding exec_after exec_effect
 set_register channel id bytes target good =
     let rows = target.contexts.processes in
@@ -58,7 +58,7 @@ set_register channel id bytes target good =
     let found = check_passed (is_none (holder_of id rows)) BadContext _ fault in
     (record { limits = tt; typed = tt; leads = register_of_named id (word_of bytes) target found.0 }, tt))
 
-parts_told : (list : List Location) (bytes : List ℕ) (target : Target) → registers_set_fault list bytes target.contexts ≡ None
+parts_told : (list : List Location) (bytes : List ℕ) (target : TargetValue) → registers_set_fault list bytes target.contexts ≡ None
     → Tell target (with_contexts (registers_after list bytes target.contexts) target) (registers_events list)
 parts_told [] bytes target fault = λ fact knows. knows
 parts_told (first ∷ list) bytes target fault =
@@ -69,7 +69,7 @@ parts_told (first ∷ list) bytes target fault =
     let found = check_passed (is_none (holder_of first.register rows)) BadContext _ here.0 in
     registers_told first list bytes target found.0 (name_one first.register (first ∷ list)) refl
 
-pub set_registers : (channel : ℕ) (list : List Location) (bytes : List ℕ) (target : Target) → IsGood target
+pub set_registers : (channel : ℕ) (list : List Location) (bytes : List ℕ) (target : TargetValue) → IsGood target
     → Tells channel (commands.RegSetm list bytes) target
 unfolding exec_after exec_effect
 set_registers channel list bytes target good =

@@ -19,12 +19,12 @@ use Rattle.target_contexts.specs.Starting.{first_state, new_process, refusal_for
 use Rattle.target_contexts.specs.TargetsValue.{TargetsValue}
 use Rattle.target_contexts.specs.Whole.{IsWhole}
 use Rattle.target_contexts.specs.declared.process.Image.{Image}
-use Rattle.target_contexts.specs.declared.process.Process.{Process}
+use Rattle.target_contexts.specs.ProcessValue.{ProcessValue}
 use Rattle.target_contexts.specs.declared.targets.StartRefusal.TheVariants as refusals
 use Rattle.target_contexts.specs.declared.process.ThreadState.{ThreadState}
 use Rattle.target_contexts.specs.declared.process.ThreadState.TheVariants.{Running, Suspended}
 use Rattle.target_hub.specs.Execution.{exec_after, exec_effect}
-use Rattle.target_hub.specs.declared.target.Target.{Target}
+use Rattle.run_control.specs.TargetValue.{TargetValue}
 use Rattle.target_truth.specs.Holds.{process_in}
 use Rattle.target_contexts.proofs.TheLaws.{start_is_whole, start_stands, starts_one}
 use Rattle.target_truth.proofs.Becoming.{change_stays, changed, rests, stays, stays_attached, with_contexts}
@@ -44,36 +44,36 @@ use Rattle.target_contexts.proofs.Found.{below}
 use Rattle.target_hub.proofs.Told.{process_within as process_fits}
 
 -- the events of a command of a channel tell what it changes
-abbrev pub Tells : ℕ → Command → Target → Type 0
+abbrev pub Tells : ℕ → Command → TargetValue → Type 0
 Tells channel command target = Tell target (exec_after channel command target) (exec_effect channel command target).events
 
 -- ---- resume and suspend
 
-resume_told : (left : Option ℕ) (target : Target) → IsGood target → (number : ℕ) (old : Process) → process_in number target ≡ Some old
+resume_told : (left : Option ℕ) (target : TargetValue) → IsGood target → (number : ℕ) (old : ProcessValue) → process_in number target ≡ Some old
     → Tell target (with_contexts (resume_after left number target.contexts) target) (resumed_events number)
 resume_told left target good number old there =
     let is = number_found target number old good there in
     let stays = change_stays (with_state (Running left)) number target old there refl refl in
     (resumed_told number target _ old (with_state (Running left) old) left is stays refl, tt)
 
-pub resume : (channel : ℕ) (id : List ℕ) (mode count : ℤ) (target : Target) → IsGood target → Tells channel (commands.Resume id mode count) target
+pub resume : (channel : ℕ) (id : List ℕ) (mode count : ℤ) (target : TargetValue) → IsGood target → Tells channel (commands.Resume id mode count) target
 unfolding exec_after exec_effect
 resume channel id mode count target good =
     by_fault (resume_fault id mode count target.contexts.processes) target _ _ (λ none.
     if_there (resume_after (left_by mode count)) (λ number after. resumed_events number) target (thread_named id) (check_passed _ _ _ none).0
     (resume_told (left_by mode count) target good))
 
-suspend_told : (target : Target) → IsGood target → (number : ℕ) (old : Process) → process_in number target ≡ Some old
+suspend_told : (target : TargetValue) → IsGood target → (number : ℕ) (old : ProcessValue) → process_in number target ≡ Some old
     → Tell target (with_contexts (suspend_after number target.contexts) target) (suspend_events number (suspend_after number target.contexts))
 suspend_told target good number old there =
     let new = with_state (Suspended suspended_text []) old in
     let becomes = changed (with_state (Suspended suspended_text [])) number target.contexts old there in
     let is = number_found target number old good there in
     let now = with_contexts (suspend_after number target.contexts) target in
-    subst (λ (o : Option Process). Tell target now (suspended_events number o)) (sym becomes.found)
+    subst (λ (o : Option ProcessValue). Tell target now (suspended_events number o)) (sym becomes.found)
     (stopped_told number target now old new suspended_text [] is (good.whole number old there).cpu.pc (stays_attached number target _ old new there becomes refl refl) refl, tt)
 
-pub suspend : (channel : ℕ) (id : List ℕ) (target : Target) → IsGood target → Tells channel (commands.Suspend id) target
+pub suspend : (channel : ℕ) (id : List ℕ) (target : TargetValue) → IsGood target → Tells channel (commands.Suspend id) target
 unfolding exec_after exec_effect
 suspend channel id target good =
     by_fault (suspend_fault id target.contexts.processes) target _ _ (λ none.
@@ -81,20 +81,20 @@ suspend channel id target good =
 
 -- ---- the end of a process
 
-terminate_told : (target : Target) → IsGood target → (number : ℕ) (old : Process) → process_in number target ≡ Some old
+terminate_told : (target : TargetValue) → IsGood target → (number : ℕ) (old : ProcessValue) → process_in number target ≡ Some old
     → Tell target (with_contexts (end_after number target.contexts) target) (end_events target.breakpoints number terminate_code (end_after number target.contexts))
 terminate_told target good number old there =
     let is = number_found target number old good there in
     end_told number target (end_after number target.contexts) terminate_code is good.consistent.breakpoints.differ
     (ended number target.contexts good.consistent.processes) (lit< {m = 0} {n = 2 ^ 63} tt)
 
-pub terminate : (channel : ℕ) (id : List ℕ) (target : Target) → IsGood target → Tells channel (commands.Terminate id) target
+pub terminate : (channel : ℕ) (id : List ℕ) (target : TargetValue) → IsGood target → Tells channel (commands.Terminate id) target
 unfolding exec_after exec_effect
 terminate channel id target good =
     by_fault (terminate_fault id target.contexts.processes) target _ _ (λ none.
     if_there end_after (λ number after. end_events target.breakpoints number terminate_code after) target (number_named id) (check_passed _ _ _ none).0 (terminate_told target good))
 
-pub terminate_process : (channel : ℕ) (id : List ℕ) (target : Target) → IsGood target → Tells channel (commands.ProcTerminate id) target
+pub terminate_process : (channel : ℕ) (id : List ℕ) (target : TargetValue) → IsGood target → Tells channel (commands.ProcTerminate id) target
 unfolding exec_after exec_effect
 terminate_process channel id target good =
     by_fault (process_fault id target.contexts.processes) target _ _ (λ none.
@@ -103,7 +103,7 @@ terminate_process channel id target good =
 -- ---- start
 
 -- of an attached process its suspension is told behind it, and of another nothing
-first_told : (number : ℕ) (now : Target) (process : Process) (attach : Bool) → IsNumber number → process_in number now ≡ Some process
+first_told : (number : ℕ) (now : TargetValue) (process : ProcessValue) (attach : Bool) → IsNumber number → process_in number now ≡ Some process
     → process.cpu.pc < 2 ^ 32 → process.state ≡ first_state attach → AllByRecursion (IsTold now now) (statuses_in now.breakpoints now.contexts)
     → AllByRecursion (IsTold now now) (stop_events number process.cpu.pc (first_state attach) ++ statuses_in now.breakpoints now.contexts)
 first_told number now process true is there pc state statuses =
@@ -111,7 +111,7 @@ first_told number now process true is there pc state statuses =
 first_told number now process false is there pc state statuses = statuses
 
 -- whatever process it is that starts
-started_told : (attach : Bool) (process : Process) (contexts : TargetsValue) (target : Target) → IsGood target → IsNumber target.contexts.next → IsWhole process
+started_told : (attach : Bool) (process : ProcessValue) (contexts : TargetsValue) (target : TargetValue) → IsGood target → IsNumber target.contexts.next → IsWhole process
     → process.state ≡ first_state attach → process_of target.contexts.next contexts.processes ≡ Some process
     → AgreeBut target.contexts.next target.contexts.processes contexts.processes
     → Tell target (with_contexts contexts target) (start_events target.breakpoints target.contexts.next contexts)
@@ -119,7 +119,7 @@ started_told attach process contexts target good is whole state there others =
     let next = target.contexts.next in
     let now = with_contexts contexts target in
     let statuses = statuses_told now good.consistent.breakpoints.differ in
-    subst (λ (o : Option Process). Tell target now (added_events next o ++ (suspended_events next o ++ statuses_in target.breakpoints contexts))) (sym there) (
+    subst (λ (o : Option ProcessValue). Tell target now (added_events next o ++ (suspended_events next o ++ statuses_in target.breakpoints contexts))) (sym there) (
       record {
         limits = (process_fits next process, (thread_fits next process, tt));
         typed = tt;
@@ -138,7 +138,7 @@ room false true spent none = absurd cc
 room false false true none = absurd cc
 room false false false none = (refl, refl)
 
-start_of : (image : Option Image) (attach : Bool) (target : Target) → IsGood target → IfSome image (λ found. AreBytes found.bytes)
+start_of : (image : Option Image) (attach : Bool) (target : TargetValue) → IsGood target → IfSome image (λ found. AreBytes found.bytes)
     → option_map start_fault_for (refusal_for image (length target.contexts.processes) target.contexts.next) ≡ None
     → Tell target (with_contexts (with_started attach target.contexts image) target) (start_events target.breakpoints target.contexts.next (with_started attach target.contexts image))
 start_of None attach target good are none = absurd cc
@@ -153,7 +153,7 @@ start_of (Some image) attach target good are none =
     let whole = start_is_whole attach image are (ltb-false 65536 (length image.bytes) fits.0) in
     started_told attach process (with_started attach target.contexts (Some image)) target good (omega arith, omega arith) whole (start_stands attach image) starts.0 starts.1
 
-pub start : (channel : ℕ) (directory file : List ℕ) (args environment : List (List ℕ)) (attach : Bool) (target : Target) → IsGood target
+pub start : (channel : ℕ) (directory file : List ℕ) (args environment : List (List ℕ)) (attach : Bool) (target : TargetValue) → IsGood target
     → Tells channel (commands.ProcStart directory file args environment attach) target
 unfolding exec_after exec_effect
 start channel directory file args environment attach target good =
@@ -162,7 +162,7 @@ start channel directory file args environment attach target good =
 
 -- ---- attach and detach
 
-attach_told : (target : Target) → IsGood target → (number : ℕ) (old : Process) → process_in number target ≡ Some old
+attach_told : (target : TargetValue) → IsGood target → (number : ℕ) (old : ProcessValue) → process_in number target ≡ Some old
     → Tell target (with_contexts (attach_after number target.contexts) target) (attach_events target.breakpoints number (attach_after number target.contexts))
 attach_told target good number old there =
     let new = attached old in
@@ -170,7 +170,7 @@ attach_told target good number old there =
     let now = with_contexts contexts target in
     let becomes = changed attached number target.contexts old there in
     let is = number_found target number old good there in
-    subst (λ (o : Option Process). Tell target now (changed_events number o ++ (suspended_events number o ++ statuses_in target.breakpoints contexts))) (sym becomes.found) (
+    subst (λ (o : Option ProcessValue). Tell target now (changed_events number o ++ (suspended_events number o ++ statuses_in target.breakpoints contexts))) (sym becomes.found) (
       record { limits = (thread_fits number new, tt); typed = tt; leads = switched number target now old new is (stays number target contexts old new there becomes refl) },
       (
         stopped_told number now now new new suspended_text [] is (good.whole number old there).cpu.pc (rests number now new becomes.found) refl,
@@ -178,21 +178,21 @@ attach_told target good number old there =
       ),
     )
 
-pub attach : (channel : ℕ) (id : List ℕ) (target : Target) → IsGood target → Tells channel (commands.ProcAttach id) target
+pub attach : (channel : ℕ) (id : List ℕ) (target : TargetValue) → IsGood target → Tells channel (commands.ProcAttach id) target
 unfolding exec_after exec_effect
 attach channel id target good =
     by_fault (attach_fault id target.contexts.processes) target _ _ (λ none.
     if_there attach_after (attach_events target.breakpoints) target (process_named id) (check_passed _ _ _ none).0 (attach_told target good))
 
 -- that the thread goes on, whether or not it is told
-maybe_resumed : (number : ℕ) (now : Target) (process : Process) (was : Bool) → IsNumber number → process_in number now ≡ Some process → process.state ≡ Running None
+maybe_resumed : (number : ℕ) (now : TargetValue) (process : ProcessValue) (was : Bool) → IsNumber number → process_in number now ≡ Some process → process.state ≡ Running None
     → AllByRecursion (IsTold now now) (statuses_in now.breakpoints now.contexts)
     → AllByRecursion (IsTold now now) (cond was (resumed_events number) [] ++ statuses_in now.breakpoints now.contexts)
 maybe_resumed number now process true is there runs statuses =
     (resumed_told number now now process process None is (rests number now process there) runs, statuses)
 maybe_resumed number now process false is there runs statuses = statuses
 
-detach_told : (was : Bool) (target : Target) → IsGood target → (number : ℕ) (old : Process) → process_in number target ≡ Some old
+detach_told : (was : Bool) (target : TargetValue) → IsGood target → (number : ℕ) (old : ProcessValue) → process_in number target ≡ Some old
     → Tell target (with_contexts (detach_after number target.contexts) target) (detach_events target.breakpoints was number (detach_after number target.contexts))
 detach_told was target good number old there =
     let new = detached old in
@@ -200,12 +200,12 @@ detach_told was target good number old there =
     let now = with_contexts contexts target in
     let becomes = changed detached number target.contexts old there in
     let is = number_found target number old good there in
-    subst (λ (o : Option Process). Tell target now (changed_events number o ++ (cond was (resumed_events number) [] ++ statuses_in target.breakpoints contexts))) (sym becomes.found) (
+    subst (λ (o : Option ProcessValue). Tell target now (changed_events number o ++ (cond was (resumed_events number) [] ++ statuses_in target.breakpoints contexts))) (sym becomes.found) (
       record { limits = (thread_fits number new, tt); typed = tt; leads = switched number target now old new is (stays number target contexts old new there becomes refl) },
       maybe_resumed number now new was is becomes.found refl (statuses_told now good.consistent.breakpoints.differ),
     )
 
-pub detach : (channel : ℕ) (id : List ℕ) (target : Target) → IsGood target → Tells channel (commands.ProcDetach id) target
+pub detach : (channel : ℕ) (id : List ℕ) (target : TargetValue) → IsGood target → Tells channel (commands.ProcDetach id) target
 unfolding exec_after exec_effect
 detach channel id target good =
     let was = is_suspended (process_there id target.contexts.processes) in

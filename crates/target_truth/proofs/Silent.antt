@@ -7,15 +7,15 @@ use Rattle.knowledge.specs.Facts.{IsPart}
 use Rattle.target_contexts.specs.Live.{numbers_of}
 use Rattle.target_contexts.specs.Named.{attached_in, is_attached, runs}
 use Rattle.target_contexts.specs.Live.{process_of}
-use Rattle.target_contexts.specs.declared.process.Process.{Process}
-use Rattle.target_hub.specs.declared.target.Target.{Target}
+use Rattle.target_contexts.specs.ProcessValue.{ProcessValue}
+use Rattle.run_control.specs.TargetValue.{TargetValue}
 use Rattle.target_truth.specs.Holds.{process_in}
 use Rattle.target_truth.proofs.Accounts.{running_accounts}
 use Rattle.target_truth.proofs.Agree.{Accounts, led, led_at, same_accounts}
 use Rattle.target_truth.proofs.Differs.{StaysAttached, status_by, status_same}
 use Rattle.target_truth.proofs.Seen.{seen}
 
-pub same_seen : (before now : Target) → ((number : ℕ) → process_in number now ≡ process_in number before)
+pub same_seen : (before now : TargetValue) → ((number : ℕ) → process_in number now ≡ process_in number before)
     → attached_in now.contexts.processes ≡ attached_in before.contexts.processes → ((id : List ℕ) → props_of id now.breakpoints ≡ props_of id before.breakpoints)
     → IsPart (seen before) (seen now)
 same_seen before now processes attached breakpoints =
@@ -24,7 +24,7 @@ same_seen before now processes attached breakpoints =
     (λ id x knows. inl (ap (λ numbers. status_of id numbers now.breakpoints) attached ∙ ap (status_by (attached_in before.contexts.processes)) (breakpoints id) ∙ knows))
 
 -- a thread that ran and runs on: of its registers and bytes nothing could be known
-pub ran_on : (number : ℕ) (before now : Target) (old new : Process) → StaysAttached number before now old new → runs old.state ≡ true → runs new.state ≡ true
+pub ran_on : (number : ℕ) (before now : TargetValue) (old new : ProcessValue) → StaysAttached number before now old new → runs old.state ≡ true → runs new.state ≡ true
     → IsPart (seen before) (seen now)
 ran_on number before now old new stays ran runs_on =
     led_at number before now (Some old) (Some new) [] tt refl stays.stays.differs.others stays.stays.differs.breakpoints stays.stays.was stays.stays.is
@@ -36,7 +36,7 @@ filter_alike p q same (x ∷ xs) =
     ap (λ b. cond b (x ∷ filter p xs) (filter p xs)) (same x) ∙ ap (λ ys. cond (q x) (x ∷ ys) ys) (filter_alike p q same xs)
 
 -- the same numbers, each attached or not as before
-pub attached_same : (before now : List (ℕ × Process)) → numbers_of now ≡ numbers_of before
+pub attached_same : (before now : List (ℕ × ProcessValue)) → numbers_of now ≡ numbers_of before
     → ((number : ℕ) → is_attached (process_of number now) ≡ is_attached (process_of number before)) → attached_in now ≡ attached_in before
 attached_same before now numbers same =
     ap (filter (λ number. is_attached (process_of number now))) numbers

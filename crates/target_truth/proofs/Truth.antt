@@ -14,7 +14,7 @@ use Rattle.target_hub.specs.HubValue.{new_target}
 use Rattle.target_hub.specs.Sent.{ReadCommand, Told, agent_services, executed_by, executed_on, hello_at, sent_after, told_by, told_while_live}
 use Rattle.target_hub.specs.declared.input.Input.{Input}
 use Rattle.target_hub.specs.declared.input.Input.TheVariants.{Opened, Executed, Ticked, Closed}
-use Rattle.target_hub.specs.declared.target.Target.{Target}
+use Rattle.run_control.specs.TargetValue.{TargetValue}
 use Rattle.target_truth.specs.Holds.{Holds, IsStill, IsTrueOf}
 use Rattle.target_truth.specs.Laws.{IsTrueAfterEachMessage}
 use Rattle.target_truth.specs.Listening.{EachInputKeepsTruth, Hears, ListenersKnowTruth, StaysTrue, hears_nothing, left_after, target_after}
@@ -31,7 +31,7 @@ use Rattle.target_truth.proofs.Whole.{IsGood}
 
 -- ---- nothing is known behind the Hello
 
-nothing_true : (target : Target) (fact : Fact) → Knows nothing fact → IsTrueOf target fact
+nothing_true : (target : TargetValue) (fact : Fact) → Knows nothing fact → IsTrueOf target fact
 nothing_true target (context_is id context) knows = absurd cc
 nothing_true target (state_is process thread state) knows = absurd cc
 nothing_true target (register_is process thread index value) knows = absurd cc
@@ -45,18 +45,18 @@ nothing_grounded process thread index value knows = absurd cc
 nothing_still : IsStill nothing
 nothing_still process addr byte knows = absurd cc
 
-nothing_holds : (target : Target) → Holds nothing target
+nothing_holds : (target : TargetValue) → Holds nothing target
 nothing_holds target = record { facts = nothing_true target; grounded = nothing_grounded; still = nothing_still }
 
 abbrev pub hello : Message
 hello = event_message (codes "Locator") (codes "Hello") agent_services
 
-hello_holds : (target : Target) (known : Facts) (messages : List Message) → messages ≡ hello ∷ [] → Holds (learn_all messages known) target
+hello_holds : (target : TargetValue) (known : Facts) (messages : List Message) → messages ≡ hello ∷ [] → Holds (learn_all messages known) target
 hello_holds target known messages is =
     subst (λ (all : List Message). Holds (learn_all all known) target) (sym is)
     (subst (λ (changes : List Change). Holds (after_all changes known) target) (sym (hello_gone agent_services)) (nothing_holds target))
 
-pub opening_tells : (k position : ℕ) (target : Target) (input : Input) → opens k input ≡ true → told_by k position target input ≡ hello_at position agent_services ∷ []
+pub opening_tells : (k position : ℕ) (target : TargetValue) (input : Input) → opens k input ≡ true → told_by k position target input ≡ hello_at position agent_services ∷ []
 opening_tells k position target (Opened channel) is = cond-true _ _ _ is
 opening_tells k position target (Executed channel reading service name) is = absurd cc
 opening_tells k position target (Ticked thread) is = absurd cc
@@ -69,7 +69,7 @@ one_of_one one (other ∷ front) rest last is = absurd (nothing_there front rest
 -- ---- one input
 
 -- what holds before an input to this target, where the channel is live
-pub record Ready (k : ℕ) (before : List Input) (target : Target) (input : Input) (known : Facts) : Type 0 where
+pub record Ready (k : ℕ) (before : List Input) (target : TargetValue) (input : Input) (known : Facts) : Type 0 where
   pub good : IsGood target
   pub allowed : IsAllowed before target input
   pub holds : is_live k before ≡ true → Holds known target
@@ -83,7 +83,7 @@ ready_for images k before inputs input known legal typed holds = record {
 }
 
 -- whatever is heard of all of it leads on, where it doesn't open the channel
-leads : (k : ℕ) (before : List Input) (target : Target) (input : Input) (known : Facts) (commands : List ReadCommand) (messages : List Message) → Ready k before target input known
+leads : (k : ℕ) (before : List Input) (target : TargetValue) (input : Input) (known : Facts) (commands : List ReadCommand) (messages : List Message) → Ready k before target input known
     → opens k input ≡ false → Hears (executed_by k input ++ commands) (told_by k (length before + 1) target input) messages → Lead target (input_after input target) messages
 leads k before target input known commands messages ready other heard =
     heard_leads target (input_after input target) (executed_by k input ++ commands) (told_by k (length before + 1) target input) messages heard
@@ -91,7 +91,7 @@ leads k before target input known commands messages ready other heard =
     (input_silent k before target input ready.good ready.allowed)
 
 -- and whatever is heard of a front
-front_heard : (k : ℕ) (before : List Input) (target : Target) (input : Input) (known : Facts) (commands : List ReadCommand) (front rest : List Told) (last : Told) (messages : List Message)
+front_heard : (k : ℕ) (before : List Input) (target : TargetValue) (input : Input) (known : Facts) (commands : List ReadCommand) (front rest : List Told) (last : Told) (messages : List Message)
     → Ready k before target input known → opens k input ≡ false → told_by k (length before + 1) target input ≡ front ++ last ∷ rest
     → Hears (executed_by k input ++ commands) (front ++ last ∷ []) messages → Lead target (input_after input target) messages
 front_heard k before target input known commands front rest last messages ready other told heard =
@@ -103,14 +103,14 @@ front_heard k before target input known commands front rest last messages ready 
     (front_silent target now front rest last (subst (IsSilentFirst target now) told (input_silent k before target input ready.good ready.allowed)))
 
 -- the Hello alone is told where it does
-hello_heard : (k position : ℕ) (target : Target) (input : Input) (commands : List ReadCommand) (messages : List Message) → opens k input ≡ true
+hello_heard : (k position : ℕ) (target : TargetValue) (input : Input) (commands : List ReadCommand) (messages : List Message) → opens k input ≡ true
     → Hears commands (told_by k position target input) messages → messages ≡ hello ∷ []
 hello_heard k position target input commands messages own heard =
     event_heard commands (hello_at position agent_services) messages refl
     (subst (λ (told : List Told). Hears commands told messages) (opening_tells k position target input own) heard)
 
 -- after each message that is heard of it
-each_holds : (k : ℕ) (before : List Input) (target : Target) (input : Input) (known : Facts) (commands : List ReadCommand) (front rest : List Told) (last : Told) (messages : List Message)
+each_holds : (k : ℕ) (before : List Input) (target : TargetValue) (input : Input) (known : Facts) (commands : List ReadCommand) (front rest : List Told) (last : Told) (messages : List Message)
     → Ready k before target input known → is_live k (before ++ input ∷ []) ≡ true → told_by k (length before + 1) target input ≡ front ++ last ∷ rest
     → Hears (executed_by k input ++ commands) (front ++ last ∷ []) messages → Holds (learn_all messages known) (input_after input target)
 each_holds k before target input known commands front rest last messages ready live told heard =
@@ -126,7 +126,7 @@ each_holds k before target input known commands front rest last messages ready l
     ]
 
 -- and after all of them
-all_hold : (k : ℕ) (before : List Input) (target : Target) (input : Input) (known : Facts) (commands : List ReadCommand) (messages : List Message) → Ready k before target input known
+all_hold : (k : ℕ) (before : List Input) (target : TargetValue) (input : Input) (known : Facts) (commands : List ReadCommand) (messages : List Message) → Ready k before target input known
     → is_live k (before ++ input ∷ []) ≡ true → Hears (executed_by k input ++ commands) (told_while_live k before target input) messages
     → Holds (learn_all messages known) (input_after input target)
 all_hold k before target input known commands messages ready live told =
@@ -141,19 +141,19 @@ all_hold k before target input known commands messages ready live told =
 
 -- ---- the law of one input
 
-hello_stays : (known : Facts) (messages : List Message) (target : Target) → messages ≡ hello ∷ [] → StaysTrue known messages target
+hello_stays : (known : Facts) (messages : List Message) (target : TargetValue) → messages ≡ hello ∷ [] → StaysTrue known messages target
 hello_stays known messages target is = record {
   each = λ front rest last split. hello_holds target known (front ++ last ∷ []) (one_of_one hello front rest last (sym is ∙ split));
   unheard = λ none. absurd (nil_cons hello [] (sym none ∙ is));
 }
 
-lead_stays : (before now : Target) (known : Facts) (messages : List Message) → Lead before now messages → Holds known before → StaysTrue known messages now
+lead_stays : (before now : TargetValue) (known : Facts) (messages : List Message) → Lead before now messages → Holds known before → StaysTrue known messages now
 lead_stays before now known messages lead holds = record {
   each = λ front rest last split. lead_kept before now front rest last known (subst (Lead before now) split lead) holds;
   unheard = λ none. all_kept before now [] known (subst (Lead before now) none lead) holds;
 }
 
-input_true : (k : ℕ) (before : List Input) (target : Target) (input : Input) (known : Facts) (messages : List Message) → Ready k before target input known
+input_true : (k : ℕ) (before : List Input) (target : TargetValue) (input : Input) (known : Facts) (messages : List Message) → Ready k before target input known
     → is_live k (before ++ input ∷ []) ≡ true → Hears (executed_by k input) (told_by k (length before + 1) target input) messages → StaysTrue known messages (input_after input target)
 input_true k before target input known messages ready live heard =
     elim (cases_Bool (opens k input)) [
@@ -177,7 +177,7 @@ each_input images before input legal typed k live known holds messages heard =
 -- ---- all inputs
 
 -- the commands that are left are those of the inputs behind it
-pub live_answers : (k : ℕ) (before : List Input) (target : Target) (input : Input) (commands : List ReadCommand) → IsAllowed before target input
+pub live_answers : (k : ℕ) (before : List Input) (target : TargetValue) (input : Input) (commands : List ReadCommand) → IsAllowed before target input
     → left_after (told_while_live k before target input) (executed_by k input ++ commands) ≡ commands
 live_answers k before target input commands allowed =
     elim (cases_Bool (is_live k (before ++ input ∷ []))) [
@@ -188,7 +188,7 @@ live_answers k before target input commands allowed =
           ∙ ap (λ (asked : List ReadCommand). asked ++ commands) (executes_none k before target input allowed gone)
     ]
 
-pub tells_while : (k : ℕ) (before : List Input) (target : Target) (input : Input) (front rest : List Told) (last : Told) → told_while_live k before target input ≡ front ++ last ∷ rest
+pub tells_while : (k : ℕ) (before : List Input) (target : TargetValue) (input : Input) (front rest : List Told) (last : Told) → told_while_live k before target input ≡ front ++ last ∷ rest
     → (is_live k (before ++ input ∷ []) ≡ true) × (told_by k (length before + 1) target input ≡ front ++ last ∷ rest)
 tells_while k before target input front rest last told =
     elim (cases_Bool (is_live k (before ++ input ∷ []))) [
@@ -239,7 +239,7 @@ each_true images k before (input ∷ inputs) known legal typed holds front rest 
       | inl found ↦
           let tells = tells_while k before target input front found.0 last found.1 in
           let there = last_at k (length before + 1) target input front found.0 last tells.1 in
-          subst (λ (now : Target). Holds (learn_all messages known) now)
+          subst (λ (now : TargetValue). Holds (learn_all messages known) now)
           (sym (ap (target_at images (before ++ input ∷ inputs)) there ∙ target_there images before inputs input))
           (each_holds k before target input known (executed_on k inputs) front found.0 last messages ready tells.0 tells.1 heard)
       | inr found ↦
@@ -250,7 +250,7 @@ each_true images k before (input ∷ inputs) known legal typed holds front rest 
           onward images k before inputs input known (more ++ last ∷ []) messages ready (subst (λ (told : List Told). Hears asked told messages) split heard) in
           let then : Holds (learn_all on.later on.newly) (target_at images ((before ++ input ∷ []) ++ inputs) (position_of last)) =
           each_true images k (before ++ input ∷ []) inputs on.newly (subst (IsLegal images) (sym together) legal) typed on.holds more rest last
-          (ap (λ (t : Target). sent_after k (before ++ input ∷ []) t inputs) (sym (left_by images before input)) ∙ found.2) on.later on.heard in
+          (ap (λ (t : TargetValue). sent_after k (before ++ input ∷ []) t inputs) (sym (left_by images before input)) ∙ found.2) on.later on.heard in
           subst₂ (λ (known : Facts) (history : List Input). Holds known (target_at images history (position_of last))) (sym on.learned) together then
     ]
 
@@ -275,7 +275,7 @@ now_true images k before (input ∷ inputs) known legal typed holds live message
     let then : Holds (learn_all on.later on.newly) (target_after images ((before ++ input ∷ []) ++ inputs)) =
     now_true images k (before ++ input ∷ []) inputs on.newly (subst (IsLegal images) (sym together) legal) typed on.holds
     (subst (λ (history : List Input). is_live k history ≡ true) (sym together) live) on.later
-    (subst (λ (t : Target). Hears (executed_on k inputs) (sent_after k (before ++ input ∷ []) t inputs) on.later) (left_by images before input) on.heard) in
+    (subst (λ (t : TargetValue). Hears (executed_on k inputs) (sent_after k (before ++ input ∷ []) t inputs) on.later) (left_by images before input) on.heard) in
     subst₂ (λ (known : Facts) (history : List Input). Holds known (target_after images history)) (sym on.learned) together then
 
 pub listeners_true : ListenersKnowTruth

@@ -10,21 +10,21 @@ use Rattle.knowledge.specs.declared.state.StateFact.TheVariants as told
 use Rattle.target_contexts.specs.Contexts.{context_of as data_of}
 use Rattle.target_contexts.specs.Live.{process_of}
 use Rattle.target_contexts.specs.Named.{attached_in}
-use Rattle.target_contexts.specs.declared.process.Process.{Process}
+use Rattle.target_contexts.specs.ProcessValue.{ProcessValue}
 use Rattle.target_contexts.specs.declared.process.ThreadState.{ThreadState}
 use Rattle.target_contexts.specs.declared.process.ThreadState.TheVariants.{Running, Suspended}
-use Rattle.target_hub.specs.declared.target.Target.{Target}
+use Rattle.run_control.specs.TargetValue.{TargetValue}
 use Rattle.tcf_values.specs.Ids.{context_of}
 use Rattle.tcf_values.specs.declared.values.ContextData.{ContextData}
 
 -- ---- what is so of a target
 
 -- the data of the live process or thread that a text spells
-abbrev pub data_in : List ℕ → Target → Option ContextData
+abbrev pub data_in : List ℕ → TargetValue → Option ContextData
 data_in id target = option_and_then (λ context. data_of context target.contexts.processes) (context_of id)
 
 -- the live process of a number
-abbrev pub process_in : ℕ → Target → Option Process
+abbrev pub process_in : ℕ → TargetValue → Option ProcessValue
 process_in number target = process_of number target.contexts.processes
 
 -- whether a thread runs. How many instructions it has left to step is told nobody
@@ -33,12 +33,12 @@ state_fact (Running left) = told.Running
 state_fact (Suspended reason hits) = told.Suspended reason hits
 
 -- the byte that a process has at an address
-abbrev pub byte_in : ℕ → Process → Option ℕ
+abbrev pub byte_in : ℕ → ProcessValue → Option ℕ
 byte_in addr process = slice_get process.memory addr
 
 -- A fact is true. A thread is the one of a live process, whose number is 1; registers are x0 to x31 by their indexes,
 -- and the pc at 32.
-abbrev pub IsTrueOf : Target → Fact → Type 0
+abbrev pub IsTrueOf : TargetValue → Fact → Type 0
 IsTrueOf target (context_is id context) = data_in id target ≡ Some context
 IsTrueOf target (state_is process thread state) =
     (thread ≡ 1) × (option_map (λ p. state_fact p.state) (process_in process target) ≡ Some state)
@@ -56,7 +56,7 @@ IsStill known = (process addr byte : ℕ) → known.bytes process addr byte ≡ 
 
 -- Each fact that is known is true of the target, and what can change without a word, registers and bytes of a thread
 -- that runs, isn't known.
-pub record Holds (known : Facts) (target : Target) : Type 0 where
+pub record Holds (known : Facts) (target : TargetValue) : Type 0 where
   pub facts : (fact : Fact) → Knows known fact → IsTrueOf target fact
   pub grounded : IsGrounded known
   pub still : IsStill known

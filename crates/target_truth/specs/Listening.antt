@@ -9,7 +9,7 @@ use Rattle.target_hub.specs.HubValue.{new_target}
 use Rattle.target_hub.specs.Sent.{ReadCommand, Told, executed_by, executed_on, sent, sent_after, told_by}
 use Rattle.target_hub.specs.Sent.{hello_at, event_at, progress_at, final_at, unknown_at}
 use Rattle.target_hub.specs.declared.input.Input.{Input}
-use Rattle.target_hub.specs.declared.target.Target.{Target}
+use Rattle.run_control.specs.TargetValue.{TargetValue}
 use Rattle.target_truth.specs.Holds.{Holds}
 use Rattle.target_truth.specs.Taught.{message_of, open_after, position_of}
 use Rattle.target_truth.specs.Typed.{AreTyped}
@@ -43,11 +43,11 @@ left_after (told ∷ rest) commands = left_after rest (open_after told commands)
 -- ---- one input
 
 -- the target after these inputs
-abbrev pub target_after : List Image → List Input → Target
+abbrev pub target_after : List Image → List Input → TargetValue
 target_after images inputs = inputs_after inputs (new_target images)
 
 -- Who knows this and hears these messages knows what is true of a target: after each, and if there is none.
-pub record StaysTrue (known : Facts) (messages : List Message) (target : Target) : Type 0 where
+pub record StaysTrue (known : Facts) (messages : List Message) (target : TargetValue) : Type 0 where
   pub each : (front rest : List Message) (last : Message) → messages ≡ front ++ last ∷ rest
       → Holds (learn_all (front ++ last ∷ []) known) target
   pub unheard : messages ≡ [] → Holds known target

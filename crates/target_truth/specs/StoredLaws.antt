@@ -9,7 +9,7 @@ use Rattle.target_contexts.specs.declared.process.Image.{Image}
 use Rattle.target_hub.specs.Execution.{exec_effect}
 use Rattle.target_hub.specs.Fresh.{answer_at, target_at}
 use Rattle.target_hub.specs.declared.input.Input.{Input}
-use Rattle.target_hub.specs.declared.target.Target.{Target}
+use Rattle.run_control.specs.TargetValue.{TargetValue}
 use Rattle.target_truth.specs.Holds.{Holds}
 use Rattle.tcf_values.specs.declared.answer.Answer.{Answer}
 use Rattle.tcf_values.specs.declared.command.Command.{Command}
@@ -17,7 +17,7 @@ use Rattle.tcf_values.specs.declared.command.Command.{Command}
 -- What is answered from facts that hold of a target, and from blocks whose bytes are known, is what the target answers,
 -- whichever channel asks it.
 abbrev pub IsAnsweredAlike : Type 0
-IsAnsweredAlike = (target : Target) (channel : ℕ) (command : Command) (answer : Answer) (known : Facts) (blocks : List Block) →
+IsAnsweredAlike = (target : TargetValue) (channel : ℕ) (command : Command) (answer : Answer) (known : Facts) (blocks : List Block) →
     Holds known target → AreKnown blocks known → answer_known command known blocks ≡ Some answer →
     answer ≡ (exec_effect channel command target).answer
 

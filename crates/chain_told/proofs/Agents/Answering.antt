@@ -16,7 +16,7 @@ use Rattle.target_hub.specs.Answering.{executed, refusal}
 use Rattle.target_hub.specs.Execution.{exec_after, exec_effect}
 use Rattle.target_hub.specs.Fresh.{answer_at, target_at}
 use Rattle.target_hub.specs.History.{IsAllowed, IsLegal, input_after, inputs_after, is_live}
-use Rattle.target_hub.specs.HubValue.{new_target}
+use Rattle.target_hub.specs.HubValue.{TargetValue, new_target}
 use Rattle.target_hub.specs.Passing.{closed_told, tick_told}
 use Rattle.target_hub.specs.Sent.{ReadCommand, Told, agent_services, answer_told, caller_told, event_at, events_told, executed_by, executed_on, final_at, hello_at, is_through, progress_at, progress_data, sent, sent_after, tick_events_told, told_by, told_while_live, unknown_at}
 use Rattle.target_hub.specs.declared.done.Answered.{Answered}
@@ -24,7 +24,6 @@ use Rattle.target_hub.specs.declared.done.Answered.TheVariants.{Result, Unknown}
 use Rattle.target_hub.specs.declared.done.Done.{Done}
 use Rattle.target_hub.specs.declared.input.Input.{Input}
 use Rattle.target_hub.specs.declared.input.Input.TheVariants.{Closed, Executed, Opened, Ticked}
-use Rattle.target_hub.specs.declared.target.Target.{Target}
 use Rattle.target_truth.specs.Taught.{open_after}
 use Rattle.target_truth.proofs.Positions.{target_there}
 use Rattle.target_hub.proofs.TheLaws.{asking_changes_nothing, asking_is_the_same}
@@ -72,7 +71,7 @@ storable_asks (RegGetm list) storable = refl
 storable_asks command storable = absurd cc
 
 -- so its answer is that of the target behind it, and the same for every channel
-asked_there : (channel : ℕ) (command : Command) (target there : Target) → stores command ≡ true
+asked_there : (channel : ℕ) (command : Command) (target there : TargetValue) → stores command ≡ true
     → there ≡ exec_after channel command target
     → answer_data command (exec_effect channel command target).answer ≡ answer_data command (exec_effect 0 command there).answer
 asked_there channel command target there storable is =
@@ -152,7 +151,7 @@ refusal_is : (images : List Image) (history : List Input) (position : ℕ) (name
 refusal_is images history position None index code service name = record { flag = refl; unread = λ command is. absurd cc }
 refusal_is images history position (Some named) index code service name = record { flag = refl; same = λ command is storable. absurd cc }
 
-known_is : (images : List Image) (history : List Input) (position channel : ℕ) (command : Command) (target : Target) (service name : List ℕ)
+known_is : (images : List Image) (history : List Input) (position channel : ℕ) (command : Command) (target : TargetValue) (service name : List ℕ)
     → target_at images history position ≡ exec_after channel command target
     → AnswersSo images history position (is_through (readings.Known command)) (answer_data command (exec_effect channel command target).answer) (as_read (readings.Known command) service name)
 known_is images history position channel command target service name there = record {
@@ -163,7 +162,7 @@ known_is images history position channel command target service name there = rec
       (asked_there channel command target (target_at images history position) (subst (λ (c : Command). stores c ≡ true) one storable) there);
 }
 
-answer_is : (images : List Image) (history before inputs : List Input) (channel : ℕ) (reading : Reading) (service name : List ℕ) (target : Target)
+answer_is : (images : List Image) (history before inputs : List Input) (channel : ℕ) (reading : Reading) (service name : List ℕ) (target : TargetValue)
     → history ≡ before ++ Executed channel reading service name ∷ inputs → target ≡ inputs_after before (new_target images)
     → AnswerIs images history (length before + 1) (as_read reading service name) (executed channel service name reading target).answer
 answer_is images history before inputs channel (readings.Known command) service name target split made =
@@ -179,7 +178,7 @@ answer_is images history before inputs channel (readings.Bad index code) service
 
 -- ---- of each input, and of all
 
-comes_by : (k : ℕ) (images : List Image) (history before inputs : List Input) (target : Target) (input : Input) (asked : List ReadCommand) (rest : List Told)
+comes_by : (k : ℕ) (images : List Image) (history before inputs : List Input) (target : TargetValue) (input : Input) (asked : List ReadCommand) (rest : List Told)
     → IsAllowed before target input → history ≡ before ++ input ∷ inputs → target ≡ inputs_after before (new_target images) → length before + 1 ≤ length history
     → Come images history asked rest → Come images history (executed_by k input ++ asked) (told_while_live k before target input ++ rest)
 comes_by k images history before inputs target (Opened channel) asked rest allowed split made bound come =
@@ -200,7 +199,7 @@ comes_by k images history before inputs target (Closed channel) asked rest allow
     live_comes (is_live k (before ++ Closed channel ∷ [])) images history asked (told_by k place target (Closed channel)) rest come
     (events_come images history place bound (closed_told channel target) asked rest come)
 
-come_after : (k : ℕ) (images : List Image) (history before inputs : List Input) (target : Target) → IsLegal images history → history ≡ before ++ inputs
+come_after : (k : ℕ) (images : List Image) (history before inputs : List Input) (target : TargetValue) → IsLegal images history → history ≡ before ++ inputs
     → target ≡ inputs_after before (new_target images) → Come images history (executed_on k inputs) (sent_after k before target inputs)
 come_after k images history before [] target legal split made = tt
 come_after k images history before (input ∷ inputs) target legal split made =

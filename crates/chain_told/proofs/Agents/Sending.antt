@@ -11,7 +11,7 @@ use Rattle.target_contexts.specs.declared.process.Image.{Image}
 use Rattle.tcf_values.specs.declared.event.EventData.{EventData}
 use Rattle.target_hub.specs.Answering.{executed}
 use Rattle.target_hub.specs.History.{IsAllowed, IsLegal, closes, input_after, inputs_after, is_live, opens, was_closed, was_opened}
-use Rattle.target_hub.specs.HubValue.{new_target}
+use Rattle.target_hub.specs.HubValue.{TargetValue, new_target}
 use Rattle.target_hub.specs.Ordered.{OpensAt}
 use Rattle.target_hub.specs.Passing.{closed_told, tick_told}
 use Rattle.target_hub.specs.Sent.{Told, agent_services, answer_told, caller_told, event_at, event_told, events_told, final_at, hello_at, is_through, progress_at, progress_data, sent, sent_after, tick_events_told, told_by, told_while_live, unknown_at}
@@ -20,7 +20,6 @@ use Rattle.target_hub.specs.declared.done.Answered.TheVariants.{Unknown, Result}
 use Rattle.target_hub.specs.declared.done.Done.{Done}
 use Rattle.target_hub.specs.declared.input.Input.{Input}
 use Rattle.target_hub.specs.declared.input.Input.TheVariants.{Opened, Executed, Ticked, Closed}
-use Rattle.target_hub.specs.declared.target.Target.{Target}
 use Rattle.target_hub.proofs.TheLaws.{closings_tell_no_hello, commands_tell_no_hello, ticks_tell_no_hello}
 use Rattle.target_hub.specs.Laws.{AreNoHello, IsNoHello}
 use Rattle.list_laws.proofs.Flags.{or_neither, second_false, or_false as or_none}
@@ -92,7 +91,7 @@ tick_at : (position : ℕ) (told : Option (List EventData)) → IfSome told AreN
 tick_at position None none = tt
 tick_at position (Some events) none = events_at position events none
 
-told_at : (k position : ℕ) (target : Target) (input : Input) → opens k input ≡ false → AllByRecursion (IsAt position) (told_by k position target input)
+told_at : (k position : ℕ) (target : TargetValue) (input : Input) → opens k input ≡ false → AllByRecursion (IsAt position) (told_by k position target input)
 told_at k position target (Opened channel) other =
     all_test (IsAt position) (channel == k) (hello_at position agent_services ∷ []) [] (λ is. absurd (true≢false (sym is ∙ other))) (λ _. tt)
 told_at k position target (Executed channel reading service name) other =
@@ -103,7 +102,7 @@ told_at k position target (Executed channel reading service name) other =
 told_at k position target (Ticked thread) other = tick_at position (tick_told thread target) (ticks_tell_no_hello thread target)
 told_at k position target (Closed channel) other = events_at position (closed_told channel target) (closings_tell_no_hello channel target)
 
-live_at : (k : ℕ) (before : List Input) (target : Target) (input : Input) → opens k input ≡ false → AllByRecursion (IsAt (length before + 1)) (told_while_live k before target input)
+live_at : (k : ℕ) (before : List Input) (target : TargetValue) (input : Input) → opens k input ≡ false → AllByRecursion (IsAt (length before + 1)) (told_while_live k before target input)
 live_at k before target input other =
     all_test (IsAt (length before + 1)) (is_live k (before ++ input ∷ [])) (told_by k (length before + 1) target input) []
     (λ _. told_at k (length before + 1) target input other) (λ _. tt)
@@ -112,7 +111,7 @@ first_false : (a b : Bool) → (a || b) ≡ false → a ≡ false
 first_false true b neither = absurd (true≢false neither)
 first_false false b neither = refl
 
-climbs_after : (k : ℕ) (before : List Input) (target : Target) (inputs : List Input) → was_opened k inputs ≡ false → (low : ℕ) → low ≤ length before + 1 → Climbs low (sent_after k before target inputs)
+climbs_after : (k : ℕ) (before : List Input) (target : TargetValue) (inputs : List Input) → was_opened k inputs ≡ false → (low : ℕ) → low ≤ length before + 1 → Climbs low (sent_after k before target inputs)
 climbs_after k before target [] none low below = tt
 climbs_after k before target (input ∷ inputs) none low below =
     let longer : length (before ++ input ∷ []) ≡ length before + 1 = omega (arith, length-append before (input ∷ [])) in
@@ -123,7 +122,7 @@ climbs_after k before target (input ∷ inputs) none low below =
 
 -- ---- one more input
 
-pub inputs_push : (xs : List Input) (input : Input) (target : Target) → inputs_after (xs ++ input ∷ []) target ≡ input_after input (inputs_after xs target)
+pub inputs_push : (xs : List Input) (input : Input) (target : TargetValue) → inputs_after (xs ++ input ∷ []) target ≡ input_after input (inputs_after xs target)
 inputs_push [] input target = refl
 inputs_push (x ∷ xs) input target = inputs_push xs input (input_after x target)
 
@@ -144,11 +143,11 @@ still_live k before input unopened unclosing =
 
 -- ---- before the opening the channel isn't live
 
-silent_before : (k : ℕ) (before : List Input) (target : Target) (input : Input) → was_opened k (before ++ input ∷ []) ≡ false → told_while_live k before target input ≡ []
+silent_before : (k : ℕ) (before : List Input) (target : TargetValue) (input : Input) → was_opened k (before ++ input ∷ []) ≡ false → told_while_live k before target input ≡ []
 silent_before k before target input none =
     ap (λ b. cond (b && not (was_closed k (before ++ input ∷ []))) (told_by k (length before + 1) target input) []) none
 
-pub passed : (k : ℕ) (before : List Input) (target : Target) (inputs rest : List Input) → was_opened k before ≡ false → was_opened k inputs ≡ false
+pub passed : (k : ℕ) (before : List Input) (target : TargetValue) (inputs rest : List Input) → was_opened k before ≡ false → was_opened k inputs ≡ false
     → sent_after k before target (inputs ++ rest) ≡ sent_after k (before ++ inputs) (inputs_after inputs target) rest
 passed k before target [] rest unopened none = ap (λ xs. sent_after k xs target rest) (sym (append-nil before))
 passed k before target (input ∷ inputs) rest unopened none =
@@ -160,7 +159,7 @@ passed k before target (input ∷ inputs) rest unopened none =
 
 -- ---- a channel opens once, and closes only behind that
 
-no_closing : (k : ℕ) (before : List Input) (target : Target) (input : Input) → IsAllowed before target input → was_opened k before ≡ false → closes k input ≡ false
+no_closing : (k : ℕ) (before : List Input) (target : TargetValue) (input : Input) → IsAllowed before target input → was_opened k before ≡ false → closes k input ≡ false
 no_closing k before target (Opened channel) allowed none = refl
 no_closing k before target (Executed channel reading service name) allowed none = refl
 no_closing k before target (Ticked thread) allowed none = refl
@@ -187,7 +186,7 @@ unclosed k images history before (input ∷ inputs) rest legal split none =
     (unclosed k images history (before ++ input ∷ []) inputs rest legal (split ∙ sym (append_assoc before (input ∷ []) (inputs ++ rest)))
     (ap (was_opened k) together ∙ none))
 
-no_opening : (k : ℕ) (before : List Input) (target : Target) (input : Input) → IsAllowed before target input → was_opened k before ≡ true → opens k input ≡ false
+no_opening : (k : ℕ) (before : List Input) (target : TargetValue) (input : Input) → IsAllowed before target input → was_opened k before ≡ true → opens k input ≡ false
 no_opening k before target (Opened channel) allowed was = by_flag (channel == k) refl
   where
     by_flag : (b : Bool) → (channel == k) ≡ b → b ≡ false
@@ -221,7 +220,7 @@ greeted k position live input is same =
 pub begins : (images : List Image) (history : List Input) (k position : ℕ) → IsLegal images history → OpensAt history position k → Begins images history k position
 begins images history k position legal opened =
     let before = opened.before in
-    let target : Target = inputs_after before (new_target images) in
+    let target : TargetValue = inputs_after before (new_target images) in
     let same : (k == k) ≡ true = eq-eqb k k refl in
     let unopened : was_opened k before ≡ false = legal before (Opened k) opened.after opened.split in
     let unended : was_closed k before ≡ false = unclosed k images history [] before (Opened k ∷ opened.after) legal opened.split unopened in

@@ -18,7 +18,7 @@ use Rattle.target_hub.specs.Answering.{executed, refusal}
 use Rattle.target_hub.specs.Execution.{exec_effect}
 use Rattle.target_hub.specs.declared.done.Answered.{Answered}
 use Rattle.target_hub.specs.declared.done.Answered.TheVariants.{Result, Unknown}
-use Rattle.target_hub.specs.declared.target.Target.{Target}
+use Rattle.target_hub.specs.HubValue.{TargetValue}
 use Rattle.command_tables.proofs.TheLaws.{known_are_readable}
 use Rattle.list_laws.proofs.Flags.{and_parts}
 use Rattle.service_names.proofs.TheLaws.{names_are_exact}
@@ -38,7 +38,7 @@ names_redirect service_is name is =
     let parts = and_parts (bytes_eq service_is locator) (bytes_eq name redirect_name) is in
     (names_are_exact service_is name (service.Locator commands.Redirect)).1 ((bytes_eq-Decides service_is locator).0 parts.0, (bytes_eq-Decides name redirect_name).0 parts.1)
 
-known_undone : (channel : ℕ) (command : Command) (target : Target) → named_as command ≡ service.Locator commands.Redirect → is_done (answer_data command (exec_effect channel command target).answer) ≡ false
+known_undone : (channel : ℕ) (command : Command) (target : TargetValue) → named_as command ≡ service.Locator commands.Redirect → is_done (answer_data command (exec_effect channel command target).answer) ≡ false
 unfolding exec_effect
 known_undone channel (Redirect peer) target is = refused_undone 7
 known_undone channel command target is = absurd cc
@@ -46,7 +46,7 @@ known_undone channel command target is = absurd cc
 refusal_undone : (named : Option CommandName) (code : ℕ) → named ≡ Some (service.Locator commands.Redirect) → Refuses (refusal named code)
 refusal_undone named code is = subst (λ n. Refuses (refusal n code)) (sym is) (refused_undone code)
 
-pub redirect_refused : (channel : ℕ) (service_is name : List ℕ) (reading : Reading) (target : Target) → IsReading service_is name reading → is_redirect service_is name ≡ true
+pub redirect_refused : (channel : ℕ) (service_is name : List ℕ) (reading : Reading) (target : TargetValue) → IsReading service_is name reading → is_redirect service_is name ≡ true
     → Refuses (executed channel service_is name reading target).answer
 redirect_refused channel service_is name (readings.Known command) target read is =
     let both : Some (named_as command) ≡ Some (service.Locator commands.Redirect) = sym (known_are_readable service_is name command read).0 ∙ names_redirect service_is name is in

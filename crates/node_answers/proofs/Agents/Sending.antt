@@ -17,7 +17,7 @@ use Rattle.target_hub.specs.declared.done.Answered.TheVariants.{Result as IsResu
 use Rattle.target_hub.specs.declared.done.Done.{Done}
 use Rattle.target_hub.specs.declared.input.Input.{Input}
 use Rattle.target_hub.specs.declared.input.Input.TheVariants.{Closed, Executed, Opened, Ticked}
-use Rattle.target_hub.specs.declared.target.Target.{Target}
+use Rattle.target_hub.specs.HubValue.{TargetValue}
 use Rattle.tcf_message.specs.Message.{IsToken, MessageValue, command, event, final, flow, most_body, not_known, progress, reading}
 use Rattle.tcf_message.specs.declared.message.MessageFault.{MessageFault}
 use Rattle.tcf_values.specs.declared.event.EventData.{EventData}
@@ -155,15 +155,15 @@ answers_plain : (token : List ℕ) (position : ℕ) (addresses : List ℕ) (answ
 answers_plain token position [] answer is sendable = (answer_plain token position answer is sendable, tt)
 answers_plain token position (address ∷ addresses) answer is sendable = (((is, progress_size address), refl), answers_plain token position addresses answer is sendable)
 
-done_is : (k : ℕ) (service name body : List ℕ) (target : Target) → done_by k service name (read_as service name body) target ≡ executed k service name (reading_of service name body) target
+done_is : (k : ℕ) (service name body : List ℕ) (target : TargetValue) → done_by k service name (read_as service name body) target ≡ executed k service name (reading_of service name body) target
 unfolding done_by read_as
 done_is k service name body target = refl
 
-going_is : (k : ℕ) (target : Target) → going_tells k target ≡ closed_told k target
+going_is : (k : ℕ) (target : TargetValue) → going_tells k target ≡ closed_told k target
 unfolding going_tells
 going_is k target = refl
 
-instruction_is : (thread : ContextId) (target : Target) → instruction_tells thread target ≡ tick_told thread target
+instruction_is : (thread : ContextId) (target : TargetValue) → instruction_tells thread target ≡ tick_told thread target
 unfolding instruction_tells
 instruction_is thread target = refl
 

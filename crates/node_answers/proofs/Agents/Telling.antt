@@ -9,7 +9,7 @@ use Rattle.tcf_message.specs.Message.{IsWellFormed, event, most_body}
 use Rattle.tcf_values.specs.declared.event.EventData.{EventData}
 use Rattle.target_hub.specs.Answering.{executed}
 use Rattle.target_hub.specs.History.{IsAllowed, IsLegal, input_after, inputs_after, is_live}
-use Rattle.target_hub.specs.HubValue.{new_target}
+use Rattle.target_hub.specs.HubValue.{TargetValue, new_target}
 use Rattle.target_hub.specs.Passing.{closed_told, tick_told}
 use Rattle.target_hub.specs.Sendable.{AreSendable, IsBounded, IsSendable}
 use Rattle.target_hub.specs.Sent.{ReadCommand, Told, agent_services, answer_told, caller_told, event_at, events_told, executed_by, executed_on, final_at, hello_at, is_through, progress_at, progress_data, sent, sent_after, tick_events_told, told_by, told_while_live, unknown_at}
@@ -18,7 +18,6 @@ use Rattle.target_hub.specs.declared.done.Answered.TheVariants.{Result, Unknown}
 use Rattle.target_hub.specs.declared.done.Done.{Done}
 use Rattle.target_hub.specs.declared.input.Input.{Input}
 use Rattle.target_hub.specs.declared.input.Input.TheVariants.{Closed, Executed, Opened, Ticked}
-use Rattle.target_hub.specs.declared.target.Target.{Target}
 use Rattle.agent_node.proofs.Histories.{inputs_more, live_same}
 use Rattle.target_hub.proofs.TheLaws.{answers_are_sendable, closings_tell_sendable, commands_tell_sendable, stays_bounded, ticks_tell_sendable}
 use Rattle.node_answers.proofs.Agents.Refusing.{Refuses, redirect_refused}
@@ -127,7 +126,7 @@ greeting_come false position asked rest come = come
 
 -- ---- Of each input, and of all
 
-input_come : (k : ℕ) (before : List Input) (target : Target) (input : Input) (asked : List ReadCommand) (rest : List Told) → IsAllowed before target input → IsBounded target → Come asked rest
+input_come : (k : ℕ) (before : List Input) (target : TargetValue) (input : Input) (asked : List ReadCommand) (rest : List Told) → IsAllowed before target input → IsBounded target → Come asked rest
     → Come (executed_by k input ++ asked) (told_while_live k before target input ++ rest)
 input_come k before target (Opened channel) asked rest allowed bounded come =
     come_if (is_live k (before ++ Opened channel ∷ [])) asked (told_by k (length before + 1) target (Opened channel)) rest come
@@ -146,7 +145,7 @@ input_come k before target (Closed channel) asked rest allowed bounded come =
     come_if (is_live k (before ++ Closed channel ∷ [])) asked (told_by k (length before + 1) target (Closed channel)) rest come
     (events_come (length before + 1) (closed_told channel target) asked rest (closings_tell_sendable channel target bounded) come)
 
-come_after : (k : ℕ) (images : List Image) (before : List Input) (target : Target) (inputs : List Input) → IsLegal images (before ++ inputs) → target ≡ inputs_after before (new_target images)
+come_after : (k : ℕ) (images : List Image) (before : List Input) (target : TargetValue) (inputs : List Input) → IsLegal images (before ++ inputs) → target ≡ inputs_after before (new_target images)
     → Come (executed_on k inputs) (sent_after k before target inputs)
 come_after k images before target [] legal made = refl
 come_after k images before target (input ∷ inputs) legal made =

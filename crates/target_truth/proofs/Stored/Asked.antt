@@ -12,12 +12,12 @@ use Rattle.run_control.specs.Asking.{context_answer, run_state, state_answer}
 use Rattle.target_truth.proofs.Stored.Found.{mapped}
 use Rattle.target_contexts.specs.Live.{process_of}
 use Rattle.target_contexts.specs.Named.{attached_in, process_at_number, thread_for}
-use Rattle.target_contexts.specs.declared.process.Process.{Process}
+use Rattle.target_contexts.specs.ProcessValue.{ProcessValue}
 use Rattle.target_contexts.specs.declared.process.ThreadState.{ThreadState}
 use Rattle.target_contexts.specs.declared.process.ThreadState.TheVariants.{Running, Suspended}
 use Rattle.target_hub.specs.BreakpointsRows.{props_answer, status_answer}
 use Rattle.target_hub.specs.Execution.{exec_effect}
-use Rattle.target_hub.specs.declared.target.Target.{Target}
+use Rattle.run_control.specs.TargetValue.{TargetValue}
 use Rattle.target_truth.specs.Holds.{Holds, data_in, process_in, state_fact}
 use Rattle.tcf_values.specs.Effects.{effect_by, gives}
 use Rattle.tcf_values.specs.Faults.{first_fault}
@@ -39,7 +39,7 @@ checked fault answer found = (effect_by (first_fault ((is_none found, fault) ∷
 
 -- ---- contexts
 
-pub context_alike : (channel : ℕ) (id : List ℕ) (target : Target) (known : Facts) (answer : Answer) → Holds known target → context_reply id known ≡ Some answer
+pub context_alike : (channel : ℕ) (id : List ℕ) (target : TargetValue) (known : Facts) (answer : Answer) → Holds known target → context_reply id known ≡ Some answer
     → answer ≡ (exec_effect channel (commands.GetContext id) target).answer
 unfolding exec_effect
 context_alike channel id target known answer holds is =
@@ -58,22 +58,22 @@ suspended : (pc value : ℕ) (state : ThreadState) (reason : List ℕ) (hits : L
 suspended pc value (Running left) reason hits is same = cc
 suspended pc value (Suspended r h) reason hits is same = cc
 
-running_found : (found : Option Process) → option_map (λ p. state_fact p.state) found ≡ Some told.Running
+running_found : (found : Option ProcessValue) → option_map (λ p. state_fact p.state) found ≡ Some told.Running
     → answers.State run.Running ≡ checked faults.BadContext state_answer found
 running_found None is = absurd (none-some told.Running is)
 running_found (Some process) is = ap answers.State (sym (running process.cpu.pc process.state (same_Some _ _ is)))
 
-suspended_found : (found : Option Process) (value : ℕ) (reason : List ℕ) (hits : List (List ℕ)) → option_map (λ p. state_fact p.state) found ≡ Some (told.Suspended reason hits)
+suspended_found : (found : Option ProcessValue) (value : ℕ) (reason : List ℕ) (hits : List (List ℕ)) → option_map (λ p. state_fact p.state) found ≡ Some (told.Suspended reason hits)
     → option_map (λ p. number_in 32 p.cpu) found ≡ Some value → answers.State (run.Suspended value reason hits) ≡ checked faults.BadContext state_answer found
 suspended_found None value reason hits is number = absurd (none-some value number)
 suspended_found (Some process) value reason hits is number =
     ap answers.State (sym (suspended process.cpu.pc value process.state reason hits (same_Some _ _ is) (same_Some _ _ number)))
 
 -- the process of a thread whose number is 1
-named_first : (rows : List (ℕ × Process)) (number thread : ℕ) → thread ≡ 1 → process_at_number (thread_for (ids.Thread number thread)) rows ≡ process_of number rows
+named_first : (rows : List (ℕ × ProcessValue)) (number thread : ℕ) → thread ≡ 1 → process_at_number (thread_for (ids.Thread number thread)) rows ≡ process_of number rows
 named_first rows number thread first = ap (λ n. process_at_number (thread_for (ids.Thread number n)) rows) first
 
-thread_by : (target : Target) (known : Facts) (number thread : ℕ) (answer : Answer) → Holds known target → (state : Option StateFact) (pc : Option ℕ)
+thread_by : (target : TargetValue) (known : Facts) (number thread : ℕ) (answer : Answer) → Holds known target → (state : Option StateFact) (pc : Option ℕ)
     → known.states number thread ≡ state → known.registers number thread 32 ≡ pc → thread_reply state pc ≡ Some answer
     → answer ≡ checked faults.BadContext state_answer (process_at_number (thread_for (ids.Thread number thread)) target.contexts.processes)
 thread_by target known number thread answer holds None pc knows knows_pc is = absurd (none-some answer is)
@@ -88,21 +88,21 @@ thread_by target known number thread answer holds (Some (told.Suspended reason h
     sym (same_Some _ answer is) ∙ suspended_found (process_in number target) value reason hits so.1 pc.2
     ∙ ap (checked faults.BadContext state_answer) (sym (named_first target.contexts.processes number thread so.0))
 
-state_by : (target : Target) (known : Facts) (answer : Answer) → Holds known target → (context : Option ContextId) → context_state_reply known context ≡ Some answer
+state_by : (target : TargetValue) (known : Facts) (answer : Answer) → Holds known target → (context : Option ContextId) → context_state_reply known context ≡ Some answer
     → answer ≡ checked faults.BadContext state_answer (process_at_number (option_and_then thread_for context) target.contexts.processes)
 state_by target known answer holds None is = absurd (none-some answer is)
 state_by target known answer holds (Some (ids.Process number)) is = absurd (none-some answer is)
 state_by target known answer holds (Some (ids.Thread number thread)) is =
     thread_by target known number thread answer holds (known.states number thread) (known.registers number thread 32) refl refl is
 
-pub state_alike : (channel : ℕ) (id : List ℕ) (target : Target) (known : Facts) (answer : Answer) → Holds known target → state_reply id known ≡ Some answer
+pub state_alike : (channel : ℕ) (id : List ℕ) (target : TargetValue) (known : Facts) (answer : Answer) → Holds known target → state_reply id known ≡ Some answer
     → answer ≡ (exec_effect channel (commands.GetState id) target).answer
 unfolding exec_effect
 state_alike channel id target known answer holds is = state_by target known answer holds (context_of id) is
 
 -- ---- breakpoints
 
-pub properties_alike : (channel : ℕ) (id : List ℕ) (target : Target) (known : Facts) (answer : Answer) → Holds known target → properties_reply id known ≡ Some answer
+pub properties_alike : (channel : ℕ) (id : List ℕ) (target : TargetValue) (known : Facts) (answer : Answer) → Holds known target → properties_reply id known ≡ Some answer
     → answer ≡ (exec_effect channel (commands.BpProperties id) target).answer
 unfolding exec_effect
 properties_alike channel id target known answer holds is =
@@ -118,7 +118,7 @@ status_found : (attached : List ℕ) (found : Option BpProps) (status : BpStatus
 status_found attached None status is = absurd (none-some status is)
 status_found attached (Some props) status is = sym (ap status_answer is)
 
-pub status_alike : (channel : ℕ) (id : List ℕ) (target : Target) (known : Facts) (answer : Answer) → Holds known target → status_reply id known ≡ Some answer
+pub status_alike : (channel : ℕ) (id : List ℕ) (target : TargetValue) (known : Facts) (answer : Answer) → Holds known target → status_reply id known ≡ Some answer
     → answer ≡ (exec_effect channel (commands.BpGetStatus id) target).answer
 unfolding exec_effect
 status_alike channel id target known answer holds is =

@@ -16,9 +16,9 @@ use Rattle.knowledge.specs.declared.state.StateFact.{StateFact}
 use Rattle.knowledge.proofs.TheLaws.{read_is_known}
 use Rattle.target_truth.proofs.Stored.Found.{mapped, passed}
 use Rattle.target_contexts.specs.Named.{number_for, process_at_number}
-use Rattle.target_contexts.specs.declared.process.Process.{Process}
+use Rattle.target_contexts.specs.ProcessValue.{ProcessValue}
 use Rattle.target_hub.specs.Execution.{exec_effect}
-use Rattle.target_hub.specs.declared.target.Target.{Target}
+use Rattle.run_control.specs.TargetValue.{TargetValue}
 use Rattle.target_truth.specs.Holds.{Holds, byte_in, process_in}
 use Rattle.target_truth.proofs.KeptBytes.{get_drop, inside}
 use Rattle.tcf_values.specs.Effects.{effect_by, gives}
@@ -55,9 +55,9 @@ front (byte ∷ bytes) (first ∷ memory) same =
     ap (λ (b : ℕ). b ∷ take (length bytes) memory) (same_Some first byte (same zero byte refl))
     ∙ ap (λ (bs : List ℕ). byte ∷ bs) (front bytes memory (λ k b is. same (suc k) b is))
 
-held : (found : Option Process) (addr : ℕ) (bytes : List ℕ) → 0 < length bytes
+held : (found : Option ProcessValue) (addr : ℕ) (bytes : List ℕ) → 0 < length bytes
     → ((k byte : ℕ) → slice_get bytes k ≡ Some byte → option_and_then (byte_in (addr + k)) found ≡ Some byte)
-    → (process : Process) × (found ≡ Some process) × (part_of addr (length bytes) process.memory ≡ bytes)
+    → (process : ProcessValue) × (found ≡ Some process) × (part_of addr (length bytes) process.memory ≡ bytes)
 held None addr [] some so = absurd (omega arith)
 held None addr (byte ∷ bytes) some so = absurd (none-some byte (so zero byte refl))
 held (Some process) addr bytes some so =
@@ -65,12 +65,12 @@ held (Some process) addr bytes some so =
 
 -- ---- the process that is asked
 
-first_by : (target : Target) (known : Facts) (number thread : ℕ) → Holds known target → (fact : Option StateFact) → known.states number thread ≡ fact
+first_by : (target : TargetValue) (known : Facts) (number thread : ℕ) → Holds known target → (fact : Option StateFact) → known.states number thread ≡ fact
     → is_suspended fact ≡ true → thread ≡ 1
 first_by target known number thread holds None knows is = absurd (false≢true is)
 first_by target known number thread holds (Some state) knows is = (holds.facts (state_is number thread state) knows).0
 
-named_by : (target : Target) (known : Facts) (context : ContextId) (process : ℕ) → Holds known target → process_asked known context ≡ Some process
+named_by : (target : TargetValue) (known : Facts) (context : ContextId) (process : ℕ) → Holds known target → process_asked known context ≡ Some process
     → number_for context ≡ Some process
 named_by target known (ids.Process number) process holds is = is
 named_by target known (ids.Thread number thread) process holds is =
@@ -78,7 +78,7 @@ named_by target known (ids.Thread number thread) process holds is =
     ap (λ n. number_for (ids.Thread number n)) (first_by target known number thread holds (known.states number thread) refl still.0)
     ∙ ap (λ (n : ℕ). Some n) still.1
 
-named : (target : Target) (known : Facts) (context : Option ContextId) (process : ℕ) → Holds known target
+named : (target : TargetValue) (known : Facts) (context : Option ContextId) (process : ℕ) → Holds known target
     → option_and_then (process_asked known) context ≡ Some process → option_and_then number_for context ≡ Some process
 named target known None process holds is = absurd (none-some process is)
 named target known (Some context) process holds is = named_by target known context process holds is
@@ -108,12 +108,12 @@ readable addr size is =
 
 -- ---- get
 
-abbrev given : ℤ → ℤ → Option Process → Answer
+abbrev given : ℤ → ℤ → Option ProcessValue → Answer
 given addr size found =
     (effect_by (first_fault ((is_none found, faults.BadContext) ∷ (is_no_size size, faults.BadSize) ∷ (is_outside addr size, faults.BadAddress) ∷ []))
     (gives (answers.Blob (memory_bytes addr size found)))).answer
 
-given_held : (addr size : ℤ) (bytes : List ℕ) (found : Option Process) (process : Process) → IsRange addr size → found ≡ Some process
+given_held : (addr size : ℤ) (bytes : List ℕ) (found : Option ProcessValue) (process : ProcessValue) → IsRange addr size → found ≡ Some process
     → part_of (unsigned_abs addr) (unsigned_abs size) process.memory ≡ bytes → given addr size found ≡ answers.Blob bytes
 given_held addr size bytes found process range there same =
     ap (given addr size) there
@@ -121,7 +121,7 @@ given_held addr size bytes found process range there same =
     (passed (is_no_size size) faults.BadSize _ range.sized (passed (is_outside addr size) faults.BadAddress None range.placed refl))
     ∙ ap answers.Blob same
 
-covered_alike : (target : Target) (known : Facts) (blocks : List Block) (number : ℕ) (addr size : ℤ) (bytes : List ℕ) → Holds known target → AreKnown blocks known
+covered_alike : (target : TargetValue) (known : Facts) (blocks : List Block) (number : ℕ) (addr size : ℤ) (bytes : List ℕ) → Holds known target → AreKnown blocks known
     → IsRange addr size → covered number (unsigned_abs addr) (unsigned_abs size) blocks ≡ Some bytes → given addr size (process_in number target) ≡ answers.Blob bytes
 covered_alike target known blocks number addr size bytes holds are range is =
     let first = unsigned_abs addr in
@@ -131,7 +131,7 @@ covered_alike target known blocks number addr size bytes holds are range is =
     (λ k byte there. holds.facts (byte_is number (first + k) byte) (are number (first + k) byte (read_is_known number first count blocks bytes k byte is there))) in
     given_held addr size bytes (process_in number target) found.0 range found.1 (ap (λ n. part_of first n found.0.memory) (sym long) ∙ found.2)
 
-range_alike : (target : Target) (known : Facts) (blocks : List Block) (number : ℕ) (addr size : ℤ) (answer : Answer) → Holds known target → AreKnown blocks known
+range_alike : (target : TargetValue) (known : Facts) (blocks : List Block) (number : ℕ) (addr size : ℤ) (answer : Answer) → Holds known target → AreKnown blocks known
     → (can : Bool) → is_readable addr size ≡ can
     → memory_reply (cond can (Some (record { process = number; addr = unsigned_abs addr; size = unsigned_abs size })) None) blocks ≡ Some answer
     → answer ≡ given addr size (process_in number target)
@@ -140,7 +140,7 @@ range_alike target known blocks number addr size answer holds are true can is =
     let found = mapped answers.Blob (covered number (unsigned_abs addr) (unsigned_abs size) blocks) answer is in
     sym found.2 ∙ sym (covered_alike target known blocks number addr size found.0 holds are (readable addr size can) found.1)
 
-process_alike : (target : Target) (known : Facts) (blocks : List Block) (context : Option ContextId) (addr size : ℤ) (answer : Answer) → Holds known target
+process_alike : (target : TargetValue) (known : Facts) (blocks : List Block) (context : Option ContextId) (addr size : ℤ) (answer : Answer) → Holds known target
     → AreKnown blocks known → (number : Option ℕ) → option_and_then (process_asked known) context ≡ number
     → memory_reply (option_and_then (range_of addr size) number) blocks ≡ Some answer
     → answer ≡ given addr size (process_at_number (option_and_then number_for context) target.contexts.processes)
@@ -149,7 +149,7 @@ process_alike target known blocks context addr size answer holds are (Some numbe
     range_alike target known blocks number addr size answer holds are (is_readable addr size) refl is
     ∙ ap (λ n. given addr size (process_at_number n target.contexts.processes)) (sym (named target known context number holds asked))
 
-pub memory_alike : (channel : ℕ) (id : List ℕ) (addr word size mode : ℤ) (target : Target) (known : Facts) (blocks : List Block) (answer : Answer)
+pub memory_alike : (channel : ℕ) (id : List ℕ) (addr word size mode : ℤ) (target : TargetValue) (known : Facts) (blocks : List Block) (answer : Answer)
     → Holds known target → AreKnown blocks known → memory_reply (range_asked id addr size known) blocks ≡ Some answer
     → answer ≡ (exec_effect channel (commands.MemGet id addr word size mode) target).answer
 unfolding exec_effect

@@ -16,11 +16,11 @@ use Rattle.knowledge.specs.Rows.{is_part}
 use Rattle.knowledge.specs.declared.state.StateFact.{StateFact}
 use Rattle.target_truth.proofs.Stored.Found.{mapped, passed}
 use Rattle.target_contexts.specs.Named.{is_running, runs}
-use Rattle.target_contexts.specs.declared.process.Process.{Process}
+use Rattle.target_contexts.specs.ProcessValue.{ProcessValue}
 use Rattle.target_contexts.specs.declared.process.ThreadState.{ThreadState}
 use Rattle.target_contexts.specs.declared.process.ThreadState.TheVariants.{Running, Suspended}
 use Rattle.target_hub.specs.Execution.{exec_effect}
-use Rattle.target_hub.specs.declared.target.Target.{Target}
+use Rattle.run_control.specs.TargetValue.{TargetValue}
 use Rattle.target_truth.specs.Holds.{Holds, process_in, state_fact}
 use Rattle.tcf_values.specs.Effects.{effect_by, gives}
 use Rattle.tcf_values.specs.Faults.{first_fault}
@@ -38,7 +38,7 @@ word_alike value = refl
 
 -- ---- a register that is known: it is one of a live process, whose thread is suspended
 
-record IsKnown (target : Target) (id : List ℕ) (value : ℕ) (register : RegisterId) (process : Process) : Type 0 where
+record IsKnown (target : TargetValue) (id : List ℕ) (value : ℕ) (register : RegisterId) (process : ProcessValue) : Type 0 where
   read : register_of id ≡ Some register
   there : process_in register.process target ≡ Some process
   holder : holder_of id target.contexts.processes ≡ Some process
@@ -49,19 +49,19 @@ stopped_state : (state : ThreadState) (fact : StateFact) → is_suspended (Some 
 stopped_state (Running left) fact is same = absurd (false≢true (ap (λ f. is_suspended (Some f)) same ∙ is))
 stopped_state (Suspended reason hits) fact is same = refl
 
-stopped_by : (fact : Option StateFact) (found : Option Process) (process : Process) → is_suspended fact ≡ true → found ≡ Some process
+stopped_by : (fact : Option StateFact) (found : Option ProcessValue) (process : ProcessValue) → is_suspended fact ≡ true → found ≡ Some process
     → ((state : StateFact) → fact ≡ Some state → option_map (λ p. state_fact p.state) found ≡ Some state) → runs process.state ≡ false
 stopped_by None found process is there so = absurd (false≢true is)
 stopped_by (Some fact) found process is there so =
-    let told : Some (state_fact process.state) ≡ Some fact = sym (ap (option_map (λ (p : Process). state_fact p.state)) there) ∙ so fact refl in
+    let told : Some (state_fact process.state) ≡ Some fact = sym (ap (option_map (λ (p : ProcessValue). state_fact p.state)) there) ∙ so fact refl in
     stopped_state process.state fact is (same_Some _ _ told)
 
-known_by : (target : Target) (known : Facts) (id : List ℕ) (value : ℕ) → Holds known target → (named : Option RegisterId) → register_of id ≡ named
-    → option_and_then (λ r. known.registers r.process r.thread r.index) named ≡ Some value → (register : RegisterId) × (process : Process) × IsKnown target id value register process
+known_by : (target : TargetValue) (known : Facts) (id : List ℕ) (value : ℕ) → Holds known target → (named : Option RegisterId) → register_of id ≡ named
+    → option_and_then (λ r. known.registers r.process r.thread r.index) named ≡ Some value → (register : RegisterId) × (process : ProcessValue) × IsKnown target id value register process
 known_by target known id value holds None read is = absurd (none-some value is)
 known_by target known id value holds (Some register) read is =
     let so = holds.facts (register_is register.process register.thread register.index value) is in
-    let found = mapped (λ (p : Process). number_in register.index p.cpu) (process_in register.process target) value so.2 in (
+    let found = mapped (λ (p : ProcessValue). number_in register.index p.cpu) (process_in register.process target) value so.2 in (
       register,
       found.0,
       record {
@@ -77,17 +77,17 @@ known_by target known id value holds (Some register) read is =
       },
     )
 
-known_found : (target : Target) (known : Facts) (id : List ℕ) (value : ℕ) → Holds known target → register_known id known ≡ Some value
-    → (register : RegisterId) × (process : Process) × IsKnown target id value register process
+known_found : (target : TargetValue) (known : Facts) (id : List ℕ) (value : ℕ) → Holds known target → register_known id known ≡ Some value
+    → (register : RegisterId) × (process : ProcessValue) × IsKnown target id value register process
 known_found target known id value holds is = known_by target known id value holds (register_of id) refl is
 
 -- ---- get
 
-abbrev given : Option RegisterId → Option Process → Answer
+abbrev given : Option RegisterId → Option ProcessValue → Answer
 given named holder =
     (effect_by (first_fault ((is_none holder, faults.BadContext) ∷ (is_running holder, faults.IsRunning) ∷ [])) (gives (answers.Blob (register_bytes named holder)))).answer
 
-given_known : (target : Target) (id : List ℕ) (value : ℕ) (register : RegisterId) (process : Process) → IsKnown target id value register process
+given_known : (target : TargetValue) (id : List ℕ) (value : ℕ) (register : RegisterId) (process : ProcessValue) → IsKnown target id value register process
     → given (register_of id) (holder_of id target.contexts.processes) ≡ word_reply value
 given_known target id value register process is =
     ap (λ named. given named (holder_of id target.contexts.processes)) is.read
@@ -96,7 +96,7 @@ given_known target id value register process is =
     ∙ ap (λ n. answers.Blob (word_bytes n)) is.number
     ∙ ap answers.Blob (word_alike value)
 
-pub register_alike : (channel : ℕ) (id : List ℕ) (target : Target) (known : Facts) (answer : Answer) → Holds known target → register_reply id known ≡ Some answer
+pub register_alike : (channel : ℕ) (id : List ℕ) (target : TargetValue) (known : Facts) (answer : Answer) → Holds known target → register_reply id known ≡ Some answer
     → answer ≡ (exec_effect channel (commands.RegGet id) target).answer
 unfolding exec_effect
 register_alike channel id target known answer holds is =
@@ -113,7 +113,7 @@ part_found location false value is = absurd (false≢true is)
 part_found location true None is = absurd (false≢true is)
 part_found location true (Some number) is = (number, refl, refl)
 
-no_fault : (target : Target) (location : Location) (value : ℕ) (register : RegisterId) (process : Process) → IsKnown target location.register value register process
+no_fault : (target : TargetValue) (location : Location) (value : ℕ) (register : RegisterId) (process : ProcessValue) → IsKnown target location.register value register process
     → is_part location ≡ true → location_fault target.contexts.processes location ≡ None
 no_fault target location value register process is can =
     let low = int_lt location.offset (pos 0) in
@@ -125,7 +125,7 @@ no_fault target location value register process is can =
     (passed _ faults.IsRunning _ (ap is_running is.holder ∙ is.stopped)
     (passed low faults.BadSize _ starts.0 (passed none faults.BadSize _ starts.1 (passed past faults.BadSize None fits.1 refl))))
 
-part_alike : (target : Target) (known : Facts) (location : Location) (list : List Location) (value : ℕ) (register : RegisterId) (process : Process)
+part_alike : (target : TargetValue) (known : Facts) (location : Location) (list : List Location) (value : ℕ) (register : RegisterId) (process : ProcessValue)
     → IsKnown target location.register value register process → is_part location ≡ true → register_known location.register known ≡ Some value
     → bytes_of target.contexts.processes (parts_named (location ∷ list)) ≡ bytes_or_none (part_known known location) ++ bytes_of target.contexts.processes (parts_named list)
 part_alike target known location list value register process is can knows =
@@ -136,16 +136,16 @@ part_alike target known location list value register process is can knows =
     let told : part_known known location ≡ Some (part_bytes location value) =
     cond-true (is_part location) (option_map (part_bytes location) (register_known location.register known)) None can ∙ ap (option_map (part_bytes location)) knows in
     ap (λ (o : Option RegisterId). bytes_of rows (cons_option (option_map (λ (r : RegisterId). record { register = r; offset = offset; size = size }) o) (parts_named list))) is.read
-    ∙ ap (λ (o : Option Process). bytes_in (record { register = register; offset = offset; size = size }) o ++ others) is.there
+    ∙ ap (λ (o : Option ProcessValue). bytes_in (record { register = register; offset = offset; size = size }) o ++ others) is.there
     ∙ ap (λ (n : ℕ). part_of offset size (word_bytes n) ++ others) is.number
     ∙ ap (λ (word : List ℕ). part_of offset size word ++ others) (word_alike value)
     ∙ sym (ap (λ (o : Option (List ℕ)). bytes_or_none o ++ others) told)
 
-record AreAlike (target : Target) (known : Facts) (list : List Location) : Type 0 where
+record AreAlike (target : TargetValue) (known : Facts) (list : List Location) : Type 0 where
   fault : locations_fault target.contexts.processes list ≡ None
   bytes : bytes_of target.contexts.processes (parts_named list) ≡ parts_bytes known list
 
-parts_alike : (target : Target) (known : Facts) (list : List Location) → Holds known target → are_parts_known known list ≡ true → AreAlike target known list
+parts_alike : (target : TargetValue) (known : Facts) (list : List Location) → Holds known target → are_parts_known known list ≡ true → AreAlike target known list
 parts_alike target known [] holds is = record { fault = refl; bytes = refl }
 parts_alike target known (location ∷ list) holds is =
     let both = and_parts (is_some (part_known known location)) (are_parts_known known list) is in
@@ -158,7 +158,7 @@ parts_alike target known (location ∷ list) holds is =
           ∙ ap (λ others. bytes_or_none (part_known known location) ++ others) rest.bytes;
     }
 
-pub registers_alike : (channel : ℕ) (list : List Location) (target : Target) (known : Facts) (answer : Answer) → Holds known target → registers_reply list known ≡ Some answer
+pub registers_alike : (channel : ℕ) (list : List Location) (target : TargetValue) (known : Facts) (answer : Answer) → Holds known target → registers_reply list known ≡ Some answer
     → answer ≡ (exec_effect channel (commands.RegGetm list) target).answer
 unfolding exec_effect
 registers_alike channel list target known answer holds is =

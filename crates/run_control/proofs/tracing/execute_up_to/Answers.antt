@@ -1,6 +1,7 @@
-use Rattle.std.proofs.Common.{ℕ, ◌+◌, ◌-◌, List, length, ap, sym, ◌∙◌, arith, length-append}
+use Rattle.std.proofs.Common.{ℕ, ◌+◌, ◌-◌, ◌++◌, List, [], ◌∷◌, length, ap, sym, ◌∙◌, arith, length-append}
 use Rattle.run_control.specs.Tracing.{trace_of}
 use Rattle.run_control.specs.declared.executing.Executed.{Executed}
+use Rattle.target_contexts.specs.ProcessValue.{ProcessValue}
 use Rattle.run_control.proofs.Traces.{behind, loop_exception, loop_plain, loop_stop}
 use Rattle.run_control.proofs.tracing.execute_up_to.Goals as goal
 
@@ -8,6 +9,7 @@ use Rattle.run_control.proofs.tracing.execute_up_to.Goals as goal
 pub loop-step-preserved : goal.loop-step-preserved
 loop-step-preserved c = record {
   same = ap (λ (ns : List ℕ). behind ns (trace_of c.args.bps.now c.args.number (c.args.count - (c.loop-step._step + 1)) c.execute_one.new.process)) c.in_ok-push-in-Plain.ensures.ok
+      ∙ ap (λ (p : ProcessValue). behind (c.loop-step.addresses ++ p.cpu.pc ∷ []) (trace_of c.args.bps.now c.args.number (c.args.count - (c.loop-step._step + 1)) c.execute_one.new.process)) c.process.view_is
       ∙ loop_plain c.args.bps.now c.args.number c.args.count c.loop-step._step c.loop-step.addresses c.loop-step.process c.execute_one.new.process _ c.loop-step-test.true
       (sym c.in_ok-executed.ensures.executed ∙ c.in-Plain.is) c.in_ok-executed.ensures.after c.loop-step.invariant.same;
   few = omega (arith, simp length-append at (ap length c.in_ok-push-in-Plain.ensures.ok), c.loop-step.invariant.few);
@@ -18,6 +20,7 @@ pub returns-in-Hit-clause-trace : goal.returns-in-Hit-clause-trace
 returns-in-Hit-clause-trace c =
     loop_stop c.args.bps.now c.args.number c.args.count c.loop-step._step c.loop-step.addresses c.loop-step.process c.execute_one.new.process c.in_ok-executed.executed _ c.loop-step-test.true
     (sym c.in_ok-executed.ensures.executed) c.in-Hit.is c.in_ok-executed.ensures.after c.loop-step.invariant.same
+    ∙ ap (λ (p : ProcessValue). record { process = c.execute_one.new.process; addresses = c.loop-step.addresses ++ p.cpu.pc ∷ []; stop = c.in_ok-executed.executed }) (sym c.process.view_is)
     ∙ ap (λ (ns : List ℕ). record { process = c.execute_one.new.process; addresses = ns; stop = c.in_ok-executed.executed }) (sym c.in_ok-push-in-Hit.ensures.ok)
 
 -- it raised an exception

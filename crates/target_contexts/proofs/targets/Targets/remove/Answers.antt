@@ -1,7 +1,7 @@
 use Rattle.std.proofs.Common.{◌≡◌, ℕ, List, refl, sym, ap, subst, ◌∙◌}
 use Rattle.target_contexts.specs.Live.{IsLive}
 use Rattle.target_contexts.specs.TargetsValue.{TargetsValue}
-use Rattle.target_contexts.specs.declared.process.Process.{Process}
+use Rattle.target_contexts.specs.ProcessValue.{ProcessValue}
 use Rattle.target_contexts.proofs.Found.{live_at}
 use Rattle.target_contexts.proofs.Rising.{orderly_remove}
 use Rattle.target_contexts.proofs.targets.Targets.remove.Goals as goal
@@ -15,5 +15,5 @@ invariant_of-self c =
 pub returns-in-Some-clause-found : goal.returns-in-Some-clause-found
 returns-in-Some-clause-found c =
     let same : c.deref.result.now ≡ c.args.self.now.processes = c.deref.ensures.value ∙ ap (λ (t : TargetsValue). t.processes) c.self.view_is in
-    let P : List (ℕ × Process) → Type 0 = λ rows. IsLive c.args.process rows in
+    let P : List (ℕ × ProcessValue) → Type 0 = λ rows. IsLive c.args.process rows in
     (λ _. subst P same (live_at c.args.process c.deref.result.now c.in-Some.place (sym c.in-Some.ensures)), λ _. refl)

@@ -2,7 +2,7 @@
 use Rattle.std.proofs.Common.{◌≡◌, ◌≢◌, ℕ, zero, suc, ◌==◌, ◌+◌, ◌<◌, ◌≤◌, ◌^◌, Bool, true, false, cond, not, nat_lt, List, [], ◌∷◌, ◌++◌, length, drop, Some, None, inl, inr, refl, sym, ap, subst, ◌∙◌, arith, one-add}
 use Rattle.std.specs.Prelude.{bytes_eq, decimal, find, option_map, slice_get, Option, remove}
 use Rattle.std.specs.List.{AllByRecursion, position_or_len}
-use Rattle.std.proofs.lemmas.Bool.{cases_Bool, cond-true, cond-false, eqb-true, eqb-false, lt-ltb, le-ltb}
+use Rattle.std.proofs.lemmas.Bool.{cases_Bool, cond-true, eqb-true, eqb-false, lt-ltb}
 use Rattle.std.proofs.lemmas.Slice.Eq.{bytes_eq-Decides}
 use Rattle.std.specs.Prelude.{Result, Ok, IsUtf8}
 use Rattle.std.specs.Str.{IsAscii}
@@ -15,15 +15,13 @@ use Rattle.list_laws.proofs.Flags.{never_true}
 use Rattle.list_laws.proofs.Numbers.{other_decimals, same_number}
 use Rattle.link_pool.specs.Rows.{Absent, Distinct, item_at, without}
 use Rattle.channel_core.specs.EndValue.{EndValue}
-use Rattle.channel_core.specs.Judged.{Judged, TooEarly, Stray, Greets, Tells, Asks, GoesOn, Answers}
 use Rattle.channel_core.specs.Level.{leveled}
-use Rattle.channel_core.specs.Naming.{AreIssued, answer_named, finished_by, named, progress_named, token_at}
-use Rattle.channel_core.specs.Taking.{broken, finished, greeted, is_held, number_at, place_of, progressed, sent_at, taken_as, unless_held, answered}
+use Rattle.channel_core.specs.Naming.{AreIssued, finished_by, token_at}
+use Rattle.channel_core.specs.Taking.{answer_judged, answered, broken, finished, is_held, number_at, place_of, progress_judged, progressed, sent_at, sent_place, taken_as, unless_held}
 use Rattle.channel_core.specs.declared.held.Held.{Held}
 use Rattle.channel_core.specs.declared.held.Incoming.{Incoming}
-use Rattle.channel_core.specs.declared.states.Reason.TheVariants.{Early, Token}
+use Rattle.channel_core.specs.declared.states.Reason.TheVariants.{Token}
 use Rattle.channel_core.specs.declared.taking.Taken.TheVariants as taken
-use Rattle.channel_core.specs.declared.taking.Verdict.TheVariants as verdicts
 use Rattle.channel_core.proofs.Rows.{names}
 
 -- ---- digits that are read as a number
@@ -92,26 +90,10 @@ module _ {T : Type 0} where
       ap (λ flag. cond (not flag) (1 + position_or_len (names (decimal token)) rows) 0) (named_alike token row.0 low all.0)
       ∙ ap (λ place. cond (not (row.0 == token)) (1 + place) 0) (place_alike token rows low all.1)
 
-  -- digits of no number name none
-  no_place : (digits : List ℕ) (rows : List (ℕ × T)) → AreSmall rows → ((n : ℕ) → n < 2 ^ 64 → digits ≢ decimal n)
-      → position_or_len (names digits) rows ≡ length rows
-  no_place digits [] all none = refl
-  no_place digits (row ∷ rows) all none =
-      let other : bytes_eq digits (decimal row.0) ≡ false = never_true (bytes_eq digits (decimal row.0)) (λ is. none row.0 all.0 ((bytes_eq-Decides digits (decimal row.0)).0 is)) in
-      ap (λ flag. cond (not flag) (1 + position_or_len (names digits) rows) 0) other ∙ ap (λ place. 1 + place) (no_place digits rows all.1 none) ∙ one-add (length rows)
-
   -- ---- and what comes of it
 
   abbrev placed_at : ℕ → List (ℕ × T) → Option ℕ
   placed_at place rows = cond (nat_lt place (length rows)) (Some place) None
-
-  past_none : (place : ℕ) (rows : List (ℕ × T)) (held : List Held) → length rows ≤ place → token_at (sent_at (placed_at place rows) rows held) rows ≡ None
-  past_none place rows held past = ap (λ found. token_at (sent_at found rows held) rows) (cond-false _ _ _ (le-ltb place (length rows) past))
-
-  pub unread_names_none : (digits : List ℕ) (last : ℕ) (rows : List (ℕ × T)) (held : List Held) → last < 2 ^ 64 → AreIssued last rows
-      → ((n : ℕ) → n < 2 ^ 64 → digits ≢ decimal n) → token_at (sent_at (place_of digits rows) rows held) rows ≡ None
-  unread_names_none digits last rows held low all none =
-      past_none (position_or_len (names digits) rows) rows held (let at = no_place digits rows (issued_small last rows low all) none in omega (arith, at))
 
   -- what stands at the place of a token
   found_there : (token : ℕ) (rows : List (ℕ × T)) → token < 2 ^ 64 → AreSmall rows
@@ -171,6 +153,33 @@ module _ {T : Type 0} where
       ap (λ text. token_at (sent_at (place_of text rows) rows held) rows) read
       ∙ none_found token (position_or_len (names (decimal token)) rows) rows held (find (λ r. r.0 == token) rows) (found_there token rows low all) there
 
+  -- the row at the place of some digits is named by them
+  named_there : (digits : List ℕ) (last : ℕ) (rows : List (ℕ × T)) (row : ℕ × T) → AreIssued last rows → slice_get rows (position_or_len (names digits) rows) ≡ Some row
+      → (digits ≡ decimal row.0) × (row.0 ≤ last)
+  named_there digits last [] row all is = absurd cc
+  named_there digits last (first ∷ rows) row all is = by_flag (names digits first) refl is (λ rest. named_there digits last rows row all.1 rest)
+    where
+      by_flag : (flag : Bool) → names digits first ≡ flag → slice_get (first ∷ rows) (cond (not flag) (1 + position_or_len (names digits) rows) 0) ≡ Some row
+          → (slice_get rows (position_or_len (names digits) rows) ≡ Some row → (digits ≡ decimal row.0) × (row.0 ≤ last)) → (digits ≡ decimal row.0) × (row.0 ≤ last)
+      by_flag true named here rest =
+          let one : first ≡ row = cc in
+          subst (λ r. (digits ≡ decimal r.0) × (r.0 ≤ last)) one ((bytes_eq-Decides digits (decimal first.0)).0 named, all.0)
+      by_flag false named here rest = rest (subst (λ n. slice_get (first ∷ rows) n ≡ Some row) (one-add (position_or_len (names digits) rows)) here)
+
+  -- digits that are no token which was sent
+  pub unsent_names_none : (digits : List ℕ) (last : ℕ) (rows : List (ℕ × T)) (held : List Held) → AreIssued last rows
+      → ((n : ℕ) → n ≤ last → digits ≡ decimal n → is_held n held ≡ true) → token_at (sent_at (place_of digits rows) rows held) rows ≡ None
+  unsent_names_none digits last rows held all unsent = by_row (slice_get rows place) refl
+    where
+      place : ℕ
+      place = position_or_len (names digits) rows
+
+      by_row : (found : Option (ℕ × T)) → slice_get rows place ≡ found → token_at (sent_at (placed_at place rows) rows held) rows ≡ None
+      by_row None is = none_found 0 place rows held None is refl
+      by_row (Some row) is =
+          let named = named_there digits last rows row all is in
+          row_there row.0 place rows held row refl is ∙ ap (λ flag. cond flag None (Some row.0)) (unsent row.0 named.1 named.0)
+
   -- ---- the row at a place is that of its token, and the others are left without it
 
   absent_at : (key place token : ℕ) (rows : List (ℕ × T)) → Absent key rows → number_at place rows ≡ Some token → token ≢ key
@@ -218,109 +227,10 @@ module _ {T : Type 0} where
 
   -- ---- what a verdict makes of the end
 
-  progress_stray : (number : ℕ) (incoming : Incoming) (found : Option ℕ) (e : EndValue T) → progress_named found ≡ verdicts.Stray → progressed number incoming found e ≡ broken number Token e
-  progress_stray number incoming None e is = refl
-  progress_stray number incoming (Some token) e is = absurd cc
-
-  answer_stray : (number : ℕ) (incoming : Incoming) (place : ℕ) (done : Bool) (found : Option (ℕ × T)) (e : EndValue T) → answer_named done (option_map (λ r. r.0) found) ≡ verdicts.Stray
-      → finished number incoming place done found e ≡ broken number Token e
-  answer_stray number incoming place done None e is = refl
-  answer_stray number incoming place done (Some row) e is = absurd cc
-
-  pub as_stray : (number : ℕ) (incoming : Incoming) (what : Judged) (e : EndValue T) → named what e.pending ≡ verdicts.Stray → taken_as number incoming what e ≡ broken number Token e
-  as_stray number incoming Stray e is = refl
-  as_stray number incoming (GoesOn place) e is = progress_stray number incoming (number_at place e.pending) e is
-  as_stray number incoming (Answers place done) e is = answer_stray number incoming place done (slice_get e.pending place) e is
-  as_stray number incoming TooEarly e is = absurd cc
-  as_stray number incoming Greets e is = absurd cc
-  as_stray number incoming Tells e is = absurd cc
-  as_stray number incoming Asks e is = absurd cc
-
-  pub as_early : (number : ℕ) (incoming : Incoming) (what : Judged) (e : EndValue T) → named what e.pending ≡ verdicts.TooEarly → taken_as number incoming what e ≡ broken number Early e
-  as_early number incoming TooEarly e is = refl
-  as_early number incoming Stray e is = absurd cc
-  as_early number incoming Greets e is = absurd cc
-  as_early number incoming Tells e is = absurd cc
-  as_early number incoming Asks e is = absurd cc
-  as_early number incoming (GoesOn place) e is = absurd (by_progress (number_at place e.pending) is)
-    where
-      by_progress : (found : Option ℕ) → progress_named found ≡ verdicts.TooEarly → ⊥
-      by_progress None never = absurd cc
-      by_progress (Some token) never = absurd cc
-  as_early number incoming (Answers place done) e is = absurd (by_answer (number_at place e.pending) is)
-    where
-      by_answer : (found : Option ℕ) → answer_named done found ≡ verdicts.TooEarly → ⊥
-      by_answer None never = absurd cc
-      by_answer (Some token) never = absurd cc
-
-  pub as_greets : (number : ℕ) (incoming : Incoming) (what : Judged) (e : EndValue T) → named what e.pending ≡ verdicts.Greets → taken_as number incoming what e ≡ (Some (taken.Hello incoming), greeted (leveled e))
-  as_greets number incoming TooEarly e is = absurd cc
-  as_greets number incoming Stray e is = absurd cc
-  as_greets number incoming Greets e is = refl
-  as_greets number incoming Tells e is = absurd cc
-  as_greets number incoming Asks e is = absurd cc
-  as_greets number incoming (GoesOn place) e is = absurd (by_progress (number_at place e.pending) is)
-    where
-      by_progress : (found : Option ℕ) → progress_named found ≡ verdicts.Greets → ⊥
-      by_progress None never = absurd cc
-      by_progress (Some token) never = absurd cc
-  as_greets number incoming (Answers place done) e is = absurd (by_answer (number_at place e.pending) is)
-    where
-      by_answer : (found : Option ℕ) → answer_named done found ≡ verdicts.Greets → ⊥
-      by_answer None never = absurd cc
-      by_answer (Some token) never = absurd cc
-
-  pub as_tells : (number : ℕ) (incoming : Incoming) (what : Judged) (e : EndValue T) → named what e.pending ≡ verdicts.Tells → taken_as number incoming what e ≡ (Some (taken.Event incoming), leveled e)
-  as_tells number incoming TooEarly e is = absurd cc
-  as_tells number incoming Stray e is = absurd cc
-  as_tells number incoming Greets e is = absurd cc
-  as_tells number incoming Tells e is = refl
-  as_tells number incoming Asks e is = absurd cc
-  as_tells number incoming (GoesOn place) e is = absurd (by_progress (number_at place e.pending) is)
-    where
-      by_progress : (found : Option ℕ) → progress_named found ≡ verdicts.Tells → ⊥
-      by_progress None never = absurd cc
-      by_progress (Some token) never = absurd cc
-  as_tells number incoming (Answers place done) e is = absurd (by_answer (number_at place e.pending) is)
-    where
-      by_answer : (found : Option ℕ) → answer_named done found ≡ verdicts.Tells → ⊥
-      by_answer None never = absurd cc
-      by_answer (Some token) never = absurd cc
-
-  pub as_asks : (number : ℕ) (incoming : Incoming) (what : Judged) (e : EndValue T) → named what e.pending ≡ verdicts.Asks → taken_as number incoming what e ≡ (Some (taken.Command incoming), leveled e)
-  as_asks number incoming TooEarly e is = absurd cc
-  as_asks number incoming Stray e is = absurd cc
-  as_asks number incoming Greets e is = absurd cc
-  as_asks number incoming Tells e is = absurd cc
-  as_asks number incoming Asks e is = refl
-  as_asks number incoming (GoesOn place) e is = absurd (by_progress (number_at place e.pending) is)
-    where
-      by_progress : (found : Option ℕ) → progress_named found ≡ verdicts.Asks → ⊥
-      by_progress None never = absurd cc
-      by_progress (Some token) never = absurd cc
-  as_asks number incoming (Answers place done) e is = absurd (by_answer (number_at place e.pending) is)
-    where
-      by_answer : (found : Option ℕ) → answer_named done found ≡ verdicts.Asks → ⊥
-      by_answer None never = absurd cc
-      by_answer (Some token) never = absurd cc
-
-  pub as_goes_on : (number : ℕ) (incoming : Incoming) (what : Judged) (e : EndValue T) (token : ℕ) → named what e.pending ≡ verdicts.GoesOn token
-      → taken_as number incoming what e ≡ (Some (taken.Progress token incoming), leveled e)
-  as_goes_on number incoming TooEarly e token is = absurd cc
-  as_goes_on number incoming Stray e token is = absurd cc
-  as_goes_on number incoming Greets e token is = absurd cc
-  as_goes_on number incoming Tells e token is = absurd cc
-  as_goes_on number incoming Asks e token is = absurd cc
-  as_goes_on number incoming (GoesOn place) e token is = by_progress (number_at place e.pending) is
-    where
-      by_progress : (found : Option ℕ) → progress_named found ≡ verdicts.GoesOn token → progressed number incoming found e ≡ (Some (taken.Progress token incoming), leveled e)
-      by_progress None never = absurd cc
-      by_progress (Some other) same = ap (λ n. (Some (taken.Progress n incoming), leveled e)) (let one : other ≡ token = cc in one)
-  as_goes_on number incoming (Answers place done) e token is = absurd (by_answer (number_at place e.pending) is)
-    where
-      by_answer : (found : Option ℕ) → answer_named done found ≡ verdicts.GoesOn token → ⊥
-      by_answer None never = absurd cc
-      by_answer (Some other) never = absurd cc
+  pub as_progress : (number : ℕ) (incoming : Incoming) (place : Option ℕ) (found : Option ℕ) (e : EndValue T) → token_at place e.pending ≡ found
+      → taken_as number incoming (progress_judged place) e ≡ progressed number incoming found e
+  as_progress number incoming None found e is = ap (λ f. progressed number incoming f e) is
+  as_progress number incoming (Some place) found e is = ap (λ f. progressed number incoming f e) is
 
   finished_alike : (number : ℕ) (incoming : Incoming) (place token : ℕ) (done : Bool) (tag : Option T) (e : EndValue T) → remove e.pending place ≡ without token e.pending
       → finished number incoming place done (with_token token tag) e ≡ finished_by number incoming token done tag e
@@ -328,26 +238,40 @@ module _ {T : Type 0} where
   finished_alike number incoming place token done (Some tag) e left =
       ap (λ rows. (Some (taken.Final tag incoming), answered token done (leveled (record e { pending = rows })))) left
 
-  pub as_answers : (number : ℕ) (incoming : Incoming) (what : Judged) (e : EndValue T) (token : ℕ) (done : Bool) → Distinct e.pending → named what e.pending ≡ verdicts.Answers token done
-      → taken_as number incoming what e ≡ finished_by number incoming token done (item_at token e.pending) e
-  as_answers number incoming TooEarly e token done distinct is = absurd cc
-  as_answers number incoming Stray e token done distinct is = absurd cc
-  as_answers number incoming Greets e token done distinct is = absurd cc
-  as_answers number incoming Tells e token done distinct is = absurd cc
-  as_answers number incoming Asks e token done distinct is = absurd cc
-  as_answers number incoming (GoesOn place) e token done distinct is = absurd (by_progress (number_at place e.pending) is)
+  -- an answer that names no command that was sent
+  as_unnamed : (number : ℕ) (incoming : Incoming) (done : Bool) (place : Option ℕ) (e : EndValue T) → token_at place e.pending ≡ None
+      → taken_as number incoming (answer_judged done place) e ≡ broken number Token e
+  as_unnamed number incoming done None e is = refl
+  as_unnamed number incoming done (Some place) e is = by_row (slice_get e.pending place) is
     where
-      by_progress : (found : Option ℕ) → progress_named found ≡ verdicts.Answers token done → ⊥
-      by_progress None never = absurd cc
-      by_progress (Some other) never = absurd cc
-  as_answers number incoming (Answers place ends) e token done distinct is = by_answer (number_at place e.pending) refl is
+      by_row : (row : Option (ℕ × T)) → option_map (λ r. r.0) row ≡ None → finished number incoming place done row e ≡ broken number Token e
+      by_row None none = refl
+      by_row (Some row) none = absurd cc
+
+  -- and one that names one
+  as_named : (number : ℕ) (incoming : Incoming) (token : ℕ) (done : Bool) (place : Option ℕ) (e : EndValue T) → Distinct e.pending → token_at place e.pending ≡ Some token
+      → taken_as number incoming (answer_judged done place) e ≡ finished_by number incoming token done (item_at token e.pending) e
+  as_named number incoming token done None e distinct is = absurd cc
+  as_named number incoming token done (Some place) e distinct is =
+      ap (λ row. finished number incoming place done row e) (item_there place token e.pending distinct is)
+      ∙ finished_alike number incoming place token done (item_at token e.pending) e (removed_there place token e.pending distinct is)
+
+  pub as_unsent : (number : ℕ) (incoming : Incoming) (digits : List ℕ) (done : Bool) (e : EndValue T) → AreIssued e.last e.pending
+      → ((n : ℕ) → n ≤ e.last → digits ≡ decimal n → is_held n e.held ≡ true)
+      → taken_as number incoming (answer_judged done (sent_place digits e)) e ≡ broken number Token e
+  as_unsent number incoming digits done e issued unsent =
+      as_unnamed number incoming done (sent_place digits e) e (unsent_names_none digits e.last e.pending e.held issued unsent)
+
+  pub as_answer : (number : ℕ) (incoming : Incoming) (digits : List ℕ) (token : ℕ) (done : Bool) (e : EndValue T) → Distinct e.pending → digits ≡ decimal token
+      → token < 2 ^ 64 → e.last < 2 ^ 64 → AreIssued e.last e.pending → is_held token e.held ≡ false
+      → taken_as number incoming (answer_judged done (sent_place digits e)) e ≡ finished_by number incoming token done (item_at token e.pending) e
+  as_answer number incoming digits token done e distinct read small low issued sent = by_tag (item_at token e.pending) refl
     where
-      by_answer : (found : Option ℕ) → number_at place e.pending ≡ found → answer_named ends found ≡ verdicts.Answers token done
-          → finished number incoming place ends (slice_get e.pending place) e ≡ finished_by number incoming token done (item_at token e.pending) e
-      by_answer None at never = absurd cc
-      by_answer (Some other) at same =
-          let there : number_at place e.pending ≡ Some token = cc in
-          let ended : ends ≡ done = cc in
-          ap (λ flag. finished number incoming place flag (slice_get e.pending place) e) ended
-          ∙ ap (λ row. finished number incoming place done row e) (item_there place token e.pending distinct there)
-          ∙ finished_alike number incoming place token done (item_at token e.pending) e (removed_there place token e.pending distinct there)
+      by_tag : (tag : Option T) → item_at token e.pending ≡ tag
+          → taken_as number incoming (answer_judged done (sent_place digits e)) e ≡ finished_by number incoming token done (item_at token e.pending) e
+      by_tag None is =
+          as_unnamed number incoming done (sent_place digits e) e (read_names_none digits token e.last e.pending e.held read small low issued is)
+          ∙ sym (ap (λ tag. finished_by number incoming token done tag e) is)
+      by_tag (Some tag) is =
+          as_named number incoming token done (sent_place digits e) e distinct
+          (read_names_it digits token e.last e.pending e.held tag read small low issued is ∙ ap (λ held. cond held None (Some token)) sent)

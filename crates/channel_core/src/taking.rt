@@ -1,13 +1,13 @@
 //! One entry is taken from the inbox.
-ghost use Rattle.std.specs.Prelude.{◌≡◌, ◌≢◌, ◌<◌, ◌^◌, ◌↔◌, ◌&&◌, ℕ, [], None, Ok, Some, true, false, decimal, bytes_eq, IfOk, IfNone, IfSome, OnErr, OnOk};
+ghost use Rattle.std.specs.Prelude.{◌≡◌, ◌≢◌, ◌<◌, ◌≤◌, ◌^◌, ◌↔◌, ◌&&◌, ℕ, [], None, Ok, Some, true, false, decimal, bytes_eq, IfOk, IfNone, IfSome, OnErr, OnOk};
 ghost use Rattle.std.specs.List.{list_any};
 ghost use Rattle.channel_core.specs.Closing.{is_closed};
 ghost use Rattle.channel_core.specs.Farewell.{AreRising};
 ghost use Rattle.channel_core.specs.Said.{view_of};
 ghost use Rattle.channel_core.specs.Wire.{hello, is_done, locator, said_by, said_in};
 ghost use Rattle.tcf_message.specs.Message.{value_of};
-ghost use Rattle.channel_core.specs.Naming.{AreIssued, finished_by, named, token_at};
-ghost use Rattle.channel_core.specs.Taking.{answered, broken, closes, greeted, is_held, judged, message_taken, next_taken, place_of, sent_at, sent_place, stop_taken};
+ghost use Rattle.channel_core.specs.Naming.{AreIssued, ComesOf, finished_by, token_at};
+ghost use Rattle.channel_core.specs.Taking.{answer_judged, answered, broken, closes, greeted, is_held, message_taken, next_taken, place_of, sent_at, sent_place, stop_taken, taken_as};
 ghost use Rattle.link_pool.specs.Rows.{Distinct, item_at};
 ghost use Rattle.channel_core.specs.Level.{leveled};
 ghost use Rattle.channel_core.specs.Receiving.{waiting_in};
@@ -65,7 +65,7 @@ pub enum Verdict {
     Asks,
     /// Progress of the pending command with this token.
     GoesOn(u64),
-    /// The final answer to the pending command with this token, and whether a redirect is done by it.
+    /// A final answer under this token, which no held command has, and whether a redirect is done by it.
     Answers(u64, bool),
 }
 
@@ -142,8 +142,21 @@ fn is_held(token: u64, held: &VecDeque<Held>) -> bool
     held.iter().any(|held| held.token == token)
 }
 
+/// The token that these digits are, where it was issued and no held command has it.
+fn sent_number(digits: &[u8], last: u64, held: &VecDeque<Held>) -> Option<u64>
+    requires { AreRising 0 held.now.items }
+    ensures found { IfSome result (λ n. (digits.now ≡ decimal n) × (is_held n held.now.items ≡ false)) }
+    ensures none { IfNone result ((n : ℕ) → n ≤ last → digits.now ≡ decimal n → is_held n held.now.items ≡ true) }
+{
+    let token = number_in(digits)?;
+    if token > last || is_held(token, held) {
+        return None;
+    }
+    Some(token)
+}
+
 /// The token of the pending command that these digits name, where it was sent.
-#[tactic(auto, using(crate::proofs::Naming::read_names_it, crate::proofs::Naming::read_names_none, crate::proofs::Naming::unread_names_none))]
+#[tactic(auto, using(crate::proofs::Naming::read_names_it, crate::proofs::Naming::read_names_none, crate::proofs::Naming::unsent_names_none))]
 fn sent_token<T>(
     digits: &[u8],
     pending: &Pending<T>,
@@ -154,11 +167,8 @@ fn sent_token<T>(
     requires rising { AreRising 0 held.now.items }
     ensures { result ≡ token_at (sent_at (place_of digits.now pending.now) pending.now held.now.items) pending.now }
 {
-    let token = match number_in(digits) {
-        Some(token) => token,
-        None => return None,
-    };
-    if pending.find(token).is_none() || is_held(token, held) {
+    let token = sent_number(digits, last, held)?;
+    if pending.find(token).is_none() {
         return None;
     }
     Some(token)
@@ -206,7 +216,6 @@ impl<T: Drop> End<T> {
         Some(Taken::Closed(cause))
     }
 
-    #[tactic(auto, using(crate::proofs::Naming::as_early, crate::proofs::Naming::as_stray, crate::proofs::Naming::as_greets, crate::proofs::Naming::as_tells, crate::proofs::Naming::as_asks, crate::proofs::Naming::as_goes_on, crate::proofs::Naming::as_answers))]
     fn take_message(&mut self, number: u64, incoming: Incoming) -> Result<Taken<T>, AllocError>
         requires { is_closed self.old.state ≡ false }
         ensures { IfOk result (λ taken. (Some taken, self.new) ≡ message_taken number incoming (said_in incoming.raw) self.old) }
@@ -234,8 +243,9 @@ impl<T: Drop> End<T> {
         }
     }
 
+    #[tactic(auto, using(crate::proofs::Naming::as_progress))]
     fn judge(&self, raw: &[u8]) -> Verdict
-        ensures { result ≡ named (judged (said_in raw.now) self.now) self.now.pending }
+        ensures { (number : ℕ) (incoming : Incoming) → ComesOf number incoming result self.now (message_taken number incoming (said_in raw.now) self.now) }
     {
         match meaning(raw) {
             Said::Greets => Verdict::Greets,
@@ -246,10 +256,17 @@ impl<T: Drop> End<T> {
                 Some(token) => Verdict::GoesOn(token),
                 None => Verdict::Stray,
             },
-            Said::Answers(token, done) => match self.sent_token(token) {
-                Some(token) => Verdict::Answers(token, done),
-                None => Verdict::Stray,
-            },
+            Said::Answers(token, done) => self.judge_answer(token, done),
+        }
+    }
+
+    /// The verdict on a final answer under these digits. Whether a command is pending under them shows where it is taken out.
+    fn judge_answer(&self, digits: &[u8], done: bool) -> Verdict
+        ensures { (number : ℕ) (incoming : Incoming) → ComesOf number incoming result self.now (taken_as number incoming (answer_judged done (sent_place digits.now self.now)) self.now) }
+    {
+        match sent_number(digits, self.last(), &self.held) {
+            Some(token) => Verdict::Answers(token, done),
+            None => Verdict::Stray,
         }
     }
 

@@ -1,4 +1,3 @@
-use Rattle.std.proofs.Common.{◌≡◌}
 use Rattle.channel_core.proofs.Naming.{read_as, read_once, utf8_of_decimal}
 use Rattle.channel_core.proofs.taking.number_in.Goals as goal
 

@@ -11,6 +11,3 @@ pub use files::{FileRead, Files, HeldFile, MemoryFiles, ReadRefusal};
 pub use real::{RealFiles, RealSink};
 pub use sequence::{Duplicate, Octets, Sequence};
 pub use sink::{MemorySink, Sink, SinkRefusal, put_all};
-
-#[cfg(test)]
-mod tests;

@@ -12,6 +12,3 @@ pub use event::{Put, WireEvent, WireRefusal};
 pub use real::RealWires;
 pub use script::WireScript;
 pub use wires::Wires;
-
-#[cfg(test)]
-mod tests;

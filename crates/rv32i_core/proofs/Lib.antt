@@ -4,3 +4,5 @@ pub mod Immediates
 pub mod Steps
 pub mod Ends
 pub mod TheLaws
+pub mod Products
+pub mod Divisions

@@ -1,18 +1,22 @@
 -- What the machine computes is below 2^32, from bytes below 256 and numbers below 2^32.
-use Rattle.std.proofs.Common.{◌≡◌, ℕ, zero, suc, ◌+◌, ◌-◌, ◌/◌, ◌%◌, ◌^◌, ◌<◌, ◌≤◌, nat_lt, Bool, true, false, cond, List, [], ◌∷◌, ℤ, pos, ◌-ℤ◌, slice_index, arith}
+use Rattle.std.proofs.Common.{◌≡◌, ℕ, zero, suc, ◌+◌, ◌-◌, ◌/◌, ◌%◌, ◌^◌, ◌<◌, ◌≤◌, nat_lt, Bool, true, false, cond, List, [], ◌∷◌, ℤ, pos, ◌-ℤ◌, ◌*ℤ◌, ◌==◌, slice_index, arith, w32, w64}
 use Rattle.std.specs.Int.Bits.{and_lt}
 use Rattle.std.specs.List.{AllByRecursion}
 use Rattle.std.proofs.lemmas.Nat.{mod_below, or_of_32, shr_below, xor_of_32}
 use Rattle.std.proofs.Math.Dec.{lit<}
-use Rattle.std.proofs.Math.Nat.{pow-le-pow_right}
+use Rattle.std.proofs.Math.Facts.{Fits-of_z, sfits_to_z}
+use Rattle.std.proofs.Math.Nat.{div-le_self, mod-le, pow-le-pow_right}
+use Rattle.std.specs.Prelude.{FitsSigned}
 use Rattle.rv32i_core.specs.Bytes.{halfword_at, word_at}
-use Rattle.rv32i_core.specs.Integers.{amount, immediate_result, one_if, operation_result, shifted_right, shifted_right_signed, unsigned}
+use Rattle.rv32i_core.specs.Integers.{amount, immediate_result, one_if, operation_result, shifted_right, shifted_right_signed, signed, unsigned, upper}
 use Rattle.rv32i_core.specs.Laws.{IsWord}
 use Rattle.rv32i_core.specs.Word.{sign_extended}
 use Rattle.rv32i_core.specs.declared.instructions.ImmKind.{ImmKind}
 use Rattle.rv32i_core.specs.declared.instructions.ImmKind.TheVariants.{Addi, Slti, Sltiu, Xori, Ori, Andi, Slli, Srli, Srai}
 use Rattle.rv32i_core.specs.declared.instructions.OpKind.{OpKind}
-use Rattle.rv32i_core.specs.declared.instructions.OpKind.TheVariants.{Add, Sub, Sll, Slt, Sltu, Xor, Srl, Sra, Or, And}
+use Rattle.rv32i_core.specs.declared.instructions.OpKind.TheVariants.{Add, Sub, Sll, Slt, Sltu, Xor, Srl, Sra, Or, And, Mul, Mulh, Mulhsu, Mulhu, Div, Divu, Rem, Remu}
+use Rattle.rv32i_core.proofs.Divisions.{quotient_word, remainder_word}
+use Rattle.rv32i_core.proofs.Products.{mixed_fits, signed_fits, unsigned_fits}
 
 abbrev pub AreBytes : List ℕ → Type 0
 AreBytes bytes = AllByRecursion (λ byte. byte < 256) bytes
@@ -90,6 +94,20 @@ immediate_below Slli a imm below also = rest_below _
 immediate_below Srli a imm below also = right_below a (amount (unsigned imm)) below (amount_below (unsigned imm))
 immediate_below Srai a imm below also = signed_below a (amount (unsigned imm)) below (amount_below (unsigned imm))
 
+upper_below : (product : ℤ) → FitsSigned w64 product → IsWord (upper product)
+upper_below product fits = let whole = (Fits-of_z {w = w64} {z = product} fits).fits in omega (arith, whole)
+
+signed_word : (a : ℕ) → IsWord a → FitsSigned w32 (signed a)
+signed_word a below = sfits_to_z {w = w32} {n = a} (record { fits = below })
+
+unsigned_product_below : (a b : ℕ) → IsWord a → IsWord b → IsWord (upper (pos a *ℤ pos b))
+unsigned_product_below a b below also = omega (arith, unsigned_fits a b below also)
+
+-- by 0, a number that has all bits set or is the dividend, and else a quotient or a remainder
+by_zero_or : (is_zero : Bool) (a b : ℕ) → IsWord a → IsWord b → IsWord (cond is_zero a b)
+by_zero_or true a b below also = below
+by_zero_or false a b below also = also
+
 pub operation_below : (kind : OpKind) (a b : ℕ) → IsWord a → IsWord b → IsWord (operation_result kind a b)
 operation_below Add a b below also = rest_below _
 operation_below Sub a b below also = rest_below _
@@ -101,3 +119,11 @@ operation_below Srl a b below also = right_below a (amount b) below (amount_belo
 operation_below Sra a b below also = signed_below a (amount b) below (amount_below b)
 operation_below Or a b below also = or_of_32 a b below also
 operation_below And a b below also = and_lt 32 a b below also
+operation_below Mul a b below also = rest_below _
+operation_below Mulh a b below also = upper_below _ (signed_fits (signed a) (signed b) (signed_word a below) (signed_word b also))
+operation_below Mulhsu a b below also = upper_below _ (mixed_fits (signed a) b (signed_word a below) also)
+operation_below Mulhu a b below also = unsigned_product_below a b below also
+operation_below Div a b below also = by_zero_or (b == 0) _ _ (omega arith) (quotient_word (signed a) (signed b) (signed_word a below))
+operation_below Divu a b below also = by_zero_or (b == 0) _ _ (omega arith) (omega (arith, div-le_self a b, below))
+operation_below Rem a b below also = by_zero_or (b == 0) _ _ below (remainder_word (signed a) (signed b) (signed_word a below))
+operation_below Remu a b below also = by_zero_or (b == 0) _ _ below (omega (arith, mod-le a b, below))

@@ -1,6 +1,6 @@
--- The words of RV32I and the instruction that each one is.
--- The RISC-V Instruction Set Manual, volume I: Unprivileged ISA, version 20191213: the table "RV32I Base Instruction Set"
--- in "RV32/64G Instruction Set Listings" (24).
+-- The words of RV32I and of its extension M, and the instruction that each one is.
+-- The RISC-V Instruction Set Manual, volume I: Unprivileged ISA, version 20191213: the tables "RV32I Base Instruction Set"
+-- and "RV32M Standard Extension" in "RV32/64G Instruction Set Listings" (24).
 use Rattle.std.specs.Prelude.{ℕ, ◌==◌, ◌<◌, List, [], ◌∷◌, Option, Some, None, option_map, option_and_then, pos, if◌then◌else◌}
 use Rattle.rv32i_core.specs.Word.{opcode_of, rd_of, funct3_of, rs1_of, rs2_of, funct7_of, immediate_i, immediate_s, immediate_b, immediate_u, immediate_j}
 use Rattle.rv32i_core.specs.declared.instructions.Instruction.{Instruction}
@@ -14,7 +14,7 @@ use Rattle.rv32i_core.specs.declared.instructions.BranchKind.TheVariants.{Beq, B
 use Rattle.rv32i_core.specs.declared.instructions.ImmKind.{ImmKind}
 use Rattle.rv32i_core.specs.declared.instructions.ImmKind.TheVariants.{Addi, Slti, Sltiu, Xori, Ori, Andi, Slli, Srli, Srai}
 use Rattle.rv32i_core.specs.declared.instructions.OpKind.{OpKind}
-use Rattle.rv32i_core.specs.declared.instructions.OpKind.TheVariants.{Add, Sub, Sll, Slt, Sltu, Xor, Srl, Sra, Or, And}
+use Rattle.rv32i_core.specs.declared.instructions.OpKind.TheVariants.{Add, Sub, Sll, Slt, Sltu, Xor, Srl, Sra, Or, And, Mul, Mulh, Mulhsu, Mulhu, Div, Divu, Rem, Remu}
 
 -- ---- reading a table
 
@@ -53,13 +53,24 @@ immediate_shifts =
     (0b0000000, (0b001, Slli) ∷ (0b101, Srli) ∷ []) ∷
     (0b0100000, (0b101, Srai) ∷ []) ∷ []
 
+abbrev pub base_operations : List (ℕ × OpKind)
+base_operations =
+    (0b000, Add) ∷ (0b001, Sll) ∷ (0b010, Slt) ∷ (0b011, Sltu) ∷
+    (0b100, Xor) ∷ (0b101, Srl) ∷ (0b110, Or) ∷ (0b111, And) ∷ []
+
+abbrev pub multiplications : List (ℕ × OpKind)
+multiplications =
+    (0b000, Mul) ∷ (0b001, Mulh) ∷ (0b010, Mulhsu) ∷ (0b011, Mulhu) ∷
+    (0b100, Div) ∷ (0b101, Divu) ∷ (0b110, Rem) ∷ (0b111, Remu) ∷ []
+
+abbrev pub alternate_operations : List (ℕ × OpKind)
+alternate_operations = (0b000, Sub) ∷ (0b101, Sra) ∷ []
+
 abbrev pub operations : List (ℕ × List (ℕ × OpKind))
-operations = (
-  0b0000000,
-  (0b000, Add) ∷ (0b001, Sll) ∷ (0b010, Slt) ∷ (0b011, Sltu) ∷
-      (0b100, Xor) ∷ (0b101, Srl) ∷ (0b110, Or) ∷ (0b111, And) ∷ [],
-) ∷
-    (0b0100000, (0b000, Sub) ∷ (0b101, Sra) ∷ []) ∷ []
+operations =
+    (0b0000000, base_operations) ∷
+    (0b0000001, multiplications) ∷
+    (0b0100000, alternate_operations) ∷ []
 
 -- ---- the instructions of each opcode, with their fields
 

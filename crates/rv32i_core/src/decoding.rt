@@ -1,7 +1,7 @@
 //! Reads an instruction from its word: by opcode first, then by the fields that tell one opcode's
 //! instructions apart.
 ghost use Rattle.std.specs.Prelude.{◌≡◌, ◌<◌, ◌/◌, ◌%◌, ◌^◌, IfSome};
-ghost use Rattle.rv32i_core.specs.Listing.{NamesRegisters, branch_row, immediate_shift_row, instruction_of, jalr_row, load_row, misc_mem_row, op_imm_row, op_row, store_row, system_row};
+ghost use Rattle.rv32i_core.specs.Listing.{NamesRegisters, alternate_operations, base_operations, branch_row, entry_at, entry_under, immediate_shift_row, instruction_of, jalr_row, load_row, misc_mem_row, multiplications, op_imm_row, op_row, operations, store_row, system_row};
 ghost use Rattle.rv32i_core.specs.Word.{funct3_of, funct7_of, immediate_b, immediate_i, immediate_j, immediate_s, immediate_u, opcode_of, rd_of, rs1_of, rs2_of};
 
 use crate::instructions::{BranchKind, ImmKind, Instruction, LoadKind, OpKind, StoreKind};
@@ -29,8 +29,8 @@ const MISC_MEM: u32 = 0b000_1111;
 
 const SYSTEM: u32 = 0b111_0011;
 
-/// Reads a word as an instruction of RV32I with its fields. The answer is `None` exactly where the
-/// manual's listing of RV32I has no such word ("RV32/64G Instruction Set Listings", 24).
+/// Reads a word as an instruction of RV32I or of the extension M, with its fields. The answer is `None` exactly where
+/// the manual's listing of the two has no such word ("RV32/64G Instruction Set Listings", 24).
 ///
 /// FENCE is known by its opcode and funct3 alone; of opcode SYSTEM only the words of ECALL and
 /// EBREAK are instructions.
@@ -182,25 +182,65 @@ fn decode_op(word: u32) -> Option<Instruction>
     ensures listed { result ≡ op_row word }
     ensures registers { IfSome result NamesRegisters }
 {
-    let kind = match (funct7(word), funct3(word)) {
-        (0b000_0000, 0b000) => OpKind::Add,
-        (0b010_0000, 0b000) => OpKind::Sub,
-        (0b000_0000, 0b001) => OpKind::Sll,
-        (0b000_0000, 0b010) => OpKind::Slt,
-        (0b000_0000, 0b011) => OpKind::Sltu,
-        (0b000_0000, 0b100) => OpKind::Xor,
-        (0b000_0000, 0b101) => OpKind::Srl,
-        (0b010_0000, 0b101) => OpKind::Sra,
-        (0b000_0000, 0b110) => OpKind::Or,
-        (0b000_0000, 0b111) => OpKind::And,
-        _ => return None,
-    };
     Some(Instruction::Op {
-        kind,
+        kind: operation_kind(funct7(word), funct3(word))?,
         rd: rd(word),
         rs1: rs1(word),
         rs2: rs2(word),
     })
+}
+
+fn operation_kind(funct7: u32, funct3: u32) -> Option<OpKind>
+    ensures { result ≡ entry_under funct7 funct3 operations }
+{
+    match funct7 {
+        0b000_0000 => base_kind(funct3),
+        0b000_0001 => multiplication_kind(funct3),
+        0b010_0000 => alternate_kind(funct3),
+        _ => None,
+    }
+}
+
+fn base_kind(funct3: u32) -> Option<OpKind>
+    ensures { result ≡ entry_at funct3 base_operations }
+{
+    match funct3 {
+        0b000 => Some(OpKind::Add),
+        0b001 => Some(OpKind::Sll),
+        0b010 => Some(OpKind::Slt),
+        0b011 => Some(OpKind::Sltu),
+        0b100 => Some(OpKind::Xor),
+        0b101 => Some(OpKind::Srl),
+        0b110 => Some(OpKind::Or),
+        0b111 => Some(OpKind::And),
+        _ => None,
+    }
+}
+
+fn multiplication_kind(funct3: u32) -> Option<OpKind>
+    ensures { result ≡ entry_at funct3 multiplications }
+{
+    match funct3 {
+        0b000 => Some(OpKind::Mul),
+        0b001 => Some(OpKind::Mulh),
+        0b010 => Some(OpKind::Mulhsu),
+        0b011 => Some(OpKind::Mulhu),
+        0b100 => Some(OpKind::Div),
+        0b101 => Some(OpKind::Divu),
+        0b110 => Some(OpKind::Rem),
+        0b111 => Some(OpKind::Remu),
+        _ => None,
+    }
+}
+
+fn alternate_kind(funct3: u32) -> Option<OpKind>
+    ensures { result ≡ entry_at funct3 alternate_operations }
+{
+    match funct3 {
+        0b000 => Some(OpKind::Sub),
+        0b101 => Some(OpKind::Sra),
+        _ => None,
+    }
 }
 
 fn decode_misc_mem(word: u32) -> Option<Instruction>

@@ -1,4 +1,4 @@
-//! The instructions of RV32I by the manual's names, with the fields of their words.
+//! The instructions of RV32I and of its extension M by the manual's names, with the fields of their words.
 
 /// The operations on a register and an immediate ("Integer Computational Instructions", 2.4).
 #[derive(Clone, Copy, Debug, PartialEq, Eq)]
@@ -14,7 +14,8 @@ pub enum ImmKind {
     Srai,
 }
 
-/// The operations on two registers ("Integer Computational Instructions", 2.4).
+/// The operations on two registers ("Integer Computational Instructions", 2.4, and "\"M\" Standard Extension for Integer
+/// Multiplication and Division", 7).
 #[derive(Clone, Copy, Debug, PartialEq, Eq)]
 pub enum OpKind {
     Add,
@@ -27,6 +28,14 @@ pub enum OpKind {
     Sra,
     Or,
     And,
+    Mul,
+    Mulh,
+    Mulhsu,
+    Mulhu,
+    Div,
+    Divu,
+    Rem,
+    Remu,
 }
 
 /// The conditional branches ("Control Transfer Instructions", 2.5).
@@ -58,7 +67,8 @@ pub enum StoreKind {
     Sw,
 }
 
-/// One instruction ("RV32I Base Instruction Set" in "RV32/64G Instruction Set Listings", 24).
+/// One instruction ("RV32I Base Instruction Set" and "RV32M Standard Extension" in "RV32/64G Instruction Set Listings",
+/// 24).
 ///
 /// `rd`, `rs1` and `rs2` are numbers of registers, 0 to 31. `imm` is the sign-extended immediate of
 /// the instruction's format; for SLLI, SRLI and SRAI it is the shift's amount, 0 to 31. Offsets and

@@ -1,4 +1,4 @@
-//! The RISC-V base instruction set RV32I: what a word says, and what it does to one processor with
+//! The RISC-V base instruction set RV32I and its extension M: what a word says, and what it does to one processor with
 //! 65,536 bytes of memory.
 //!
 //! Sections named here are those of "The RISC-V Instruction Set Manual, volume I: Unprivileged ISA",

@@ -4,3 +4,8 @@ pub mod Immediates
 pub mod Steps
 pub mod Ends
 pub mod TheLaws
+pub mod Joined
+pub mod Memories
+pub mod Images
+pub mod Owned
+pub mod Stored

@@ -121,17 +121,18 @@ fn first_place(addr: i128, count: u32) -> Result<u32, Fault>
     Ok(addr as u32)
 }
 
-/// The bytes of a range. No other byte is read.
-#[tactic(auto, using(crate::proofs::Ranges::part_more))]
+/// The bytes of a range, page by page.
+#[tactic(auto, using(crate::proofs::Ranges::part_more, crate::proofs::Ranges::some_left))]
 fn range_of(alloc: Global, memory: &Memory, first: u32, count: u32) -> Result<Bytes, AllocError>
     requires { first + count ≤ 65536 }
     ensures { IfOk result (λ bytes. bytes ≡ part_of first count memory.now.bytes) }
 {
-    let mut bytes = Vec::with_capacity(alloc, count as usize)?;
-    for offset in 0..count {
-        if let Some(byte) = memory.read(first + offset) {
-            bytes.push(byte)?;
-        }
+    let size = count as usize;
+    let mut bytes = Vec::with_capacity(alloc, size)?;
+    while bytes.len() < size {
+        let rest = memory.rest_of_page(first + bytes.len() as u32);
+        let some = rest.len().min(size - bytes.len());
+        bytes.extend_from_slice(&rest[..some])?;
     }
     Ok(Bytes::from_vec(bytes))
 }

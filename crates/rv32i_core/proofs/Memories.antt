@@ -1,6 +1,6 @@
 -- What always holds of a memory.
-use Rattle.std.proofs.Common.{◌≡◌, ℕ, zero, suc, ◌+◌, ◌*◌, ◌<◌, List, [], ◌∷◌, ◌++◌, length, map, get_or, take, drop, replicate, slice_get, Some, refl, sym, ◌∙◌, ap, arith}
-use Rattle.std.proofs.lemmas.List.{length-map, drop_at, drop-drop, take_at}
+use Rattle.std.proofs.Common.{◌≡◌, ℕ, zero, suc, ◌+◌, ◌-◌, ◌*◌, ◌/◌, ◌%◌, ◌<◌, ◌≤◌, List, [], ◌∷◌, ◌++◌, length, map, get_or, take, drop, replicate, slice_get, Some, refl, sym, ◌∙◌, ap, arith}
+use Rattle.std.proofs.lemmas.List.{length-drop, length-map, drop_at, drop-drop, drop-take, take_all, take_at}
 use Rattle.std.proofs.lemmas.List.Elements.{All-head, All-tail}
 use Rattle.std.proofs.lemmas.Option.{get_or_from_slice_get, slice_get_within}
 use Rattle.rv32i_core.specs.PageKind.{absent}
@@ -47,3 +47,25 @@ size pages whole = whole_size pages whole
 
 pub count : (pages : List Page) → IsWhole pages → length (map kind_of pages) ≡ 256
 count pages whole = length-map pages kind_of ∙ whole.count
+
+-- the bytes from an address on, in its page
+pub rest_there : (pages : List Page) (place : ℕ) (page : Page) → IsWhole pages → place / 256 < length pages → page ≡ get_or pages (place / 256) page
+    → drop (place % 256) (page_bytes page) ≡ take (256 - place % 256) (drop place (pages_bytes pages))
+rest_there pages place page whole inside there =
+    let i : ℕ = place / 256 in
+    let o : ℕ = place % 256 in
+    let memory : List ℕ = pages_bytes pages in
+    let all : o + (256 - o) ≡ 256 = omega arith in
+    let at : 256 * i + o ≡ place = omega arith in
+    ap (λ (ys : List ℕ). drop o ys) (sym (page_there pages i page whole inside there))
+    ∙ ap (λ n. drop o (take n (drop (256 * i) memory))) (sym all)
+    ∙ drop-take o (256 - o) (drop (256 * i) memory)
+    ∙ ap (λ (ys : List ℕ). take (256 - o) ys) (drop-drop o (256 * i) memory ∙ ap (λ n. drop n memory) at)
+
+none_of : (count : ℕ) (xs : List ℕ) → length xs ≡ 0 → [] ≡ take count xs
+none_of count [] none = sym (take_all count [] (omega arith))
+none_of count (x ∷ xs) none = absurd (omega arith)
+
+pub rest_past : (pages : List Page) (place : ℕ) → IsWhole pages → length pages ≤ place / 256 → [] ≡ take (256 - place % 256) (drop place (pages_bytes pages))
+rest_past pages place whole past =
+    none_of (256 - place % 256) (drop place (pages_bytes pages)) (omega (arith, length-drop place (pages_bytes pages), whole_size pages whole, whole.count, past))

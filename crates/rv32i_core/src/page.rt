@@ -1,5 +1,5 @@
 //! One page of a memory: 256 bytes, kept in one of three ways.
-ghost use Rattle.std.specs.Prelude.{◌≡◌, ◌<◌, ◌≤◌, ◌+◌, ◌-◌, length, map, slice_get, slice_index, slice_set, Some};
+ghost use Rattle.std.specs.Prelude.{◌≡◌, ◌<◌, ◌≤◌, ◌+◌, ◌-◌, drop, length, map, slice_get, slice_index, slice_set, Some};
 ghost use Rattle.rv32i_core.specs.Bytes.{with_word, word_at};
 ghost use Rattle.rv32i_core.specs.Owning.{PagesAreOwn};
 ghost use Rattle.rv32i_core.specs.PageKind.{own, to_own};
@@ -48,6 +48,16 @@ impl Page {
     {
         let bytes = self.bytes();
         bytes[at]
+    }
+
+    /// The bytes from one on.
+    pub(crate) fn rest(&self, at: usize) -> &[u8]
+        requires wide { length (page_bytes self.now) ≡ 256 }
+        requires inside { at ≤ 256 }
+        ensures { result.now ≡ drop at (page_bytes self.now) }
+    {
+        let bytes = self.bytes();
+        &bytes[at..]
     }
 
     /// The number in four bytes, the lowest first.

@@ -1,6 +1,6 @@
 //! Memory: 65,536 bytes at the addresses 0 to 65,535, in pages of 256 bytes.
 ghost use Rattle.std.specs.Bool.{OnFalse, OnTrue};
-ghost use Rattle.std.specs.Prelude.{◌≡◌, ◌<◌, ◌≤◌, ◌+◌, ◌/◌, ◌%◌, ◌↔◌, length, slice_get, slice_set, false, IsTrue, IsNone, IsSome, IfOk, IfSome, OnErr, OnOk, Some};
+ghost use Rattle.std.specs.Prelude.{◌≡◌, ◌<◌, ◌≤◌, ◌+◌, ◌-◌, ◌/◌, ◌%◌, ◌↔◌, drop, length, slice_get, slice_set, take, false, IsTrue, IsNone, IsSome, IfOk, IfSome, OnErr, OnOk, Some};
 ghost use Rattle.std.specs.Rc.{rc_slice_items};
 ghost use Rattle.rv32i_core.specs.Bytes.{byte_at, halfword_at, image_memory, is_inside, with_byte, with_bytes, with_halfword, with_word, word_at};
 ghost use Rattle.rv32i_core.specs.Owning.{AreOwn, BecomeOwn, RangeIsOwn};
@@ -113,6 +113,18 @@ impl Memory {
     {
         let page = self.pages.get(place as usize / PAGE)?;
         page.get(place as usize % PAGE)
+    }
+
+    /// The bytes from an address on, up to the end of its page; none past 65,535. Takes no memory.
+    #[tactic(auto, using(crate::proofs::Memories::rest_there, crate::proofs::Memories::rest_past, crate::proofs::Joined::wide_at, crate::proofs::Joined::whole_size))]
+    pub fn rest_of_page(&self, place: u32) -> &[u8]
+        ensures size { length self.now.bytes ≡ 65536 }
+        ensures bytes { result.now ≡ take (256 - place % 256) (drop place self.now.bytes) }
+    {
+        match self.pages.get(place as usize / PAGE) {
+            Some(page) => page.rest(place as usize % PAGE),
+            None => &[],
+        }
     }
 
     /// Puts a byte at an address. The answer is `false` exactly past 65,535, and then nothing changes. Else the byte's

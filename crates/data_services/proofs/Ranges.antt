@@ -1,7 +1,7 @@
 -- A range that is read page by page.
 use Rattle.std.proofs.Common.{◌≡◌, ℕ, ◌+◌, ◌-◌, ◌%◌, ◌<◌, ◌≤◌, List, ◌++◌, length, take, drop, sym, ◌∙◌, ap, arith, length-take, length-drop}
 use Rattle.std.proofs.Math.Seq.{take-add}
-use Rattle.std.proofs.lemmas.List.{drop-drop, length-take-le, take-take}
+use Rattle.std.proofs.lemmas.List.{drop-drop, take-take}
 use Rattle.list_laws.proofs.Lists.{take_most}
 
 -- so many bytes from the end of those so far on are the next ones of the range

@@ -122,7 +122,7 @@ fn first_place(addr: i128, count: u32) -> Result<u32, Fault>
 }
 
 /// The bytes of a range, page by page.
-#[tactic(auto, using(crate::proofs::Ranges::part_more, crate::proofs::Ranges::some_left))]
+#[tactic(auto, using(crate::proofs::Ranges::some_left))]
 fn range_of(alloc: Global, memory: &Memory, first: u32, count: u32) -> Result<Bytes, AllocError>
     requires { first + count ≤ 65536 }
     ensures { IfOk result (λ bytes. bytes ≡ part_of first count memory.now.bytes) }

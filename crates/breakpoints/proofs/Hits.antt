@@ -82,7 +82,7 @@ hit_by true true = refl
 hit_by true false = refl
 hit_by false a = refl
 
-one_by : (props : BpProps) (process pc : ℕ) (b : Bool) → list_any (λ instance. is_at pc instance.place) (map (instance_of props) (cond b (process ∷ []) [])) ≡ (b && is_at pc (place_of props.location))
+pub one_by : (props : BpProps) (process pc : ℕ) (b : Bool) → list_any (λ instance. is_at pc instance.place) (map (instance_of props) (cond b (process ∷ []) [])) ≡ (b && is_at pc (place_of props.location))
 one_by props process pc true = hit_by true (is_at pc (place_of props.location))
 one_by props process pc false = refl
 
@@ -97,7 +97,7 @@ enabled_by props attached process pc true small there =
 
 -- ---- all breakpoints
 
-filter_same : (p q : Placed → Bool) → ((row : Placed) → p row ≡ q row) → (rows : List Placed) → filter p rows ≡ filter q rows
+pub filter_same : (p q : Placed → Bool) → ((row : Placed) → p row ≡ q row) → (rows : List Placed) → filter p rows ≡ filter q rows
 filter_same p q same [] = refl
 filter_same p q same (row ∷ rows) =
     ap (λ b. cond b (row ∷ filter p rows) (filter p rows)) (same row) ∙ ap (λ rest. cond (q row) (row ∷ rest) rest) (filter_same p q same rows)

@@ -6,3 +6,5 @@ pub mod Fresh
 pub mod Runs
 pub mod Hits
 pub mod TheLaws
+pub mod Indexing
+pub mod Hitting

@@ -7,3 +7,4 @@ pub mod Statuses
 pub mod Keyed
 pub mod Selecting
 pub mod Laws
+pub mod Indexed

@@ -2,16 +2,14 @@
 use Rattle.std.specs.Prelude.{◌==◌, Bool, true, false, not, List, filter}
 use Rattle.breakpoints.specs.Placed.{Placed}
 use Rattle.breakpoints.specs.Rows.{is_among}
-use Rattle.breakpoints.specs.Status.{is_hit}
 use Rattle.breakpoints.specs.declared.selection.Selection.{Selection}
-use Rattle.breakpoints.specs.declared.selection.Selection.TheVariants.{Nothing, Everything, OwnedBy, Named, HitAt}
+use Rattle.breakpoints.specs.declared.selection.Selection.TheVariants.{Nothing, Everything, OwnedBy, Named}
 
 abbrev pub selects : Selection → Placed → Bool
 selects Nothing row = false
 selects Everything row = true
 selects (OwnedBy channel) row = row.channel == channel
 selects (Named ids) row = is_among ids.now row.props.id
-selects (HitAt process pc) row = is_hit process pc row.props
 
 abbrev pub selected : Selection → List Placed → List Placed
 selected selection rows = filter (selects selection) rows

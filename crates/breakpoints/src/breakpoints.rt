@@ -1,14 +1,17 @@
 //! The list of breakpoints, each under its ID.
-ghost use Rattle.std.specs.Prelude.{◌≡◌, ◌++◌, ◌∷◌, [], ◌||◌, length, not, None, IfNone, IfOk, OnOk, OnErr, IsTrue, option_copied, is_some, if◌then◌else◌};
+ghost use Rattle.std.specs.Prelude.{◌≡◌, ◌++◌, ◌∷◌, [], ◌||◌, filter, length, not, None, IfNone, IfOk, OnOk, OnErr, IsTrue, option_copied, is_some, if◌then◌else◌};
 ghost use Rattle.breakpoints.specs.Changes.{after, changes_list, clashes, done, has_no_place, is_overfull, is_refused, is_switched, lacks, switched, with_flag, with_flags};
+ghost use Rattle.breakpoints.specs.Indexed.{ids_at, is_named_for};
 ghost use Rattle.breakpoints.specs.Rows.{IsOrderly, ids_of, is_there, others, owned_by, props_of, rows_for};
 ghost use Rattle.breakpoints.specs.Selecting.{selected, selects, unselected};
 ghost use Rattle.breakpoints.specs.Status.{hits_of, status_of};
 
+mod indexing;
 mod order;
 mod statuses;
 
-use crate::instance::instances_of;
+use crate::index::{Index, add_list, empty_index};
+use crate::instance::{instances_of, is_for};
 use crate::rows::{
     Placed, Rows, copies, has_twice, keyed, replace, set_flags, set_props, take_out,
 };
@@ -46,19 +49,20 @@ pub enum BpDone {
 #[derive(Drop)]
 pub struct Breakpoints {
     map: Rows,
+    index: Index,
 }
 
 impl Model for Breakpoints {
     ghost use Rattle.std.specs.Prelude.{List};
     ghost use Rattle.indexmap.specs.IndexMap.{values};
     ghost use Rattle.breakpoints.specs.Placed.{Placed};
-    ghost use Rattle.breakpoints.specs.Keyed.{IsKept};
+    ghost use Rattle.breakpoints.specs.Indexed.{IsIndexed};
 
     ghost Value = { List Placed };
 
     ghost view = { λ b. values b.map };
 
-    ghost invariant = { λ b. IsKept b.map.entries };
+    ghost invariant = { λ b. IsIndexed b.map.entries b.index };
 }
 
 impl Breakpoints {
@@ -68,6 +72,7 @@ impl Breakpoints {
     {
         Breakpoints {
             map: IndexMap::new(alloc),
+            index: empty_index(alloc),
         }
     }
 
@@ -102,7 +107,9 @@ impl Breakpoints {
         ensures kept { OnErr result (self.new ≡ self.old) }
     {
         let ids = self.ids_of(Selection::OwnedBy(channel))?;
+        let index = self.index_without(Selection::OwnedBy(channel))?;
         take_out(&mut self.map, Selection::OwnedBy(channel));
+        self.index = index;
         Ok(ids)
     }
 
@@ -141,14 +148,50 @@ impl Breakpoints {
     }
 
     /// The IDs of the breakpoints that a thread of this process hits where it stands at `pc`, in the order of the
-    /// list; none where the process isn't attached.
+    /// list; none where the process isn't attached. It looks at no breakpoint that stands elsewhere.
+    #[tactic(auto, using(crate::proofs::Hitting::hits_there, crate::proofs::Hitting::no_hits))]
     pub fn hits(&self, process: u32, attached: bool, pc: u32) -> Result<Texts, AllocError>
         ensures { IfOk result (λ ids. ids ≡ hits_of process attached pc self.now) }
     {
         if !attached {
             return Ok(Texts::new(*self.map.allocator()));
         }
-        self.ids_of(Selection::HitAt(process, pc))
+        match self.at(pc) {
+            Some(ids) => self.those_for(process, ids.as_slice()),
+            None => Ok(Texts::new(*self.map.allocator())),
+        }
+    }
+
+    /// The IDs of the enabled breakpoints whose location is this address, for whichever processes they are, in the order
+    /// of the list; `None` exactly where there is none. Takes no memory.
+    pub fn at(&self, address: u32) -> Option<&Texts>
+        ensures ids { option_copied result ≡ ids_at address self.now }
+        ensures orderly { IsOrderly self.now }
+    {
+        self.index.get(&address)
+    }
+
+    /// Whether the breakpoint of this ID is for a process.
+    fn is_named_for(&self, process: u32, id: &[u8]) -> bool
+        ensures { result ≡ is_named_for process self.now id.now }
+    {
+        match self.props(id) {
+            Some(props) => is_for(&props.contexts, process),
+            None => false,
+        }
+    }
+
+    /// The IDs of those that are for a process.
+    fn those_for(&self, process: u32, ids: &[Text]) -> Result<Texts, AllocError>
+        ensures { IfOk result (λ made. made ≡ filter (is_named_for process self.now) ids.now) }
+    {
+        let mut made = Texts::new(*self.map.allocator());
+        for id in ids {
+            if self.is_named_for(process, id.as_bytes()) {
+                made.push(id.copy()?)?;
+            }
+        }
+        Ok(made)
     }
 
     #[tactic(auto, using(crate::proofs::Lookup::key_there))]
@@ -259,7 +302,10 @@ impl Breakpoints {
         let removed = self.ids_of(leaving)?;
         let added = copies(alloc, list)?;
         let fresh = keyed(alloc, channel, list)?;
+        let mut index = self.index_without(leaving)?;
+        add_list(alloc, &mut index, list)?;
         replace(&mut self.map, leaving, fresh)?;
+        self.index = index;
         Ok(BpDone::Changed {
             removed,
             added,
@@ -288,7 +334,9 @@ impl Breakpoints {
         let alloc = *self.map.allocator();
         let stored = props.copy()?;
         let changed = copies(alloc, slice::from_ref(props))?;
+        let index = self.index_with_props(props)?;
         set_props(&mut self.map, stored);
+        self.index = index;
         Ok(BpDone::Changed {
             removed: Texts::new(alloc),
             added: Props::new(alloc),
@@ -310,7 +358,9 @@ impl Breakpoints {
         }
         let alloc = *self.map.allocator();
         let changed = self.switched(ids, enabled)?;
+        let index = self.index_with_flags(ids, enabled)?;
         set_flags(&mut self.map, ids, enabled);
+        self.index = index;
         Ok(BpDone::Changed {
             removed: Texts::new(alloc),
             added: Props::new(alloc),
@@ -329,7 +379,9 @@ impl Breakpoints {
         }
         let alloc = *self.map.allocator();
         let removed = self.ids_of(Selection::Named(ids))?;
+        let index = self.index_without(Selection::Named(ids))?;
         take_out(&mut self.map, Selection::Named(ids));
+        self.index = index;
         Ok(BpDone::Changed {
             removed,
             added: Props::new(alloc),

@@ -1,7 +1,7 @@
 //! Where a breakpoint stands: its address, the processes that it is for, and its instances in them.
 ghost use Rattle.std.specs.Prelude.{◌≡◌, ◌==◌, ◌≤◌, ◌<◌, slice_index, IfOk};
 ghost use Rattle.breakpoints.specs.Address.{address_in, address_of};
-ghost use Rattle.breakpoints.specs.Status.{bad_location, instance_of, instances_of, is_for, is_hit, is_named, is_of, place_of, text_names};
+ghost use Rattle.breakpoints.specs.Status.{bad_location, instance_of, instances_of, is_for, is_named, is_of, place_of, text_names};
 
 use std::alloc::{AllocError, Global};
 use std::str;
@@ -42,7 +42,7 @@ fn address_in(radix: u32, digits: &[u8]) -> Option<u32>
 }
 
 /// The address that a location says.
-fn address_of(location: &[u8]) -> Option<u32>
+pub(crate) fn address_of(location: &[u8]) -> Option<u32>
     ensures { result ≡ address_of location.now }
 {
     if location.starts_with(b"0x") || location.starts_with(b"0X") {
@@ -96,7 +96,7 @@ fn is_named(texts: &[Text], number: u32) -> bool
 }
 
 /// Whether a breakpoint with these ContextIds is for the process of this number.
-fn is_for(contexts: &Option<Texts>, number: u32) -> bool
+pub(crate) fn is_for(contexts: &Option<Texts>, number: u32) -> bool
     ensures { result ≡ is_for contexts.now number }
 {
     let named = match contexts {
@@ -127,17 +127,4 @@ pub(crate) fn instances_of(
         }
     }
     Ok(instances)
-}
-
-/// Whether the breakpoint's instance in the process of this number has `pc` as its address.
-pub(crate) fn is_hit(process: u32, pc: u32, props: &BpProps) -> bool
-    ensures { result ≡ is_hit process pc props.now }
-{
-    if !props.enabled || !is_for(&props.contexts, process) {
-        return false;
-    }
-    match &props.location {
-        Some(location) => address_of(location.as_bytes()) == Some(pc),
-        None => false,
-    }
 }

@@ -3,6 +3,7 @@
 #![tactic(auto)]
 
 mod breakpoints;
+mod index;
 mod instance;
 mod laws;
 mod rows;

@@ -3,7 +3,6 @@ ghost use Rattle.std.specs.Prelude.{◌≡◌};
 ghost use Rattle.breakpoints.specs.Rows.{is_among};
 ghost use Rattle.breakpoints.specs.Selecting.{selects};
 
-use crate::instance::is_hit;
 use crate::rows::Placed;
 use tcf_values::Text;
 
@@ -16,8 +15,6 @@ pub(crate) enum Selection<'a> {
     OwnedBy(u64),
     /// Those with one of these IDs.
     Named(&'a [Text]),
-    /// Those whose instance in a process has an address.
-    HitAt(u32, u32),
 }
 
 /// Whether this ID is one of these.
@@ -36,6 +33,5 @@ pub(crate) fn selects(selection: Selection<'_>, row: &Placed) -> bool
         Selection::Everything => true,
         Selection::OwnedBy(channel) => row.channel == channel,
         Selection::Named(ids) => is_among(ids, row.props.id.as_bytes()),
-        Selection::HitAt(process, pc) => is_hit(process, pc, &row.props),
     }
 }

@@ -17,9 +17,9 @@ use tcf_values::{Answer, Command, Effect, Refusal};
 /// memory the targets are as they were.
 pub fn apply(alloc: Global, targets: &mut Targets, command: &Command) -> Result<Effect, AllocError>
     requires { IsTrue (is_data command.now) }
-    ensures effect { IfOk result (λ effect. effect ≡ data_effect command.now targets.old) }
-    ensures after { OnOk result (targets.new ≡ data_after command.now targets.old) }
-    ensures kept { OnErr result (targets.new ≡ targets.old) }
+    ensures effect { IfOk result (λ effect. effect ≡ data_effect command.now targets.old.seen) }
+    ensures after { OnOk result (targets.new.seen ≡ data_after command.now targets.old.seen) }
+    ensures kept { OnErr result (targets.new.seen ≡ targets.old.seen) }
 {
     match execute(alloc, targets, command) {
         Ok(effect) => Ok(effect),
@@ -31,10 +31,10 @@ pub fn apply(alloc: Global, targets: &mut Targets, command: &Command) -> Result<
 /// Executes a command whose checks hold.
 fn execute(alloc: Global, targets: &mut Targets, command: &Command) -> Result<Effect, Refusal>
     requires { IsTrue (is_data command.now) }
-    ensures effect { IfOk result (λ effect. effect ≡ data_effect command.now targets.old) }
-    ensures after { OnOk result (targets.new ≡ data_after command.now targets.old) }
-    ensures refused { IfErr result (IsRefusalOf (data_fault command.now targets.old)) }
-    ensures kept { OnErr result (targets.new ≡ targets.old) }
+    ensures effect { IfOk result (λ effect. effect ≡ data_effect command.now targets.old.seen) }
+    ensures after { OnOk result (targets.new.seen ≡ data_after command.now targets.old.seen) }
+    ensures refused { IfErr result (IsRefusalOf (data_fault command.now targets.old.seen)) }
+    ensures kept { OnErr result (targets.new.seen ≡ targets.old.seen) }
 {
     match command {
         Command::MemGet { id, addr, size, .. } => {

@@ -23,9 +23,9 @@ type Parts = ArrayVec<Part, MOST>;
 
 /// Registers.getm: the bytes of the locations, in order.
 pub(crate) fn get(alloc: Global, targets: &Targets, list: &Locations) -> Result<Bytes, Refusal>
-    ensures bytes { IfOk result (λ bytes. bytes ≡ bytes_of targets.now.processes (parts_named list.now)) }
-    ensures free { OnOk result (registers_get_fault list.now targets.now.processes ≡ None) }
-    ensures refused { IfErr result (IsRefusalOf (registers_get_fault list.now targets.now.processes)) }
+    ensures bytes { IfOk result (λ bytes. bytes ≡ bytes_of targets.now.seen.processes (parts_named list.now)) }
+    ensures free { OnOk result (registers_get_fault list.now targets.now.seen.processes ≡ None) }
+    ensures refused { IfErr result (IsRefusalOf (registers_get_fault list.now targets.now.seen.processes)) }
 {
     let parts = parts_to_get(targets, list.as_slice())?;
     Ok(bytes_of(alloc, targets, parts.as_slice())?)
@@ -40,10 +40,10 @@ pub(crate) fn set(
     bytes: &Bytes,
 ) -> Result<Events, Refusal>
     ensures events { IfOk result (λ events. events ≡ registers_events list.now) }
-    ensures free { OnOk result (registers_set_fault list.now bytes.now targets.old ≡ None) }
-    ensures after { OnOk result (targets.new ≡ registers_after list.now bytes.now targets.old) }
-    ensures refused { IfErr result (IsRefusalOf (registers_set_fault list.now bytes.now targets.old)) }
-    ensures kept { OnErr result (targets.new ≡ targets.old) }
+    ensures free { OnOk result (registers_set_fault list.now bytes.now targets.old.seen ≡ None) }
+    ensures after { OnOk result (targets.new.seen ≡ registers_after list.now bytes.now targets.old.seen) }
+    ensures refused { IfErr result (IsRefusalOf (registers_set_fault list.now bytes.now targets.old.seen)) }
+    ensures kept { OnErr result (targets.new.seen ≡ targets.old.seen) }
 {
     let parts = parts_to_set(targets, list, bytes)?;
     let events = registers_changed(alloc, list.as_slice())?;
@@ -55,8 +55,8 @@ pub(crate) fn set(
 fn parts_to_get(targets: &Targets, list: &[Location]) -> Result<Parts, Fault>
     ensures parts { IfOk result (λ parts. parts.items ≡ parts_named list.now) }
     ensures inside { IfOk result (λ parts. All IsInside parts.items) }
-    ensures free { OnOk result (registers_get_fault list.now targets.now.processes ≡ None) }
-    ensures due { IfErr result (λ fault. registers_get_fault list.now targets.now.processes ≡ Some fault) }
+    ensures free { OnOk result (registers_get_fault list.now targets.now.seen.processes ≡ None) }
+    ensures due { IfErr result (λ fault. registers_get_fault list.now targets.now.seen.processes ≡ Some fault) }
 {
     if list.len() > MOST {
         return Err(Fault::BadSize);
@@ -72,8 +72,8 @@ fn parts_to_get(targets: &Targets, list: &[Location]) -> Result<Parts, Fault>
 fn part_to_get(targets: &Targets, location: &Location) -> Result<Part, Fault>
     ensures part { IfOk result (λ part. part_named location.now ≡ Some part) }
     ensures inside { IfOk result IsInside }
-    ensures free { OnOk result (location_fault targets.now.processes location.now ≡ None) }
-    ensures due { IfErr result (λ fault. location_fault targets.now.processes location.now ≡ Some fault) }
+    ensures free { OnOk result (location_fault targets.now.seen.processes location.now ≡ None) }
+    ensures due { IfErr result (λ fault. location_fault targets.now.seen.processes location.now ≡ Some fault) }
 {
     let register = suspended_register(targets, &location.register)?;
     let Location { offset, size, .. } = location;
@@ -92,8 +92,8 @@ fn parts_to_set(targets: &Targets, list: &Locations, bytes: &Bytes) -> Result<Pa
     ensures parts { IfOk result (λ parts. parts.items ≡ parts_named list.now) }
     ensures inside { IfOk result (λ parts. All IsInside parts.items) }
     ensures size { IfOk result (λ parts. sizes parts.items ≡ length bytes.now) }
-    ensures free { OnOk result (registers_set_fault list.now bytes.now targets.now ≡ None) }
-    ensures due { IfErr result (λ fault. registers_set_fault list.now bytes.now targets.now ≡ Some fault) }
+    ensures free { OnOk result (registers_set_fault list.now bytes.now targets.now.seen ≡ None) }
+    ensures due { IfErr result (λ fault. registers_set_fault list.now bytes.now targets.now.seen ≡ Some fault) }
 {
     let parts = parts_to_get(targets, list.as_slice())?;
     if !has_size(parts.as_slice(), bytes.len()) {

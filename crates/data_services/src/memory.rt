@@ -9,7 +9,7 @@ ghost use Rattle.data_services.specs.MemoryRows.{is_no_size, is_outside, memory_
 use crate::named::live_process;
 use rv32i_core::Memory;
 use std::alloc::{AllocError, Global};
-use target_contexts::Targets;
+use target_contexts::{Targets, a_process_put_back_changes_nothing};
 use tcf_values::{
     Bytes, ContextId, EventData, Events, Fault, Range, Ranges, Refusal, Text, context_text,
 };
@@ -32,9 +32,9 @@ pub(crate) fn get(
     addr: i128,
     size: i128,
 ) -> Result<Bytes, Refusal>
-    ensures bytes { IfOk result (λ bytes. bytes ≡ memory_bytes addr size (process_named id.now targets.now.processes)) }
-    ensures free { OnOk result (memory_get_fault id.now addr size targets.now.processes ≡ None) }
-    ensures refused { IfErr result (IsRefusalOf (memory_get_fault id.now addr size targets.now.processes)) }
+    ensures bytes { IfOk result (λ bytes. bytes ≡ memory_bytes addr size (process_named id.now targets.now.seen.processes)) }
+    ensures free { OnOk result (memory_get_fault id.now addr size targets.now.seen.processes ≡ None) }
+    ensures refused { IfErr result (IsRefusalOf (memory_get_fault id.now addr size targets.now.seen.processes)) }
 {
     let number = live_process(targets, id)?;
     let process = targets.process(number).ok_or(Fault::BadContext)?;
@@ -54,15 +54,16 @@ pub(crate) fn set(
     bytes: &Bytes,
 ) -> Result<Events, Refusal>
     ensures events { IfOk result (λ events. events ≡ memory_events (number_named id.now) addr size) }
-    ensures free { OnOk result (memory_set_fault id.now addr size bytes.now targets.old.processes ≡ None) }
-    ensures after { OnOk result (targets.new ≡ memory_after id.now addr bytes.now targets.old) }
-    ensures refused { IfErr result (IsRefusalOf (memory_set_fault id.now addr size bytes.now targets.old.processes)) }
-    ensures kept { OnErr result (targets.new ≡ targets.old) }
+    ensures free { OnOk result (memory_set_fault id.now addr size bytes.now targets.old.seen.processes ≡ None) }
+    ensures after { OnOk result (targets.new.seen ≡ memory_after id.now addr bytes.now targets.old.seen) }
+    ensures refused { IfErr result (IsRefusalOf (memory_set_fault id.now addr size bytes.now targets.old.seen.processes)) }
+    ensures kept { OnErr result (targets.new.seen ≡ targets.old.seen) }
 {
+    a_process_put_back_changes_nothing();
     let span = span_to_set(targets, id, addr, size, bytes)?;
     let events = memory_changed(alloc, span.process, addr, size)?;
     if let Some(process) = targets.process_mut(span.process) {
-        put(&mut process.memory, span.first, bytes.as_slice());
+        put(&mut process.memory, span.first, bytes.as_slice())?;
     }
     Ok(events)
 }
@@ -79,8 +80,8 @@ fn span_to_set(
     ensures positive { IfOk result (λ span. 0 < span.process) }
     ensures first { IfOk result (λ span. span.first ≡ unsigned_abs addr) }
     ensures inside { IfOk result (λ span. span.first + length bytes.now ≤ 65536) }
-    ensures free { OnOk result (memory_set_fault id.now addr size bytes.now targets.now.processes ≡ None) }
-    ensures due { IfErr result (λ fault. memory_set_fault id.now addr size bytes.now targets.now.processes ≡ Some fault) }
+    ensures free { OnOk result (memory_set_fault id.now addr size bytes.now targets.now.seen.processes ≡ None) }
+    ensures due { IfErr result (λ fault. memory_set_fault id.now addr size bytes.now targets.now.seen.processes ≡ Some fault) }
 {
     let process = live_process(targets, id)?;
     let count = access_size(size)?;
@@ -120,30 +121,30 @@ fn first_place(addr: i128, count: u32) -> Result<u32, Fault>
     Ok(addr as u32)
 }
 
-/// The bytes of a range. No other byte is read.
-#[tactic(auto, using(crate::proofs::Ranges::part_more))]
+/// The bytes of a range, page by page.
+#[tactic(auto, using(crate::proofs::Ranges::some_left))]
 fn range_of(alloc: Global, memory: &Memory, first: u32, count: u32) -> Result<Bytes, AllocError>
     requires { first + count ≤ 65536 }
-    ensures { IfOk result (λ bytes. bytes ≡ part_of first count memory.now) }
+    ensures { IfOk result (λ bytes. bytes ≡ part_of first count memory.now.bytes) }
 {
-    let mut bytes = Vec::with_capacity(alloc, count as usize)?;
-    for offset in 0..count {
-        if let Some(byte) = memory.read(first + offset) {
-            bytes.push(byte)?;
-        }
+    let size = count as usize;
+    let mut bytes = Vec::with_capacity(alloc, size)?;
+    while bytes.len() < size {
+        let rest = memory.rest_of_page(first + bytes.len() as u32);
+        let some = rest.len().min(size - bytes.len());
+        bytes.extend_from_slice(&rest[..some])?;
     }
     Ok(Bytes::from_vec(bytes))
 }
 
-/// Puts the bytes over those from an address on. No other byte is written.
-#[tactic(auto, using(crate::proofs::Ranges::nothing_put))]
-fn put(memory: &mut Memory, first: u32, bytes: &[u8])
+/// Puts the bytes over those from an address on. No other byte is written, and where memory is wanting none is.
+fn put(memory: &mut Memory, first: u32, bytes: &[u8]) -> Result<(), AllocError>
     requires { first + length bytes.now ≤ 65536 }
-    ensures { memory.new ≡ with_part first bytes.now memory.old }
+    ensures put { OnOk result (memory.new.bytes ≡ with_part first bytes.now memory.old.bytes) }
+    ensures kept { OnErr result (memory.new ≡ memory.old) }
 {
-    for (offset, byte) in bytes.iter().enumerate() {
-        memory.write(first + offset as u32, *byte);
-    }
+    memory.write_range(first, bytes)?;
+    Ok(())
 }
 
 /// What tells of a set: nothing where it has no byte, else the process and the range.

@@ -12,10 +12,10 @@ use tcf_values::{Fault, RegisterId, Text, register_id};
 /// The number of the live process that the ID of a process or of a thread stands for.
 pub(crate) fn live_process(targets: &Targets, id: &Text) -> Result<u32, Fault>
     ensures number { IfOk result (λ number. number_named id.now ≡ Some number) }
-    ensures found { OnOk result (IsSome (process_named id.now targets.now.processes)) }
+    ensures found { OnOk result (IsSome (process_named id.now targets.now.seen.processes)) }
     ensures positive { IfOk result (λ number. 0 < number) }
     ensures fault { IfErr result (λ fault. fault ≡ Fault.BadContext) }
-    ensures missing { IfErr result (λ fault. process_named id.now targets.now.processes ≡ None) }
+    ensures missing { IfErr result (λ fault. process_named id.now targets.now.seen.processes ≡ None) }
 {
     targets.live(id.as_bytes()).ok_or(Fault::BadContext)
 }
@@ -23,8 +23,8 @@ pub(crate) fn live_process(targets: &Targets, id: &Text) -> Result<u32, Fault>
 /// The register of this ID, of a live thread that doesn't run.
 pub(crate) fn suspended_register(targets: &Targets, id: &Text) -> Result<RegisterId, Fault>
     ensures register { IfOk result (λ register. register_of id.now ≡ Some register) }
-    ensures free { OnOk result (register_get_fault id.now targets.now.processes ≡ None) }
-    ensures due { IfErr result (λ fault. register_get_fault id.now targets.now.processes ≡ Some fault) }
+    ensures free { OnOk result (register_get_fault id.now targets.now.seen.processes ≡ None) }
+    ensures due { IfErr result (λ fault. register_get_fault id.now targets.now.seen.processes ≡ Some fault) }
 {
     let register = register_id(id.as_bytes()).ok_or(Fault::BadContext)?;
     if register.thread != THREAD {

@@ -77,7 +77,7 @@ pub(crate) fn bytes_of(
     parts: &[Part],
 ) -> Result<Bytes, AllocError>
     requires { All IsInside parts.now }
-    ensures { IfOk result (λ bytes. bytes ≡ bytes_of targets.now.processes parts.now) }
+    ensures { IfOk result (λ bytes. bytes ≡ bytes_of targets.now.seen.processes parts.now) }
 {
     let mut bytes = Bytes::new(alloc);
     for part in parts {
@@ -89,7 +89,7 @@ pub(crate) fn bytes_of(
 /// Puts the bytes of a part last.
 fn add_bytes(bytes: &mut Bytes, targets: &Targets, part: &Part) -> Result<(), AllocError>
     requires { IsInside part.now }
-    ensures { OnOk result (bytes.new ≡ bytes.old ++ bytes_in part.now (process_of part.now.register.process targets.now.processes)) }
+    ensures { OnOk result (bytes.new ≡ bytes.old ++ bytes_in part.now (process_of part.now.register.process targets.now.seen.processes)) }
 {
     if let Some(process) = targets.process(part.register.process) {
         let word = word_bytes(number_in(&process.cpu, part.register.index));
@@ -128,7 +128,7 @@ fn put_bytes(cpu: &mut Cpu, part: &Part, bytes: &[u8])
 fn put_part(targets: &mut Targets, part: &Part, bytes: &[u8])
     requires inside { IsInside part.now }
     requires size { length bytes.now ≡ part.now.size }
-    ensures { targets.new ≡ with_change (with_bytes part.now bytes.now) part.now.register.process targets.old }
+    ensures { targets.new.seen ≡ with_change (with_bytes part.now bytes.now) part.now.register.process targets.old.seen }
 {
     if let Some(process) = targets.process_mut(part.register.process) {
         put_bytes(&mut process.cpu, part, bytes);
@@ -139,7 +139,7 @@ fn put_part(targets: &mut Targets, part: &Part, bytes: &[u8])
 pub(crate) fn put_parts(targets: &mut Targets, parts: &[Part], bytes: &[u8])
     requires inside { All IsInside parts.now }
     requires size { sizes parts.now ≡ length bytes.now }
-    ensures { targets.new ≡ with_parts parts.now bytes.now targets.old }
+    ensures { targets.new.seen ≡ with_parts parts.now bytes.now targets.old.seen }
 {
     let mut rest = bytes;
     for part in parts {
@@ -171,7 +171,7 @@ fn cpu_after(process: u32, cpu: Cpu, parts: &[Part], bytes: &[u8]) -> Cpu
 fn is_off_after(targets: &Targets, process: u32, parts: &[Part], bytes: &[u8]) -> bool
     requires inside { All IsInside parts.now }
     requires size { sizes parts.now ≡ length bytes.now }
-    ensures { result ≡ is_off (process_of process (with_parts parts.now bytes.now targets.now).processes) }
+    ensures { result ≡ is_off (process_of process (with_parts parts.now bytes.now targets.now.seen).processes) }
 {
     a_change_changes_one();
     match targets.process(process) {
@@ -184,7 +184,7 @@ fn is_off_after(targets: &Targets, process: u32, parts: &[Part], bytes: &[u8]) -
 pub(crate) fn names_off_after(targets: &Targets, parts: &[Part], bytes: &[u8]) -> bool
     requires inside { All IsInside parts.now }
     requires size { sizes parts.now ≡ length bytes.now }
-    ensures { result ≡ names_off (with_parts parts.now bytes.now targets.now).processes parts.now }
+    ensures { result ≡ names_off (with_parts parts.now bytes.now targets.now.seen).processes parts.now }
 {
     for part in parts {
         if part.register.index == PC && is_off_after(targets, part.register.process, parts, bytes) {

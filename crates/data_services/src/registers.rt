@@ -14,9 +14,9 @@ use tcf_values::{Bytes, Duplicate, EventData, Events, Fault, PC, Refusal, Regist
 
 /// Registers.get: the four bytes of a register.
 pub(crate) fn get(alloc: Global, targets: &Targets, id: &Text) -> Result<Bytes, Refusal>
-    ensures bytes { IfOk result (λ bytes. bytes ≡ register_bytes (register_of id.now) (holder_of id.now targets.now.processes)) }
-    ensures free { OnOk result (register_get_fault id.now targets.now.processes ≡ None) }
-    ensures refused { IfErr result (IsRefusalOf (register_get_fault id.now targets.now.processes)) }
+    ensures bytes { IfOk result (λ bytes. bytes ≡ register_bytes (register_of id.now) (holder_of id.now targets.now.seen.processes)) }
+    ensures free { OnOk result (register_get_fault id.now targets.now.seen.processes ≡ None) }
+    ensures refused { IfErr result (IsRefusalOf (register_get_fault id.now targets.now.seen.processes)) }
 {
     let register = suspended_register(targets, id)?;
     let process = targets.process(register.process).ok_or(Fault::BadContext)?;
@@ -32,10 +32,10 @@ pub(crate) fn set(
     bytes: &Bytes,
 ) -> Result<Events, Refusal>
     ensures events { IfOk result (λ events. events ≡ EventData.RegChanged id.now ∷ []) }
-    ensures free { OnOk result (register_set_fault id.now bytes.now targets.old.processes ≡ None) }
-    ensures after { OnOk result (targets.new ≡ register_after (register_of id.now) (word_of bytes.now) targets.old) }
-    ensures refused { IfErr result (IsRefusalOf (register_set_fault id.now bytes.now targets.old.processes)) }
-    ensures kept { OnErr result (targets.new ≡ targets.old) }
+    ensures free { OnOk result (register_set_fault id.now bytes.now targets.old.seen.processes ≡ None) }
+    ensures after { OnOk result (targets.new.seen ≡ register_after (register_of id.now) (word_of bytes.now) targets.old.seen) }
+    ensures refused { IfErr result (IsRefusalOf (register_set_fault id.now bytes.now targets.old.seen.processes)) }
+    ensures kept { OnErr result (targets.new.seen ≡ targets.old.seen) }
 {
     let (register, number) = number_to_set(targets, id, bytes)?;
     let events = register_changed(alloc, id)?;
@@ -49,8 +49,8 @@ pub(crate) fn set(
 fn number_to_set(targets: &Targets, id: &Text, bytes: &Bytes) -> Result<(RegisterId, u32), Fault>
     ensures register { IfOk result (λ set. register_of id.now ≡ Some set.0) }
     ensures number { IfOk result (λ set. set.1 ≡ word_of bytes.now) }
-    ensures free { OnOk result (register_set_fault id.now bytes.now targets.now.processes ≡ None) }
-    ensures due { IfErr result (λ fault. register_set_fault id.now bytes.now targets.now.processes ≡ Some fault) }
+    ensures free { OnOk result (register_set_fault id.now bytes.now targets.now.seen.processes ≡ None) }
+    ensures due { IfErr result (λ fault. register_set_fault id.now bytes.now targets.now.seen.processes ≡ Some fault) }
 {
     let register = suspended_register(targets, id)?;
     let number = word_in(bytes.as_slice()).ok_or(Fault::BadSize)?;

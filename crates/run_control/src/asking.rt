@@ -18,9 +18,9 @@ use tcf_values::{
 
 /// RunControl.getContext: the data of a live process or thread.
 pub(crate) fn context(targets: &Targets, id: &Text) -> Result<Answer, Refusal>
-    ensures answer { IfOk result (λ answer. answer ≡ context_answer (data_named id.now targets.now.processes)) }
-    ensures free { OnOk result (context_fault id.now targets.now.processes ≡ None) }
-    ensures refused { IfErr result (IsRefusalOf (context_fault id.now targets.now.processes)) }
+    ensures answer { IfOk result (λ answer. answer ≡ context_answer (data_named id.now targets.now.seen.processes)) }
+    ensures free { OnOk result (context_fault id.now targets.now.seen.processes ≡ None) }
+    ensures refused { IfErr result (IsRefusalOf (context_fault id.now targets.now.seen.processes)) }
 {
     match data_named(targets, id)? {
         Some(context) => Ok(Answer::Context(context)),
@@ -30,8 +30,8 @@ pub(crate) fn context(targets: &Targets, id: &Text) -> Result<Answer, Refusal>
 
 /// The data of the live process or thread that a text names; `None` where there is none, whatever the memory.
 fn data_named(targets: &Targets, id: &Text) -> Result<Option<ContextData>, AllocError>
-    ensures data { IfOk result (λ found. found ≡ data_named id.now targets.now.processes) }
-    ensures missing { IfNone (data_named id.now targets.now.processes) (result ≡ Ok None) }
+    ensures data { IfOk result (λ found. found ≡ data_named id.now targets.now.seen.processes) }
+    ensures missing { IfNone (data_named id.now targets.now.seen.processes) (result ≡ Ok None) }
 {
     match context_id(id.as_bytes()) {
         Some(context) => targets.context(context),
@@ -41,9 +41,9 @@ fn data_named(targets: &Targets, id: &Text) -> Result<Option<ContextData>, Alloc
 
 /// RunControl.getChildren: of the empty ID all processes, of a process its thread, of a thread none.
 pub(crate) fn children(alloc: Global, targets: &Targets, id: &Text) -> Result<Texts, Refusal>
-    ensures ids { IfOk result (λ ids. ids ≡ children_named id.now targets.now.processes) }
-    ensures free { OnOk result (children_fault id.now targets.now.processes ≡ None) }
-    ensures refused { IfErr result (IsRefusalOf (children_fault id.now targets.now.processes)) }
+    ensures ids { IfOk result (λ ids. ids ≡ children_named id.now targets.now.seen.processes) }
+    ensures free { OnOk result (children_fault id.now targets.now.seen.processes ≡ None) }
+    ensures refused { IfErr result (IsRefusalOf (children_fault id.now targets.now.seen.processes)) }
 {
     if is_empty(id) {
         return Ok(listed(alloc, targets, false)?);
@@ -85,9 +85,9 @@ fn children_of(alloc: Global, id: &Text) -> Result<Texts, AllocError>
 
 /// RunControl.getState: whether a live thread runs, or why and where it is suspended.
 pub(crate) fn state(targets: &Targets, id: &Text) -> Result<Answer, Refusal>
-    ensures answer { IfOk result (λ answer. answer ≡ state_answer (process_at_number (thread_named id.now) targets.now.processes)) }
-    ensures free { OnOk result (state_fault id.now targets.now.processes ≡ None) }
-    ensures refused { IfErr result (IsRefusalOf (state_fault id.now targets.now.processes)) }
+    ensures answer { IfOk result (λ answer. answer ≡ state_answer (process_at_number (thread_named id.now) targets.now.seen.processes)) }
+    ensures free { OnOk result (state_fault id.now targets.now.seen.processes ≡ None) }
+    ensures refused { IfErr result (IsRefusalOf (state_fault id.now targets.now.seen.processes)) }
 {
     let number = live_thread(targets, id)?;
     let process = targets.process(number).ok_or(Fault::BadContext)?;
@@ -95,7 +95,7 @@ pub(crate) fn state(targets: &Targets, id: &Text) -> Result<Answer, Refusal>
 }
 
 fn run_state(process: &Process) -> Result<RunState, AllocError>
-    ensures { IfOk result (λ state. state ≡ run_state process.now.cpu.pc process.now.state) }
+    ensures { IfOk result (λ state. state ≡ run_state process.now.seen.cpu.pc process.now.seen.state) }
 {
     match &process.state {
         ThreadState::Running { .. } => Ok(RunState::Running),
@@ -109,9 +109,9 @@ fn run_state(process: &Process) -> Result<RunState, AllocError>
 
 /// Processes.getContext: the data of a live process.
 pub(crate) fn process(alloc: Global, targets: &Targets, id: &Text) -> Result<Answer, Refusal>
-    ensures answer { IfOk result (λ answer. answer ≡ process_answer (process_named id.now) targets.now.processes) }
-    ensures free { OnOk result (process_fault id.now targets.now.processes ≡ None) }
-    ensures refused { IfErr result (IsRefusalOf (process_fault id.now targets.now.processes)) }
+    ensures answer { IfOk result (λ answer. answer ≡ process_answer (process_named id.now) targets.now.seen.processes) }
+    ensures free { OnOk result (process_fault id.now targets.now.seen.processes ≡ None) }
+    ensures refused { IfErr result (IsRefusalOf (process_fault id.now targets.now.seen.processes)) }
 {
     let number = live_process(targets, id)?;
     Ok(process_answer(alloc, targets, number)?)
@@ -123,7 +123,7 @@ pub(crate) fn process_answer(
     targets: &Targets,
     number: u32,
 ) -> Result<Answer, AllocError>
-    ensures { IfOk result (λ answer. answer ≡ process_answer_of number (process_of number targets.now.processes)) }
+    ensures { IfOk result (λ answer. answer ≡ process_answer_of number (process_of number targets.now.seen.processes)) }
 {
     match targets.process(number) {
         Some(process) => Ok(Answer::Process(ProcessData {
@@ -143,9 +143,9 @@ pub(crate) fn processes(
     id: &Text,
     only_attached: bool,
 ) -> Result<Texts, Refusal>
-    ensures ids { IfOk result (λ ids. ids ≡ processes_named id.now only_attached targets.now.processes) }
-    ensures free { OnOk result (processes_fault id.now targets.now.processes ≡ None) }
-    ensures refused { IfErr result (IsRefusalOf (processes_fault id.now targets.now.processes)) }
+    ensures ids { IfOk result (λ ids. ids ≡ processes_named id.now only_attached targets.now.seen.processes) }
+    ensures free { OnOk result (processes_fault id.now targets.now.seen.processes ≡ None) }
+    ensures refused { IfErr result (IsRefusalOf (processes_fault id.now targets.now.seen.processes)) }
 {
     if is_empty(id) {
         return Ok(listed(alloc, targets, only_attached)?);
@@ -156,7 +156,7 @@ pub(crate) fn processes(
 
 /// The IDs of all processes, or of those that are attached.
 fn listed(alloc: Global, targets: &Targets, only_attached: bool) -> Result<Texts, AllocError>
-    ensures { IfOk result (λ ids. ids ≡ map process_id (if only_attached then attached_in targets.now.processes else numbers_of targets.now.processes)) }
+    ensures { IfOk result (λ ids. ids ≡ map process_id (if only_attached then attached_in targets.now.seen.processes else numbers_of targets.now.seen.processes)) }
 {
     process_ids(alloc, &numbers(targets, only_attached)?)
 }
@@ -164,7 +164,7 @@ fn listed(alloc: Global, targets: &Targets, only_attached: bool) -> Result<Texts
 /// The numbers of all processes, or of those that are attached.
 #[tactic(auto, using(crate::proofs::Positive::positive_numbers))]
 fn numbers(targets: &Targets, only_attached: bool) -> Result<Vec<u32>, AllocError>
-    ensures numbers { IfOk result (λ numbers. numbers.items ≡ (if only_attached then attached_in targets.now.processes else numbers_of targets.now.processes)) }
+    ensures numbers { IfOk result (λ numbers. numbers.items ≡ (if only_attached then attached_in targets.now.seen.processes else numbers_of targets.now.seen.processes)) }
     ensures positive { IfOk result (λ numbers. All (λ number. 0 < number) numbers.items) }
 {
     if only_attached {

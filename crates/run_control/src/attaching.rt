@@ -29,11 +29,11 @@ pub(crate) fn start(
     attach: bool,
 ) -> Result<Effect, Refusal>
     ensures effect { IfOk result (λ effect. effect
-        ≡ tells (start_events bps.now targets.old.next targets.new) (process_answer (Some targets.old.next) targets.new.processes)) }
-    ensures free { OnOk result (start_fault file.now targets.old ≡ None) }
-    ensures after { OnOk result (targets.new ≡ started file.now attach targets.old) }
-    ensures refused { IfErr result (IsRefusalOf (start_fault file.now targets.old)) }
-    ensures kept { IfErr result (λ refusal. IfDue refusal (targets.new ≡ targets.old)) }
+        ≡ tells (start_events bps.now targets.old.seen.next targets.new.seen) (process_answer (Some targets.old.seen.next) targets.new.seen.processes)) }
+    ensures free { OnOk result (start_fault file.now targets.old.seen ≡ None) }
+    ensures after { OnOk result (targets.new.seen ≡ started file.now attach targets.old.seen) }
+    ensures refused { IfErr result (IsRefusalOf (start_fault file.now targets.old.seen)) }
+    ensures kept { IfErr result (λ refusal. IfDue refusal (targets.new.seen ≡ targets.old.seen)) }
 {
     let number = add(targets, file, attach)?;
     let mut events = Events::new(alloc);
@@ -46,11 +46,11 @@ pub(crate) fn start(
 
 /// The process more. A refused call changes nothing.
 fn add(targets: &mut Targets, file: &Text, attach: bool) -> Result<u32, Refusal>
-    ensures number { IfOk result (λ number. number ≡ targets.old.next) }
-    ensures free { OnOk result (start_fault file.now targets.old ≡ None) }
-    ensures after { OnOk result (targets.new ≡ started file.now attach targets.old) }
-    ensures refused { IfErr result (IsRefusalOf (start_fault file.now targets.old)) }
-    ensures kept { OnErr result (targets.new ≡ targets.old) }
+    ensures number { IfOk result (λ number. number ≡ targets.old.seen.next) }
+    ensures free { OnOk result (start_fault file.now targets.old.seen ≡ None) }
+    ensures after { OnOk result (targets.new.seen ≡ started file.now attach targets.old.seen) }
+    ensures refused { IfErr result (IsRefusalOf (start_fault file.now targets.old.seen)) }
+    ensures kept { OnErr result (targets.new.seen ≡ targets.old.seen) }
 {
     match targets.add(file.as_bytes(), attach) {
         Ok(number) => Ok(number),
@@ -67,11 +67,11 @@ pub(crate) fn attach(
     bps: &Breakpoints,
     id: &Text,
 ) -> Result<Events, Refusal>
-    ensures events { IfOk result (λ events. events ≡ events_of (λ number. attach_events bps.now number targets.new) (process_named id.now)) }
-    ensures free { OnOk result (attach_fault id.now targets.old.processes ≡ None) }
-    ensures after { OnOk result (targets.new ≡ left_of attach_after (process_named id.now) targets.old) }
-    ensures refused { IfErr result (IsRefusalOf (attach_fault id.now targets.old.processes)) }
-    ensures kept { IfErr result (λ refusal. IfDue refusal (targets.new ≡ targets.old)) }
+    ensures events { IfOk result (λ events. events ≡ events_of (λ number. attach_events bps.now number targets.new.seen) (process_named id.now)) }
+    ensures free { OnOk result (attach_fault id.now targets.old.seen.processes ≡ None) }
+    ensures after { OnOk result (targets.new.seen ≡ left_of attach_after (process_named id.now) targets.old.seen) }
+    ensures refused { IfErr result (IsRefusalOf (attach_fault id.now targets.old.seen.processes)) }
+    ensures kept { IfErr result (λ refusal. IfDue refusal (targets.new.seen ≡ targets.old.seen)) }
 {
     let number = to_attach(targets, id)?;
     let state = suspended(alloc)?;
@@ -86,8 +86,8 @@ pub(crate) fn attach(
 /// The checks of an attach.
 fn to_attach(targets: &Targets, id: &Text) -> Result<u32, Fault>
     ensures number { IfOk result (λ number. process_named id.now ≡ Some number) }
-    ensures free { OnOk result (attach_fault id.now targets.now.processes ≡ None) }
-    ensures due { IfErr result (λ fault. attach_fault id.now targets.now.processes ≡ Some fault) }
+    ensures free { OnOk result (attach_fault id.now targets.now.seen.processes ≡ None) }
+    ensures due { IfErr result (λ fault. attach_fault id.now targets.now.seen.processes ≡ Some fault) }
 {
     let number = live_process(targets, id)?;
     if targets.is_attached(number) {
@@ -98,7 +98,7 @@ fn to_attach(targets: &Targets, id: &Text) -> Result<u32, Fault>
 
 /// Attaches a live process or detaches it, with this state of its thread.
 fn set_attached(targets: &mut Targets, number: u32, attached: bool, state: ThreadState)
-    ensures { targets.new ≡ with_change (λ process. record process { attached = attached; state = state }) number targets.old }
+    ensures { targets.new.seen ≡ with_change (λ process. record process { attached = attached; state = state }) number targets.old.seen }
 {
     if let Some(process) = targets.process_mut(number) {
         process.attached = attached;
@@ -115,11 +115,11 @@ pub(crate) fn detach(
     id: &Text,
 ) -> Result<Events, Refusal>
     ensures events { IfOk result (λ events. events
-        ≡ events_of (λ number. detach_events bps.now (is_suspended (process_there id.now targets.old.processes)) number targets.new) (process_named id.now)) }
-    ensures free { OnOk result (detach_fault id.now targets.old.processes ≡ None) }
-    ensures after { OnOk result (targets.new ≡ left_of detach_after (process_named id.now) targets.old) }
-    ensures refused { IfErr result (IsRefusalOf (detach_fault id.now targets.old.processes)) }
-    ensures kept { IfErr result (λ refusal. IfDue refusal (targets.new ≡ targets.old)) }
+        ≡ events_of (λ number. detach_events bps.now (is_suspended (process_there id.now targets.old.seen.processes)) number targets.new.seen) (process_named id.now)) }
+    ensures free { OnOk result (detach_fault id.now targets.old.seen.processes ≡ None) }
+    ensures after { OnOk result (targets.new.seen ≡ left_of detach_after (process_named id.now) targets.old.seen) }
+    ensures refused { IfErr result (IsRefusalOf (detach_fault id.now targets.old.seen.processes)) }
+    ensures kept { IfErr result (λ refusal. IfDue refusal (targets.new.seen ≡ targets.old.seen)) }
 {
     let number = to_detach(targets, id)?;
     let was_suspended = !targets.is_running(number);
@@ -137,8 +137,8 @@ pub(crate) fn detach(
 fn to_detach(targets: &Targets, id: &Text) -> Result<u32, Fault>
     ensures number { IfOk result (λ number. process_named id.now ≡ Some number) }
     ensures positive { IfOk result (λ number. 0 < number) }
-    ensures free { OnOk result (detach_fault id.now targets.now.processes ≡ None) }
-    ensures due { IfErr result (λ fault. detach_fault id.now targets.now.processes ≡ Some fault) }
+    ensures free { OnOk result (detach_fault id.now targets.now.seen.processes ≡ None) }
+    ensures due { IfErr result (λ fault. detach_fault id.now targets.now.seen.processes ≡ Some fault) }
 {
     let number = live_process(targets, id)?;
     if !targets.is_attached(number) {

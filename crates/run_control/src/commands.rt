@@ -27,9 +27,9 @@ pub fn apply(
     command: &Command,
 ) -> Result<Effect, AllocError>
     requires { IsTrue (is_run command.now) }
-    ensures effect { IfOk result (λ effect. effect ≡ run_effect command.now bps.now targets.old) }
-    ensures after { OnOk result (targets.new ≡ run_after command.now bps.now targets.old) }
-    ensures kept { OnErr result (IsSome (run_fault command.now targets.old) → targets.new ≡ targets.old) }
+    ensures effect { IfOk result (λ effect. effect ≡ run_effect command.now bps.now targets.old.seen) }
+    ensures after { OnOk result (targets.new.seen ≡ run_after command.now bps.now targets.old.seen) }
+    ensures kept { OnErr result (IsSome (run_fault command.now targets.old.seen) → targets.new.seen ≡ targets.old.seen) }
 {
     match execute(alloc, targets, bps, command) {
         Ok(effect) => Ok(effect),
@@ -46,11 +46,11 @@ fn execute(
     command: &Command,
 ) -> Result<Effect, Refusal>
     requires { IsTrue (is_run command.now) }
-    ensures given { IfOk result (λ effect. effect ≡ run_given command.now bps.now targets.old targets.new) }
-    ensures free { OnOk result (run_fault command.now targets.old ≡ None) }
-    ensures left { OnOk result (targets.new ≡ run_left command.now bps.now targets.old) }
-    ensures refused { IfErr result (IsRefusalOf (run_fault command.now targets.old)) }
-    ensures kept { IfErr result (λ refusal. IfDue refusal (targets.new ≡ targets.old)) }
+    ensures given { IfOk result (λ effect. effect ≡ run_given command.now bps.now targets.old.seen targets.new.seen) }
+    ensures free { OnOk result (run_fault command.now targets.old.seen ≡ None) }
+    ensures left { OnOk result (targets.new.seen ≡ run_left command.now bps.now targets.old.seen) }
+    ensures refused { IfErr result (IsRefusalOf (run_fault command.now targets.old.seen)) }
+    ensures kept { IfErr result (λ refusal. IfDue refusal (targets.new.seen ≡ targets.old.seen)) }
 {
     match command {
         Command::GetContext { id } => Ok(Effect::gives(alloc, asking::context(targets, id)?)),
@@ -85,11 +85,11 @@ fn tell(
     command: &Command,
 ) -> Result<Events, Refusal>
     requires { IsTrue (is_told command.now) }
-    ensures given { IfOk result (λ events. tells events Answer.Nothing ≡ run_given command.now bps.now targets.old targets.new) }
-    ensures free { OnOk result (run_fault command.now targets.old ≡ None) }
-    ensures left { OnOk result (targets.new ≡ run_left command.now bps.now targets.old) }
-    ensures refused { IfErr result (IsRefusalOf (run_fault command.now targets.old)) }
-    ensures kept { IfErr result (λ refusal. IfDue refusal (targets.new ≡ targets.old)) }
+    ensures given { IfOk result (λ events. tells events Answer.Nothing ≡ run_given command.now bps.now targets.old.seen targets.new.seen) }
+    ensures free { OnOk result (run_fault command.now targets.old.seen ≡ None) }
+    ensures left { OnOk result (targets.new.seen ≡ run_left command.now bps.now targets.old.seen) }
+    ensures refused { IfErr result (IsRefusalOf (run_fault command.now targets.old.seen)) }
+    ensures kept { IfErr result (λ refusal. IfDue refusal (targets.new.seen ≡ targets.old.seen)) }
 {
     match command {
         Command::Resume { id, mode, count } => {

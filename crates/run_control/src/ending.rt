@@ -27,8 +27,8 @@ pub(crate) fn end(
     code: i32,
 ) -> Result<Events, AllocError>
     requires { 0 < number }
-    ensures events { IfOk result (λ events. events ≡ end_events bps.now number code targets.new) }
-    ensures after { OnOk result (targets.new ≡ end_after number targets.old) }
+    ensures events { IfOk result (λ events. events ≡ end_events bps.now number code targets.new.seen) }
+    ensures after { OnOk result (targets.new.seen ≡ end_after number targets.old.seen) }
 {
     let mut events = Events::new(alloc);
     tell_ended(alloc, number, code, &mut events)?;
@@ -44,11 +44,11 @@ pub(crate) fn terminate(
     bps: &Breakpoints,
     id: &Text,
 ) -> Result<Events, Refusal>
-    ensures events { IfOk result (λ events. events ≡ events_of (λ number. end_events bps.now number terminate_code targets.new) (number_named id.now)) }
-    ensures free { OnOk result (terminate_fault id.now targets.old.processes ≡ None) }
-    ensures after { OnOk result (targets.new ≡ left_of end_after (number_named id.now) targets.old) }
-    ensures refused { IfErr result (IsRefusalOf (terminate_fault id.now targets.old.processes)) }
-    ensures kept { IfErr result (λ refusal. IfDue refusal (targets.new ≡ targets.old)) }
+    ensures events { IfOk result (λ events. events ≡ events_of (λ number. end_events bps.now number terminate_code targets.new.seen) (number_named id.now)) }
+    ensures free { OnOk result (terminate_fault id.now targets.old.seen.processes ≡ None) }
+    ensures after { OnOk result (targets.new.seen ≡ left_of end_after (number_named id.now) targets.old.seen) }
+    ensures refused { IfErr result (IsRefusalOf (terminate_fault id.now targets.old.seen.processes)) }
+    ensures kept { IfErr result (λ refusal. IfDue refusal (targets.new.seen ≡ targets.old.seen)) }
 {
     let number = live(targets, id)?;
     Ok(end(alloc, targets, bps, number, TERMINATED)?)
@@ -61,11 +61,11 @@ pub(crate) fn terminate_process(
     bps: &Breakpoints,
     id: &Text,
 ) -> Result<Events, Refusal>
-    ensures events { IfOk result (λ events. events ≡ events_of (λ number. end_events bps.now number terminate_code targets.new) (process_named id.now)) }
-    ensures free { OnOk result (process_fault id.now targets.old.processes ≡ None) }
-    ensures after { OnOk result (targets.new ≡ left_of end_after (process_named id.now) targets.old) }
-    ensures refused { IfErr result (IsRefusalOf (process_fault id.now targets.old.processes)) }
-    ensures kept { IfErr result (λ refusal. IfDue refusal (targets.new ≡ targets.old)) }
+    ensures events { IfOk result (λ events. events ≡ events_of (λ number. end_events bps.now number terminate_code targets.new.seen) (process_named id.now)) }
+    ensures free { OnOk result (process_fault id.now targets.old.seen.processes ≡ None) }
+    ensures after { OnOk result (targets.new.seen ≡ left_of end_after (process_named id.now) targets.old.seen) }
+    ensures refused { IfErr result (IsRefusalOf (process_fault id.now targets.old.seen.processes)) }
+    ensures kept { IfErr result (λ refusal. IfDue refusal (targets.new.seen ≡ targets.old.seen)) }
 {
     let number = live_process(targets, id)?;
     Ok(end(alloc, targets, bps, number, TERMINATED)?)

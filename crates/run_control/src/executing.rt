@@ -33,6 +33,9 @@ pub(crate) enum Fate {
     Lives(ThreadState),
 }
 
+/// How many pages of its memory an instruction can make own.
+const STORED_PAGES: usize = 4;
+
 /// The code of a process that an exception ends.
 const EXCEPTION: i32 = -2;
 
@@ -73,9 +76,10 @@ pub(crate) fn execute_one(
     bps: &Breakpoints,
     number: u32,
 ) -> Result<Executed, AllocError>
-    ensures executed { IfOk result (λ executed. executed ≡ executed_of bps.now number process.old) }
-    ensures after { OnOk result (process.new ≡ stepped process.old) }
+    ensures executed { IfOk result (λ executed. executed ≡ executed_of bps.now number process.old.seen) }
+    ensures after { OnOk result (process.new.seen ≡ stepped process.old.seen) }
 {
+    process.memory.ready(STORED_PAGES)?;
     match execute(&mut process.cpu, &mut process.memory) {
         Outcome::Next => {
             let hits = bps.hits(number, process.attached, process.cpu.pc)?;
@@ -129,8 +133,8 @@ pub(crate) fn settle(
     fate: Fate,
 ) -> Result<Events, AllocError>
     requires { 0 < number }
-    ensures events { IfOk result (λ events. events ≡ settled_events bps.now number fate targets.new) }
-    ensures after { OnOk result (targets.new ≡ settled number fate targets.old) }
+    ensures events { IfOk result (λ events. events ≡ settled_events bps.now number fate targets.new.seen) }
+    ensures after { OnOk result (targets.new.seen ≡ settled number fate targets.old.seen) }
 {
     match fate {
         Fate::Ends(code) => end(alloc, targets, bps, number, code),

@@ -10,9 +10,9 @@ use tcf_values::{ContextId, Fault, Text, context_id};
 pub(crate) fn live_thread(targets: &Targets, id: &Text) -> Result<u32, Fault>
     ensures number { IfOk result (λ number. thread_named id.now ≡ Some number) }
     ensures positive { IfOk result (λ number. 0 < number) }
-    ensures found { OnOk result (IsSome (process_at_number (thread_named id.now) targets.now.processes)) }
+    ensures found { OnOk result (IsSome (process_at_number (thread_named id.now) targets.now.seen.processes)) }
     ensures fault { IfErr result (λ fault. fault ≡ Fault.BadContext) }
-    ensures missing { IfErr result (λ _. process_at_number (thread_named id.now) targets.now.processes ≡ None) }
+    ensures missing { IfErr result (λ _. process_at_number (thread_named id.now) targets.now.seen.processes ≡ None) }
 {
     targets.live_thread(id.as_bytes()).ok_or(Fault::BadContext)
 }
@@ -21,9 +21,9 @@ pub(crate) fn live_thread(targets: &Targets, id: &Text) -> Result<u32, Fault>
 pub(crate) fn live(targets: &Targets, id: &Text) -> Result<u32, Fault>
     ensures number { IfOk result (λ number. number_named id.now ≡ Some number) }
     ensures positive { IfOk result (λ number. 0 < number) }
-    ensures found { OnOk result (IsSome (process_at_number (number_named id.now) targets.now.processes)) }
+    ensures found { OnOk result (IsSome (process_at_number (number_named id.now) targets.now.seen.processes)) }
     ensures fault { IfErr result (λ fault. fault ≡ Fault.BadContext) }
-    ensures missing { IfErr result (λ _. process_at_number (number_named id.now) targets.now.processes ≡ None) }
+    ensures missing { IfErr result (λ _. process_at_number (number_named id.now) targets.now.seen.processes ≡ None) }
 {
     targets.live(id.as_bytes()).ok_or(Fault::BadContext)
 }
@@ -42,9 +42,9 @@ fn process_named(id: &Text) -> Option<u32>
 pub(crate) fn live_process(targets: &Targets, id: &Text) -> Result<u32, Fault>
     ensures number { IfOk result (λ number. process_named id.now ≡ Some number) }
     ensures positive { IfOk result (λ number. 0 < number) }
-    ensures found { OnOk result (IsSome (process_at_number (process_named id.now) targets.now.processes)) }
+    ensures found { OnOk result (IsSome (process_at_number (process_named id.now) targets.now.seen.processes)) }
     ensures fault { IfErr result (λ fault. fault ≡ Fault.BadContext) }
-    ensures missing { IfErr result (λ _. process_at_number (process_named id.now) targets.now.processes ≡ None) }
+    ensures missing { IfErr result (λ _. process_at_number (process_named id.now) targets.now.seen.processes ≡ None) }
 {
     let number = process_named(id).ok_or(Fault::BadContext)?;
     match targets.process(number) {

@@ -43,7 +43,7 @@ pub(crate) fn suspended(alloc: Global) -> Result<ThreadState, AllocError>
 
 /// Gives the thread of a live process another state.
 pub(crate) fn set_state(targets: &mut Targets, number: u32, state: ThreadState)
-    ensures { targets.new ≡ with_change (with_state state) number targets.old }
+    ensures { targets.new.seen ≡ with_change (with_state state) number targets.old.seen }
 {
     if let Some(process) = targets.process_mut(number) {
         process.state = state;
@@ -67,10 +67,10 @@ pub(crate) fn resume(
     count: i128,
 ) -> Result<Events, Refusal>
     ensures events { IfOk result (λ events. events ≡ events_of resumed_events (thread_named id.now)) }
-    ensures free { OnOk result (resume_fault id.now mode count targets.old.processes ≡ None) }
-    ensures after { OnOk result (targets.new ≡ left_of (resume_after (left_by mode count)) (thread_named id.now) targets.old) }
-    ensures refused { IfErr result (IsRefusalOf (resume_fault id.now mode count targets.old.processes)) }
-    ensures kept { OnErr result (targets.new ≡ targets.old) }
+    ensures free { OnOk result (resume_fault id.now mode count targets.old.seen.processes ≡ None) }
+    ensures after { OnOk result (targets.new.seen ≡ left_of (resume_after (left_by mode count)) (thread_named id.now) targets.old.seen) }
+    ensures refused { IfErr result (IsRefusalOf (resume_fault id.now mode count targets.old.seen.processes)) }
+    ensures kept { OnErr result (targets.new.seen ≡ targets.old.seen) }
 {
     let number = to_resume(targets, id, mode, count)?;
     let mut events = Events::new(alloc);
@@ -100,8 +100,8 @@ fn to_resume(targets: &Targets, id: &Text, mode: i128, count: i128) -> Result<u3
     ensures positive { IfOk result (λ number. 0 < number) }
     ensures lower_bound { OnOk result (pos 1 ≤ℤ count) }
     ensures upper_bound { OnOk result (count ≤ℤ pos 64) }
-    ensures free { OnOk result (resume_fault id.now mode count targets.now.processes ≡ None) }
-    ensures due { IfErr result (λ fault. resume_fault id.now mode count targets.now.processes ≡ Some fault) }
+    ensures free { OnOk result (resume_fault id.now mode count targets.now.seen.processes ≡ None) }
+    ensures due { IfErr result (λ fault. resume_fault id.now mode count targets.now.seen.processes ≡ Some fault) }
 {
     let number = live_thread(targets, id)?;
     if mode != GO && mode != STEP {
@@ -126,11 +126,11 @@ fn most_steps(mode: i128) -> i128
 
 /// RunControl.suspend: the thread is suspended on request.
 pub(crate) fn suspend(alloc: Global, targets: &mut Targets, id: &Text) -> Result<Events, Refusal>
-    ensures events { IfOk result (λ events. events ≡ events_of (λ number. suspend_events number targets.new) (thread_named id.now)) }
-    ensures free { OnOk result (suspend_fault id.now targets.old.processes ≡ None) }
-    ensures after { OnOk result (targets.new ≡ left_of suspend_after (thread_named id.now) targets.old) }
-    ensures refused { IfErr result (IsRefusalOf (suspend_fault id.now targets.old.processes)) }
-    ensures kept { IfErr result (λ refusal. IfDue refusal (targets.new ≡ targets.old)) }
+    ensures events { IfOk result (λ events. events ≡ events_of (λ number. suspend_events number targets.new.seen) (thread_named id.now)) }
+    ensures free { OnOk result (suspend_fault id.now targets.old.seen.processes ≡ None) }
+    ensures after { OnOk result (targets.new.seen ≡ left_of suspend_after (thread_named id.now) targets.old.seen) }
+    ensures refused { IfErr result (IsRefusalOf (suspend_fault id.now targets.old.seen.processes)) }
+    ensures kept { IfErr result (λ refusal. IfDue refusal (targets.new.seen ≡ targets.old.seen)) }
 {
     let number = to_suspend(targets, id)?;
     let state = suspended(alloc)?;
@@ -143,8 +143,8 @@ pub(crate) fn suspend(alloc: Global, targets: &mut Targets, id: &Text) -> Result
 /// The checks of a suspend.
 fn to_suspend(targets: &Targets, id: &Text) -> Result<u32, Fault>
     ensures number { IfOk result (λ number. thread_named id.now ≡ Some number) }
-    ensures free { OnOk result (suspend_fault id.now targets.now.processes ≡ None) }
-    ensures due { IfErr result (λ fault. suspend_fault id.now targets.now.processes ≡ Some fault) }
+    ensures free { OnOk result (suspend_fault id.now targets.now.seen.processes ≡ None) }
+    ensures due { IfErr result (λ fault. suspend_fault id.now targets.now.seen.processes ≡ Some fault) }
 {
     let number = live_thread(targets, id)?;
     if !targets.is_running(number) {

@@ -13,7 +13,7 @@ use tcf_values::{ContextId, Contexts, Duplicate, EventData, Events, Text, Texts,
 /// The numbers of the attached processes, in order.
 #[tactic(auto, using(crate::proofs::Positive::positive_attached))]
 pub fn attached(targets: &Targets) -> Result<Vec<u32>, AllocError>
-    ensures numbers { IfOk result (λ numbers. numbers.items ≡ attached_in targets.now.processes) }
+    ensures numbers { IfOk result (λ numbers. numbers.items ≡ attached_in targets.now.seen.processes) }
     ensures positive { IfOk result (λ numbers. All (λ number. 0 < number) numbers.items) }
 {
     let numbers = targets.numbers()?;
@@ -22,7 +22,7 @@ pub fn attached(targets: &Targets) -> Result<Vec<u32>, AllocError>
 
 /// Those of these numbers that an attached process has.
 fn attached_among(alloc: Global, targets: &Targets, numbers: &[u32]) -> Result<Vec<u32>, AllocError>
-    ensures { IfOk result (λ attached. attached.items ≡ filter (λ number. is_attached (process_of number targets.now.processes)) numbers.now) }
+    ensures { IfOk result (λ attached. attached.items ≡ filter (λ number. is_attached (process_of number targets.now.seen.processes)) numbers.now) }
 {
     let mut attached = Vec::new(alloc);
     for number in numbers {
@@ -57,7 +57,7 @@ pub(crate) fn tell_added(
     number: u32,
     events: &mut Events,
 ) -> Result<(), AllocError>
-    ensures { OnOk result (events.new ≡ events.old ++ added_events number (process_of number targets.now.processes)) }
+    ensures { OnOk result (events.new ≡ events.old ++ added_events number (process_of number targets.now.seen.processes)) }
 {
     let Some(process) = targets.context(ContextId::Process(number))? else {
         return Ok(());
@@ -79,7 +79,7 @@ pub(crate) fn tell_changed(
     number: u32,
     events: &mut Events,
 ) -> Result<(), AllocError>
-    ensures { OnOk result (events.new ≡ events.old ++ changed_events number (process_of number targets.now.processes)) }
+    ensures { OnOk result (events.new ≡ events.old ++ changed_events number (process_of number targets.now.seen.processes)) }
 {
     if let Some(thread) = targets.context(ContextId::Thread(number, THREAD))? {
         let mut list = Contexts::new(alloc);
@@ -96,7 +96,7 @@ pub(crate) fn tell_suspended(
     number: u32,
     events: &mut Events,
 ) -> Result<(), AllocError>
-    ensures { OnOk result (events.new ≡ events.old ++ suspended_events number (process_of number targets.now.processes)) }
+    ensures { OnOk result (events.new ≡ events.old ++ suspended_events number (process_of number targets.now.seen.processes)) }
 {
     let Some(process) = targets.process(number) else {
         return Ok(());
@@ -153,7 +153,7 @@ pub(crate) fn tell_statuses(
     bps: &Breakpoints,
     events: &mut Events,
 ) -> Result<(), AllocError>
-    ensures { OnOk result (events.new ≡ events.old ++ statuses_in bps.now targets.now) }
+    ensures { OnOk result (events.new ≡ events.old ++ statuses_in bps.now targets.now.seen) }
 {
     bps.add_statuses(&attached(targets)?, events)
 }

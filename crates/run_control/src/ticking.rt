@@ -23,9 +23,9 @@ pub fn step(
     bps: &Breakpoints,
     thread: ContextId,
 ) -> Result<Option<Events>, AllocError>
-    ensures events { IfOk result (λ told. told ≡ tick_events bps.now thread targets.old) }
-    ensures after { OnOk result (targets.new ≡ tick_after bps.now thread targets.old) }
-    ensures idle { IfNone (tick_events bps.now thread targets.old) (result ≡ Ok None) }
+    ensures events { IfOk result (λ told. told ≡ tick_events bps.now thread targets.old.seen) }
+    ensures after { OnOk result (targets.new.seen ≡ tick_after bps.now thread targets.old.seen) }
+    ensures idle { IfNone (tick_events bps.now thread targets.old.seen) (result ≡ Ok None) }
 {
     match running_number(targets, thread) {
         Some(number) => Ok(Some(tick(alloc, targets, bps, number)?)),
@@ -35,7 +35,7 @@ pub fn step(
 
 /// The process whose thread this is, where it lives and runs.
 fn running_number(targets: &Targets, thread: ContextId) -> Option<u32>
-    ensures number { result ≡ running_number thread targets.now.processes }
+    ensures number { result ≡ running_number thread targets.now.seen.processes }
     ensures positive { IfSome result (λ number. 0 < number) }
 {
     let number = thread_for(thread)?;
@@ -55,8 +55,8 @@ fn tick(
     number: u32,
 ) -> Result<Events, AllocError>
     requires positive { 0 < number }
-    ensures events { IfOk result (λ events. events ≡ ticked_events bps.now number targets.old) }
-    ensures after { OnOk result (targets.new ≡ ticked bps.now number targets.old) }
+    ensures events { IfOk result (λ events. events ≡ ticked_events bps.now number targets.old.seen) }
+    ensures after { OnOk result (targets.new.seen ≡ ticked bps.now number targets.old.seen) }
 {
     match tick_fate(alloc, targets, bps, number)? {
         Some(fate) => settle(alloc, targets, bps, number, fate),
@@ -71,8 +71,8 @@ fn tick_fate(
     bps: &Breakpoints,
     number: u32,
 ) -> Result<Option<Fate>, AllocError>
-    ensures fate { IfOk result (λ fate. fate ≡ option_map (λ process. tick_fate bps.now number process) (process_of number targets.old.processes)) }
-    ensures after { OnOk result (targets.new ≡ with_change stepped number targets.old) }
+    ensures fate { IfOk result (λ fate. fate ≡ option_map (λ process. tick_fate bps.now number process) (process_of number targets.old.seen.processes)) }
+    ensures after { OnOk result (targets.new.seen ≡ with_change stepped number targets.old.seen) }
 {
     match targets.process_mut(number) {
         Some(process) => {

@@ -32,11 +32,11 @@ pub(crate) fn run(
     id: &Text,
     count: i128,
 ) -> Result<Effect, Refusal>
-    ensures effect { IfOk result (λ effect. effect ≡ trace_given bps.now (unsigned_abs count) (thread_named id.now) targets.old targets.new) }
-    ensures free { OnOk result (trace_fault id.now count targets.old.processes ≡ None) }
-    ensures after { OnOk result (targets.new ≡ left_of (trace_after bps.now (unsigned_abs count)) (thread_named id.now) targets.old) }
-    ensures refused { IfErr result (IsRefusalOf (trace_fault id.now count targets.old.processes)) }
-    ensures kept { IfErr result (λ refusal. IfDue refusal (targets.new ≡ targets.old)) }
+    ensures effect { IfOk result (λ effect. effect ≡ trace_given bps.now (unsigned_abs count) (thread_named id.now) targets.old.seen targets.new.seen) }
+    ensures free { OnOk result (trace_fault id.now count targets.old.seen.processes ≡ None) }
+    ensures after { OnOk result (targets.new.seen ≡ left_of (trace_after bps.now (unsigned_abs count)) (thread_named id.now) targets.old.seen) }
+    ensures refused { IfErr result (IsRefusalOf (trace_fault id.now count targets.old.seen.processes)) }
+    ensures kept { IfErr result (λ refusal. IfDue refusal (targets.new.seen ≡ targets.old.seen)) }
 {
     let number = to_trace(targets, id, count)?;
     Ok(trace(alloc, targets, bps, number, count as u32)?)
@@ -48,8 +48,8 @@ fn to_trace(targets: &Targets, id: &Text, count: i128) -> Result<u32, Fault>
     ensures positive { IfOk result (λ number. 0 < number) }
     ensures lower_bound { OnOk result (pos 1 ≤ℤ count) }
     ensures upper_bound { OnOk result (count ≤ℤ pos 64) }
-    ensures free { OnOk result (trace_fault id.now count targets.now.processes ≡ None) }
-    ensures due { IfErr result (λ fault. trace_fault id.now count targets.now.processes ≡ Some fault) }
+    ensures free { OnOk result (trace_fault id.now count targets.now.seen.processes ≡ None) }
+    ensures due { IfErr result (λ fault. trace_fault id.now count targets.now.seen.processes ≡ Some fault) }
 {
     let number = live_thread(targets, id)?;
     if is_no_count(MOST_STEPS, count) {
@@ -70,8 +70,8 @@ fn trace(
     count: u32,
 ) -> Result<Effect, AllocError>
     requires { 0 < number }
-    ensures effect { IfOk result (λ effect. effect ≡ trace_given bps.now count (Some number) targets.old targets.new) }
-    ensures after { OnOk result (targets.new ≡ trace_after bps.now count number targets.old) }
+    ensures effect { IfOk result (λ effect. effect ≡ trace_given bps.now count (Some number) targets.old.seen targets.new.seen) }
+    ensures after { OnOk result (targets.new.seen ≡ trace_after bps.now count number targets.old.seen) }
 {
     match execute_trace(alloc, targets, bps, number, count)? {
         Some(Traced { addresses, fate }) => {
@@ -95,9 +95,9 @@ fn execute_trace(
     number: u32,
     count: u32,
 ) -> Result<Option<Traced>, AllocError>
-    ensures done { IfOk result (λ traced. traced ≡ option_map (λ process. traced_of bps.now number count process) (process_of number targets.old.processes)) }
+    ensures done { IfOk result (λ traced. traced ≡ option_map (λ process. traced_of bps.now number count process) (process_of number targets.old.seen.processes)) }
     ensures few { IfOk result (λ traced. IfSome traced (λ some. length some.addresses ≤ count)) }
-    ensures after { OnOk result (targets.new ≡ with_change (λ process. (trace_of bps.now number count process).process) number targets.old) }
+    ensures after { OnOk result (targets.new.seen ≡ with_change (λ process. (trace_of bps.now number count process).process) number targets.old.seen) }
 {
     match targets.process_mut(number) {
         Some(process) => {
@@ -119,7 +119,7 @@ fn execute_up_to(
     number: u32,
     count: u32,
 ) -> Result<(Numbers, Executed), AllocError>
-    ensures trace { IfOk result (λ done. trace_of bps.now number count process.old ≡ record { process = process.new; addresses = done.0; stop = done.1 }) }
+    ensures trace { IfOk result (λ done. trace_of bps.now number count process.old.seen ≡ record { process = process.new.seen; addresses = done.0; stop = done.1 }) }
     ensures few { IfOk result (λ done. length done.0 ≤ count) }
 {
     let mut addresses = Numbers::new(alloc);

@@ -6,3 +6,8 @@ pub mod Ends
 pub mod TheLaws
 pub mod Products
 pub mod Divisions
+pub mod Joined
+pub mod Memories
+pub mod Images
+pub mod Owned
+pub mod Stored

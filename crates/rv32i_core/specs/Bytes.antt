@@ -1,7 +1,7 @@
 -- Memory as a list of 65,536 bytes, and the numbers in one, two or four of them, the lowest byte first.
 -- The RISC-V Instruction Set Manual, volume I: Unprivileged ISA, version 20191213: "Memory" (1.4) and "Load and Store
 -- Instructions" (2.6).
-use Rattle.std.specs.Prelude.{ℕ, ◌+◌, ◌-◌, ◌*◌, ◌/◌, ◌%◌, ◌^◌, Bool, nat_le, List, ◌++◌, length, replicate, slice_index, slice_set}
+use Rattle.std.specs.Prelude.{ℕ, ◌+◌, ◌-◌, ◌*◌, ◌/◌, ◌%◌, ◌^◌, Bool, nat_le, List, ◌++◌, length, replicate, take, drop, slice_index, slice_set}
 
 -- `count` bytes from a place on lie in memory; the address does not wrap on the way
 abbrev pub is_inside : ℕ → ℕ → Bool
@@ -32,3 +32,7 @@ with_halfword place n memory = with_byte (place + 1) (n / 2 ^ 8) (with_byte plac
 
 abbrev pub with_word : ℕ → ℕ → List ℕ → List ℕ
 with_word place n memory = with_halfword (place + 2) (n / 2 ^ 16) (with_halfword place n memory)
+
+-- memory with bytes put over those from a place on
+abbrev pub with_bytes : ℕ → List ℕ → List ℕ → List ℕ
+with_bytes place bytes memory = take place memory ++ (bytes ++ drop (place + length bytes) memory)

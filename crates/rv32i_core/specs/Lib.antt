@@ -2,6 +2,9 @@ pub mod Word
 pub mod Listing
 pub mod Registers
 pub mod Bytes
+pub mod PageKind
+pub mod Pages
+pub mod Owning
 pub mod Integers
 pub mod Machine
 pub mod Laws

@@ -1,9 +1,10 @@
 //! What each instruction does: a function for each family, in the manual's order.
 ghost use Rattle.std.specs.Bool.{OnFalse};
-ghost use Rattle.std.specs.Prelude.{◌≡◌, ◌≢◌, ◌<◌, List, ℕ, if◌then◌else◌};
+ghost use Rattle.std.specs.Prelude.{◌≡◌, ◌≢◌, ◌<◌, ◌≤◌, List, ℕ, if◌then◌else◌};
 ghost use Rattle.rv32i_core.specs.Integers.{unsigned};
 ghost use Rattle.rv32i_core.specs.Listing.{NamesRegisters};
 ghost use Rattle.rv32i_core.specs.Machine.{effect, is_taken, jump_step, link_step, loaded, machine, next_step, result_step, step_of, stored};
+ghost use Rattle.rv32i_core.specs.Owning.{BecomeOwn};
 ghost use Rattle.rv32i_core.specs.Word.{sign_extended};
 
 use crate::decoding::decode;
@@ -29,11 +30,16 @@ pub enum Outcome {
 /// know, a taken jump to an address that is no multiple of 4, EBREAK, and ECALL with another number
 /// than 93 in x17. After `Exit` and `Exception` the processor and its memory are as they were, so `pc`
 /// stays on the instruction.
-#[tactic(auto, unfolding(crate::specs::Machine::machine))]
+///
+/// The memory has to have 4 spare pages or more, since the bytes of a store can lie in two pages. At most
+/// four pages become own, and all others stay as they were kept.
+#[tactic(auto, using(crate::proofs::Owned::none_become), unfolding(crate::specs::Machine::machine))]
 pub fn execute(cpu: &mut Cpu, memory: &mut Memory) -> Outcome
-    ensures step { step_of result cpu.new memory.new ≡ machine cpu.old memory.old }
+    requires { 4 ≤ memory.old.spare }
+    ensures step { step_of result cpu.new memory.new.bytes ≡ machine cpu.old memory.old.bytes }
     ensures cpu_kept { result ≢ Outcome.Next → cpu.new ≡ cpu.old }
     ensures memory_kept { result ≢ Outcome.Next → memory.new ≡ memory.old }
+    ensures pages { BecomeOwn 4 memory.old memory.new }
 {
     if !memory.has(4, cpu.pc) {
         return Outcome::Exception;
@@ -45,11 +51,14 @@ pub fn execute(cpu: &mut Cpu, memory: &mut Memory) -> Outcome
 }
 
 /// Does what an instruction says.
+#[tactic(auto, using(crate::proofs::Owned::none_become))]
 fn perform(cpu: &mut Cpu, memory: &mut Memory, instruction: Instruction) -> Outcome
-    requires { NamesRegisters instruction }
-    ensures step { step_of result cpu.new memory.new ≡ effect instruction cpu.old memory.old }
+    requires registers { NamesRegisters instruction }
+    requires room { 4 ≤ memory.old.spare }
+    ensures step { step_of result cpu.new memory.new.bytes ≡ effect instruction cpu.old memory.old.bytes }
     ensures cpu_kept { result ≢ Outcome.Next → cpu.new ≡ cpu.old }
     ensures memory_kept { result ≢ Outcome.Next → memory.new ≡ memory.old }
+    ensures pages { BecomeOwn 4 memory.old memory.new }
 {
     match instruction {
         Instruction::ImmOp { kind, rd, rs1, imm } => op_imm(cpu, kind, rd, rs1, imm),
@@ -216,7 +225,7 @@ fn is_branch_taken(kind: BranchKind, a: u32, b: u32) -> bool
 fn load(cpu: &mut Cpu, memory: &Memory, kind: LoadKind, rd: u8, rs1: u8, imm: i32) -> Outcome
     requires rd { rd < 32 }
     requires rs1 { rs1 < 32 }
-    ensures step { step_of result cpu.new memory.now ≡ effect (Instruction.Load kind rd rs1 imm) cpu.old memory.now }
+    ensures step { step_of result cpu.new memory.now.bytes ≡ effect (Instruction.Load kind rd rs1 imm) cpu.old memory.now.bytes }
     ensures kept { result ≢ Outcome.Next → cpu.new ≡ cpu.old }
 {
     let place = cpu.read(rs1).wrapping_add_signed(imm);
@@ -228,7 +237,7 @@ fn load(cpu: &mut Cpu, memory: &Memory, kind: LoadKind, rd: u8, rs1: u8, imm: i3
 
 /// The number that a load reads; `None` where a byte of it lies outside memory.
 fn load_number(memory: &Memory, kind: LoadKind, place: u32) -> Option<u32>
-    ensures { result ≡ loaded kind place memory.now }
+    ensures { result ≡ loaded kind place memory.now.bytes }
 {
     match kind {
         LoadKind::Lb if memory.has(1, place) => Some(sign_extend_byte(memory.byte(place))),
@@ -252,12 +261,15 @@ fn sign_extend_halfword(halfword: u16) -> u32
     i32::from(halfword.cast_signed()).cast_unsigned()
 }
 
+#[tactic(auto, using(crate::proofs::Owned::none_become))]
 fn store(cpu: &mut Cpu, memory: &mut Memory, kind: StoreKind, rs1: u8, rs2: u8, imm: i32) -> Outcome
     requires rs1 { rs1 < 32 }
     requires rs2 { rs2 < 32 }
-    ensures step { step_of result cpu.new memory.new ≡ effect (Instruction.Store kind rs1 rs2 imm) cpu.old memory.old }
+    requires room { 4 ≤ memory.old.spare }
+    ensures step { step_of result cpu.new memory.new.bytes ≡ effect (Instruction.Store kind rs1 rs2 imm) cpu.old memory.old.bytes }
     ensures cpu_kept { result ≢ Outcome.Next → cpu.new ≡ cpu.old }
     ensures memory_kept { result ≢ Outcome.Next → memory.new ≡ memory.old }
+    ensures pages { BecomeOwn 4 memory.old memory.new }
 {
     let place = cpu.read(rs1).wrapping_add_signed(imm);
     if store_number(memory, kind, place, cpu.read(rs2)) {
@@ -269,9 +281,12 @@ fn store(cpu: &mut Cpu, memory: &mut Memory, kind: StoreKind, rs1: u8, rs2: u8, 
 
 /// Puts a number's lowest bytes into memory; `false` where one of them lies outside, and then nothing
 /// changes.
+#[tactic(auto, using(crate::proofs::Owned::none_become, crate::proofs::Owned::fewer_become))]
 fn store_number(memory: &mut Memory, kind: StoreKind, place: u32, value: u32) -> bool
-    ensures written { (if result then Some memory.new else None) ≡ stored kind place value memory.old }
+    requires { 4 ≤ memory.old.spare }
+    ensures written { (if result then Some memory.new.bytes else None) ≡ stored kind place value memory.old.bytes }
     ensures kept { OnFalse result (memory.new ≡ memory.old) }
+    ensures pages { BecomeOwn 4 memory.old memory.new }
 {
     match kind {
         StoreKind::Sb if memory.has(1, place) => memory.set_byte(place, value),

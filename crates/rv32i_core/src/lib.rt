@@ -5,16 +5,21 @@
 //! version 20191213.
 #![tactic(auto)]
 
+mod cutting;
 mod decoding;
 mod execution;
+mod image;
 mod instructions;
 mod integers;
 mod laws;
+mod page;
 mod ram;
 mod registers;
 
+pub use cutting::pages;
 pub use decoding::decode;
 pub use execution::{Outcome, execute};
+pub use image::Pages;
 pub use instructions::{BranchKind, ImmKind, Instruction, LoadKind, OpKind, StoreKind};
 pub use laws::the_machine_stays_within;
 pub use ram::Memory;

@@ -3,7 +3,7 @@ use crate::rows::Board;
 use crate::tables::put_text;
 use crate::words::first;
 use anyhow::{Context, Result, ensure};
-use rv32i_core::{Cpu, Memory, decode, execute};
+use rv32i_core::{Cpu, Memory, decode, execute, pages};
 use std::alloc::Global;
 use tcf_outside::Octets;
 
@@ -17,20 +17,24 @@ fn number(word: &str) -> Result<u32> {
 /// A memory with these bytes at 0; one of zeros where there are none.
 fn memory(alloc: Global, word: &str) -> Result<Memory> {
     let bytes = hex::decode(alloc, word)?;
-    if bytes.is_empty() {
-        return Ok(Memory::new(alloc)?);
-    }
     ensure!(bytes.len() <= MOST_BYTES, "no memory");
-    Ok(Memory::with_image(alloc, bytes.as_slice())?)
+    Ok(Memory::new(alloc, &pages(alloc, bytes.as_slice())?)?)
+}
+
+/// Writes a byte, and tells whether it lies in memory.
+fn write_byte(memory: &mut Memory, place: u32, byte: u8) -> Result<bool> {
+    memory.ready(1)?;
+    Ok(memory.write(place, byte))
 }
 
 /// Puts a word at an address, the lowest byte first. Bytes outside memory are left out.
-fn put_word(memory: &mut Memory, place: u32, word: u32) {
-    let [first, second, third, fourth] = word.to_le_bytes();
-    let _ = memory.write(place, first);
-    let _ = memory.write(place.wrapping_add(1), second);
-    let _ = memory.write(place.wrapping_add(2), third);
-    let _ = memory.write(place.wrapping_add(3), fourth);
+fn put_word(memory: &mut Memory, place: u32, word: u32) -> Result<()> {
+    let mut place = place;
+    for byte in word.to_le_bytes() {
+        let _ = write_byte(memory, place, byte)?;
+        place = place.wrapping_add(1);
+    }
+    Ok(())
 }
 
 /// Writes bytes from an address on, and puts whether all lie in memory.
@@ -39,7 +43,7 @@ fn put_write(alloc: Global, memory: &mut Memory, words: &str, out: &mut Octets) 
     let mut place = number(place)?;
     let mut inside = true;
     for byte in &hex::decode(alloc, code)? {
-        inside = memory.write(place, *byte) && inside;
+        inside = write_byte(memory, place, *byte)? && inside;
         place = place.wrapping_add(1);
     }
     put_text(if inside { "inside" } else { "outside" }, out)
@@ -97,7 +101,8 @@ fn put_step(alloc: Global, memory: &mut Memory, words: &str, out: &mut Octets) -
     let (pc, words) = first(words);
     let (word, registers) = first(words);
     let before = cpu(pc, registers)?;
-    put_word(memory, before.pc, number(word)?);
+    put_word(memory, before.pc, number(word)?)?;
+    memory.ready(4)?;
     let mut now = before;
     let outcome = execute(&mut now, memory);
     let mut line = format!(in alloc; "{outcome:?} pc={:x}", now.pc)?;

@@ -1,6 +1,10 @@
 pub mod Rising
 pub mod Found
+pub mod KeptImages
+pub mod Kept
 pub mod Lookup
+pub mod PutBack
+pub mod Running
 pub mod Orderly
 pub mod Short
 pub mod Whole

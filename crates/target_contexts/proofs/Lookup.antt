@@ -12,20 +12,20 @@ use Rattle.target_contexts.specs.Laws.{AgreeBut, StartsOne, ChangesOne, EndsOne}
 use Rattle.target_contexts.specs.ProcessValue.{ProcessValue}
 use Rattle.target_contexts.proofs.Found.{above, below, inside, not_live, number_there, written_there}
 
-abbrev is_of : ℕ → ℕ × ProcessValue → Bool
+abbrev pub is_of : ℕ → ℕ × ProcessValue → Bool
 is_of number row = nat_eq row.0 number
 
-abbrev first_of : ℕ → List (ℕ × ProcessValue) → Option (ℕ × ProcessValue)
+abbrev pub first_of : ℕ → List (ℕ × ProcessValue) → Option (ℕ × ProcessValue)
 first_of number rows = find (λ (row : ℕ × ProcessValue). is_of number row) rows
 
-abbrev process_in : Option (ℕ × ProcessValue) → Option ProcessValue
+abbrev pub process_in : Option (ℕ × ProcessValue) → Option ProcessValue
 process_in o = option_map (λ (row : ℕ × ProcessValue). row.1) o
 
 abbrev place_in : ℕ → List (ℕ × ProcessValue) → ℕ
 place_in number rows = position_or_len (λ (row : ℕ × ProcessValue). is_of number row) rows
 
 -- the process of a number is that of the first row that has it
-process_of-first : (number : ℕ) (rows : List (ℕ × ProcessValue)) → process_of number rows ≡ process_in (first_of number rows)
+pub process_of-first : (number : ℕ) (rows : List (ℕ × ProcessValue)) → process_of number rows ≡ process_in (first_of number rows)
 process_of-first number rows = by (nat_lt (place_in number rows) (length rows)) refl
   where
     there : first_of number rows ≡ slice_get rows (place_in number rows)

@@ -1,9 +1,10 @@
 -- The laws of contexts, as terms.
-use Rattle.target_contexts.specs.Laws.{ChangeStaysOrderly, ChangesOne, EndStaysOrderly, EndsOne, StartStaysOrderly, StartsOne}
+use Rattle.target_contexts.specs.Laws.{ChangeStaysOrderly, ChangesOne, EndStaysOrderly, EndsOne, PutBackChangesNothing, StartStaysOrderly, StartsOne}
 use Rattle.target_contexts.specs.Short.{ChangeStaysShort, EndStaysShort, FoundIsShort, StartStaysShort}
 use Rattle.target_contexts.specs.Whole.{StartIsWhole, StartStands}
 use Rattle.target_contexts.proofs.Lookup as lookup
 use Rattle.target_contexts.proofs.Orderly.{change_orderly, end_orderly, start_orderly}
+use Rattle.target_contexts.proofs.PutBack as back
 use Rattle.target_contexts.proofs.Short as short
 use Rattle.target_contexts.proofs.Whole as whole
 
@@ -12,6 +13,9 @@ starts_one = lookup.starts_one
 
 pub changes_one : ChangesOne
 changes_one = lookup.changes_one
+
+pub put_back : PutBackChangesNothing
+put_back = back.put_back
 
 pub ends_one : EndsOne
 ends_one = lookup.ends_one

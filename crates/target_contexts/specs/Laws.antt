@@ -19,6 +19,11 @@ ChangesOne = (rows : List (ℕ × ProcessValue)) (number : ℕ) (process : Proce
     let new = with_process number process rows in
     (process_of number new ≡ Some process) × AgreeBut number rows new × (numbers_of new ≡ numbers_of rows)
 
+-- a process that is written as it was changes nothing
+abbrev pub PutBackChangesNothing : Type 0
+PutBackChangesNothing = (rows : List (ℕ × ProcessValue)) (number : ℕ) (process : ProcessValue) → process_of number rows ≡ Some process →
+    with_process number process rows ≡ rows
+
 -- the process that ends is gone
 abbrev pub EndsOne : Type 0
 EndsOne = (rows : List (ℕ × ProcessValue)) (next number : ℕ) → IsOrderly rows next →

@@ -1,8 +1,12 @@
 pub mod ProcessValue
 pub mod TargetsValue
+pub mod KeptProcess
+pub mod KeptTargets
+pub mod KeptImages
 pub mod Images
 pub mod Live
 pub mod Starting
+pub mod Kept
 pub mod Contexts
 pub mod Lending
 pub mod Laws

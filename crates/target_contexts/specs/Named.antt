@@ -53,6 +53,14 @@ abbrev pub is_unattached : Option ProcessValue → Bool
 is_unattached None = false
 is_unattached (Some process) = not process.attached
 
+-- the numbers of the processes whose thread runs, in order
+abbrev pub running_numbers : List (ℕ × ProcessValue) → List ℕ
+running_numbers rows = filter (λ number. is_running (process_of number rows)) (numbers_of rows)
+
+-- the same by the rows, each of which has its process beside its number
+abbrev pub running_rows : List (ℕ × ProcessValue) → List ℕ
+running_rows rows = numbers_of (filter (λ row. runs row.1.state) rows)
+
 -- the numbers of the attached processes, in order
 abbrev pub attached_in : List (ℕ × ProcessValue) → List ℕ
 attached_in rows = filter (λ number. is_attached (process_of number rows)) (numbers_of rows)

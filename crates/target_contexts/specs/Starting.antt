@@ -37,15 +37,19 @@ abbrev pub first_state : Bool → ThreadState
 first_state true = Suspended suspended_text []
 first_state false = Running None
 
--- the image at the address 0, all registers and pc 0
-abbrev pub new_process : Bool → Image → ProcessValue
-new_process attach image = record {
-  name = image.name;
+-- all registers and pc 0
+abbrev pub process_from : Bool → List ℕ → List ℕ → ProcessValue
+process_from attach name memory = record {
+  name = name;
   attached = attach;
   state = first_state attach;
   cpu = record { pc = 0; x = replicate 32 0 };
-  memory = image_memory image.bytes;
+  memory = memory;
 }
+
+-- the image at the address 0
+abbrev pub new_process : Bool → Image → ProcessValue
+new_process attach image = process_from attach image.name (image_memory image.bytes)
 
 abbrev pub with_started : Bool → TargetsValue → Option Image → TargetsValue
 with_started attach targets None = targets

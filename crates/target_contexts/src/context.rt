@@ -21,7 +21,7 @@ pub(crate) fn process_data(
     process: &Process,
 ) -> Result<ContextData, AllocError>
     requires { 0 < number }
-    ensures { IfOk result (λ made. made ≡ process_data number process.now) }
+    ensures { IfOk result (λ made. made ≡ process_data number process.now.seen) }
 {
     let id = ContextId::Process(number);
     Ok(ContextData {
@@ -44,7 +44,7 @@ pub(crate) fn thread_data(
     process: &Process,
 ) -> Result<ContextData, AllocError>
     requires { 0 < number }
-    ensures { IfOk result (λ made. made ≡ thread_data number process.now) }
+    ensures { IfOk result (λ made. made ≡ thread_data number process.now.seen) }
 {
     let id = ContextId::Process(number);
     Ok(ContextData {

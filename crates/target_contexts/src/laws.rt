@@ -1,6 +1,6 @@
 //! The laws of a list of live processes: to start, change or end one leaves the others as they are, and the list
 //! orderly; and the law of the process that starts.
-ghost use Rattle.target_contexts.specs.Laws.{ChangeStaysOrderly, ChangesOne, EndStaysOrderly, EndsOne, StartStaysOrderly, StartsOne};
+ghost use Rattle.target_contexts.specs.Laws.{ChangeStaysOrderly, ChangesOne, EndStaysOrderly, EndsOne, PutBackChangesNothing, StartStaysOrderly, StartsOne};
 ghost use Rattle.target_contexts.specs.Whole.{StartIsWhole, StartStands};
 
 /// The law that a process that starts is the one of its number, and that all others stay.
@@ -11,6 +11,11 @@ pub fn a_start_adds_one()
 /// The law that a process that is written is the one of its number, and that all others and all numbers stay.
 pub fn a_change_changes_one()
     ensures { ChangesOne }
+{}
+
+/// The law that a process that is written as it was changes nothing.
+pub fn a_process_put_back_changes_nothing()
+    ensures { PutBackChangesNothing }
 {}
 
 /// The law that a process that ends is gone, and that all others stay.

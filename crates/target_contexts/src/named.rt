@@ -47,7 +47,7 @@ impl Targets {
     pub fn live(&self, id: &[u8]) -> Option<u32>
         ensures number { OnSome result (result ≡ number_named id.now) }
         ensures positive { IfSome result (λ number. 0 < number) }
-        ensures found { IsSome result ↔ IsSome (process_at_number (number_named id.now) self.now.processes) }
+        ensures found { IsSome result ↔ IsSome (process_at_number (number_named id.now) self.now.seen.processes) }
     {
         self.lives(number_for(context_id(id)?)?)
     }
@@ -56,14 +56,14 @@ impl Targets {
     pub fn live_thread(&self, id: &[u8]) -> Option<u32>
         ensures number { OnSome result (result ≡ thread_named id.now) }
         ensures positive { IfSome result (λ number. 0 < number) }
-        ensures found { IsSome result ↔ IsSome (process_at_number (thread_named id.now) self.now.processes) }
+        ensures found { IsSome result ↔ IsSome (process_at_number (thread_named id.now) self.now.seen.processes) }
     {
         self.lives(thread_for(context_id(id)?)?)
     }
 
     /// Whether the thread of a live process runs.
     pub fn is_running(&self, number: u32) -> bool
-        ensures { result ≡ is_running (process_of number self.now.processes) }
+        ensures { result ≡ is_running (process_of number self.now.seen.processes) }
     {
         match self.process(number) {
             Some(process) => process.state.runs(),
@@ -73,7 +73,7 @@ impl Targets {
 
     /// Whether a live process is attached.
     pub fn is_attached(&self, number: u32) -> bool
-        ensures { result ≡ is_attached (process_of number self.now.processes) }
+        ensures { result ≡ is_attached (process_of number self.now.seen.processes) }
     {
         match self.process(number) {
             Some(process) => process.attached,
@@ -85,7 +85,7 @@ impl Targets {
     fn lives(&self, number: u32) -> Option<u32>
         ensures number { OnSome result (result ≡ Some number) }
         ensures positive { OnSome result (0 < number) }
-        ensures found { IsSome result ↔ IsSome (process_of number self.now.processes) }
+        ensures found { IsSome result ↔ IsSome (process_of number self.now.seen.processes) }
     {
         match self.process(number) {
             Some(_) => Some(number),

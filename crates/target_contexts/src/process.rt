@@ -1,8 +1,10 @@
 //! One process with its one thread, and the image that it is started from.
-ghost use Rattle.std.specs.Prelude.{◌≡◌, ◌≤◌, length, IfOk};
-ghost use Rattle.target_contexts.specs.Starting.{first_state, new_process, suspended_text};
+ghost use Rattle.std.specs.Prelude.{◌≡◌, IfOk};
+ghost use Rattle.rv32i_core.specs.Bytes.{image_memory};
+ghost use Rattle.rv32i_core.specs.PageKind.{own_count};
+ghost use Rattle.target_contexts.specs.Starting.{first_state, process_from, suspended_text};
 
-use rv32i_core::{Cpu, Memory};
+use rv32i_core::{Cpu, Memory, Pages};
 use std::alloc::{AllocError, Global};
 use std::marker::Model;
 use tcf_values::{Bytes, Duplicate, Text, Texts};
@@ -24,7 +26,8 @@ pub enum ThreadState {
     Suspended { reason: Text, hits: Texts },
 }
 
-/// A process with its one thread. Contracts see a record of the same fields.
+/// A process with its one thread. Contracts see a record of the same fields, in which memory is its bytes, and beside it
+/// how each page of the memory is kept.
 #[derive(Drop)]
 pub struct Process {
     /// The name of its image.
@@ -37,11 +40,14 @@ pub struct Process {
 }
 
 impl Model for Process {
-    ghost use Rattle.target_contexts.specs.ProcessValue.{ProcessValue};
+    ghost use Rattle.target_contexts.specs.KeptProcess.{KeptProcess};
 
-    ghost Value = { ProcessValue };
+    ghost Value = { KeptProcess };
 
-    ghost view = { λ p. record { name = p.name; attached = p.attached; state = p.state; cpu = p.cpu; memory = p.memory } };
+    ghost view = { λ p. record {
+      seen = record { name = p.name; attached = p.attached; state = p.state; cpu = p.cpu; memory = p.memory.bytes };
+      kinds = p.memory.kinds;
+    } };
 }
 
 #[tactic(auto, unfolding(crate::specs::Starting::suspended_text))]
@@ -64,16 +70,21 @@ fn first_state(alloc: Global, attach: bool) -> Result<ThreadState, AllocError>
     }
 }
 
-/// The process that a start of this image makes.
-pub(crate) fn new_process(alloc: Global, image: &Image, attach: bool) -> Result<Process, AllocError>
-    requires { length image.now.bytes ≤ 65536 }
-    ensures { IfOk result (λ process. process ≡ new_process attach image.now) }
+/// The process that a start of the image of this name and of these pages makes. No page of its memory is own.
+pub(crate) fn new_process(
+    alloc: Global,
+    name: &Text,
+    image: &Pages,
+    attach: bool,
+) -> Result<Process, AllocError>
+    ensures seen { IfOk result (λ process. process.seen ≡ process_from attach name.now (image_memory image.now)) }
+    ensures kinds { IfOk result (λ process. own_count process.kinds ≡ 0) }
 {
     Ok(Process {
-        name: image.name.copy()?,
+        name: name.copy()?,
         attached: attach,
         state: first_state(alloc, attach)?,
         cpu: Cpu { pc: 0, x: [0; 32] },
-        memory: Memory::with_image(alloc, image.bytes.as_slice())?,
+        memory: Memory::new(alloc, image)?,
     })
 }

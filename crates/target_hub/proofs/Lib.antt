@@ -4,7 +4,6 @@ pub mod Given
 pub mod Rows
 pub mod Kept
 pub mod Unchanged
-pub mod Threads
 pub mod Owned
 pub mod Small
 pub mod SmallGiven

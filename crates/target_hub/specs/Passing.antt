@@ -1,12 +1,11 @@
 -- What passes without a command: a thread that executes an instruction, and a channel that goes.
-use Rattle.std.specs.Prelude.{ℕ, List, map, filter, Option}
+use Rattle.std.specs.Prelude.{ℕ, List, map, Option}
 use Rattle.tcf_values.specs.declared.event.EventData.{EventData}
 use Rattle.tcf_values.specs.declared.ids.ContextId.{ContextId}
 use Rattle.tcf_values.specs.declared.ids.ContextId.TheVariants as ids
 use Rattle.breakpoints.specs.Rows.{ids_of, others, owned_by}
 use Rattle.run_control.specs.Ticking.{tick_after, tick_events}
-use Rattle.target_contexts.specs.Live.{numbers_of, process_of}
-use Rattle.target_contexts.specs.Named.{is_running}
+use Rattle.target_contexts.specs.Named.{running_numbers}
 use Rattle.target_contexts.specs.ProcessValue.{ProcessValue}
 use Rattle.target_hub.specs.BreakpointsRows.{removed_events}
 use Rattle.run_control.specs.TargetValue.{TargetValue}
@@ -25,7 +24,7 @@ threads_of numbers = map (λ number. ids.Thread number 1) numbers
 
 -- the threads that run, in the order of their processes
 abbrev pub running_in : List (ℕ × ProcessValue) → List ContextId
-running_in rows = threads_of (filter (λ number. is_running (process_of number rows)) (numbers_of rows))
+running_in rows = threads_of (running_numbers rows)
 
 -- ---- a channel that goes takes its breakpoints with it, and contextRemoved tells them where there are some
 

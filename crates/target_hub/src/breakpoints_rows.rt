@@ -41,7 +41,7 @@ pub(crate) fn change(
 /// What a change of the list tells.
 fn told(alloc: Global, targets: &Targets, done: BpDone) -> Result<Effect, AllocError>
     requires { IsKnown done }
-    ensures { IfOk result (λ effect. effect ≡ effect_of (attached_in targets.now.processes) done) }
+    ensures { IfOk result (λ effect. effect ≡ effect_of (attached_in targets.now.seen.processes) done) }
 {
     match done {
         BpDone::Failed(code) => Ok(Effect::gives(alloc, Answer::Failed(report(alloc, code)?))),

@@ -1,11 +1,9 @@
 //! The hub: the one target of all channels, and what is done to it.
-ghost use Rattle.std.specs.Prelude.{◌≡◌, true, false, filter, None, IfNone, IfOk, IfSome, IsSome, OnErr, OnOk};
+ghost use Rattle.std.specs.Prelude.{◌≡◌, true, false, None, IfNone, IfOk, IfSome, IsSome, OnErr, OnOk};
 ghost use Rattle.command_tables.specs.Canonical.{IsReadable};
 ghost use Rattle.command_tables.specs.Reading.{IsReading};
 ghost use Rattle.reply_tables.specs.Written.{IsRefusal};
 ghost use Rattle.service_names.specs.Commands.{name_in};
-ghost use Rattle.target_contexts.specs.Live.{process_of};
-ghost use Rattle.target_contexts.specs.Named.{is_running};
 ghost use Rattle.target_hub.specs.Answering.{after_reading, executed, only, refusal, written};
 ghost use Rattle.target_hub.specs.Execution.{exec_after, exec_effect};
 ghost use Rattle.target_hub.specs.HubValue.{new_target, usable};
@@ -142,8 +140,8 @@ impl Hub {
         if self.spent {
             return Err(AllocError);
         }
-        let targets = &self.target.contexts;
-        running_among(self.alloc, targets, &targets.numbers()?)
+        let numbers = self.target.contexts.running()?;
+        threads_of(self.alloc, &numbers)
     }
 
     /// Begins a call that may meet want of memory: the hub is spent until the call is done.
@@ -220,19 +218,13 @@ impl Hub {
     }
 }
 
-/// Those of these processes whose thread runs, as their threads.
-fn running_among(
-    alloc: Global,
-    targets: &Targets,
-    numbers: &[u32],
-) -> Result<Vec<ContextId>, AllocError>
-    ensures { IfOk result (λ threads. threads.items ≡ threads_of (filter (λ number. is_running (process_of number targets.now.processes)) numbers.now)) }
+/// The threads of these processes.
+fn threads_of(alloc: Global, numbers: &[u32]) -> Result<Vec<ContextId>, AllocError>
+    ensures { IfOk result (λ threads. threads.items ≡ threads_of numbers.now) }
 {
     let mut threads = Vec::new(alloc);
     for number in numbers {
-        if targets.is_running(*number) {
-            threads.push(ContextId::Thread(*number, THREAD))?;
-        }
+        threads.push(ContextId::Thread(*number, THREAD))?;
     }
     Ok(threads)
 }

@@ -16,5 +16,5 @@ impl Model for Target {
 
     ghost Value = { TargetValue };
 
-    ghost view = { λ t. record { contexts = t.contexts; breakpoints = t.breakpoints } };
+    ghost view = { λ t. record { contexts = t.contexts.seen; breakpoints = t.breakpoints } };
 }

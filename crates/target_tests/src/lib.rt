@@ -9,6 +9,8 @@ mod data;
 #[cfg(test)]
 mod hub;
 #[cfg(test)]
+mod pages;
+#[cfg(test)]
 mod points;
 #[cfg(test)]
 mod processes;

@@ -30,7 +30,7 @@ fn start(targets: &mut Targets, name: &str) -> Result<u32, StartRefusal> {
 fn the_first_refusal_that_is_due_comes(rt: HostRuntime) -> Result<(), Fail> {
     let mut targets = Targets {
         alloc: rt.alloc(),
-        images: images(rt.alloc())?,
+        images: kept_images(rt.alloc(), images(rt.alloc())?)?,
         live: Vec::new(rt.alloc()),
         next: 4_294_967_232,
     };

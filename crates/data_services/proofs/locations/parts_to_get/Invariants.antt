@@ -9,5 +9,5 @@ invariant-loop-location l = record {
   parts : l.parts.items ++ parts_named (drop l.location-index l.list) ≡ parts_named l.list;
   inside : All IsInside l.parts.items;
   count : length l.parts.items ≡ l.location-index;
-  fault : locations_fault l.targets.processes (drop l.location-index l.list) ≡ locations_fault l.targets.processes l.list;
+  fault : locations_fault l.targets.seen.processes (drop l.location-index l.list) ≡ locations_fault l.targets.seen.processes l.list;
 }

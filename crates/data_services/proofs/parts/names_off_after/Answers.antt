@@ -13,6 +13,6 @@ returns-then-is_off_after c =
     let parts = c.args.parts.now in
     let i = c.loop-part.part-index in
     let part : Part = get_or parts i none in
-    let rows = (with_parts parts c.args.bytes.now c.args.targets.now).processes in
+    let rows = (with_parts parts c.args.bytes.now c.args.targets.now.seen).processes in
     sym (names_found rows parts i part (drop_more parts i none c.loop-part-test.true) (eq-eqb part.register.index 32 c.if-part-eq-PC.true) c.if-is_off_after.ensures)
     ∙ c.loop-part.invariant

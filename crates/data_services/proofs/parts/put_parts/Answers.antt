@@ -15,6 +15,6 @@ loop-part-preserved c =
     let rest = c.loop-part.rest.now in
     let later = c.split_at.result.1.now in
     record {
-      same = put_step parts i part rest c.split_at.result.0.now later c.loop-part.targets c.put_part.new.targets _ split c.split_at.ensures.front c.split_at.ensures.back c.put_part.ensures c.loop-part.invariant.same;
+      same = put_step parts i part rest c.split_at.result.0.now later c.loop-part.targets.seen c.put_part.new.targets.seen _ split c.split_at.ensures.front c.split_at.ensures.back c.put_part.ensures c.loop-part.invariant.same;
       size = size_step parts i part rest later split c.split_at.ensures.back c.loop-part.invariant.size;
     }

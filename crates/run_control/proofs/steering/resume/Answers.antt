@@ -16,7 +16,7 @@ left_same passed_mode mode passed_count count same_mode same_count =
 -- the thread that the text names has the state
 pub returns-clause-after : goal.returns-clause-after
 returns-clause-after c =
-    let targets = c.args.targets.now in
+    let targets = c.args.targets.now.seen in
     let n = c.in_ok-number.number in
     c.set_state.ensures
     ∙ ap (λ (state : ThreadState). with_change (with_state state) n targets) c.resumed.ensures

@@ -7,7 +7,7 @@ use Rattle.run_control.proofs.telling.attached.Goals as goal
 
 pub returns-clause-positive : goal.returns-clause-positive
 returns-clause-positive c =
-    let rows = c.args.targets.now.processes in
+    let rows = c.args.targets.now.seen.processes in
     let test = λ (n : ℕ). is_attached (process_of n rows) in
-    IfOk-weaker c.attached_among.result _ _ (λ out same. positive_attached out.items rows c.args.targets.now.next
+    IfOk-weaker c.attached_among.result _ _ (λ out same. positive_attached out.items rows c.args.targets.now.seen.next
     (same ∙ ap (λ (ns : List ℕ). filter test ns) (c.deref.ensures.value ∙ c.in_ok-numbers.ensures.numbers)) c.in_ok-numbers.ensures.orderly) c.attached_among.ensures

@@ -10,7 +10,7 @@ use Rattle.run_control.proofs.telling.attached_among.Goals.{then-is_attached+in_
 -- one number more
 pub loop-number-preserved : goal.loop-number-preserved
 loop-number-preserved c =
-    let rows = c.args.targets.now.processes in
+    let rows = c.args.targets.now.seen.processes in
     let numbers = c.args.numbers.now in
     let i = c.loop-number.number-index in
     let test = λ (n : ℕ). is_attached (process_of n rows) in

@@ -6,5 +6,5 @@ use Rattle.run_control.proofs.telling.attached_among.Given as goal
 -- those so far, and those among the numbers that are left
 abbrev pub invariant-loop-number : goal.invariant-loop-number
 invariant-loop-number l =
-    l.attached.items ++ filter (λ number. is_attached (process_of number l.targets.processes)) (drop l.number-index l.numbers)
-    ≡ filter (λ number. is_attached (process_of number l.targets.processes)) l.numbers
+    l.attached.items ++ filter (λ number. is_attached (process_of number l.targets.seen.processes)) (drop l.number-index l.numbers)
+    ≡ filter (λ number. is_attached (process_of number l.targets.seen.processes)) l.numbers

@@ -8,6 +8,7 @@ use Rattle.breakpoints.specs.Changes.{is_overfull}
 use Rattle.breakpoints.specs.Keyed.{IsKept}
 use Rattle.breakpoints.specs.Selecting.{selected, selects, unselected}
 use Rattle.breakpoints.specs.declared.selection.Selection.{Selection}
+use Rattle.breakpoints.proofs.Indexing.{kept_of}
 use Rattle.breakpoints.proofs.Fresh.{not_over_by, over_by}
 use Rattle.breakpoints.proofs.breakpoints.Breakpoints.is_crowded.Goals as goal
 
@@ -23,16 +24,16 @@ parts_of leaving es rows count len kept view counted long =
 
 pub overflow_sub-staying : goal.overflow_sub-staying
 overflow_sub-staying c =
-    let facts = parts_of c.args.leaving c.self.inside.map.entries c.args.self.now c.args.count c.len.result c.self.invariant c.self.view_is c.requires c.len.ensures.len in
+    let facts = parts_of c.args.leaving c.self.inside.map.entries c.args.self.now c.args.count c.len.result (kept_of _ _ c.self.invariant) c.self.view_is c.requires c.len.ensures.len in
     omega (arith, facts.0)
 
 pub returns-then-list-staying : goal.returns-then-list-staying
 returns-then-list-staying c =
-    let facts = parts_of c.args.leaving c.self.inside.map.entries c.args.self.now c.args.count c.len.result c.self.invariant c.self.view_is c.requires c.len.ensures.len in
+    let facts = parts_of c.args.leaving c.self.inside.map.entries c.args.self.now c.args.count c.len.result (kept_of _ _ c.self.invariant) c.self.view_is c.requires c.len.ensures.len in
     over_by c.len.result c.args.count (length (unselected c.args.leaving c.args.self.now)) (length c.args.list.now) _ facts.0 facts.1 c.if-list-staying.true
 
 pub returns-else-list-staying : goal.returns-else-list-staying
 returns-else-list-staying c =
-    let facts = parts_of c.args.leaving c.self.inside.map.entries c.args.self.now c.args.count c.len.result c.self.invariant c.self.view_is c.requires c.len.ensures.len in
+    let facts = parts_of c.args.leaving c.self.inside.map.entries c.args.self.now c.args.count c.len.result (kept_of _ _ c.self.invariant) c.self.view_is c.requires c.len.ensures.len in
     not_over_by c.len.result c.args.count (length (unselected c.args.leaving c.args.self.now)) (length c.args.list.now) c.clashes.result facts.0 facts.1 c.if-list-staying.false
     ∙ ap (λ b. is_overfull c.args.list.now (unselected c.args.leaving c.args.self.now) || b) c.clashes.ensures

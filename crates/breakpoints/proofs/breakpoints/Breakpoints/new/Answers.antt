@@ -1,6 +1,7 @@
-use Rattle.std.proofs.Common.{[], sym, subst, arith}
+use Rattle.std.proofs.Common.{[], arith}
 use Rattle.std.specs.List.{IsDistinct}
 use Rattle.breakpoints.specs.Keyed.{IsKept}
+use Rattle.breakpoints.proofs.Indexing.{none_indexed}
 use Rattle.breakpoints.proofs.breakpoints.Breakpoints.new.Goals as goal
 
 none_kept : IsKept []
@@ -9,4 +10,4 @@ none_kept = record { keyed = tt; orderly = record { differ = tt; few = omega ari
 
 -- a map without entries
 pub invariant_of-result : goal.invariant_of-result
-invariant_of-result c = subst IsKept (sym c.new.ensures.empty) none_kept
+invariant_of-result c = none_indexed _ _ none_kept c.new.ensures.empty c.empty_index.ensures

@@ -1,0 +1,139 @@
+#!/usr/bin/env python3
+"""Measures what the pages of memory and the index of breakpoints save and cost.
+
+usage: bench/pages.py PROGRAM [BEFORE] [TURNS]
+
+PROGRAM is the built program `tcf`, BEFORE another build of it, with which it is compared. The runs of the two take turns,
+so many as TURNS says (5); each figure is the one in the middle.
+"""
+import pathlib
+import resource
+import statistics
+import subprocess
+import sys
+import tempfile
+
+import serve
+from run import opened, repeated
+
+LONG = 32 * 1024
+PROCESSES = 64
+TICKS = 500_000
+HITS = 20_000
+STARTS = 2_000
+GETS = 200
+
+# The loop of `opened` stands at 0, 4 and 8: addi x1, x1, 0; .. ; jal back. No thread gets to 4,096 and what is behind.
+ELSEWHERE = 4_096
+
+
+class LongImage(serve.Agent):
+    """An agent whose image `loop` has 32 KiB."""
+
+    def __init__(self, program):
+        short, serve.IMAGE = serve.IMAGE, serve.IMAGE.ljust(LONG, b"\x13")
+        super().__init__(program)
+        serve.IMAGE = short
+
+
+def written(channel):
+    """Starts a process, and puts a byte into three of its pages."""
+    process = channel.start()
+    for address in (0, 4_096, 40_000):
+        channel.ask("Memory", "set", f'"{process}"', str(address), "1", "1", "0", '"AQ=="')
+
+
+def memories(program):
+    """KiB that 63 processes more take, each with three pages written."""
+    with LongImage(program) as agent:
+        channel = agent.channel()
+        written(channel)
+        one = agent.memory()
+        for _ in range(PROCESSES - 1):
+            written(channel)
+        return agent.memory() - one
+
+
+def busy():
+    used = resource.getrusage(resource.RUSAGE_CHILDREN)
+    return used.ru_utime + used.ru_stime
+
+
+def played(program, schedule):
+    """The processor seconds that a schedule takes."""
+    with tempfile.NamedTemporaryFile("w", suffix=".schedule") as file:
+        file.write(schedule)
+        file.flush()
+        before = busy()
+        done = subprocess.run([program, "chain", file.name], stdout=subprocess.PIPE)
+        assert done.returncode == 0, done.stdout[-200:]
+        return busy() - before
+
+
+def points(addresses):
+    """The lines that set an enabled breakpoint at each of these."""
+    add = 'send A Breakpoints add {"ID":"b%d","Location":"%d","Enabled":true}\nrounds 1\n'
+    return "".join(add % row for row in enumerate(addresses))
+
+
+RESUME = 'send A RunControl resume "P1.1" 0 1\nrounds 1\n'
+
+
+def ticking(count):
+    """Ticks beside so many enabled breakpoints."""
+    return opened(1) + points(range(ELSEWHERE, ELSEWHERE + 4 * count, 4)) + RESUME + repeated(TICKS, "tick P1.1")
+
+
+def hitting(count):
+    """Ticks of which every second one comes to a place with so many breakpoints."""
+    lines = opened(1) + points([4] * count)
+    return lines + (RESUME + "times 4 tick P1.1\n") * (HITS // 10)
+
+
+def tracing():
+    """Instructions by Trace, without their ticks."""
+    return opened(1) + ('send A Trace run "P1.1" 10000\nrounds 1\n') * (TICKS // 10_000)
+
+
+def starting():
+    start = 'send A Processes start "" "loop" [] [] true\nrounds 1\n'
+    lines = opened(1)
+    for number in range(2, STARTS + 2):
+        lines += start + 'send A RunControl terminate "P%d"\nrounds 1\n' % number
+    return lines
+
+
+def reading():
+    return opened(1) + 'send A Memory get "P1" 0 1 65536 0\nrounds 1\n' * GETS
+
+
+MEASURES = (
+    ("KiB that 63 processes of an image of 32 KiB take, three pages of each written", memories),
+    (f"s for {TICKS} ticks, no breakpoint", lambda program: played(program, ticking(0))),
+    (f"s for {TICKS} ticks, 256 breakpoints elsewhere", lambda program: played(program, ticking(256))),
+    (f"s for {HITS // 10} hits of 1 breakpoint", lambda program: played(program, hitting(1))),
+    (f"s for {HITS // 10} hits of 16 breakpoints", lambda program: played(program, hitting(16))),
+    (f"s for {TICKS} instructions by Trace run", lambda program: played(program, tracing())),
+    (f"s for {STARTS} starts and ends", lambda program: played(program, starting())),
+    (f"s for {GETS} readings of 65,536 bytes", lambda program: played(program, reading())),
+)
+
+
+def main():
+    words = sys.argv[1:]
+    turns = int(words.pop()) if words and words[-1].isdigit() else 5
+    if not 1 <= len(words) <= 2:
+        sys.exit(__doc__)
+    programs = [str(pathlib.Path(word).resolve()) for word in words]
+    for name, measure in MEASURES:
+        figures = [[] for _ in programs]
+        for _ in range(turns):
+            for program, found in zip(programs, figures):
+                found.append(measure(program))
+        middle = [statistics.median(found) for found in figures]
+        compared = f", before {middle[1]:.3f}, ratio {middle[0] / middle[1]:.2f}" if len(middle) == 2 else ""
+        print(f"{middle[0]:.3f} {name}{compared}", flush=True)
+
+
+if __name__ == "__main__":
+    main()

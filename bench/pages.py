@@ -66,7 +66,7 @@ def played(program, schedule):
         file.flush()
         before = busy()
         done = subprocess.run([program, "chain", file.name], stdout=subprocess.PIPE)
-        assert done.returncode == 0, done.stdout[-200:]
+        assert done.returncode == 0 and b'"Code"' not in done.stdout, "something was refused"
         return busy() - before
 
 
@@ -92,7 +92,7 @@ def hitting(count):
 
 def tracing():
     """Instructions by Trace, without their ticks."""
-    return opened(1) + ('send A Trace run "P1.1" 10000\nrounds 1\n') * (TICKS // 10_000)
+    return opened(1) + 'times 100 send A Trace run "P1.1" 64\nrounds 1\n' * (TICKS // 6_400)
 
 
 def starting():

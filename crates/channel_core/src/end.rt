@@ -176,6 +176,19 @@ fn is_due(is_loud: bool, level: i8) -> bool
     if is_loud { level <= -50 } else { level > 0 }
 }
 
+/// How many bytes most messages have at the most.
+const USUAL_BYTES: usize = 128;
+
+/// How many bytes the mark of a message's end has.
+const END_BYTES: usize = 2;
+
+/// A list of bytes with room for so many.
+fn room_for(alloc: Global, count: usize) -> Result<Octets, AllocError>
+    ensures { IfOk result (λ bytes. bytes ≡ []) }
+{
+    Ok(Octets::from_vec(Vec::with_capacity(alloc, count)?))
+}
+
 /// A message as it is sent.
 pub(crate) fn frame(
     alloc: Global,
@@ -185,9 +198,9 @@ pub(crate) fn frame(
     requires { IsWellFormed (value_of message.now) }
     ensures { IfOk result (λ outgoing. outgoing ≡ said (value_of message.now) mark) }
 {
-    let mut raw = Octets::new(alloc);
+    let mut raw = room_for(alloc, USUAL_BYTES)?;
     write(message, &mut raw)?;
-    let mut bytes = Octets::new(alloc);
+    let mut bytes = room_for(alloc, raw.len().saturating_add(END_BYTES))?;
     escape_into(raw.as_slice(), &mut bytes)?;
     mark_eom(&mut bytes)?;
     Ok(Outgoing { bytes, mark })

@@ -1,7 +1,8 @@
 -- Memory that is set: the event tells the range, and where the range is empty nothing has changed.
-use Rattle.std.proofs.Common.{◌≡◌, ℕ, nat_eq, pos, negsuc, unsigned_abs, Bool, true, false, cond, ◌||◌, is_none, List, [], ◌∷◌, length, Option, Some, None, refl, sym, ◌∙◌, ap, arith, eqb-true}
+use Rattle.std.proofs.Common.{◌≡◌, ℕ, nat_eq, pos, negsuc, unsigned_abs, Bool, true, false, cond, ◌||◌, is_none, List, [], ◌∷◌, ◌++◌, length, take, drop, Option, Some, None, refl, sym, ◌∙◌, ap, arith, eqb-true}
 use Rattle.std.specs.Prelude.{ℤ, ◌+ℤ◌, int_lt}
 use Rattle.std.proofs.lemmas.Bool.{eqb-false, ltb-false, or_from, or_parts}
+use Rattle.std.proofs.lemmas.List.{take-append-drop}
 use Rattle.breakpoints.specs.Rows.{props_of}
 use Rattle.data_services.specs.Bytes.{with_part}
 use Rattle.data_services.specs.MemoryRows.{is_no_size, is_outside, memory_events, with_memory}
@@ -23,11 +24,14 @@ use Rattle.target_truth.proofs.Whole.{IsGood}
 use Rattle.tcf_values.specs.Spelling.{context_spelling}
 use Rattle.tcf_values.specs.declared.event.EventData.TheVariants as events
 use Rattle.tcf_values.specs.declared.ids.ContextId.TheVariants as contexts
-use Rattle.data_services.proofs.Ranges.{nothing_put}
 
 no_bytes : (size : ℤ) → int_lt size (pos 0) ≡ false → int_lt (pos 0) size ≡ false → unsigned_abs size ≡ 0
 no_bytes (pos n) low high = omega (arith, ltb-false 0 n high)
 no_bytes (negsuc n) low high = cc
+
+-- nothing put over bytes leaves them
+nothing_put : (first : ℕ) (memory : List ℕ) → with_part first [] memory ≡ memory
+nothing_put first memory = ap (λ (n : ℕ). take first memory ++ drop n memory) (omega arith) ∙ take-append-drop first memory
 
 empty_list : (bytes : List ℕ) → length bytes ≡ 0 → bytes ≡ []
 empty_list [] none = refl

@@ -4,10 +4,12 @@
 usage: bench/pages.py PROGRAM [BEFORE] [TURNS]
 
 PROGRAM is the built program `tcf`, BEFORE another build of it, with which it is compared. The runs of the two take turns,
-so many as TURNS says (5); each figure is the one in the middle.
+so many as TURNS says (5); each figure is the one in the middle. Where gcc for RISC-V is installed, SHA-256 of 4,096 bytes
+(programs/sha256.c) is executed too.
 """
 import pathlib
 import resource
+import shutil
 import statistics
 import subprocess
 import sys
@@ -59,14 +61,15 @@ def busy():
     return used.ru_utime + used.ru_stime
 
 
-def played(program, schedule):
-    """The processor seconds that a schedule takes."""
+def played(program, schedule, rest=None):
+    """The processor seconds that a schedule takes. Nothing of it is refused, or it comes to this."""
     with tempfile.NamedTemporaryFile("w", suffix=".schedule") as file:
         file.write(schedule)
         file.flush()
         before = busy()
         done = subprocess.run([program, "chain", file.name], stdout=subprocess.PIPE)
-        assert done.returncode == 0 and b'"Code"' not in done.stdout, "something was refused"
+        assert done.returncode == 0, "another status"
+        assert (rest in done.stdout) if rest else b'"Code"' not in done.stdout, "something was refused"
         return busy() - before
 
 
@@ -107,6 +110,38 @@ def reading():
     return opened(1) + 'send A Memory get "P1" 0 1 65536 0\nrounds 1\n' * GETS
 
 
+GCC = "riscv64-unknown-elf-gcc"
+HERE = pathlib.Path(__file__).resolve().parent
+# More than there are: with -march=rv32i it takes 462,062 instructions.
+SHA_TICKS = 470_000
+
+
+def sha256(march):
+    """The image of programs/sha256.c, for these instructions."""
+    with tempfile.TemporaryDirectory() as folder:
+        elf, image = f"{folder}/sha.elf", pathlib.Path(folder) / "sha.bin"
+        sources = [f"{HERE}/../examples/program/start.S", f"{HERE}/programs/sha256.c", "-lgcc"]
+        flags = [f"-march={march}", "-mabi=ilp32", "-O2", "-ffreestanding", "-nostdlib", "-T", f"{HERE}/programs/program.ld", "-Wl,--no-warn-rwx-segments"]
+        subprocess.run([GCC, *flags, *sources, "-o", elf], check=True)
+        subprocess.run([GCC.replace("gcc", "objcopy"), "-O", "binary", elf, image], check=True)
+        return image.read_bytes()
+
+
+def hashing(march, traced):
+    """SHA-256, by Trace or by ticks."""
+    lines = f"image sha {sha256(march).hex()}\nchain A 0\nopen A\nrounds 1\n"
+    lines += 'send A Processes start "" "sha" [] [] true\nrounds 1\n'
+    if traced:
+        return lines + 'times 50 send A Trace run "P1.1" 64\nrounds 1\n' * (SHA_TICKS // 3_200)
+    return lines + RESUME + repeated(SHA_TICKS, "tick P1.1") + "rounds 1\n"
+
+
+def hashed(march, traced):
+    def measure(program):
+        return played(program, hashing(march, traced), rest=b'"P1" 1760392434')
+    return measure
+
+
 MEASURES = (
     ("KiB that 63 processes of an image of 32 KiB take, three pages of each written", memories),
     (f"s for {TICKS} ticks, no breakpoint", lambda program: played(program, ticking(0))),
@@ -119,13 +154,18 @@ MEASURES = (
 )
 
 
+MARCHES = ("rv32i", "rv32im")
+WAYS = (("Trace run", True), ("ticks", False))
+
+
 def main():
     words = sys.argv[1:]
     turns = int(words.pop()) if words and words[-1].isdigit() else 5
     if not 1 <= len(words) <= 2:
         sys.exit(__doc__)
     programs = [str(pathlib.Path(word).resolve()) for word in words]
-    for name, measure in MEASURES:
+    hashes = [(f"s for SHA-256 by {way}, {march}", hashed(march, traced)) for march in MARCHES for way, traced in WAYS]
+    for name, measure in [*MEASURES, *(hashes if shutil.which(GCC) else [])]:
         figures = [[] for _ in programs]
         for _ in range(turns):
             for program, found in zip(programs, figures):

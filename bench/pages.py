@@ -4,7 +4,7 @@
 usage: bench/pages.py PROGRAM [BEFORE] [TURNS]
 
 PROGRAM is the built program `tcf`, BEFORE another build of it, with which it is compared. The runs of the two take turns,
-so many as TURNS says (5); each figure is the one in the middle. Where gcc for RISC-V is installed, SHA-256 of 4,096 bytes
+so many as TURNS says (5); each figure is the one in the middle. BEFORE need not know multiplication. Where gcc for RISC-V is installed, SHA-256 of 4,096 bytes
 (programs/sha256.c) is executed too.
 """
 import pathlib
@@ -82,9 +82,10 @@ def points(addresses):
 RESUME = 'send A RunControl resume "P1.1" 0 1\nrounds 1\n'
 
 
-def ticking(count):
-    """Ticks beside so many enabled breakpoints."""
-    return opened(1) + points(range(ELSEWHERE, ELSEWHERE + 4 * count, 4)) + RESUME + repeated(TICKS, "tick P1.1")
+def ticks_beside(count):
+    """The processor seconds of ticks beside so many enabled breakpoints, without setting them."""
+    lines = opened(1) + points(range(ELSEWHERE, ELSEWHERE + 4 * count, 4)) + RESUME
+    return lambda program: played(program, lines + repeated(TICKS, "tick P1.1")) - played(program, lines)
 
 
 def hitting(count):
@@ -144,8 +145,8 @@ def hashed(march, traced):
 
 MEASURES = (
     ("KiB that 63 processes of an image of 32 KiB take, three pages of each written", memories),
-    (f"s for {TICKS} ticks, no breakpoint", lambda program: played(program, ticking(0))),
-    (f"s for {TICKS} ticks, 256 breakpoints elsewhere", lambda program: played(program, ticking(256))),
+    (f"s for {TICKS} ticks, no breakpoint", ticks_beside(0)),
+    (f"s for {TICKS} ticks, 256 breakpoints elsewhere", ticks_beside(256)),
     (f"s for {HITS // 10} hits of 1 breakpoint", lambda program: played(program, hitting(1))),
     (f"s for {HITS // 10} hits of 16 breakpoints", lambda program: played(program, hitting(16))),
     (f"s for {TICKS} instructions by Trace run", lambda program: played(program, tracing())),
@@ -154,7 +155,6 @@ MEASURES = (
 )
 
 
-MARCHES = ("rv32i", "rv32im")
 WAYS = (("Trace run", True), ("ticks", False))
 
 
@@ -164,11 +164,15 @@ def main():
     if not 1 <= len(words) <= 2:
         sys.exit(__doc__)
     programs = [str(pathlib.Path(word).resolve()) for word in words]
-    hashes = [(f"s for SHA-256 by {way}, {march}", hashed(march, traced)) for march in MARCHES for way, traced in WAYS]
-    for name, measure in [*MEASURES, *(hashes if shutil.which(GCC) else [])]:
-        figures = [[] for _ in programs]
+    measures = [(name, measure, programs) for name, measure in MEASURES]
+    if shutil.which(GCC):
+        for march, played_by in (("rv32i", programs), ("rv32im", programs[:1])):
+            for way, traced in WAYS:
+                measures.append((f"s for SHA-256 by {way}, {march}", hashed(march, traced), played_by))
+    for name, measure, players in measures:
+        figures = [[] for _ in players]
         for _ in range(turns):
-            for program, found in zip(programs, figures):
+            for program, found in zip(players, figures):
                 found.append(measure(program))
         middle = [statistics.median(found) for found in figures]
         compared = f", before {middle[1]:.3f}, ratio {middle[0] / middle[1]:.2f}" if len(middle) == 2 else ""

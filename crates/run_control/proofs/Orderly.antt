@@ -1,6 +1,6 @@
 -- The processes stay orderly through each command and each tick.
 use Rattle.std.proofs.Common.{◌≡◌, ℕ, ◌^◌, ◌<◌, Bool, true, false, cond, List, [], length, nat_le, nat_lt, leb-false, Option, Some, None, option_map, refl, arith}
-use Rattle.std.specs.Option.{option_map_or}
+use Rattle.std.specs.Option.{option_map_or, option_or}
 use Rattle.std.specs.Prelude.{unsigned_abs}
 use Rattle.std.proofs.lemmas.Bool.{ltb-false}
 use Rattle.tcf_values.specs.declared.command.Command.{Command}
@@ -12,13 +12,13 @@ use Rattle.target_contexts.specs.Changes.{targets_by, with_change}
 use Rattle.target_contexts.specs.Images.{image_of}
 use Rattle.target_contexts.specs.Live.{IsOrderly, process_of}
 use Rattle.target_contexts.specs.Named.{number_named, thread_named}
-use Rattle.target_contexts.specs.Starting.{new_process, refusal_for, suspended_text, with_started}
+use Rattle.target_contexts.specs.Starting.{bytes_refusal, new_process, refusal_for, suspended_text, with_started}
 use Rattle.target_contexts.specs.TargetsValue.{TargetsValue}
 use Rattle.target_contexts.specs.declared.process.Image.{Image}
 use Rattle.target_contexts.specs.ProcessValue.{ProcessValue}
 use Rattle.target_contexts.specs.declared.process.ThreadState.TheVariants.{Running, Suspended}
 use Rattle.target_contexts.specs.declared.targets.StartRefusal.{StartRefusal}
-use Rattle.target_contexts.specs.declared.targets.StartRefusal.TheVariants.{Full, Size, Numbers}
+use Rattle.target_contexts.specs.declared.targets.StartRefusal.TheVariants.{Full, Numbers}
 use Rattle.run_control.specs.Attaching.{attach_after, attached, detach_after, detached, start_fault_for}
 use Rattle.run_control.specs.Commands.{left_of, run_after, run_fault, run_left}
 use Rattle.run_control.specs.Ending.{end_after}
@@ -62,16 +62,16 @@ no_fault : (refusal : Option StartRefusal) → option_map start_fault_for refusa
 no_fault None free = refl
 no_fault (Some refusal) free = absurd cc
 
-room_by : (full large used : Bool) → cond full (Some Full) (cond large (Some Size) (cond used (Some Numbers) None)) ≡ None → (full ≡ false) × (used ≡ false)
-room_by true large used free = absurd cc
-room_by false true used free = absurd cc
-room_by false false true free = absurd cc
-room_by false false false free = (refl, refl)
+room_by : (full : Bool) (refused : Option StartRefusal) (used : Bool) → cond full (Some Full) (option_or refused (cond used (Some Numbers) None)) ≡ None → (full ≡ false) × (used ≡ false)
+room_by true refused used free = absurd cc
+room_by false (Some refusal) used free = absurd cc
+room_by false None true free = absurd cc
+room_by false None false free = (refl, refl)
 
 start_orderly : (attach : Bool) (targets : TargetsValue) (image : Option Image) → refusal_for image (length targets.processes) targets.next ≡ None → AreOrderly targets → AreOrderly (with_started attach targets image)
 start_orderly attach targets None free orderly = orderly
 start_orderly attach targets (Some image) free orderly =
-    let room = room_by (nat_le 64 (length targets.processes)) (nat_lt 65536 (length image.bytes)) (nat_lt 4294967295 targets.next) free in
+    let room = room_by (nat_le 64 (length targets.processes)) (bytes_refusal image.bytes) (nat_lt 4294967295 targets.next) free in
     let few : length targets.processes < 64 = leb-false 64 (length targets.processes) room.0 in
     let small : targets.next < 2 ^ 32 = omega (arith, ltb-false 4294967295 targets.next room.1) in
     start_stays_orderly targets.processes targets.next (new_process attach image) orderly few small

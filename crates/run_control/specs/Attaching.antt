@@ -24,11 +24,13 @@ process_there id rows = process_at_number (process_named id) rows
 
 -- ---- start: the process gets the next number
 
--- no image of that name, too many live, no number left: other. An image that is too large: bad-size
+-- no image of that name, too many live, an ELF file with a fault, no number left: other. An image that is too large:
+-- bad-size
 abbrev pub start_fault_for : StartRefusal → Fault
 start_fault_for refusals.NoImage = Other
 start_fault_for refusals.Full = Other
 start_fault_for refusals.Size = BadSize
+start_fault_for refusals.Bad = Other
 start_fault_for refusals.Numbers = Other
 start_fault_for refusals.NoMemory = Other
 

@@ -76,10 +76,11 @@ orderly_added rows next process orderly room small =
     let P : List (ℕ × ProcessValue) → Type 0 = λ seen. IsOrderly seen (next + 1) in
     subst P (sym (rows_added rows next process)) (orderly_push (seen_rows rows) next process.seen orderly room small)
 
-pub started_by : (attach : Bool) (targets : TargetsValue) (found : Option Image) (name pages : List ℕ) (process : ProcessValue) → IsOf found name pages → process ≡ process_from attach name (image_memory pages)
+pub started_by : (attach : Bool) (targets : TargetsValue) (found : Option Image) (name pages : List ℕ) (entry : ℕ) (process : ProcessValue) → IsOf found name pages entry
+    → process ≡ process_from attach name entry (image_memory pages)
     → with_started attach targets found ≡ record targets { processes = targets.processes ++ (targets.next, process) ∷ []; next = targets.next + 1 }
-started_by attach targets None name pages process is made = absurd is
-started_by attach targets (Some image) name pages process is made = rw (made, ← is.0, is.1) refl
+started_by attach targets None name pages entry process is made = absurd is
+started_by attach targets (Some image) name pages entry process is made = rw (made, ← is.0, is.1.memory, is.1.entry_is) refl
 
 -- ---- a process less
 

@@ -1,5 +1,6 @@
 pub mod Rising
 pub mod Found
+pub mod Placing
 pub mod KeptImages
 pub mod Kept
 pub mod Lookup
@@ -8,4 +9,5 @@ pub mod Running
 pub mod Orderly
 pub mod Short
 pub mod Whole
+pub mod Begun
 pub mod TheLaws

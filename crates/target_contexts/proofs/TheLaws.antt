@@ -1,7 +1,9 @@
 -- The laws of contexts, as terms.
 use Rattle.target_contexts.specs.Laws.{ChangeStaysOrderly, ChangesOne, EndStaysOrderly, EndsOne, PutBackChangesNothing, StartStaysOrderly, StartsOne}
+use Rattle.target_contexts.specs.Loaded.{FileIsLoaded, OthersStandAtZero, RegistersAreZero}
 use Rattle.target_contexts.specs.Short.{ChangeStaysShort, EndStaysShort, FoundIsShort, StartStaysShort}
 use Rattle.target_contexts.specs.Whole.{StartIsWhole, StartStands}
+use Rattle.target_contexts.proofs.Begun as begun
 use Rattle.target_contexts.proofs.Lookup as lookup
 use Rattle.target_contexts.proofs.Orderly.{change_orderly, end_orderly, start_orderly}
 use Rattle.target_contexts.proofs.PutBack as back
@@ -46,3 +48,12 @@ start_is_whole = whole.start_whole
 
 pub start_stands : StartStands
 start_stands = whole.start_stands
+
+pub file_is_loaded : FileIsLoaded
+file_is_loaded = begun.file_loaded
+
+pub others_stand_at_zero : OthersStandAtZero
+others_stand_at_zero = begun.others_at_zero
+
+pub registers_are_zero : RegistersAreZero
+registers_are_zero = begun.registers_zero

@@ -4,6 +4,7 @@ pub mod KeptProcess
 pub mod KeptTargets
 pub mod KeptImages
 pub mod Images
+pub mod Loading
 pub mod Live
 pub mod Starting
 pub mod Kept
@@ -15,3 +16,4 @@ pub mod Changes
 pub mod Refusals
 pub mod Short
 pub mod Whole
+pub mod Loaded

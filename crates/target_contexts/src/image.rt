@@ -1,15 +1,19 @@
 //! The images of the target as they are kept: in pages, which all processes of an image share.
-ghost use Rattle.std.specs.Prelude.{◌≡◌, ◌≤◌, ◌↔◌, length, IfOk, IfSome, IsSome};
-ghost use Rattle.rv32i_core.specs.Bytes.{image_memory};
-ghost use Rattle.target_contexts.specs.KeptImages.{IsKept, content_bytes};
+ghost use Rattle.std.specs.Prelude.{◌≡◌, true, false, None, Some, IfErr, IfOk, OnOk};
+ghost use Rattle.target_contexts.specs.KeptImages.{Begin, IsKept, content_bytes};
+ghost use Rattle.target_contexts.specs.Loading.{is_elf};
+ghost use Rattle.target_contexts.specs.Starting.{bytes_refusal};
 
+use crate::loading::{is_elf, loaded_pages};
 use crate::process::Image;
+use crate::targets::StartRefusal;
+use elf_image::{ElfFault, read};
 use rv32i_core::{Pages, pages};
 use std::alloc::{AllocError, Global};
 use std::marker::Model;
 use tcf_values::{Bytes, Text};
 
-/// How many bytes an image can have that a process is started from.
+/// How many bytes an image can have that a process is started from, unless it is an ELF file.
 const MOST_BYTES: usize = 65_536;
 
 /// The bytes of an image.
@@ -19,6 +23,10 @@ pub(crate) enum Content {
     Paged(Pages, usize),
     /// More than a process can be started from, as they were given.
     Long(Bytes),
+    /// Those of an ELF file, the pages of the memory that it is loaded with, and the address of its first instruction.
+    Loaded(Bytes, Pages, u32),
+    /// Those of an ELF file that is refused.
+    Bad(Bytes),
 }
 
 /// An image as it is kept. Contracts see the image.
@@ -50,21 +58,37 @@ impl KeptImage {
         })
     }
 
-    /// Its pages; `None` exactly where it has more than 65,536 bytes.
-    #[tactic(auto, using(crate::proofs::KeptImages::front_small))]
-    pub(crate) fn pages(&self) -> Option<&Pages>
-        ensures size { IsSome result ↔ (length self.now.bytes ≤ 65536) }
-        ensures memory { IfSome result (λ pages. image_memory pages.now ≡ image_memory self.now.bytes) }
+    /// The pages and the first instruction of a process that is started from it, or why there is none.
+    #[tactic(auto, using(crate::proofs::KeptImages::raw_free, crate::proofs::KeptImages::long_refused, crate::proofs::KeptImages::file_free, crate::proofs::KeptImages::bad_refused))]
+    pub(crate) fn begin(&self) -> Result<(&Pages, u32), StartRefusal>
+        ensures refused { IfErr result (λ refusal. bytes_refusal self.now.bytes ≡ Some refusal) }
+        ensures free { OnOk result (bytes_refusal self.now.bytes ≡ None) }
+        ensures begins { IfOk result (λ begin. Begin self.now.bytes begin.0.now begin.1) }
     {
         match &self.content {
-            Content::Paged(pages, _) => Some(pages),
-            Content::Long(_) => None,
+            Content::Paged(pages, _) => Ok((pages, 0)),
+            Content::Long(_) => Err(StartRefusal::Size),
+            Content::Loaded(_, pages, entry) => Ok((pages, *entry)),
+            Content::Bad(_) => Err(StartRefusal::Bad),
         }
     }
 }
 
-#[tactic(auto, using(crate::proofs::KeptImages::filled_front))]
 fn content_of(alloc: Global, bytes: Bytes) -> Result<Content, AllocError>
+    ensures bytes { IfOk result (λ content. content_bytes content ≡ bytes) }
+    ensures kept { IfOk result (λ content. IsKept content) }
+{
+    if is_elf(bytes.as_slice()) {
+        file_content(alloc, bytes)
+    } else {
+        raw_content(alloc, bytes)
+    }
+}
+
+/// Of bytes that are no ELF file.
+#[tactic(auto, using(crate::proofs::KeptImages::filled_front, crate::proofs::KeptImages::raw_kept, crate::proofs::KeptImages::long_kept))]
+fn raw_content(alloc: Global, bytes: Bytes) -> Result<Content, AllocError>
+    requires { is_elf bytes ≡ false }
     ensures bytes { IfOk result (λ content. content_bytes content ≡ bytes) }
     ensures kept { IfOk result (λ content. IsKept content) }
 {
@@ -73,6 +97,23 @@ fn content_of(alloc: Global, bytes: Bytes) -> Result<Content, AllocError>
         return Ok(Content::Long(bytes));
     }
     Ok(Content::Paged(pages(alloc, bytes.as_slice())?, count))
+}
+
+/// Of an ELF file.
+#[tactic(auto, using(crate::proofs::KeptImages::elf_file, crate::proofs::KeptImages::file_kept, crate::proofs::KeptImages::bad_kept))]
+fn file_content(alloc: Global, bytes: Bytes) -> Result<Content, AllocError>
+    requires { is_elf bytes ≡ true }
+    ensures bytes { IfOk result (λ content. content_bytes content ≡ bytes) }
+    ensures kept { IfOk result (λ content. IsKept content) }
+{
+    match read(alloc, bytes.as_slice()) {
+        Ok(program) => {
+            let pages = loaded_pages(alloc, &program.parts)?;
+            Ok(Content::Loaded(bytes, pages, program.entry))
+        }
+        Err(ElfFault::NoMemory) => Err(AllocError),
+        Err(_) => Ok(Content::Bad(bytes)),
+    }
 }
 
 /// The images, each as it is kept.

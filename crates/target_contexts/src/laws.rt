@@ -1,6 +1,7 @@
 //! The laws of a list of live processes: to start, change or end one leaves the others as they are, and the list
 //! orderly; and the law of the process that starts.
 ghost use Rattle.target_contexts.specs.Laws.{ChangeStaysOrderly, ChangesOne, EndStaysOrderly, EndsOne, PutBackChangesNothing, StartStaysOrderly, StartsOne};
+ghost use Rattle.target_contexts.specs.Loaded.{FileIsLoaded, OthersStandAtZero, RegistersAreZero};
 ghost use Rattle.target_contexts.specs.Whole.{StartIsWhole, StartStands};
 
 /// The law that a process that starts is the one of its number, and that all others stay.
@@ -31,9 +32,19 @@ pub fn they_stay_orderly()
     ensures end { EndStaysOrderly }
 {}
 
-/// The law that a start from an image of at most 65,536 bytes makes a process whose processor and memory are such as the
-/// machine has them, and whose thread is suspended where the debugger is attached and else runs.
+/// The law that a start from an ELF file without a fault, and one from another image of at most 65,536 bytes, makes a
+/// process whose processor and memory are such as the machine has them, and whose thread is suspended where the debugger
+/// is attached and else runs.
 pub fn a_start_makes_a_whole_process()
     ensures whole { StartIsWhole }
     ensures state { StartStands }
+{}
+
+/// The law that a process that is started from an ELF file without a fault has the memory that the file is loaded with,
+/// and begins at its entry; that every other image stands in memory from the address 0 on, where its process begins; and
+/// that all registers are 0.
+pub fn a_file_is_started_as_it_is_loaded()
+    ensures file { FileIsLoaded }
+    ensures others { OthersStandAtZero }
+    ensures registers { RegistersAreZero }
 {}

@@ -13,7 +13,8 @@ use tcf_values::{Bytes, Duplicate, Text, Texts};
 #[derive(Debug, Drop)]
 pub struct Image {
     pub name: Text,
-    /// What stands in memory from the address 0 on. More than 65,536 bytes can't be started.
+    /// An ELF file, where they begin with 7f 45 4c 46. Else what stands in memory from the address 0 on, and then more
+    /// than 65,536 bytes can't be started.
     pub bytes: Bytes,
 }
 
@@ -70,21 +71,26 @@ fn first_state(alloc: Global, attach: bool) -> Result<ThreadState, AllocError>
     }
 }
 
-/// The process that a start of the image of this name and of these pages makes. No page of its memory is own.
+/// The process that a start of the image of this name makes, with these pages and this address of its first instruction.
+/// No page of its memory is own.
 pub(crate) fn new_process(
     alloc: Global,
     name: &Text,
     image: &Pages,
+    entry: u32,
     attach: bool,
 ) -> Result<Process, AllocError>
-    ensures seen { IfOk result (λ process. process.seen ≡ process_from attach name.now (image_memory image.now)) }
+    ensures seen { IfOk result (λ process. process.seen ≡ process_from attach name.now entry (image_memory image.now)) }
     ensures kinds { IfOk result (λ process. own_count process.kinds ≡ 0) }
 {
     Ok(Process {
         name: name.copy()?,
         attached: attach,
         state: first_state(alloc, attach)?,
-        cpu: Cpu { pc: 0, x: [0; 32] },
+        cpu: Cpu {
+            pc: entry,
+            x: [0; 32],
+        },
         memory: Memory::new(alloc, image)?,
     })
 }

@@ -29,8 +29,10 @@ pub enum StartRefusal {
     NoImage,
     /// There are 64 live processes.
     Full,
-    /// The image has more than 65,536 bytes.
+    /// The image has more than 65,536 bytes, and is no ELF file.
     Size,
+    /// The image is an ELF file with a fault.
+    Bad,
     /// The numbers up to 4,294,967,295 are used.
     Numbers,
     NoMemory,
@@ -85,7 +87,8 @@ impl Targets {
     ghost use Rattle.target_contexts.specs.Starting.{new_targets, refusal_of, started};
     ghost use Rattle.target_contexts.specs.Lending.{LendsProcess};
 
-    /// Takes the images. Of two with one name the first counts. No process lives, and the next number is 1.
+    /// Takes the images, and reads those that are ELF files. Of two with one name the first counts. No process lives,
+    /// and the next number is 1.
     pub fn new(alloc: Global, images: Vec<Image>) -> Result<Targets, AllocError>
         ensures seen { IfOk result (λ targets. targets.seen ≡ new_targets images.items) }
         ensures kinds { IfOk result (λ targets. targets.kinds ≡ []) }
@@ -98,9 +101,11 @@ impl Targets {
         })
     }
 
-    /// Starts a process from the image of this name, and answers its number. With `attach` its thread is suspended,
-    /// else it runs. No page of its memory is own: it shares those of the image. A refused call changes nothing; a
-    /// refusal other than for want of memory is answered whatever the memory.
+    /// Starts a process from the image of this name, and answers its number. From an ELF file it has the memory that the
+    /// file is loaded with, and begins at its entry; every other image stands in its memory from the address 0 on, and
+    /// it begins there. With `attach` its thread is suspended, else it runs. No page of its memory is own: it shares
+    /// those of the image. A refused call changes nothing; a refusal other than for want of memory is answered whatever
+    /// the memory.
     #[tactic(auto, using(crate::proofs::Kept::orderly_added, crate::proofs::Kept::started_by, crate::proofs::Kept::rows_added, crate::proofs::Kept::kinds_added, crate::proofs::Found::next_unused))]
     pub fn add(&mut self, file: &[u8], attach: bool) -> Result<u32, StartRefusal>
         ensures refused { IfSome (refusal_of file.now self.old.seen) (λ refusal. result ≡ Err refusal) }
@@ -112,8 +117,8 @@ impl Targets {
         ensures shared { OnOk result (AddsNoOwn self.old.kinds self.new.kinds) }
         ensures kept { OnErr result (self.new ≡ self.old) }
     {
-        let (name, image) = self.image_to_start(file)?;
-        let process = new_process(self.alloc, name, image, attach)?;
+        let (name, image, entry) = self.image_to_start(file)?;
+        let process = new_process(self.alloc, name, image, entry, attach)?;
         let number = self.next as u32;
         self.live.push((number, process))?;
         self.next += 1;
@@ -206,12 +211,13 @@ impl Targets {
         }
     }
 
-    /// The name and the pages of the image that a start of this name is to start from, where no refusal is due.
+    /// The name, the pages and the first instruction of the image that a start of this name is to start from, where no
+    /// refusal is due.
     #[tactic(auto, using(crate::proofs::Kept::as_many))]
-    fn image_to_start(&self, file: &[u8]) -> Result<(&Text, &Pages), StartRefusal>
+    fn image_to_start(&self, file: &[u8]) -> Result<(&Text, &Pages, u32), StartRefusal>
         ensures refused { IfErr result (λ refusal. refusal_of file.now self.now.seen ≡ Some refusal) }
         ensures free { OnOk result (refusal_of file.now self.now.seen ≡ None) }
-        ensures image { IfOk result (λ found. IsOf (image_of file.now self.now.seen.images) found.0.now found.1.now) }
+        ensures image { IfOk result (λ found. IsOf (image_of file.now self.now.seen.images) found.0.now found.1.now found.2) }
         ensures room { OnOk result (length self.now.seen.processes < 64) }
         ensures number { OnOk result (self.now.seen.next < 2 ^ 32) }
     {
@@ -219,11 +225,11 @@ impl Targets {
         if self.live.len() >= MOST_LIVE {
             return Err(StartRefusal::Full);
         }
-        let pages = image.pages().ok_or(StartRefusal::Size)?;
+        let (pages, entry) = image.begin()?;
         if self.next > u64::from(u32::MAX) {
             return Err(StartRefusal::Numbers);
         }
-        Ok((&image.name, pages))
+        Ok((&image.name, pages, entry))
     }
 }
 

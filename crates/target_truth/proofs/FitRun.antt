@@ -2,8 +2,7 @@
 use Rattle.std.proofs.Common.{◌≡◌, ℕ, zero, suc, ◌+◌, ◌==◌, nat_lt, nat_le, Bool, true, false, cond, List, [], ◌∷◌, length, Option, Some, None, IfSome, option_map, refl}
 use Rattle.std.specs.Prelude.{unsigned_abs}
 use Rattle.std.specs.List.{AllByRecursion}
-use Rattle.std.specs.Option.{option_map_or}
-use Rattle.std.proofs.lemmas.Bool.{ltb-false}
+use Rattle.std.specs.Option.{option_map_or, option_or}
 use Rattle.run_control.specs.Attaching.{attach_after, attached, detach_after, detached, start_fault_for}
 use Rattle.run_control.specs.Commands.{left_of, run_after, run_fault, run_left}
 use Rattle.run_control.specs.Ending.{end_after}
@@ -19,14 +18,15 @@ use Rattle.target_contexts.specs.Changes.{targets_by, with_change}
 use Rattle.target_contexts.specs.Images.{image_of, is_named}
 use Rattle.target_contexts.specs.Live.{process_of}
 use Rattle.target_contexts.specs.Named.{number_named, thread_named}
-use Rattle.target_contexts.specs.Starting.{new_process, refusal_for, suspended_text, with_started}
+use Rattle.target_contexts.specs.Starting.{bytes_refusal, new_process, refusal_for, suspended_text, with_started}
 use Rattle.target_contexts.specs.TargetsValue.{TargetsValue}
 use Rattle.target_contexts.specs.Whole.{IsWhole}
 use Rattle.target_contexts.specs.declared.process.Image.{Image}
 use Rattle.target_contexts.specs.ProcessValue.{ProcessValue}
 use Rattle.target_contexts.specs.declared.process.ThreadState.{ThreadState}
 use Rattle.target_contexts.specs.declared.process.ThreadState.TheVariants.{Running, Suspended}
-use Rattle.target_contexts.specs.declared.targets.StartRefusal.TheVariants.{Full, Numbers, Size}
+use Rattle.target_contexts.specs.declared.targets.StartRefusal.{StartRefusal}
+use Rattle.target_contexts.specs.declared.targets.StartRefusal.TheVariants.{Full, Numbers}
 use Rattle.command_tables.specs.Canonical.{AreBytes}
 use Rattle.target_contexts.proofs.TheLaws.{start_is_whole}
 use Rattle.target_truth.proofs.Fit.{IsFit, change_fit, end_fit, found_whole, start_fit}
@@ -156,17 +156,17 @@ pub found_image : (file : List ℕ) (images : List Image) → AllByRecursion (λ
 found_image file [] all = tt
 found_image file (image ∷ images) all = image_by (is_named file image) image (image_of file images) all.0 (found_image file images all.1)
 
-size_by : (full large last : Bool) → option_map start_fault_for (cond full (Some Full) (cond large (Some Size) (cond last (Some Numbers) None))) ≡ None → large ≡ false
-size_by true large last none = absurd cc
-size_by false true last none = absurd cc
-size_by false false last none = refl
+bytes_by : (full : Bool) (refused : Option StartRefusal) (last : Bool) → option_map start_fault_for (cond full (Some Full) (option_or refused (cond last (Some Numbers) None))) ≡ None → refused ≡ None
+bytes_by true refused last none = absurd cc
+bytes_by false (Some refusal) last none = absurd cc
+bytes_by false None last none = refl
 
 started_fit : (attach : Bool) (targets : TargetsValue) (found : Option Image) → IsFit targets → IfSome found (λ image. AreBytes image.bytes)
     → option_map start_fault_for (refusal_for found (length targets.processes) targets.next) ≡ None → IsFit (with_started attach targets found)
 started_fit attach targets None fit are none = fit
 started_fit attach targets (Some image) fit are none =
-    let small = size_by (nat_le 64 (length targets.processes)) (nat_lt 65536 (length image.bytes)) (nat_lt 4294967295 targets.next) none in
-    start_fit targets (new_process attach image) (targets.next + 1) fit (start_is_whole attach image are (ltb-false 65536 (length image.bytes) small))
+    let free = bytes_by (nat_le 64 (length targets.processes)) (bytes_refusal image.bytes) (nat_lt 4294967295 targets.next) none in
+    start_fit targets (new_process attach image) (targets.next + 1) fit (start_is_whole attach image are free)
 
 -- ---- each command
 

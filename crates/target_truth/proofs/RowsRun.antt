@@ -2,6 +2,7 @@
 use Rattle.std.proofs.Common.{◌≡◌, ℕ, ◌<◌, ◌≤◌, ◌^◌, ◌++◌, nat_le, nat_lt, Bool, true, false, cond, List, [], length, Option, Some, None, IfSome, option_map, refl, sym, subst, arith, lit<}
 use Rattle.std.specs.Prelude.{ℤ}
 use Rattle.std.specs.List.{AllByRecursion}
+use Rattle.std.specs.Option.{option_or}
 use Rattle.std.proofs.lemmas.Bool.{ltb-false}
 use Rattle.run_control.specs.Attaching.{attach_after, attach_events, attach_fault, attached, detach_after, detach_events, detach_fault, detached, process_there, start_events, start_fault, start_fault_for}
 use Rattle.run_control.specs.Commands.{terminate_code}
@@ -15,11 +16,12 @@ use Rattle.target_contexts.specs.Images.{image_of}
 use Rattle.target_contexts.specs.Laws.{AgreeBut}
 use Rattle.target_contexts.specs.Live.{process_of}
 use Rattle.target_contexts.specs.Named.{is_suspended, number_named, thread_named}
-use Rattle.target_contexts.specs.Starting.{first_state, new_process, refusal_for, suspended_text, with_started}
+use Rattle.target_contexts.specs.Starting.{bytes_refusal, first_state, new_process, refusal_for, suspended_text, with_started}
 use Rattle.target_contexts.specs.TargetsValue.{TargetsValue}
 use Rattle.target_contexts.specs.Whole.{IsWhole}
 use Rattle.target_contexts.specs.declared.process.Image.{Image}
 use Rattle.target_contexts.specs.ProcessValue.{ProcessValue}
+use Rattle.target_contexts.specs.declared.targets.StartRefusal.{StartRefusal}
 use Rattle.target_contexts.specs.declared.targets.StartRefusal.TheVariants as refusals
 use Rattle.target_contexts.specs.declared.process.ThreadState.{ThreadState}
 use Rattle.target_contexts.specs.declared.process.ThreadState.TheVariants.{Running, Suspended}
@@ -130,13 +132,13 @@ started_told attach process contexts target good is whole state there others =
           (first_told next now process attach is there whole.cpu.pc state statuses),
     )
 
--- no refusal is due, so it fits into memory and there is a number left
-room : (full large spent : Bool) → option_map start_fault_for (cond full (Some refusals.Full) (cond large (Some refusals.Size) (cond spent (Some refusals.Numbers) None))) ≡ None
-    → (large ≡ false) × (spent ≡ false)
-room true large spent none = absurd cc
-room false true spent none = absurd cc
-room false false true none = absurd cc
-room false false false none = (refl, refl)
+-- no refusal is due, so its bytes aren't refused and there is a number left
+room : (full : Bool) (refused : Option StartRefusal) (spent : Bool) → option_map start_fault_for (cond full (Some refusals.Full) (option_or refused (cond spent (Some refusals.Numbers) None))) ≡ None
+    → (refused ≡ None) × (spent ≡ false)
+room true refused spent none = absurd cc
+room false (Some refusal) spent none = absurd cc
+room false None true none = absurd cc
+room false None false none = (refl, refl)
 
 start_of : (image : Option Image) (attach : Bool) (target : TargetValue) → IsGood target → IfSome image (λ found. AreBytes found.bytes)
     → option_map start_fault_for (refusal_for image (length target.contexts.processes) target.contexts.next) ≡ None
@@ -148,9 +150,9 @@ start_of (Some image) attach target good are none =
     let process = new_process attach image in
     let starts = starts_one target.contexts.processes next process in_order in
     let least : 0 < next = below target.contexts.processes 0 next in_order.rising in
-    let fits = room (nat_le 64 (length target.contexts.processes)) (nat_lt 65536 (length image.bytes)) (nat_lt 4294967295 next) none in
-    let most : next ≤ 4294967295 = ltb-false 4294967295 next fits.1 in
-    let whole = start_is_whole attach image are (ltb-false 65536 (length image.bytes) fits.0) in
+    let free = room (nat_le 64 (length target.contexts.processes)) (bytes_refusal image.bytes) (nat_lt 4294967295 next) none in
+    let most : next ≤ 4294967295 = ltb-false 4294967295 next free.1 in
+    let whole = start_is_whole attach image are free.0 in
     started_told attach process (with_started attach target.contexts (Some image)) target good (omega arith, omega arith) whole (start_stands attach image) starts.0 starts.1
 
 pub start : (channel : ℕ) (directory file : List ℕ) (args environment : List (List ℕ)) (attach : Bool) (target : TargetValue) → IsGood target

@@ -10,7 +10,7 @@ fn image(alloc: Global, name: &str, bytes: &[u8]) -> Result<Image, Fail> {
     })
 }
 
-/// An image `a`, and one of 65,537 bytes.
+/// An image `a`, one of 65,537 bytes, and an ELF file that ends in its file header.
 fn images(alloc: Global) -> Result<Vec<Image>, Fail> {
     let mut images = Vec::new(alloc);
     images.push(image(alloc, "a", &[7, 8])?)?;
@@ -18,6 +18,7 @@ fn images(alloc: Global) -> Result<Vec<Image>, Fail> {
         name: Text::from_str(alloc, "longer")?,
         bytes: Bytes::from_vec(vec![in alloc; 1; 65_537]?),
     })?;
+    images.push(image(alloc, "bad", b"\x7fELF")?)?;
     Ok(images)
 }
 
@@ -39,10 +40,12 @@ fn the_first_refusal_that_is_due_comes(rt: HostRuntime) -> Result<(), Fail> {
     }
     assert_eq!(rt; start(&mut targets, "none"), Err(StartRefusal::NoImage));
     assert_eq!(rt; start(&mut targets, "longer"), Err(StartRefusal::Full));
+    assert_eq!(rt; start(&mut targets, "bad"), Err(StartRefusal::Full));
     assert_eq!(rt; start(&mut targets, "a"), Err(StartRefusal::Full));
     assert!(rt; targets.remove(4_294_967_295));
     assert_eq!(rt; start(&mut targets, "none"), Err(StartRefusal::NoImage));
     assert_eq!(rt; start(&mut targets, "longer"), Err(StartRefusal::Size));
+    assert_eq!(rt; start(&mut targets, "bad"), Err(StartRefusal::Bad));
     assert_eq!(rt; start(&mut targets, "a"), Err(StartRefusal::Numbers));
     Ok(())
 }

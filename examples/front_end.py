@@ -1,7 +1,7 @@
 #!/usr/bin/env python3
 """A small front end: starts an image, breaks into it, reads, steps, and ends it.
 
-    examples/front_end.py ADDRESS IMAGE LOCATION        as 127.0.0.1:7001 sum 8
+    examples/front_end.py ADDRESS IMAGE LOCATION        as 127.0.0.1:7001 sort 0x140
 
 ADDRESS is that of `tcf agent`, IMAGE the name of one of its images, and LOCATION where a breakpoint is set.
 It prints each event as it comes. It wants Python 3 and nothing else; docs/FRONT_END.md says what goes over the wire.
@@ -95,14 +95,14 @@ def main(address, image, location):
     _, [thread] = agent.command('RunControl', 'getChildren', process['ID'])
     agent.command('Breakpoints', 'add', {'ID': 'here', 'Enabled': True, 'Location': location})
     resume(agent, thread, 0, 1)
-    names = ['x5', 'x6', 'x10', 'pc']
+    names = ['x10', 'x11', 'pc']
     _, text = agent.command('Registers', 'getm', [[f'{thread}.{name}', 0, 4] for name in names])
     data = base64.b64decode(text)
     for place, name in enumerate(names):
         print(name, int.from_bytes(data[4 * place:4 * place + 4], 'little'))
     resume(agent, thread, 2, 1)
-    text, _, _ = agent.command('Memory', 'get', process['ID'], 64, 1, 4, 0, error_at=1)
-    print('memory at 64:', base64.b64decode(text).hex(' '))
+    text, _, _ = agent.command('Memory', 'get', process['ID'], 576, 4, 16, 0, error_at=1)
+    print('memory at 576:', base64.b64decode(text).hex(' ', 4))
     agent.command('Processes', 'terminate', process['ID'])
     agent.close()
 

@@ -1,6 +1,6 @@
-/* Sorts four numbers where they lie, and answers their sum. */
+/* Sorts four numbers where they lie, and answers the sum of their squares. */
 
-static int numbers[4] = {20, 3, 12, 7};
+static int numbers[4] = {5, 0, 4, 1};
 
 /* Insertion sort: each number moves down past the larger ones before it. */
 __attribute__((noinline)) void sort(int *list, int count) {
@@ -19,6 +19,6 @@ int main(void) {
     int sum = 0;
     sort(numbers, 4);
     for (int place = 0; place < 4; place++)
-        sum += numbers[place];
+        sum += numbers[place] * numbers[place];
     return sum;
 }

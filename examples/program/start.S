@@ -1,4 +1,4 @@
-# The target starts a program at address 0, with all registers 0.
+# The target starts a program at its entry, with all registers 0.
     .section .text.start
     .globl _start
 _start:

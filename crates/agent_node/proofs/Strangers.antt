@@ -1,10 +1,8 @@
 -- An agent has no channel that it didn't open.
-use Rattle.std.proofs.Common.{◌≡◌, ℕ, ◌==◌, false, List, None, refl, sym, ap, ◌∙◌}
-use Rattle.std.specs.List.{list_any}
-use Rattle.target_contexts.specs.declared.process.Image.{Image}
-use Rattle.agent_node.specs.Channels.{channel_end, end_in}
-use Rattle.agent_node.specs.Runs.{Call, after_all, no_calls}
-use Rattle.agent_node.specs.Strangers.{HasNoStranger, NoStrangersAfterAnyCalls}
+use Rattle.std.proofs.Common.{◌≡◌, ◌==◌, refl, ap, ◌∙◌}
+use Rattle.agent_node.specs.Channels.{end_in}
+use Rattle.agent_node.specs.Runs.{after_all, no_calls}
+use Rattle.agent_node.specs.Strangers.{NoStrangersAfterAnyCalls}
 use Rattle.agent_node.proofs.Places.{none_found, place_found}
 use Rattle.agent_node.proofs.Standing.{none_stands}
 use Rattle.agent_node.proofs.Truth.{holds_all, holds_first}

@@ -14,7 +14,7 @@ use Rattle.tcf_text.specs.Once.{numbers}
 use Rattle.value_node.specs.Asked.{Asked}
 use Rattle.chain_heard.specs.Heard.{asked_as}
 use Rattle.chain_told.specs.Told as told
-use Rattle.chain_told.specs.Told.{command_under, is_any_storable, is_storable, is_stored}
+use Rattle.chain_told.specs.Told.{command_under, is_stored}
 use Rattle.value_node.specs.Barriers.{command_in}
 use Rattle.chain_heard.proofs.Lines.{AreFew}
 use Rattle.chain_heard.proofs.Numbers.{commands_few, numbers_from}

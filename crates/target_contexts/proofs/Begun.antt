@@ -1,5 +1,5 @@
 -- What a process begins with.
-use Rattle.std.proofs.Common.{◌≡◌, ℕ, Bool, true, false, cond, List, None, refl, sym, ap}
+use Rattle.std.proofs.Common.{◌≡◌, ℕ, Bool, true, false, cond, List, None, refl, ap}
 use Rattle.std.proofs.lemmas.Bool.{false_from_ne_true}
 use Rattle.elf_image.specs.Fault.{fault_of}
 use Rattle.elf_image.specs.Header.{IsElf, entry_of}

@@ -1,18 +1,17 @@
 -- The bytes of an image as they are kept, and what a process begins with.
-use Rattle.std.proofs.Common.{◌≡◌, ◌≢◌, ℕ, ◌<◌, ◌≤◌, Bool, true, false, cond, not, ◌&&◌, nat_lt, List, length, take, Option, Some, None, is_some, refl, sym, ◌∙◌, ap, subst, arith}
+use Rattle.std.proofs.Common.{◌≡◌, ◌≢◌, ℕ, ◌<◌, ◌≤◌, true, false, cond, not, ◌&&◌, nat_lt, List, length, take, Some, None, is_some, refl, sym, ◌∙◌, ap, subst, arith}
 use Rattle.std.proofs.lemmas.Bool.{and_from, and_parts, le-ltb, lt-ltb}
 use Rattle.std.proofs.lemmas.List.{take_at}
 use Rattle.list_laws.proofs.Lists.{take_most}
 use Rattle.elf_image.specs.Fault.{fault_of}
 use Rattle.elf_image.specs.Header.{IsElf, entry_of}
-use Rattle.elf_image.specs.Image.{Loads, parts_of, placed, zeros}
+use Rattle.elf_image.specs.Image.{parts_of, placed, zeros}
 use Rattle.elf_image.specs.declared.fault.ElfFault.{ElfFault}
 use Rattle.rv32i_core.specs.Bytes.{image_memory}
 use Rattle.rv32i_core.specs.Pages.{filled_up}
 use Rattle.target_contexts.specs.KeptImages.{Begin}
-use Rattle.target_contexts.specs.Loading.{entry_in, is_bad, is_elf, is_long, memory_in}
+use Rattle.target_contexts.specs.Loading.{is_bad, is_elf, is_long}
 use Rattle.target_contexts.specs.Starting.{bytes_refusal}
-use Rattle.target_contexts.specs.declared.targets.StartRefusal.{StartRefusal}
 use Rattle.target_contexts.specs.declared.targets.StartRefusal.TheVariants as refusals
 
 -- ---- what is kept

@@ -1,5 +1,5 @@
 -- A start of an image of bytes makes a whole process.
-use Rattle.std.proofs.Common.{◌≡◌, ℕ, zero, suc, ◌+◌, ◌-◌, ◌*◌, ◌^◌, ◌<◌, ◌≤◌, Bool, true, false, cond, not, ◌&&◌, nat_lt, List, [], ◌∷◌, ◌++◌, length, take, drop, replicate, slice_index, Option, Some, None, is_some, IfSome, refl, sym, subst, ◌∙◌, arith}
+use Rattle.std.proofs.Common.{◌≡◌, ℕ, zero, suc, ◌+◌, ◌-◌, ◌*◌, ◌^◌, ◌<◌, ◌≤◌, Bool, true, false, cond, not, ◌&&◌, nat_lt, List, [], ◌∷◌, ◌++◌, length, take, drop, replicate, slice_index, Option, Some, None, is_some, IfSome, refl, ◌∙◌, arith}
 use Rattle.std.specs.List.{AllByRecursion, cons_option, filter_map}
 use Rattle.std.proofs.lemmas.Bool.{ltb-false}
 use Rattle.std.proofs.lemmas.List.{length-append, length-replicate}
@@ -7,15 +7,14 @@ use Rattle.std.proofs.lemmas.List.Elements.{All-replicate, recursion_from_All}
 use Rattle.list_laws.proofs.AllLists.{all_append, all_drop, all_take}
 use Rattle.elf_image.specs.Fault.{fault_of}
 use Rattle.elf_image.specs.Header.{entry_of}
-use Rattle.elf_image.specs.Image.{bytes_part, part_at, part_of, parts_of, placed, with_part, zeros}
+use Rattle.elf_image.specs.Image.{bytes_part, part_at, parts_of, placed, with_part, zeros}
 use Rattle.elf_image.specs.Numbers.{half_at, word_at}
 use Rattle.elf_image.specs.Segments.{has_bytes, indices, program_header}
 use Rattle.elf_image.specs.declared.part.Part.{Part}
 use Rattle.elf_image.proofs.TheLaws.{parts_are_loaded}
 use Rattle.rv32i_core.specs.Bytes.{image_memory}
 use Rattle.rv32i_core.specs.Laws.{IsMemory, IsWord}
-use Rattle.target_contexts.specs.Loading.{entry_in, is_bad, is_elf, is_long, memory_in}
-use Rattle.target_contexts.specs.Starting.{bytes_refusal}
+use Rattle.target_contexts.specs.Loading.{is_bad, is_elf, is_long}
 use Rattle.target_contexts.specs.Whole.{StartIsWhole, StartStands}
 use Rattle.target_contexts.specs.declared.targets.StartRefusal.TheVariants as refusals
 

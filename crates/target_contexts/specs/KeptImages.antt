@@ -1,5 +1,5 @@
 -- An image as it is kept: in pages where a process can be started from it.
-use Rattle.std.specs.Prelude.{ℕ, ◌≡◌, ◌≤◌, true, false, List, length, take, Option, Some, None}
+use Rattle.std.specs.Prelude.{ℕ, ◌≡◌, ◌≤◌, true, false, List, take, Option, Some, None}
 use Rattle.elf_image.specs.Fault.{fault_of}
 use Rattle.rv32i_core.specs.Bytes.{image_memory}
 use Rattle.target_contexts.specs.Loading.{entry_in, is_bad, is_elf, is_long, memory_in}

@@ -1,10 +1,9 @@
 -- The laws of what a process begins with.
-use Rattle.std.specs.Prelude.{◌≡◌, false, Bool, None, replicate}
+use Rattle.std.specs.Prelude.{◌≡◌, Bool, None, replicate}
 use Rattle.elf_image.specs.Fault.{fault_of}
 use Rattle.elf_image.specs.Header.{IsElf}
 use Rattle.elf_image.specs.Image.{Loads}
 use Rattle.rv32i_core.specs.Bytes.{image_memory}
-use Rattle.target_contexts.specs.Loading.{is_elf}
 use Rattle.target_contexts.specs.Starting.{new_process}
 use Rattle.target_contexts.specs.declared.process.Image.{Image}
 

@@ -1,5 +1,5 @@
 -- How an index grows by breakpoints behind those that it is of.
-use Rattle.std.proofs.Common.{◌≡◌, ℕ, ◌+◌, ◌<◌, length, take, get_or, subst, List, [], ◌∷◌, ◌++◌, Option, Some, None, Bool, true, false, cond, ◌==◌, ◌&&◌, not, map, refl, sym, ap, ◌∙◌, append_assoc, append-nil, option_and_then}
+use Rattle.std.proofs.Common.{◌≡◌, ℕ, ◌+◌, ◌<◌, length, take, get_or, subst, List, [], ◌∷◌, ◌++◌, Option, Some, None, Bool, true, false, cond, ◌==◌, ◌&&◌, not, map, filter, refl, sym, ap, ◌∙◌, append_assoc, append-nil, option_and_then}
 use Rattle.std.proofs.lemmas.Bool.{eqb-true}
 use Rattle.std.proofs.lemmas.List.{map-append, take_more}
 use Rattle.std.specs.BTreeMap.{get}
@@ -10,12 +10,14 @@ use Rattle.tcf_values.specs.declared.values.BpProps.{BpProps}
 use Rattle.breakpoints.specs.Address.{address_of}
 use Rattle.std.specs.Prelude.{bytes_eq}
 use Rattle.breakpoints.specs.Changes.{row_with_flag, row_with_props, with_flag, with_flags, with_props}
-use Rattle.breakpoints.specs.Indexed.{AddsId, AddsRows, Index, Indexes, IsIndexed, or_empty, rows_at, says, some_of, stands_at}
-use Rattle.breakpoints.specs.Keyed.{IsKept}
+use Rattle.breakpoints.specs.Indexed.{AddsId, AddsRows, Index, Indexes, IsIndexed, ids_at, or_empty, rows_at, says, some_of, stands_at}
+use Rattle.breakpoints.specs.Keyed.{IsKept, with_values}
 use Rattle.breakpoints.specs.Placed.{Placed, row_for}
 use Rattle.breakpoints.specs.Rows.{ids_of, is_among, rows_for}
 use Rattle.breakpoints.specs.Selecting.{selects, unselected}
 use Rattle.breakpoints.specs.declared.selection.Selection.{Selection}
+use Rattle.breakpoints.proofs.Filtered.{values-filter}
+use Rattle.breakpoints.proofs.Written.{values-with_values}
 
 -- ---- one breakpoint more
 

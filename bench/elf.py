@@ -5,10 +5,9 @@
 
 Without PROGRAM it builds the program first, which proves it. What has to come of each file is said by a reader of ELF
 files in this script, which goes by the System V ABI and docs/TARGET.md, "ELF files", and never by the program. Files that
-are wrong in one way, and N mutations of a good one, are images of agents on loopback, a batch of them of each. Each is started;
-of a process its pc and all its memory are compared; and then a `Locator sync` and a start of the good file have to be
-answered as ever. At last starts from an ELF file of 64 KiB are measured beside starts from raw bytes. It ends with status 1
-where a line says NO.
+are wrong in one way, and N mutations of a good one, are images of agents on loopback. Each file is started, and its pc and
+all its memory are compared; behind it a `Locator sync` and a start of the good file have to be answered as ever. At last
+starts from an ELF file of 64 KiB are measured beside starts from raw bytes. It ends with status 1 where a line says NO.
 """
 import argparse
 import base64
@@ -24,7 +23,7 @@ import tempfile
 import time
 from pathlib import Path
 
-from pages import GCC, played
+from pages import GCC, busy, played
 from serve import LOOPBACK, TURNS, Agent, check, free_port, program_of
 
 MEMORY = 65_536
@@ -235,11 +234,11 @@ def mutated(dice):
 
 
 def mutations(program, count, batch, seed):
-    dice, begin, wrong = random.Random(seed), time.perf_counter(), []
+    dice, begin, wrong = random.Random(seed), busy() + time.process_time(), []
     images = [mutated(dice) for _ in range(count)]
     for first in range(0, count, batch):
         wrong += differing(program, images[first:first + batch])
-    return told(f'{count:,} mutations, {time.perf_counter() - begin:.0f} s', images, wrong)
+    return told(f'{count:,} mutations, {busy() + time.process_time() - begin:.0f} s of processor time', images, wrong)
 
 
 # ---- measured

@@ -5,9 +5,8 @@ use Rattle.std.proofs.lemmas.Bool.{eqb-false, false≢true}
 use Rattle.tcf_values.specs.declared.event.EventData.{EventData}
 use Rattle.tcf_values.specs.declared.ids.ContextId.{ContextId}
 use Rattle.tcf_values.specs.declared.ids.ContextId.TheVariants as ids
-use Rattle.target_contexts.specs.Live.{numbers_of, process_of}
-use Rattle.target_contexts.specs.Named.{is_running}
-use Rattle.target_hub.specs.Passing.{running_in, threads_of as threads_of_all, tick_told}
+use Rattle.target_contexts.specs.Named.{is_running, thread_at_pair, thread_for, threads_in}
+use Rattle.target_hub.specs.Passing.{running_in, tick_told}
 use Rattle.target_hub.specs.HubValue.{TargetValue}
 use Rattle.agent_node.specs.Agent.{after_input, instruction_tells, is_full, ticked, ticked_by}
 use Rattle.agent_node.specs.AgentValue.{AgentValue}
@@ -54,24 +53,21 @@ tick_full thread a full = ap (λ (b : Bool). cond b (false, a) (ticked_by thread
 
 -- ---- a thread that runs
 
-first_kept : (keep : ℕ → Bool) (number : ℕ) (numbers rest : List ℕ) → filter keep numbers ≡ number ∷ rest → keep number ≡ true
-first_kept keep number [] rest is = cc
-first_kept keep number (n ∷ numbers) rest is = by_flag (keep n) refl is (first_kept keep number numbers rest)
+first_kept : {A : Type 0} → (keep : A → Bool) (item : A) (items rest : List A) → filter keep items ≡ item ∷ rest → keep item ≡ true
+first_kept keep item [] rest is = cc
+first_kept keep item (x ∷ items) rest is = by_flag (keep x) refl is (first_kept keep item items rest)
   where
-    by_flag : (flag : Bool) → keep n ≡ flag → cond flag (n ∷ filter keep numbers) (filter keep numbers) ≡ number ∷ rest → (filter keep numbers ≡ number ∷ rest → keep number ≡ true) → keep number ≡ true
-    by_flag true kept both later = let same : n ≡ number = cc in ap keep (sym same) ∙ kept
+    by_flag : (flag : Bool) → keep x ≡ flag → cond flag (x ∷ filter keep items) (filter keep items) ≡ item ∷ rest → (filter keep items ≡ item ∷ rest → keep item ≡ true) → keep item ≡ true
+    by_flag true kept both later = let same : x ≡ item = cc in ap keep (sym same) ∙ kept
     by_flag false left there later = later there
 
-runs_so : (number : ℕ) (target : TargetValue) → is_running (process_of number target.contexts.processes) ≡ true → is_some (tick_told (ids.Thread number 1) target) ≡ true
-runs_so number target is = rw is refl
+runs_so : (thread : ContextId) (target : TargetValue) → is_running (thread_at_pair (thread_for thread) target.contexts.processes) ≡ true → is_some (tick_told thread target) ≡ true
+runs_so (ids.Process number) target is = absurd (false≢true is)
+runs_so (ids.Thread number n) target is = rw is refl
 
-first_runs : (numbers : List ℕ) (thread : ContextId) (threads : List ContextId) (target : TargetValue) → filter (λ number. is_running (process_of number target.contexts.processes)) (numbers_of target.contexts.processes) ≡ numbers
-    → threads_of_all numbers ≡ thread ∷ threads → is_some (tick_told thread target) ≡ true
-first_runs [] thread threads target are is = cc
-first_runs (number ∷ numbers) thread threads target are is =
-    let same : ids.Thread number 1 ≡ thread = cc in
-    let runs = first_kept (λ n. is_running (process_of n target.contexts.processes)) number (numbers_of target.contexts.processes) numbers are in
-    ap (λ (t : ContextId). is_some (tick_told t target)) (sym same) ∙ runs_so number target runs
+first_runs : (thread : ContextId) (threads : List ContextId) (target : TargetValue) → running_in target.contexts.processes ≡ thread ∷ threads → is_some (tick_told thread target) ≡ true
+first_runs thread threads target are =
+    runs_so thread target (first_kept (λ id. is_running (thread_at_pair (thread_for id) target.contexts.processes)) thread (threads_in target.contexts.processes) threads are)
 
 -- ---- a pass
 
@@ -155,7 +151,7 @@ all_passes (suc passes) left a few = by_left (left == 0) refl (λ left_then next
 
     one_more : (thread : ContextId) (threads : List ContextId) → threads_of a ≡ thread ∷ threads → (left == 0) ≡ false → is_full a ≡ false → Later → Ends left a (after_passes (suc passes) left a)
     one_more thread threads are some opens_still later =
-        let runs = first_runs (filter (λ number. is_running (process_of number a.target.contexts.processes)) (numbers_of a.target.contexts.processes)) thread threads a.target refl are in
+        let runs = first_runs thread threads a.target are in
         let did = tick_done thread a opens_still runs in
         let fewer : left_by_pass (threads_of a) left a < left = subst (λ (ts : List ContextId). left_by_pass ts left a < left) (sym are) (some_executed thread threads left a some did) in
         let next = after_pass (threads_of a) left a in

@@ -5,7 +5,7 @@ use Rattle.std.proofs.lemmas.Bool.{both_ways}
 use Rattle.block_store.specs.declared.block.Block.{Block}
 use Rattle.command_tables.specs.declared.reading.Reading.{Reading}
 use Rattle.command_tables.specs.declared.reading.Reading.TheVariants as readings
-use Rattle.knowledge.specs.Facts.{AreSame, Facts, context_is, state_is, register_is, byte_is, properties_are, status_is, nothing}
+use Rattle.knowledge.specs.Facts.{AreSame, Facts, context_is, threads_are, state_is, register_is, byte_is, properties_are, status_is, nothing}
 use Rattle.knowledge.specs.KnowledgeValue.{KnowledgeValue, blocks_learned, empty, facts_of}
 use Rattle.knowledge.specs.Laws.{AreKnown, blocks_with}
 use Rattle.knowledge.specs.Learning.{Message, answer_taken, bad_event_taken, other_taken, learn, learn_all, learned}
@@ -22,6 +22,7 @@ use Rattle.knowledge.proofs.TheLaws.{blocks_are_learned, blocks_stay_same, facts
 same_as : {known other : Facts} → known ≡ other → AreSame known other
 same_as {known} {other} is = subst (AreSame known) is (record {
   contexts = λ id. refl;
+  threads = λ process. refl;
   states = λ process thread. refl;
   registers = λ process thread index. refl;
   properties = λ id. refl;
@@ -52,6 +53,7 @@ kept_too message before now facts blocks messages keeps =
 empty_knows_nothing : AreSame (facts_of empty) nothing
 empty_knows_nothing = record {
   contexts = λ id. refl;
+  threads = λ process. refl;
   states = λ process thread. refl;
   registers = λ process thread index. refl;
   properties = λ id. refl;
@@ -139,6 +141,7 @@ blocks_known (message ∷ messages) known blocks before =
 
 pub kept_is_learned : KeptIsLearned
 kept_is_learned messages (context_is id context) is = is
+kept_is_learned messages (threads_are process ids) is = is
 kept_is_learned messages (state_is process thread state) is = is
 kept_is_learned messages (register_is process thread index value) is = is
 kept_is_learned messages (byte_is process place byte) is =

@@ -1,16 +1,16 @@
 -- What is learned of messages that are within their limits is within its own.
 use Rattle.std.proofs.Common.{◌≡◌, ℕ, ℤ, Bool, true, false, cond, List, [], ◌∷◌, ◌++◌, take, drop, length, Option, Some, None, refl, sym, ap, ◌∙◌, subst, inl, inr}
 use Rattle.std.specs.Prelude.{bytes_eq, unsigned_abs, ◌==◌, Result, Ok, Err, OnErr, OnOk}
-use Rattle.std.specs.List.{AllByRecursion}
+use Rattle.std.specs.List.{AllByRecursion, list_all}
 use Rattle.std.proofs.lemmas.Bool.{cases_Bool, cond-true, cond-false}
 use Rattle.json_values.specs.Contexts.{IsContext}
 use Rattle.json_values.specs.Props.{is_bp}
 use Rattle.json_values.specs.Statuses.{IsStatus}
-use Rattle.knowledge.specs.Changes.{Change, all_gone, context_told, context_gone, state_told, state_gone, register_read, register_gone, thread_registers_gone, registers_gone, bytes_read, bytes_gone, range_gone, properties_told, properties_gone, status_told, status_gone, statuses_gone, after, after_all, of_each}
+use Rattle.knowledge.specs.Changes.{Change, all_gone, context_told, context_gone, threads_told, thread_joined, threads_gone, threads_stale, state_told, state_gone, register_read, register_gone, thread_registers_gone, registers_gone, bytes_read, bytes_gone, range_gone, properties_told, properties_gone, status_told, status_gone, statuses_gone, after, after_all, of_each}
 use Rattle.knowledge.specs.Facts.{AreSame, Facts, nothing}
 use Rattle.knowledge.specs.KnowledgeValue.{KnowledgeValue, empty, facts_of}
 use Rattle.knowledge.specs.Learning.{Message, answer_taken, event_taken, bad_event_taken, other_taken, changes_of, learn}
-use Rattle.knowledge.specs.Rows.{added_context, answer_changes, are_of_range, changed_context, changed_range, changed_register, event_changes, is_outside, is_part, memory_changes, memory_read, moved_for, parts_read, process_for, range_read, removed_context, removed_properties, stale_for, state_changes, state_of_thread, told_properties, whole_read, word_read}
+use Rattle.knowledge.specs.Rows.{added_context, answer_changes, are_of_range, begun, begun_for, changed_context, changed_range, changed_register, event_changes, is_outside, is_part, is_thread_of, joined, joined_for, memory_changes, memory_read, moved_for, parts_read, process_for, range_read, removed_context, removed_properties, stale_for, state_changes, state_of_thread, threads_listed, told_properties, unlisted_for, unsettled, unsettled_for, whole_read, word_read}
 use Rattle.reply_tables.specs.Answers.{IfKnown as IfKnownAnswer}
 use Rattle.reply_tables.specs.Events.{IfKnown as IfKnownEvent, IsEvent}
 use Rattle.reply_tables.specs.Limits.{IsAnswerTo}
@@ -92,6 +92,10 @@ after_within (context_gone id) known fine within = record {
   properties = within.properties;
   statuses = within.statuses;
 }
+after_within (threads_told process ids) known fine within = other_rows known _ refl refl refl within
+after_within (thread_joined process id) known fine within = other_rows known _ refl refl refl within
+after_within (threads_gone process) known fine within = other_rows known _ refl refl refl within
+after_within (threads_stale process) known fine within = other_rows known _ refl refl refl within
 after_within (state_told process thread state) known fine within = other_rows known _ refl refl refl within
 after_within (state_gone process thread) known fine within = other_rows known _ refl refl refl within
 after_within (register_read process thread index value) known fine within = other_rows known _ refl refl refl within
@@ -142,6 +146,27 @@ stale_fine None = tt
 stale_fine (Some (Process process)) = (tt, tt)
 stale_fine (Some (Thread process thread)) = (tt, (tt, (tt, tt)))
 
+unlisted_fine : (context : Option ContextId) → AreFine (unlisted_for context)
+unlisted_fine None = tt
+unlisted_fine (Some context) = (tt, tt)
+
+removed_fine : (id : List ℕ) → AreFine (removed_context id)
+removed_fine id = (tt, both_fine (stale_for (context_of id)) (unlisted_for (context_of id)) (stale_fine (context_of id)) (unlisted_fine (context_of id)))
+
+unsettled_fine : (context : Option ContextId) → AreFine (unsettled_for context)
+unsettled_fine None = tt
+unsettled_fine (Some context) = (tt, (tt, tt))
+
+begun_fine : (context : Option ContextId) → AreFine (begun_for context)
+begun_fine None = tt
+begun_fine (Some (Process process)) = (tt, tt)
+begun_fine (Some (Thread process thread)) = tt
+
+joined_fine : (id : List ℕ) (context : Option ContextId) → AreFine (joined_for id context)
+joined_fine id None = tt
+joined_fine id (Some (Process process)) = tt
+joined_fine id (Some (Thread process thread)) = (tt, tt)
+
 state_fine : (state : RunState) (process thread : ℕ) → AreFine (state_changes state process thread)
 state_fine run.Running process thread = (tt, tt)
 state_fine (run.Suspended pc reason hits) process thread = (tt, (tt, tt))
@@ -177,9 +202,13 @@ props_fine (props ∷ list) fine = (fine.0, (tt, props_fine list fine.1))
 
 event_fine : (event : EventData) → IsEvent event → AreFine (event_changes event)
 event_fine (EventData.Hello list) fine = (tt, tt)
-event_fine (EventData.CtxAdded list) fine = both_fine _ _ (contexts_fine added_context list (λ context is. (is, tt)) fine) (tt, tt)
+event_fine (EventData.CtxAdded list) fine =
+    both_fine (of_each added_context list) _ (contexts_fine added_context list (λ context is. (is, tt)) fine)
+    (both_fine (of_each unsettled list) _ (each_fine unsettled list (λ context. unsettled_fine (context_of context.id)))
+    (both_fine (of_each begun list) _ (each_fine begun list (λ context. begun_fine (context_of context.id)))
+    (both_fine (of_each joined list) (statuses_gone ∷ []) (each_fine joined list (λ context. joined_fine context.id (context_of context.id))) (tt, tt))))
 event_fine (EventData.CtxChanged list) fine = both_fine _ _ (contexts_fine changed_context list (λ context is. (is, stale_fine (context_of context.id))) fine) (tt, tt)
-event_fine (EventData.CtxRemoved list) fine = both_fine _ _ (each_fine removed_context list (λ id. (tt, stale_fine (context_of id)))) (tt, tt)
+event_fine (EventData.CtxRemoved list) fine = both_fine _ _ (each_fine removed_context list removed_fine) (tt, tt)
 event_fine (EventData.Suspended id pc reason hits) fine = moved_fine (context_of id) (run.Suspended pc reason hits)
 event_fine (EventData.Resumed id) fine = moved_fine (context_of id) run.Running
 event_fine (EventData.BpStatusIs id status) fine = (fine, tt)
@@ -214,8 +243,14 @@ thread_fine None state = tt
 thread_fine (Some (Process process)) state = tt
 thread_fine (Some (Thread process thread)) state = state_fine state process thread
 
+listed_fine : (context : Option ContextId) (ids : List (List ℕ)) → AreFine (threads_listed context ids)
+listed_fine None ids = tt
+listed_fine (Some (Process process)) ids = either_fine (list_all (is_thread_of process) ids) _ _ (tt, tt) tt
+listed_fine (Some (Thread process thread)) ids = tt
+
 answer_fine : (asked : Command) (answer : Answer) → IsAnswerTo asked answer → AreFine (answer_changes asked answer)
 answer_fine (command.GetContext id) (Answer.Context context) fine = (fine.1, tt)
+answer_fine (command.GetChildren id) (Answer.Ids ids) fine = listed_fine (context_of id) ids
 answer_fine (command.GetState id) (Answer.State state) fine = thread_fine (context_of id) state
 answer_fine (command.BpProperties id) (Answer.Bp properties) fine = (fine.1, tt)
 answer_fine (command.BpGetStatus id) (Answer.Status status) fine = (fine.1, tt)

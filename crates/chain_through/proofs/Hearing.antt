@@ -4,7 +4,7 @@ use Rattle.std.specs.List.{AllByRecursion}
 use Rattle.channel_core.specs.Arrivals.{Spoken}
 use Rattle.channel_core.specs.Wire.{said_by, said_of}
 use Rattle.channel_core.specs.declared.held.Incoming.{Incoming}
-use Rattle.knowledge.specs.Facts.{IsPart, byte_is, context_is, is_suspended, properties_are, register_is, state_is, status_is}
+use Rattle.knowledge.specs.Facts.{AreSame, IsPart, byte_is, context_is, is_suspended, properties_are, register_is, state_is, status_is, threads_are}
 use Rattle.knowledge.specs.Learning.{Message, learned}
 use Rattle.target_contexts.specs.declared.process.Image.{Image}
 use Rattle.target_hub.specs.declared.input.Input.{Input}
@@ -15,6 +15,7 @@ use Rattle.value_node.specs.RelayLaws.{IsOfItsCommand}
 use Rattle.value_node.specs.Store.{IsStoreOf, StoreValue, lesson_of}
 use Rattle.chain_told.specs.Told.{AreToldRightly, AreTrueAt, lesson, lessons, mark_from, mark_of, numbered}
 use Rattle.chain_through.specs.Through.{kept_in}
+use Rattle.knowledge.proofs.Same.{still_same}
 use Rattle.chain_told.proofs.Doing.{heard_append, sent_append}
 use Rattle.chain_through.proofs.Found.{asked_same}
 use Rattle.chain_through.proofs.OwnTold.{IsUnmarked, none_from}
@@ -112,11 +113,22 @@ module _ (all : List Deed) (owns : (before rest : List Deed) (incoming : Incomin
 
 kept_part : (messages : List Message) (s : StoreValue) → IsStoreOf messages s → IsPart (kept_in s) (learned messages)
 kept_part messages s of (context_is id context) known = sym (of.facts.contexts id) ∙ known
+kept_part messages s of (threads_are process ids) known = sym (of.facts.threads process) ∙ known
 kept_part messages s of (state_is process thread state) known = sym (of.facts.states process thread) ∙ known
 kept_part messages s of (register_is process thread index value) known = sym (of.facts.registers process thread index) ∙ known
 kept_part messages s of (byte_is process place byte) known = of.bytes process place byte known
 kept_part messages s of (properties_are id properties) known = sym (of.facts.properties id) ∙ known
 kept_part messages s of (status_is id status) known = sym (of.facts.statuses id) ∙ known
+
+kept_same : (messages : List Message) (s : StoreValue) → IsStoreOf messages s → AreSame (kept_in s) (learned messages)
+kept_same messages s of = record {
+  contexts = of.facts.contexts;
+  threads = of.facts.threads;
+  states = of.facts.states;
+  registers = of.facts.registers;
+  properties = of.facts.properties;
+  statuses = of.facts.statuses;
+}
 
 pub kept_true : (images : List Image) (history : List Input) (mark : Option ℕ) (messages : List Message) (s : StoreValue) → IsStoreOf messages s → AreTrueAt images history mark (learned messages)
     → AreTrueAt images history mark (kept_in s)
@@ -127,6 +139,6 @@ kept_true images history (Some position) messages s of true = (
     facts = λ fact known. holds.facts fact (kept_part messages s of fact known);
     grounded = λ process thread index value is.
         ap is_suspended (of.facts.states process thread) ∙ holds.grounded process thread index value (sym (of.facts.registers process thread index) ∙ is);
-    still = λ process place byte is. ap is_suspended (of.facts.states process 1) ∙ holds.still process place byte (of.bytes process place byte is);
+    still = λ process place byte is. still_same process (kept_in s) (learned messages) (kept_same messages s of) ∙ holds.still process place byte (of.bytes process place byte is);
   },
 )

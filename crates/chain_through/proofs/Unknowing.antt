@@ -6,7 +6,7 @@ use Rattle.std.proofs.lemmas.Bool.{eqb-false}
 use Rattle.block_store.specs.Blocks.{has_range, part}
 use Rattle.block_store.specs.Store.{covered}
 use Rattle.block_store.specs.declared.block.Block.{Block}
-use Rattle.knowledge.specs.Facts.{AreSame, IsPart, byte_is, context_is, nothing, properties_are, register_is, state_is, status_is}
+use Rattle.knowledge.specs.Facts.{AreSame, IsPart, byte_is, context_is, nothing, properties_are, register_is, state_is, status_is, threads_are}
 use Rattle.knowledge.specs.KnowledgeValue.{has_block_byte}
 use Rattle.knowledge.specs.Learning.{Message, learned}
 use Rattle.knowledge.specs.Reply.{answer_known, are_parts_known, context_state_reply, is_readable, memory_reply, part_bytes, part_known, parts_bytes, process_asked, range_of, register_known, word_reply}
@@ -35,6 +35,7 @@ none_by (Some x) none = absurd (none x refl)
 knows_none : (messages : List Message) (s : StoreValue) → IsStoreOf messages s → IsPart (learned messages) nothing → AreSame (facts_in s.known) nothing
 knows_none messages s of part = record {
   contexts = λ id. of.facts.contexts id ∙ none_by ((learned messages).contexts id) (λ context is. no_some context (part (context_is id context) is));
+  threads = λ process. of.facts.threads process ∙ none_by ((learned messages).threads process) (λ ids is. no_some ids (part (threads_are process ids) is));
   states = λ process thread. of.facts.states process thread ∙ none_by ((learned messages).states process thread) (λ state is. no_some state (part (state_is process thread state) is));
   registers = λ process thread index. of.facts.registers process thread index
       ∙ none_by ((learned messages).registers process thread index) (λ value is. no_some value (part (register_is process thread index value) is));

@@ -1,7 +1,7 @@
 -- Who know the same facts still do when both learn the same; and what is true of what the one knows is so of what the other does.
 use Rattle.std.proofs.Common.{◌≡◌, ◌⊎◌, inl, inr, ⊎_elim, ℕ, true, List, [], ◌∷◌, ◌++◌, Option, Some, None, is_some, refl, sym, ap, ◌∙◌}
 use Rattle.value_store.specs.Lessons.{answer_message}
-use Rattle.knowledge.specs.Facts.{Facts, IsGrounded, IsPart, byte_is, context_is, is_suspended, nothing, properties_are, register_is, state_is, status_is}
+use Rattle.knowledge.specs.Facts.{Facts, IsGrounded, IsPart, byte_is, context_is, is_suspended, nothing, properties_are, register_is, state_is, status_is, threads_are}
 use Rattle.knowledge.specs.Learning.{Message, learn, learn_all}
 use Rattle.knowledge.specs.declared.state.StateFact.{StateFact}
 use Rattle.target_contexts.specs.declared.process.Image.{Image}
@@ -13,6 +13,7 @@ use Rattle.target_truth.specs.Typed.{AreTyped}
 use Rattle.tcf_values.specs.declared.command.Command.{Command}
 use Rattle.chain_told.specs.Told.{AreTrueAt}
 use Rattle.knowledge.proofs.TheLaws.{learning_is_monotone}
+use Rattle.target_truth.proofs.Origins.{still_known}
 use Rattle.chain_told.proofs.Keeping.{Keeps, answers_keep}
 
 pub record Agree (some more : Facts) : Type 0 where
@@ -30,8 +31,7 @@ agree_grounded some more agree grounded process thread index value is =
 
 agree_still : (some more : Facts) → Agree some more → IsStill more → IsStill some
 agree_still some more agree still process addr byte is =
-    suspended_too (more.states process 1) (some.states process 1) (λ state known. agree.back (state_is process 1 state) known)
-    (still process addr byte (agree.part (byte_is process addr byte) is))
+    still_known process more some agree.back (still process addr byte (agree.part (byte_is process addr byte) is))
 
 agree_holds : (some more : Facts) (target : TargetValue) → Agree some more → Holds more target → Holds some target
 agree_holds some more target agree holds =
@@ -97,6 +97,9 @@ kept_agrees before now more keeps agree part = record { part = part; back = back
     back (context_is id context) known =
         known_again (now.contexts id) context (keeps.contexts id (is_there _ context (agree.back (context_is id context) known)))
         (λ other is. sym (part (context_is id other) is) ∙ known)
+    back (threads_are process ids) known =
+        known_again (now.threads process) ids (keeps.threads process (is_there _ ids (agree.back (threads_are process ids) known)))
+        (λ other is. sym (part (threads_are process other) is) ∙ known)
     back (state_is process thread state) known =
         known_again (now.states process thread) state (keeps.states process thread (is_there _ state (agree.back (state_is process thread state) known)))
         (λ other is. sym (part (state_is process thread other) is) ∙ known)

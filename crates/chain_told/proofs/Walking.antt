@@ -6,7 +6,7 @@ use Rattle.std.proofs.lemmas.Grind.{flat_map-append}
 use Rattle.std.proofs.lemmas.List.Elements.{Contains-append_right}
 use Rattle.channel_core.specs.Arrivals.{Spoken, comes_as}
 use Rattle.channel_core.specs.declared.held.Incoming.{Incoming}
-use Rattle.knowledge.specs.Facts.{Facts, IsPart, byte_is, context_is, nothing, properties_are, register_is, state_is, status_is}
+use Rattle.knowledge.specs.Facts.{Facts, IsPart, byte_is, context_is, nothing, properties_are, register_is, state_is, status_is, threads_are}
 use Rattle.knowledge.specs.Learning.{learned}
 use Rattle.target_contexts.specs.declared.process.Image.{Image}
 use Rattle.target_hub.specs.History.{IsLegal}
@@ -167,6 +167,7 @@ module _ (images : List Image) (history : List Input) (legal : IsLegal images hi
 
   nothing_part : (known : Facts) → IsPart nothing known
   nothing_part known (context_is id context) is = absurd cc
+  nothing_part known (threads_are process ids) is = absurd cc
   nothing_part known (state_is process thread state) is = absurd cc
   nothing_part known (register_is process thread index value) is = absurd cc
   nothing_part known (byte_is process addr byte) is = absurd cc

@@ -1,12 +1,14 @@
 -- Why the laws hold: a command by its fault, and one part after the other.
-use Rattle.std.proofs.Common.{◌≡◌, ◌≢◌, ℕ, ℤ, pos, negsuc, ◌+◌, ◌≤◌, ◌<◌, nat_eq, nat_lt, unsigned_abs, Bool, true, false, not, cond, is_none, List, [], ◌∷◌, ◌++◌, length, get_or, slice_set, take, drop, Option, Some, None, option_map, option_and_then, refl, sym, ◌∙◌, ap, arith, eqb-true}
+use Rattle.std.proofs.Common.{◌≡◌, ◌≢◌, ℕ, ℤ, pos, negsuc, ◌+◌, ◌≤◌, ◌<◌, nat_eq, nat_lt, unsigned_abs, Bool, true, false, not, ◌&&◌, cond, is_none, List, [], ◌∷◌, ◌++◌, length, get_or, slice_set, take, drop, Option, Some, None, option_map, option_and_then, refl, sym, ◌∙◌, ap, arith, eqb-true}
 use Rattle.std.specs.List.{list_any}
 use Rattle.std.specs.Int.{w32, from_le_bytes}
 use Rattle.std.proofs.lemmas.Bool.{eq-eqb, ltb-false, ltb-true, ne_eqb}
 use Rattle.std.proofs.lemmas.List.{drop_at, get_or-set_same, length-take-le, take_at}
 use Rattle.std.proofs.lemmas.Nat.{le_bytes_4}
 use Rattle.rv32i_core.specs.declared.registers.Cpu.{Cpu}
-use Rattle.tcf_values.specs.Ids.{register_of}
+use Rattle.tcf_values.specs.Ids.{context_of, register_of}
+use Rattle.tcf_values.specs.declared.ids.ContextId.{ContextId}
+use Rattle.tcf_values.specs.declared.ids.ContextId.TheVariants as ids
 use Rattle.tcf_values.specs.declared.answer.Answer.TheVariants.{Blob, Failed, Nothing}
 use Rattle.tcf_values.specs.declared.command.Command.{Command}
 use Rattle.tcf_values.specs.declared.command.Command.TheVariants.{MemGet, MemSet, RegGet, RegSet, RegGetm, RegSetm}
@@ -21,16 +23,18 @@ use Rattle.target_contexts.specs.Changes.{targets_by, with_change, with_change_o
 use Rattle.data_services.specs.Commands.{data_after, data_effect, data_fault, data_given}
 use Rattle.tcf_values.specs.Effects.{effect_by, failed, gives}
 use Rattle.tcf_values.specs.Faults.{first_fault}
-use Rattle.data_services.specs.Laws.{AskingChangesNothing, FailureChangesNothing, MemorySetIsGot, OthersStay, RegisterSetIsGot, is_number, is_process}
+use Rattle.data_services.specs.Laws.{AskingChangesNothing, FailureChangesNothing, MemorySetIsGot, OtherThreadsStay, OthersStay, RegisterSetIsGot, is_number, is_process, is_some_thread, is_thread}
 use Rattle.data_services.specs.MemoryRows.{is_no_size, is_outside, memory_after, memory_bytes, memory_set_fault, with_memory}
-use Rattle.target_contexts.specs.Named.{is_running, number_named, runs}
-use Rattle.data_services.specs.Named.{process_named, process_with, holder_of}
-use Rattle.data_services.specs.Parts.{number_in, parts_named, with_bytes, with_number, with_parts}
-use Rattle.data_services.specs.RegisterRows.{register_after, register_bytes, register_set_fault, with_word}
+use Rattle.target_contexts.specs.Named.{holder_for, is_running, number_for, number_named, runs}
+use Rattle.target_contexts.specs.Threads.{has_thread, holding, in_thread, thread_at, thread_of}
+use Rattle.target_contexts.specs.declared.threads.Thread.{Thread}
+use Rattle.data_services.specs.Named.{process_named, thread_with, holder_of}
+use Rattle.data_services.specs.Parts.{number_in, parts_named, with_bytes, with_number, with_part_bytes, with_parts}
+use Rattle.data_services.specs.RegisterRows.{register_after, register_bytes, register_set_fault, with_register_word, with_word}
 use Rattle.tcf_values.specs.declared.faults.Fault.{Fault}
 use Rattle.tcf_values.specs.declared.faults.Fault.TheVariants.{BadAddress, BadContext, IsRunning, BadSize}
 use Rattle.data_services.specs.declared.parts.Part.{Part}
-use Rattle.data_services.proofs.PartSteps.{changed_process}
+use Rattle.data_services.proofs.PartSteps.{changed_process, changed_thread}
 use Rattle.list_laws.proofs.Flags.{not_false, neither}
 
 -- ---- failures
@@ -89,14 +93,14 @@ stays_named change (Some n) number targets other = stays_but change n number tar
 
 stays_register : (register : Option RegisterId) (word number : ℕ) (targets : TargetsValue) → is_process number register ≡ false → Stays number targets (register_after register word targets)
 stays_register None word number targets other = refl
-stays_register (Some register) word number targets other = stays_but (with_word register.index word) register.process number targets other
+stays_register (Some register) word number targets other = stays_but (with_register_word register word) register.process number targets other
 
 stays_parts : (parts : List Part) (bytes : List ℕ) (number : ℕ) (targets : TargetsValue) → list_any (λ part. nat_eq part.register.process number) parts ≡ false → Stays number targets (with_parts parts bytes targets)
 stays_parts [] bytes number targets other = refl
 stays_parts (part ∷ parts) bytes number targets other =
     let both = neither (nat_eq part.register.process number) (list_any (λ p. nat_eq p.register.process number) parts) other in
-    stays_parts parts (drop part.size bytes) number (with_change (with_bytes part (take part.size bytes)) part.register.process targets) both.1
-    ∙ stays_but (with_bytes part (take part.size bytes)) part.register.process number targets both.0
+    stays_parts parts (drop part.size bytes) number (with_change (with_part_bytes part (take part.size bytes)) part.register.process targets) both.1
+    ∙ stays_but (with_part_bytes part (take part.size bytes)) part.register.process number targets both.0
 
 pub others_stay : OthersStay
 others_stay (MemSet id addr word size mode bytes) targets number other =
@@ -109,6 +113,57 @@ others_stay (MemGet id addr word size mode) targets number other = stays_by (dat
 others_stay (RegGet id) targets number other = stays_by (data_fault (RegGet id) targets) targets targets number refl
 others_stay (RegGetm list) targets number other = stays_by (data_fault (RegGetm list) targets) targets targets number refl
 others_stay _ targets number other = refl
+
+-- ---- the other threads
+
+abbrev ThreadStays : ℕ → ℕ → TargetsValue → TargetsValue → Type 0
+ThreadStays number n targets left = thread_of number n left.processes ≡ thread_of number n targets.processes
+
+thread_by_fault : (fault : Option Fault) (left targets : TargetsValue) (number n : ℕ) → ThreadStays number n targets left → ThreadStays number n targets (targets_by fault left targets)
+thread_by_fault None left targets number n same = same
+thread_by_fault (Some fault) left targets number n same = refl
+
+thread_but : (change : Thread → Thread) (register : RegisterId) (number n : ℕ) (targets : TargetsValue) → is_thread number n register ≡ false
+    → ThreadStays number n targets (with_change (in_thread change register.thread) register.process targets)
+thread_but change register number n targets other =
+    changed_thread change register.process register.thread number n targets
+    ∙ ap (λ (b : Bool). cond b (option_map change (thread_of number n targets.processes)) (thread_of number n targets.processes)) other
+
+thread_register : (register : Option RegisterId) (word number n : ℕ) (targets : TargetsValue) → is_some_thread number n register ≡ false → ThreadStays number n targets (register_after register word targets)
+thread_register None word number n targets other = refl
+thread_register (Some register) word number n targets other = thread_but (with_word register.index word) register number n targets other
+
+thread_parts : (parts : List Part) (bytes : List ℕ) (number n : ℕ) (targets : TargetsValue) → list_any (λ part. is_thread number n part.register) parts ≡ false → ThreadStays number n targets (with_parts parts bytes targets)
+thread_parts [] bytes number n targets other = refl
+thread_parts (part ∷ parts) bytes number n targets other =
+    let both = neither (is_thread number n part.register) (list_any (λ p. is_thread number n p.register) parts) other in
+    thread_parts parts (drop part.size bytes) number n (with_change (with_part_bytes part (take part.size bytes)) part.register.process targets) both.1
+    ∙ thread_but (with_bytes part (take part.size bytes)) part.register number n targets both.0
+
+-- memory is no part of a thread
+memory_apart : (first : ℕ) (bytes : List ℕ) (n : ℕ) (here : Bool) (found : Option ProcessValue) →
+    option_and_then (thread_at n) (cond here (option_map (with_memory first bytes) found) found) ≡ option_and_then (thread_at n) found
+memory_apart first bytes n false found = refl
+memory_apart first bytes n true None = refl
+memory_apart first bytes n true (Some process) = refl
+
+thread_memory : (first : ℕ) (bytes : List ℕ) (named : Option ℕ) (number n : ℕ) (targets : TargetsValue) → ThreadStays number n targets (with_change_of (with_memory first bytes) named targets)
+thread_memory first bytes None number n targets = refl
+thread_memory first bytes (Some m) number n targets =
+    ap (option_and_then (thread_at n)) (changed_process (with_memory first bytes) m number targets)
+    ∙ memory_apart first bytes n (nat_eq m number) (process_of number targets.processes)
+
+pub other_threads_stay : OtherThreadsStay
+other_threads_stay (MemSet id addr word size mode bytes) targets number n other =
+    thread_by_fault (data_fault (MemSet id addr word size mode bytes) targets) (memory_after id addr bytes targets) targets number n (thread_memory (unsigned_abs addr) bytes (number_named id) number n targets)
+other_threads_stay (RegSet id bytes) targets number n other =
+    thread_by_fault (data_fault (RegSet id bytes) targets) (register_after (register_of id) (word_of bytes) targets) targets number n (thread_register (register_of id) (word_of bytes) number n targets other)
+other_threads_stay (RegSetm list bytes) targets number n other =
+    thread_by_fault (data_fault (RegSetm list bytes) targets) (with_parts (parts_named list) bytes targets) targets number n (thread_parts (parts_named list) bytes number n targets other)
+other_threads_stay (MemGet id addr word size mode) targets number n other = thread_by_fault (data_fault (MemGet id addr word size mode) targets) targets targets number n refl
+other_threads_stay (RegGet id) targets number n other = thread_by_fault (data_fault (RegGet id) targets) targets targets number n refl
+other_threads_stay (RegGetm list) targets number n other = thread_by_fault (data_fault (RegGetm list) targets) targets targets number n refl
+other_threads_stay _ targets number n other = refl
 
 -- ---- memory
 
@@ -132,16 +187,32 @@ same_bytes first count bytes memory all within =
     ap (λ (xs : List ℕ). take count xs) (drop_at (take first memory) (bytes ++ rest) first (length-take-le first memory within))
     ∙ take_at bytes rest count all
 
-abbrev in_rows : List (ℕ × ProcessValue) → Option ℕ → Option ProcessValue
-in_rows rows named = option_and_then (λ number. process_of number rows) named
-
-named_after : (change : ProcessValue → ProcessValue) (named : Option ℕ) (targets : TargetsValue) (process : ProcessValue) →
-    in_rows targets.processes named ≡ Some process → in_rows (with_change_of change named targets).processes named ≡ Some (change process)
-named_after change None targets process there = cc
-named_after change (Some n) targets process there =
+-- the process that is changed
+itself_after : (change : ProcessValue → ProcessValue) (n : ℕ) (targets : TargetsValue) → process_of n (with_change change n targets).processes ≡ option_map change (process_of n targets.processes)
+itself_after change n targets =
     changed_process change n n targets
     ∙ ap (λ (b : Bool). cond b (option_map change (process_of n targets.processes)) (process_of n targets.processes)) (eq-eqb n n refl)
-    ∙ ap (option_map change) there
+
+-- a process that memory is put into holds the threads that it held
+still_holding : (first : ℕ) (bytes : List ℕ) (n : ℕ) (found : Option ProcessValue) → holding n (option_map (with_memory first bytes) found) ≡ option_map (with_memory first bytes) (holding n found)
+still_holding first bytes n None = refl
+still_holding first bytes n (Some process) = held_by (has_thread n process)
+  where
+    held_by : (has : Bool) → cond has (Some (with_memory first bytes process)) None ≡ option_map (with_memory first bytes) (cond has (Some process) None)
+    held_by true = refl
+    held_by false = refl
+
+holder_after : (first : ℕ) (bytes : List ℕ) (context : ContextId) (targets : TargetsValue) →
+    holder_for context (with_change (with_memory first bytes) (number_for context) targets).processes ≡ option_map (with_memory first bytes) (holder_for context targets.processes)
+holder_after first bytes (ids.Process n) targets = itself_after (with_memory first bytes) n targets
+holder_after first bytes (ids.Thread number n) targets =
+    ap (holding n) (itself_after (with_memory first bytes) number targets) ∙ still_holding first bytes n (process_of number targets.processes)
+
+named_after : (first : ℕ) (bytes : List ℕ) (context : Option ContextId) (targets : TargetsValue) (process : ProcessValue) →
+    option_and_then (λ c. holder_for c targets.processes) context ≡ Some process
+    → option_and_then (λ c. holder_for c (with_change_of (with_memory first bytes) (option_map number_for context) targets).processes) context ≡ Some (with_memory first bytes process)
+named_after first bytes None targets process there = absurd cc
+named_after first bytes (Some context) targets process there = holder_after first bytes context targets ∙ ap (option_map (with_memory first bytes)) there
 
 abbrev got : ℤ → ℤ → Option ProcessValue → Bool → Bool → Effect
 got addr size process no_size outside =
@@ -157,7 +228,7 @@ memory_set_is_got id addr word size mode bytes targets process there whole answe
     let filled = passed (not (nat_eq (length bytes) (unsigned_abs size))) BadSize _ sized.1 in
     let placed = passed (is_outside addr size) BadAddress _ filled.1 in
     let left : data_after (MemSet id addr word size mode bytes) targets ≡ after = ap (λ (f : Option Fault). targets_by f after targets) fault in
-    let named : process_named id after.processes ≡ Some (change process) = named_after change (number_named id) targets process there in
+    let named : process_named id after.processes ≡ Some (change process) = named_after (unsigned_abs addr) bytes (context_of id) targets process there in
     let within : unsigned_abs addr ≤ length process.memory = omega (arith, inside addr size sized.0 placed.0, whole) in
     let count : length bytes ≡ unsigned_abs size = eqb-true (length bytes) (unsigned_abs size) (not_false _ filled.0) in
     ap (λ (t : TargetsValue). data_effect (MemGet id addr word size mode) t) left
@@ -186,23 +257,30 @@ bytes_back : (bytes : List ℕ) → length bytes ≡ 4 → ((i : ℕ) → get_or
 unfolding word_bytes word_of
 bytes_back bytes four small = le_bytes_4 bytes (from_le_bytes w32 bytes) four small refl
 
-thread_by : (change : ProcessValue → ProcessValue) (n : ℕ) (targets : TargetsValue) (process : ProcessValue) (first : Bool) →
-    cond first (process_of n targets.processes) None ≡ Some process → cond first (process_of n (with_change change n targets).processes) None ≡ Some (change process)
-thread_by change n targets process true there = named_after change (Some n) targets process there
-thread_by change n targets process false there = cc
+itself : (a b : ℕ) → (nat_eq a a && nat_eq b b) ≡ true
+itself a b = rw (eq-eqb a a refl, eq-eqb b b refl) refl
 
-abbrev read : Option RegisterId → Option ProcessValue → Effect
-read register process =
-    effect_by (first_fault ((is_none process, BadContext) ∷ (is_running process, IsRunning) ∷ [])) (gives (Blob (register_bytes register process)))
+-- the thread that is changed
+thread_changed : (change : Thread → Thread) (register : RegisterId) (targets : TargetsValue) (thread : Thread) → thread_with targets.processes register ≡ Some thread
+    → thread_with (with_change (in_thread change register.thread) register.process targets).processes register ≡ Some (change thread)
+thread_changed change register targets thread there =
+    let found : Option Thread = thread_with targets.processes register in
+    changed_thread change register.process register.thread register.process register.thread targets
+    ∙ ap (λ (b : Bool). cond b (option_map change found) found) (itself register.process register.thread)
+    ∙ ap (option_map change) there
+
+abbrev read : Option RegisterId → Option Thread → Effect
+read register thread =
+    effect_by (first_fault ((is_none thread, BadContext) ∷ (is_running thread, IsRunning) ∷ [])) (gives (Blob (register_bytes register thread)))
 
 abbrev read_number : Bool → ℕ → Effect
 read_number running number = effect_by (first_fault ((false, BadContext) ∷ (running, IsRunning) ∷ [])) (gives (Blob (word_bytes number)))
 
 pub register_set_is_got : RegisterSetIsGot
-register_set_is_got id bytes targets register process named nonzero there has small answered =
+register_set_is_got id bytes targets register thread named nonzero there has small answered =
     let number : ℕ = word_of bytes in
-    let change : ProcessValue → ProcessValue = with_word register.index number in
-    let after : TargetsValue = with_change change register.process targets in
+    let change : Thread → Thread = with_word register.index number in
+    let after : TargetsValue = with_change (in_thread change register.thread) register.process targets in
     let fault : register_set_fault id bytes targets.processes ≡ None = no_fault _ _ answered in
     let found = passed (is_none (holder_of id targets.processes)) BadContext _ fault in
     let still = passed (is_running (holder_of id targets.processes)) IsRunning _ found.1 in
@@ -210,15 +288,14 @@ register_set_is_got id bytes targets register process named nonzero there has sm
     let left : data_after (RegSet id bytes) targets ≡ after =
     ap (λ (f : Option Fault). targets_by f (register_after (register_of id) number targets) targets) fault
     ∙ ap (λ (r : Option RegisterId). register_after r number targets) named in
-    let was : process_with targets.processes register ≡ Some process = sym (ap (λ (r : Option RegisterId). option_and_then (process_with targets.processes) r) named) ∙ there in
-    let now : holder_of id after.processes ≡ Some (change process) =
-    ap (λ (r : Option RegisterId). option_and_then (process_with after.processes) r) named
-    ∙ thread_by change register.process targets process (nat_eq register.thread 1) was in
-    let stands : runs process.state ≡ false = sym (ap is_running there) ∙ still.0 in
+    let was : thread_with targets.processes register ≡ Some thread = sym (ap (λ (r : Option RegisterId). option_and_then (thread_with targets.processes) r) named) ∙ there in
+    let now : holder_of id after.processes ≡ Some (change thread) =
+    ap (λ (r : Option RegisterId). option_and_then (thread_with after.processes) r) named ∙ thread_changed change register targets thread was in
+    let stands : runs thread.state ≡ false = sym (ap is_running there) ∙ still.0 in
     let four : length bytes ≡ 4 = eqb-true (length bytes) 4 (not_false _ filled.0) in
     ap (λ (t : TargetsValue). data_effect (RegGet id) t) left
     ∙ ap (λ (r : Option RegisterId). read r (holder_of id after.processes)) named
-    ∙ ap (λ (p : Option ProcessValue). read (Some register) p) now
-    ∙ ap (λ (b : Bool). read_number b (number_in register.index (with_number register.index number process.cpu))) stands
-    ∙ ap (λ (n : ℕ). read_number false n) (number_back register.index number process.cpu nonzero has)
+    ∙ ap (λ (t : Option Thread). read (Some register) t) now
+    ∙ ap (λ (b : Bool). read_number b (number_in register.index (with_number register.index number thread.cpu))) stands
+    ∙ ap (λ (n : ℕ). read_number false n) (number_back register.index number thread.cpu nonzero has)
     ∙ ap (λ (xs : List ℕ). gives (Blob xs)) (bytes_back bytes four small)

@@ -1,5 +1,5 @@
--- One part more that bytes are put over, and what that leaves in one process.
-use Rattle.std.proofs.Common.{◌≡◌, ℕ, ◌+◌, ◌%◌, nat_eq, Bool, true, false, not, cond, List, [], ◌∷◌, ◌++◌, length, get_or, take, drop, slice_get, Option, Some, None, option_map, refl, sym, ◌∙◌, ap, arith, eqb-true, append_assoc, length-drop}
+-- One part more that bytes are put over, and what that leaves in one thread.
+use Rattle.std.proofs.Common.{◌≡◌, ℕ, ◌+◌, ◌%◌, nat_eq, ◌&&◌, Bool, true, false, not, cond, List, [], ◌∷◌, ◌++◌, length, get_or, take, drop, slice_get, Option, Some, None, option_and_then, option_map, refl, sym, ◌∙◌, ap, arith, eqb-true, append_assoc, length-drop}
 use Rattle.std.proofs.lemmas.Bool.{eqb-false}
 use Rattle.std.proofs.lemmas.List.Quantifiers.{position-Some}
 use Rattle.std.proofs.lemmas.List.Sums.{sum_by-cons}
@@ -9,16 +9,20 @@ use Rattle.target_contexts.specs.Live.{IsLive, place_of, process_at, process_of,
 use Rattle.target_contexts.specs.TargetsValue.{TargetsValue}
 use Rattle.target_contexts.specs.ProcessValue.{ProcessValue}
 use Rattle.target_contexts.specs.Changes.{with_change, with_change_at}
-use Rattle.data_services.specs.Parts.{bytes_in, bytes_of, cpu_after, is_off, names_off, sizes, with_bytes, with_parts, with_register_bytes}
+use Rattle.data_services.specs.Parts.{bytes_in, bytes_of, cpu_after, is_off, is_part_of, names_off, sizes, with_bytes, with_part_bytes, with_parts, with_register_bytes}
 use Rattle.data_services.specs.declared.parts.Part.{Part}
-use Rattle.target_contexts.proofs.TheLaws.{changes_one}
+use Rattle.target_contexts.proofs.TheLaws.{changes_one, changes_one_thread}
+use Rattle.data_services.specs.Named.{thread_with}
+use Rattle.tcf_values.specs.declared.ids.RegisterId.{RegisterId}
+use Rattle.target_contexts.specs.Threads.{in_thread, thread_at, thread_of}
+use Rattle.target_contexts.specs.declared.threads.Thread.{Thread}
 
 -- the parts that are left, after one more
 pub put_step : (parts : List Part) (i : ℕ) (part : Part) (rest first later : List ℕ) (old new all : TargetsValue) → drop i parts ≡ part ∷ drop (i + 1) parts → first ≡ take part.size rest → later ≡ drop part.size rest →
-    new ≡ with_change (with_bytes part first) part.register.process old → with_parts (drop i parts) rest old ≡ all → with_parts (drop (i + 1) parts) later new ≡ all
+    new ≡ with_change (with_part_bytes part first) part.register.process old → with_parts (drop i parts) rest old ≡ all → with_parts (drop (i + 1) parts) later new ≡ all
 put_step parts i part rest first later old new all split front back put before =
     ap (λ (xs : List ℕ). with_parts (drop (i + 1) parts) xs new) back
-    ∙ ap (λ (t : TargetsValue). with_parts (drop (i + 1) parts) (drop part.size rest) t) (put ∙ ap (λ (xs : List ℕ). with_change (with_bytes part xs) part.register.process old) front)
+    ∙ ap (λ (t : TargetsValue). with_parts (drop (i + 1) parts) (drop part.size rest) t) (put ∙ ap (λ (xs : List ℕ). with_change (with_part_bytes part xs) part.register.process old) front)
     ∙ sym (ap (λ (ps : List Part). with_parts ps rest old) split)
     ∙ before
 
@@ -28,16 +32,16 @@ size_step parts i part rest later split back before =
     omega (arith, ap length back, length-drop part.size rest)
 
 -- the bytes of one part more
-pub bytes_step : (rows : List (ℕ × ProcessValue)) (parts : List Part) (i : ℕ) (part : Part) (old new all : List ℕ) → drop i parts ≡ part ∷ drop (i + 1) parts → new ≡ old ++ bytes_in part (process_of part.register.process rows) →
+pub bytes_step : (rows : List (ℕ × ProcessValue)) (parts : List Part) (i : ℕ) (part : Part) (old new all : List ℕ) → drop i parts ≡ part ∷ drop (i + 1) parts → new ≡ old ++ bytes_in part (thread_with rows part.register) →
     old ++ bytes_of rows (drop i parts) ≡ all → new ++ bytes_of rows (drop (i + 1) parts) ≡ all
 bytes_step rows parts i part old new all split added before =
     ap (λ (xs : List ℕ). xs ++ bytes_of rows (drop (i + 1) parts)) added
-    ∙ append_assoc old (bytes_in part (process_of part.register.process rows)) (bytes_of rows (drop (i + 1) parts))
+    ∙ append_assoc old (bytes_in part (thread_with rows part.register)) (bytes_of rows (drop (i + 1) parts))
     ∙ sym (ap (λ (ps : List Part). old ++ bytes_of rows ps) split)
     ∙ before
 
 -- one part that is of a pc that is off is enough
-pub names_found : (rows : List (ℕ × ProcessValue)) (parts : List Part) (i : ℕ) (part : Part) → drop i parts ≡ part ∷ drop (i + 1) parts → nat_eq part.register.index 32 ≡ true → true ≡ is_off (process_of part.register.process rows) → names_off rows (drop i parts) ≡ true
+pub names_found : (rows : List (ℕ × ProcessValue)) (parts : List Part) (i : ℕ) (part : Part) → drop i parts ≡ part ∷ drop (i + 1) parts → nat_eq part.register.index 32 ≡ true → true ≡ is_off (thread_with rows part.register) → names_off rows (drop i parts) ≡ true
 names_found rows parts i part split pc off = ap (λ (ps : List Part). names_off rows ps) split ∙ grind arith
 
 -- ---- a change of one process
@@ -78,41 +82,72 @@ pub changed_process : (change : ProcessValue → ProcessValue) (n number : ℕ) 
     process_of number (with_change change n targets).processes ≡ cond (nat_eq n number) (option_map change (process_of number targets.processes)) (process_of number targets.processes)
 changed_process change n number targets = changed_by change n number targets (process_of n targets.processes) refl (nat_eq n number) refl
 
-abbrev after : ℕ → List Part → List ℕ → ProcessValue → ProcessValue
-after number parts bytes process = record process { cpu = cpu_after number parts bytes process.cpu }
+-- ---- a change of one thread of a process
 
-unchanged : (number : ℕ) (bytes : List ℕ) (found : Option ProcessValue) → found ≡ option_map (λ process. after number [] bytes process) found
-unchanged number bytes None = refl
-unchanged number bytes (Some process) = refl
+changed_in : (change : Thread → Thread) (m n : ℕ) (process : ProcessValue) (same : Bool) → nat_eq m n ≡ same →
+    thread_at n (in_thread change m process) ≡ cond same (option_map change (thread_at n process)) (thread_at n process)
+changed_in change m n process true e =
+    let is : m ≡ n = eqb-true m n e in
+    ap (λ (k : ℕ). thread_at k (in_thread change m process)) (sym is) ∙ (changes_one_thread change m process).0
+    ∙ ap (λ (k : ℕ). option_map change (thread_at k process)) is
+changed_in change m n process false e = (changes_one_thread change m process).1.others n (λ is. eqb-false m n e (sym is))
+
+none_else : (here : Bool) (change : Thread → Thread) (found : Option Thread) → found ≡ None → None ≡ cond here (option_map change found) found
+none_else true change found is = rw is refl
+none_else false change found is = sym is
+
+-- the thread of a process that is changed, where it is this one
+in_changed : (change : Thread → Thread) (m n : ℕ) (here : Bool) (found : Option ProcessValue) →
+    option_and_then (thread_at n) (cond here (option_map (in_thread change m) found) found)
+    ≡ cond (here && nat_eq m n) (option_map change (option_and_then (thread_at n) found)) (option_and_then (thread_at n) found)
+in_changed change m n false found = refl
+in_changed change m n true None = none_else (nat_eq m n) change None refl
+in_changed change m n true (Some process) = changed_in change m n process (nat_eq m n) refl
+
+-- a change of one thread changes that one
+pub changed_thread : (change : Thread → Thread) (p m number n : ℕ) (targets : TargetsValue) →
+    thread_of number n (with_change (in_thread change m) p targets).processes
+    ≡ cond (nat_eq p number && nat_eq m n) (option_map change (thread_of number n targets.processes)) (thread_of number n targets.processes)
+changed_thread change p m number n targets =
+    ap (option_and_then (thread_at n)) (changed_process (in_thread change m) p number targets)
+    ∙ in_changed change m n (nat_eq p number) (process_of number targets.processes)
+
+abbrev after : ℕ → ℕ → List Part → List ℕ → Thread → Thread
+after number n parts bytes thread = record thread { cpu = cpu_after number n parts bytes thread.cpu }
+
+unchanged : (number n : ℕ) (bytes : List ℕ) (found : Option Thread) → found ≡ option_map (λ thread. after number n [] bytes thread) found
+unchanged number n bytes None = refl
+unchanged number n bytes (Some thread) = refl
 
 -- the part is first put over, or passed over, and then the others
-one_more : (number : ℕ) (part : Part) (parts : List Part) (bytes : List ℕ) (same : Bool) → nat_eq part.register.process number ≡ same → (found : Option ProcessValue) →
-    option_map (λ process. after number parts (drop part.size bytes) process) (cond same (option_map (with_bytes part (take part.size bytes)) found) found) ≡ option_map (λ process. after number (part ∷ parts) bytes process) found
-one_more number part parts bytes true e None = refl
-one_more number part parts bytes false e None = refl
-one_more number part parts bytes true e (Some process) = ap (λ (b : Bool). Some (record process { cpu = cpu_after number parts (drop part.size bytes) (cond b (with_register_bytes part (take part.size bytes) process.cpu) process.cpu) })) (sym e)
-one_more number part parts bytes false e (Some process) = ap (λ (b : Bool). Some (record process { cpu = cpu_after number parts (drop part.size bytes) (cond b (with_register_bytes part (take part.size bytes) process.cpu) process.cpu) })) (sym e)
+one_more : (number n : ℕ) (part : Part) (parts : List Part) (bytes : List ℕ) (same : Bool) → is_part_of number n part ≡ same → (found : Option Thread) →
+    option_map (λ thread. after number n parts (drop part.size bytes) thread) (cond same (option_map (with_bytes part (take part.size bytes)) found) found) ≡ option_map (λ thread. after number n (part ∷ parts) bytes thread) found
+one_more number n part parts bytes true e None = refl
+one_more number n part parts bytes false e None = refl
+one_more number n part parts bytes true e (Some thread) = ap (λ (b : Bool). Some (record thread { cpu = cpu_after number n parts (drop part.size bytes) (cond b (with_register_bytes part (take part.size bytes) thread.cpu) thread.cpu) })) (sym e)
+one_more number n part parts bytes false e (Some thread) = ap (λ (b : Bool). Some (record thread { cpu = cpu_after number n parts (drop part.size bytes) (cond b (with_register_bytes part (take part.size bytes) thread.cpu) thread.cpu) })) (sym e)
 
--- what is left in one process is what its own parts leave there
-pub process_after : (number : ℕ) (parts : List Part) (bytes : List ℕ) (targets : TargetsValue) →
-    process_of number (with_parts parts bytes targets).processes ≡ option_map (λ process. after number parts bytes process) (process_of number targets.processes)
-process_after number [] bytes targets = unchanged number bytes (process_of number targets.processes)
-process_after number (part ∷ parts) bytes targets =
-    let change : ProcessValue → ProcessValue = with_bytes part (take part.size bytes) in
-    let n : ℕ = part.register.process in
-    process_after number parts (drop part.size bytes) (with_change change n targets)
-    ∙ ap (λ (found : Option ProcessValue). option_map (λ process. after number parts (drop part.size bytes) process) found) (changed_process change n number targets)
-    ∙ one_more number part parts bytes (nat_eq n number) refl (process_of number targets.processes)
+-- what is left in one thread is what its own parts leave there
+pub thread_after : (number n : ℕ) (parts : List Part) (bytes : List ℕ) (targets : TargetsValue) →
+    thread_of number n (with_parts parts bytes targets).processes ≡ option_map (λ thread. after number n parts bytes thread) (thread_of number n targets.processes)
+thread_after number n [] bytes targets = unchanged number n bytes (thread_of number n targets.processes)
+thread_after number n (part ∷ parts) bytes targets =
+    let change : Thread → Thread = with_bytes part (take part.size bytes) in
+    let p : ℕ = part.register.process in
+    let m : ℕ = part.register.thread in
+    thread_after number n parts (drop part.size bytes) (with_change (in_thread change m) p targets)
+    ∙ ap (λ (found : Option Thread). option_map (λ thread. after number n parts (drop part.size bytes) thread) found) (changed_thread change p m number n targets)
+    ∙ one_more number n part parts bytes (is_part_of number n part) refl (thread_of number n targets.processes)
 
--- whether a pc is off after the parts, where the process is there and where it isn't
-pub off_there : (number : ℕ) (parts : List Part) (bytes : List ℕ) (targets : TargetsValue) (process : ProcessValue) (cpu : Cpu) → Some process ≡ process_of number targets.processes → cpu ≡ cpu_after number parts bytes process.cpu →
-    not (nat_eq (cpu.pc % 4) 0) ≡ is_off (process_of number (with_parts parts bytes targets).processes)
-off_there number parts bytes targets process cpu there same =
+-- whether a pc is off after the parts, where the thread is there and where it isn't
+pub off_there : (register : RegisterId) (parts : List Part) (bytes : List ℕ) (targets : TargetsValue) (thread : Thread) (cpu : Cpu) → Some thread ≡ thread_with targets.processes register → cpu ≡ cpu_after register.process register.thread parts bytes thread.cpu →
+    not (nat_eq (cpu.pc % 4) 0) ≡ is_off (thread_with (with_parts parts bytes targets).processes register)
+off_there register parts bytes targets thread cpu there same =
     ap (λ (c : Cpu). not (nat_eq (c.pc % 4) 0)) same
-    ∙ ap (λ (found : Option ProcessValue). is_off (option_map (λ p. after number parts bytes p) found)) there
-    ∙ sym (ap is_off (process_after number parts bytes targets))
+    ∙ ap (λ (found : Option Thread). is_off (option_map (λ t. after register.process register.thread parts bytes t) found)) there
+    ∙ sym (ap is_off (thread_after register.process register.thread parts bytes targets))
 
-pub off_missing : (number : ℕ) (parts : List Part) (bytes : List ℕ) (targets : TargetsValue) → None ≡ process_of number targets.processes → false ≡ is_off (process_of number (with_parts parts bytes targets).processes)
-off_missing number parts bytes targets missing =
-    ap (λ (found : Option ProcessValue). is_off (option_map (λ p. after number parts bytes p) found)) missing
-    ∙ sym (ap is_off (process_after number parts bytes targets))
+pub off_missing : (register : RegisterId) (parts : List Part) (bytes : List ℕ) (targets : TargetsValue) → None ≡ thread_with targets.processes register → false ≡ is_off (thread_with (with_parts parts bytes targets).processes register)
+off_missing register parts bytes targets missing =
+    ap (λ (found : Option Thread). is_off (option_map (λ t. after register.process register.thread parts bytes t) found)) missing
+    ∙ sym (ap is_off (thread_after register.process register.thread parts bytes targets))

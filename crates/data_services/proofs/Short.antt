@@ -1,4 +1,4 @@
--- The names, the reasons and the hits of the processes stay short through each command.
+-- The threads of the processes stay few, and names, reasons and hits short, through each command.
 use Rattle.std.proofs.Common.{ℕ, unsigned_abs, List, [], ◌∷◌, take, drop, Option, Some, None}
 use Rattle.tcf_values.specs.Ids.{register_of}
 use Rattle.tcf_values.specs.declared.command.Command.{Command}
@@ -13,20 +13,20 @@ use Rattle.target_contexts.specs.ProcessValue.{ProcessValue}
 use Rattle.data_services.specs.Bytes.{word_of}
 use Rattle.data_services.specs.Commands.{data_fault, data_left}
 use Rattle.data_services.specs.MemoryRows.{with_memory}
-use Rattle.data_services.specs.Parts.{parts_named, with_bytes, with_parts}
-use Rattle.data_services.specs.RegisterRows.{register_after, with_word}
+use Rattle.data_services.specs.Parts.{parts_named, with_bytes, with_part_bytes, with_parts}
+use Rattle.data_services.specs.RegisterRows.{register_after, with_register_word, with_word}
 use Rattle.data_services.specs.Short.{ShortStays}
 use Rattle.data_services.specs.declared.parts.Part.{Part}
-use Rattle.target_contexts.proofs.TheLaws.{change_stays_short}
+use Rattle.target_contexts.proofs.TheLaws.{change_stays_short, thread_stays_short}
 
 memory_short : (first : ℕ) (bytes : List ℕ) (process : ProcessValue) → IsShort process → IsShort (with_memory first bytes process)
-memory_short first bytes process is = record { name = is.name; state = is.state }
+memory_short first bytes process is = record { name = is.name; threads = is.threads; count = is.count }
 
-word_short : (index number : ℕ) (process : ProcessValue) → IsShort process → IsShort (with_word index number process)
-word_short index number process is = record { name = is.name; state = is.state }
+word_short : (register : RegisterId) (number : ℕ) (process : ProcessValue) → IsShort process → IsShort (with_register_word register number process)
+word_short register number process is = thread_stays_short (with_word register.index number) register.thread process (λ thread short. short) is
 
-bytes_short : (part : Part) (bytes : List ℕ) (process : ProcessValue) → IsShort process → IsShort (with_bytes part bytes process)
-bytes_short part bytes process is = record { name = is.name; state = is.state }
+bytes_short : (part : Part) (bytes : List ℕ) (process : ProcessValue) → IsShort process → IsShort (with_part_bytes part bytes process)
+bytes_short part bytes process is = thread_stays_short (with_bytes part bytes) part.register.thread process (λ thread short. short) is
 
 named_short : (change : ProcessValue → ProcessValue) (named : Option ℕ) (targets : TargetsValue) → ((process : ProcessValue) → IsShort process → IsShort (change process)) → AllShort targets.processes
     → AllShort (with_change_of change named targets).processes
@@ -35,12 +35,12 @@ named_short change (Some number) targets keeps all = change_stays_short change n
 
 register_short : (register : Option RegisterId) (word : ℕ) (targets : TargetsValue) → AllShort targets.processes → AllShort (register_after register word targets).processes
 register_short None word targets all = all
-register_short (Some register) word targets all = change_stays_short (with_word register.index word) register.process targets (word_short register.index word) all
+register_short (Some register) word targets all = change_stays_short (with_register_word register word) register.process targets (word_short register word) all
 
 parts_short : (parts : List Part) (bytes : List ℕ) (targets : TargetsValue) → AllShort targets.processes → AllShort (with_parts parts bytes targets).processes
 parts_short [] bytes targets all = all
 parts_short (part ∷ parts) bytes targets all =
-    let change = with_bytes part (take part.size bytes) in
+    let change = with_part_bytes part (take part.size bytes) in
     parts_short parts (drop part.size bytes) (with_change change part.register.process targets)
     (change_stays_short change part.register.process targets (bytes_short part (take part.size bytes)) all)
 

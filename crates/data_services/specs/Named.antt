@@ -1,19 +1,20 @@
 -- What an ID names among the live processes (TCF services Memory and Registers).
-use Rattle.std.specs.Prelude.{ℕ, ◌==◌, List, Option, None, option_and_then, if◌then◌else◌}
+use Rattle.std.specs.Prelude.{ℕ, List, Option, option_and_then}
 use Rattle.tcf_values.specs.Ids.{register_of}
 use Rattle.tcf_values.specs.declared.ids.RegisterId.{RegisterId}
-use Rattle.target_contexts.specs.Live.{process_of}
-use Rattle.target_contexts.specs.Named.{number_named, process_at_number}
+use Rattle.target_contexts.specs.Named.{holder_named}
 use Rattle.target_contexts.specs.ProcessValue.{ProcessValue}
+use Rattle.target_contexts.specs.Threads.{thread_of}
+use Rattle.target_contexts.specs.declared.threads.Thread.{Thread}
 
 -- the live process that a text stands for
 abbrev pub process_named : List ℕ → List (ℕ × ProcessValue) → Option ProcessValue
-process_named id rows = process_at_number (number_named id) rows
+process_named id rows = holder_named id rows
 
--- the live process whose thread has the register
-abbrev pub process_with : List (ℕ × ProcessValue) → RegisterId → Option ProcessValue
-process_with rows register = if register.thread == 1 then process_of register.process rows else None
+-- the thread of a live process that has the register
+abbrev pub thread_with : List (ℕ × ProcessValue) → RegisterId → Option Thread
+thread_with rows register = thread_of register.process register.thread rows
 
--- the live process whose thread has the register of this text
-abbrev pub holder_of : List ℕ → List (ℕ × ProcessValue) → Option ProcessValue
-holder_of id rows = option_and_then (process_with rows) (register_of id)
+-- the thread of a live process that has the register of this text
+abbrev pub holder_of : List ℕ → List (ℕ × ProcessValue) → Option Thread
+holder_of id rows = option_and_then (thread_with rows) (register_of id)

@@ -13,6 +13,8 @@ use Rattle.data_services.specs.Bytes.{word_bytes, word_of}
 use Rattle.target_contexts.specs.Changes.{with_change}
 use Rattle.tcf_values.specs.Faults.{first_fault}
 use Rattle.target_contexts.specs.Named.{is_running}
+use Rattle.target_contexts.specs.Threads.{in_thread}
+use Rattle.target_contexts.specs.declared.threads.Thread.{Thread}
 use Rattle.data_services.specs.Named.{holder_of}
 use Rattle.data_services.specs.Parts.{number_in, with_number, parts_named, with_parts, names_off, sizes}
 use Rattle.tcf_values.specs.declared.faults.Fault.{Fault}
@@ -26,10 +28,10 @@ register_get_fault id rows = first_fault (
     ∷ (is_running (holder_of id rows), IsRunning)
     ∷ [])
 
-abbrev pub register_bytes : Option RegisterId → Option ProcessValue → List ℕ
-register_bytes (Some register) (Some process) = word_bytes (number_in register.index process.cpu)
+abbrev pub register_bytes : Option RegisterId → Option Thread → List ℕ
+register_bytes (Some register) (Some thread) = word_bytes (number_in register.index thread.cpu)
 register_bytes (Some register) None = []
-register_bytes None process = []
+register_bytes None thread = []
 
 -- ---- set: the register has the number of four bytes; registerChanged tells which it is
 
@@ -45,12 +47,16 @@ register_set_fault id bytes rows = first_fault (
     ∷ (is_pc (register_of id) && not (word_of bytes % 4 == 0), BadAddress)
     ∷ [])
 
-abbrev pub with_word : ℕ → ℕ → ProcessValue → ProcessValue
-with_word index number process = record process { cpu = with_number index number process.cpu }
+abbrev pub with_word : ℕ → ℕ → Thread → Thread
+with_word index number thread = record thread { cpu = with_number index number thread.cpu }
+
+-- in the thread of the register
+abbrev pub with_register_word : RegisterId → ℕ → ProcessValue → ProcessValue
+with_register_word register number process = in_thread (with_word register.index number) register.thread process
 
 abbrev pub register_after : Option RegisterId → ℕ → TargetsValue → TargetsValue
 register_after None number targets = targets
-register_after (Some register) number targets = with_change (with_word register.index number) register.process targets
+register_after (Some register) number targets = with_change (with_register_word register number) register.process targets
 
 -- ---- getm: the bytes of all locations, in order
 

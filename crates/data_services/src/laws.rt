@@ -1,5 +1,5 @@
 //! The laws of the commands, over every target.
-ghost use Rattle.data_services.specs.Laws.{AskingChangesNothing, FailureChangesNothing, MemorySetIsGot, OrderStays, OthersStay, RegisterSetIsGot, ThreadsStay};
+ghost use Rattle.data_services.specs.Laws.{AskingChangesNothing, FailureChangesNothing, MemorySetIsGot, OrderStays, OtherThreadsStay, OthersStay, RegisterSetIsGot, ThreadsStay};
 
 /// The law that a command that an error answers changes nothing, and that no event tells of it.
 pub fn a_failure_changes_nothing()
@@ -11,9 +11,11 @@ pub fn asking_changes_nothing()
     ensures { AskingChangesNothing }
 {}
 
-/// The law that a command leaves every process as it was but those whose memory or registers it sets.
+/// The law that a command leaves every process as it was but those whose memory or registers it sets, and every thread but
+/// those whose registers it sets.
 pub fn other_processes_stay()
-    ensures { OthersStay }
+    ensures processes { OthersStay }
+    ensures threads { OtherThreadsStay }
 {}
 
 /// The law that no command of Memory or Registers makes a thread run or stop, attaches a process, or starts or ends one.

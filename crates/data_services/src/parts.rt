@@ -1,13 +1,14 @@
 //! Registers, and parts of them: some of a register's four bytes, which are its number with the least byte first.
 ghost use Rattle.std.specs.Prelude.{◌≡◌, ◌==◌, ◌++◌, length, All, IfOk, OnOk};
-ghost use Rattle.target_contexts.specs.Live.{process_of};
 ghost use Rattle.data_services.specs.Bytes.{word_bytes, word_of};
-ghost use Rattle.data_services.specs.Parts.{IsInside, number_in, with_number, bytes_in, bytes_of, with_bytes, with_register_bytes, with_parts, cpu_after, is_off, names_off, sizes};
+ghost use Rattle.data_services.specs.Named.{thread_with};
+ghost use Rattle.data_services.specs.Parts.{IsInside, number_in, with_number, bytes_in, bytes_of, with_part_bytes, with_register_bytes, with_parts, cpu_after, is_off, is_part_of, names_off, sizes};
 ghost use Rattle.target_contexts.specs.Changes.{with_change};
 
+use crate::named::thread_with;
 use rv32i_core::Cpu;
 use std::alloc::{AllocError, Global};
-use target_contexts::{Targets, a_change_changes_one};
+use target_contexts::{Process, Targets, a_change_changes_one};
 use tcf_values::{Bytes, PC, RegisterId};
 
 /// Some of the four bytes of a register: the first of them, and how many.
@@ -70,7 +71,7 @@ pub(crate) fn put_number(cpu: &mut Cpu, index: u8, number: u32)
     }
 }
 
-/// The bytes of parts, in order. A process that isn't there has none.
+/// The bytes of parts, in order. A thread that isn't there has none.
 pub(crate) fn bytes_of(
     alloc: Global,
     targets: &Targets,
@@ -89,10 +90,10 @@ pub(crate) fn bytes_of(
 /// Puts the bytes of a part last.
 fn add_bytes(bytes: &mut Bytes, targets: &Targets, part: &Part) -> Result<(), AllocError>
     requires { IsInside part.now }
-    ensures { OnOk result (bytes.new ≡ bytes.old ++ bytes_in part.now (process_of part.now.register.process targets.now.seen.processes)) }
+    ensures { OnOk result (bytes.new ≡ bytes.old ++ bytes_in part.now (thread_with targets.now.seen.processes part.now.register)) }
 {
-    if let Some(process) = targets.process(part.register.process) {
-        let word = word_bytes(number_in(&process.cpu, part.register.index));
+    if let Some(thread) = thread_with(targets, part.register) {
+        let word = word_bytes(number_in(&thread.cpu, part.register.index));
         bytes.extend(&word[part.offset..part.offset + part.size])?;
     }
     Ok(())
@@ -124,14 +125,25 @@ fn put_bytes(cpu: &mut Cpu, part: &Part, bytes: &[u8])
     put_number(cpu, index, word_of(word));
 }
 
+/// Puts bytes over a part in the registers of its process. A thread that isn't there takes none.
+fn put_in_process(process: &mut Process, part: &Part, bytes: &[u8])
+    requires inside { IsInside part.now }
+    requires size { length bytes.now ≡ part.now.size }
+    ensures { process.new.seen ≡ with_part_bytes part.now bytes.now process.old.seen }
+{
+    if let Some(thread) = process.threads.get_mut(part.register.thread) {
+        put_bytes(&mut thread.cpu, part, bytes);
+    }
+}
+
 /// Puts bytes over a part. A process that isn't there takes none.
 fn put_part(targets: &mut Targets, part: &Part, bytes: &[u8])
     requires inside { IsInside part.now }
     requires size { length bytes.now ≡ part.now.size }
-    ensures { targets.new.seen ≡ with_change (with_bytes part.now bytes.now) part.now.register.process targets.old.seen }
+    ensures { targets.new.seen ≡ with_change (with_part_bytes part.now bytes.now) part.now.register.process targets.old.seen }
 {
     if let Some(process) = targets.process_mut(part.register.process) {
-        put_bytes(&mut process.cpu, part, bytes);
+        put_in_process(process, part, bytes);
     }
 }
 
@@ -149,17 +161,24 @@ pub(crate) fn put_parts(targets: &mut Targets, parts: &[Part], bytes: &[u8])
     }
 }
 
-/// The registers of one process after bytes are put over parts, as [`put_parts`] does.
-fn cpu_after(process: u32, cpu: Cpu, parts: &[Part], bytes: &[u8]) -> Cpu
+/// Whether a part is of a register of this thread.
+fn is_part_of(process: u32, thread: u32, part: &Part) -> bool
+    ensures { result ≡ is_part_of process thread part.now }
+{
+    part.register.process == process && part.register.thread == thread
+}
+
+/// The registers of one thread after bytes are put over parts, as [`put_parts`] does.
+fn cpu_after(process: u32, thread: u32, cpu: Cpu, parts: &[Part], bytes: &[u8]) -> Cpu
     requires inside { All IsInside parts.now }
     requires size { sizes parts.now ≡ length bytes.now }
-    ensures { result ≡ cpu_after process parts.now bytes.now cpu }
+    ensures { result ≡ cpu_after process thread parts.now bytes.now cpu }
 {
     let mut after = cpu;
     let mut rest = bytes;
     for part in parts {
         let (first, later) = rest.split_at(part.size);
-        if part.register.process == process {
+        if is_part_of(process, thread, part) {
             put_bytes(&mut after, part, first);
         }
         rest = later;
@@ -167,15 +186,17 @@ fn cpu_after(process: u32, cpu: Cpu, parts: &[Part], bytes: &[u8]) -> Cpu
     after
 }
 
-/// Whether the pc of a process would be no multiple of 4 after bytes are put over parts.
-fn is_off_after(targets: &Targets, process: u32, parts: &[Part], bytes: &[u8]) -> bool
+/// Whether the pc of the thread with a register would be no multiple of 4 after bytes are put over parts.
+fn is_off_after(targets: &Targets, register: RegisterId, parts: &[Part], bytes: &[u8]) -> bool
     requires inside { All IsInside parts.now }
     requires size { sizes parts.now ≡ length bytes.now }
-    ensures { result ≡ is_off (process_of process (with_parts parts.now bytes.now targets.now.seen).processes) }
+    ensures { result ≡ is_off (thread_with (with_parts parts.now bytes.now targets.now.seen).processes register) }
 {
     a_change_changes_one();
-    match targets.process(process) {
-        Some(found) => cpu_after(process, found.cpu, parts, bytes).pc % 4 != 0,
+    match thread_with(targets, register) {
+        Some(found) => {
+            cpu_after(register.process, register.thread, found.cpu, parts, bytes).pc % 4 != 0
+        }
         None => false,
     }
 }
@@ -187,7 +208,7 @@ pub(crate) fn names_off_after(targets: &Targets, parts: &[Part], bytes: &[u8]) -
     ensures { result ≡ names_off (with_parts parts.now bytes.now targets.now.seen).processes parts.now }
 {
     for part in parts {
-        if part.register.index == PC && is_off_after(targets, part.register.process, parts, bytes) {
+        if part.register.index == PC && is_off_after(targets, part.register, parts, bytes) {
             return true;
         }
     }

@@ -4,12 +4,12 @@ ghost use Rattle.tcf_values.specs.Ids.{register_of};
 ghost use Rattle.data_services.specs.Bytes.{word_of};
 ghost use Rattle.target_contexts.specs.Refusals.{IsRefusalOf};
 ghost use Rattle.data_services.specs.Named.{holder_of};
-ghost use Rattle.data_services.specs.RegisterRows.{register_get_fault, register_bytes, register_set_fault, register_after};
+ghost use Rattle.data_services.specs.RegisterRows.{register_get_fault, register_bytes, register_set_fault, register_after, with_register_word};
 
-use crate::named::suspended_register;
+use crate::named::{suspended_register, thread_with};
 use crate::parts::{number_in, put_number, word_bytes, word_of};
 use std::alloc::{AllocError, Global};
-use target_contexts::Targets;
+use target_contexts::{Process, Targets};
 use tcf_values::{Bytes, Duplicate, EventData, Events, Fault, PC, Refusal, RegisterId, Text};
 
 /// Registers.get: the four bytes of a register.
@@ -19,8 +19,8 @@ pub(crate) fn get(alloc: Global, targets: &Targets, id: &Text) -> Result<Bytes, 
     ensures refused { IfErr result (IsRefusalOf (register_get_fault id.now targets.now.seen.processes)) }
 {
     let register = suspended_register(targets, id)?;
-    let process = targets.process(register.process).ok_or(Fault::BadContext)?;
-    let word = word_bytes(number_in(&process.cpu, register.index));
+    let thread = thread_with(targets, register).ok_or(Fault::BadContext)?;
+    let word = word_bytes(number_in(&thread.cpu, register.index));
     Ok(Bytes::from_slice(alloc, &word)?)
 }
 
@@ -40,9 +40,18 @@ pub(crate) fn set(
     let (register, number) = number_to_set(targets, id, bytes)?;
     let events = register_changed(alloc, id)?;
     if let Some(process) = targets.process_mut(register.process) {
-        put_number(&mut process.cpu, register.index, number);
+        put_word(process, register, number);
     }
     Ok(events)
+}
+
+/// Gives a register of a process another number. A thread that isn't there has none.
+fn put_word(process: &mut Process, register: RegisterId, number: u32)
+    ensures { process.new.seen ≡ with_register_word register number process.old.seen }
+{
+    if let Some(thread) = process.threads.get_mut(register.thread) {
+        put_number(&mut thread.cpu, register.index, number);
+    }
 }
 
 /// The checks of a set.

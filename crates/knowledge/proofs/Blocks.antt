@@ -7,7 +7,7 @@ use Rattle.std.proofs.lemmas.Bool.{and_from, and_parts, both_ways, eqb-true, eq-
 use Rattle.block_store.specs.Blocks.{end_of, has_range, is_same, overlaps, part}
 use Rattle.block_store.specs.Store.{added, covered, without_process, without_range}
 use Rattle.block_store.specs.declared.block.Block.{Block}
-use Rattle.knowledge.specs.Changes.{Change, all_gone, context_told, context_gone, state_told, state_gone, register_read, register_gone, thread_registers_gone, registers_gone, bytes_read, bytes_gone, range_gone, properties_told, properties_gone, status_told, status_gone, statuses_gone, after, after_all, has_byte, is_byte, is_still, is_within}
+use Rattle.knowledge.specs.Changes.{Change, all_gone, context_told, context_gone, threads_told, thread_joined, threads_gone, threads_stale, state_told, state_gone, register_read, register_gone, thread_registers_gone, registers_gone, bytes_read, bytes_gone, range_gone, properties_told, properties_gone, status_told, status_gone, statuses_gone, after, after_all, has_byte, is_byte, is_still, is_within}
 use Rattle.knowledge.specs.Facts.{Facts}
 use Rattle.knowledge.specs.KnowledgeValue.{blocks_after, blocks_after_all, has_block_byte}
 use Rattle.knowledge.specs.Laws.{AreKnown, BlocksAreLearned, ReadIsKnown}
@@ -129,6 +129,10 @@ pub known_after : (change : Change) (blocks : List Block) (known : Facts) → Ar
 known_after all_gone blocks known before = λ p place byte any. absurd (both_ways false refl any)
 known_after (context_told id context) blocks known before = before
 known_after (context_gone id) blocks known before = before
+known_after (threads_told process ids) blocks known before = before
+known_after (thread_joined process id) blocks known before = before
+known_after (threads_gone process) blocks known before = before
+known_after (threads_stale process) blocks known before = before
 known_after (state_told process thread state) blocks known before = before
 known_after (state_gone process thread) blocks known before = before
 known_after (register_read process thread index value) blocks known before = before

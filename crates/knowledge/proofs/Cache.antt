@@ -31,6 +31,7 @@ cache_after messages message before now change cache =
 empty_is : (known : Facts) → known ≡ nothing → AreSame (facts_of empty) known
 empty_is known is = subst (AreSame (facts_of empty)) (sym is) (record {
   contexts = λ id. refl;
+  threads = λ process. refl;
   states = λ process thread. refl;
   registers = λ process thread index. refl;
   properties = λ id. refl;

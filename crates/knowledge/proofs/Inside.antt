@@ -9,7 +9,7 @@ use Rattle.block_store.specs.declared.block.Block.{Block}
 use Rattle.tcf_values.specs.Ids.{context_of, register_of}
 use Rattle.tcf_values.specs.declared.answer.Answer.{Answer}
 use Rattle.tcf_values.specs.declared.command.Command.{Command}
-use Rattle.tcf_values.specs.declared.command.Command.TheVariants.{GetContext, GetState, BpProperties, BpGetStatus, MemGet, RegGet, RegGetm}
+use Rattle.tcf_values.specs.declared.command.Command.TheVariants.{GetContext, GetChildren, GetState, BpProperties, BpGetStatus, MemGet, RegGet, RegGetm}
 use Rattle.tcf_values.specs.declared.event.EventData.{EventData}
 use Rattle.tcf_values.specs.declared.event.EventData.TheVariants.{Hello, CtxAdded, CtxChanged, CtxRemoved, Suspended, Resumed, BpStatusIs, BpAdded, BpChanged, BpRemoved, MemChanged, RegChanged, RegsChanged, Exited}
 use Rattle.tcf_values.specs.declared.ids.ContextId.{ContextId}
@@ -18,13 +18,13 @@ use Rattle.tcf_values.specs.declared.ids.RegisterId.{RegisterId}
 use Rattle.tcf_values.specs.declared.values.Location.{Location}
 use Rattle.tcf_values.specs.declared.values.RunState.{RunState}
 use Rattle.tcf_values.specs.declared.values.RunState.TheVariants as run
-use Rattle.knowledge.specs.Changes.{Change, all_gone, context_told, context_gone, state_told, state_gone, register_read, register_gone, thread_registers_gone, registers_gone, bytes_read, bytes_gone, range_gone, properties_told, properties_gone, status_told, status_gone, statuses_gone, after, after_all, has_byte, is_still, of_each}
+use Rattle.knowledge.specs.Changes.{Change, all_gone, context_told, context_gone, threads_told, thread_joined, threads_gone, threads_stale, state_told, state_gone, register_read, register_gone, thread_registers_gone, registers_gone, bytes_read, bytes_gone, range_gone, properties_told, properties_gone, status_told, status_gone, statuses_gone, after, after_all, has_byte, is_still, of_each}
 use Rattle.knowledge.specs.Facts.{Facts, nothing}
 use Rattle.knowledge.specs.Laws.{CoveredIsInside}
 use Rattle.knowledge.specs.Learning.{Message, answer_taken, bad_event_taken, changes_of, event_taken, learn_all, other_taken}
-use Rattle.knowledge.specs.Rows.{added_context, answer_changes, are_of_range, changed_context, changed_register, context_answered, event_changes, is_outside, is_part, memory_answered, memory_changes, memory_read, moved_for, parts_read, process_for, properties_answered, register_answered, registers_answered, removed_context, removed_properties, state_answered, state_changes, state_of_thread, status_answered, told_properties, whole_read, word_read}
+use Rattle.knowledge.specs.Rows.{answer_changes, are_of_range, changed_context, children_answered, changed_register, context_answered, event_changes, is_outside, is_part, memory_answered, memory_changes, memory_read, moved_for, parts_read, process_for, properties_answered, register_answered, registers_answered, removed_context, removed_properties, state_answered, state_changes, state_of_thread, status_answered, threads_listed, told_properties, whole_read, word_read}
 use Rattle.knowledge.proofs.Blocks.{byte_there, or_cases, read_is_known}
-use Rattle.knowledge.proofs.Monotone.{IsPlain, memory_plain, plain-append, plain_each, register_plain, stale_plain}
+use Rattle.knowledge.proofs.Monotone.{IsPlain, added_plain, listed_plain, memory_plain, plain-append, plain_each, register_plain, removed_plain, stale_plain}
 use Rattle.list_laws.proofs.Lists.{taken}
 
 -- what is read of memory lies in it
@@ -65,13 +65,13 @@ moved_fit (Some (Thread process thread)) state = (tt, (tt, told_fit state proces
 event_fit : (event : EventData) → Fit (event_changes event)
 event_fit (Hello list) = (tt, tt)
 event_fit (CtxAdded list) =
-    fit_all (event_changes (CtxAdded list)) (plain-append (of_each added_context list) (statuses_gone ∷ []) (plain_each added_context (λ context. (tt, tt)) list) (tt, tt))
+    fit_all (event_changes (CtxAdded list)) (added_plain list)
 event_fit (CtxChanged list) =
     fit_all (event_changes (CtxChanged list))
     (plain-append (of_each changed_context list) (statuses_gone ∷ []) (plain_each changed_context (λ context. (tt, stale_plain (context_of context.id))) list) (tt, tt))
 event_fit (CtxRemoved list) =
     fit_all (event_changes (CtxRemoved list))
-    (plain-append (of_each removed_context list) (statuses_gone ∷ []) (plain_each removed_context (λ id. (tt, stale_plain (context_of id))) list) (tt, tt))
+    (plain-append (of_each removed_context list) (statuses_gone ∷ []) (plain_each removed_context removed_plain list) (tt, tt))
 event_fit (Suspended id pc reason hits) = moved_fit (context_of id) (run.Suspended pc reason hits)
 event_fit (Resumed id) = moved_fit (context_of id) run.Running
 event_fit (BpStatusIs id status) = (tt, tt)
@@ -127,6 +127,10 @@ context_fit : (id : List ℕ) (answer : Answer) → Fit (context_answered id ans
 context_fit id (Answer.Context context) = (tt, tt)
 context_fit id _ = tt
 
+children_fit : (id : List ℕ) (answer : Answer) → Fit (children_answered id answer)
+children_fit id (Answer.Ids ids) = fit_all (threads_listed (context_of id) ids) (listed_plain (context_of id) ids)
+children_fit id _ = tt
+
 state_fit : (id : List ℕ) (answer : Answer) → Fit (state_answered id answer)
 state_fit id (Answer.State state) = thread_fit (context_of id) state
 state_fit id _ = tt
@@ -153,6 +157,7 @@ registers_fit list _ = tt
 
 answer_fit : (command : Command) (answer : Answer) → Fit (answer_changes command answer)
 answer_fit (GetContext id) answer = context_fit id answer
+answer_fit (GetChildren id) answer = children_fit id answer
 answer_fit (GetState id) answer = state_fit id answer
 answer_fit (BpProperties id) answer = properties_fit id answer
 answer_fit (BpGetStatus id) answer = status_fit id answer
@@ -179,6 +184,10 @@ inside_after : (change : Change) (known : Facts) → Fits change → AreInside k
 inside_after all_gone known fits inside = λ process place byte is. absurd (both_ways false refl is)
 inside_after (context_told id context) known fits inside = inside
 inside_after (context_gone id) known fits inside = inside
+inside_after (threads_told process ids) known fits inside = inside
+inside_after (thread_joined process id) known fits inside = inside
+inside_after (threads_gone process) known fits inside = inside
+inside_after (threads_stale process) known fits inside = inside
 inside_after (state_told process thread state) known fits inside = inside
 inside_after (state_gone process thread) known fits inside = inside
 inside_after (register_read process thread index value) known fits inside = inside

@@ -1,13 +1,13 @@
 -- Who knows a part of what another knows still does when both take a message.
-use Rattle.std.proofs.Common.{◌≡◌, ℕ, Bool, true, false, cond, ◌&&◌, List, [], ◌∷◌, ◌++◌, Option, Some, None, nat_eq, length, take, drop, refl, sym, ap, ◌∙◌, subst}
-use Rattle.std.specs.Prelude.{ℤ, bytes_eq, unsigned_abs}
+use Rattle.std.proofs.Common.{◌≡◌, ℕ, Bool, true, false, cond, ◌&&◌, List, [], ◌∷◌, ◌++◌, Option, Some, None, option_map, nat_eq, nat_lt, length, take, drop, refl, sym, ap, ◌∙◌, subst}
+use Rattle.std.specs.Prelude.{ℤ, bytes_eq, option_and_then, unsigned_abs}
 use Rattle.std.specs.Int.{w32, from_le_bytes}
-use Rattle.std.specs.List.{AllByRecursion}
+use Rattle.std.specs.List.{AllByRecursion, list_all}
 use Rattle.std.proofs.lemmas.Bool.{and_from, and_parts, both_ways, cond-true, eq-eqb, eqb-true}
 use Rattle.tcf_values.specs.Ids.{context_of, register_of}
 use Rattle.tcf_values.specs.declared.answer.Answer.{Answer}
 use Rattle.tcf_values.specs.declared.command.Command.{Command}
-use Rattle.tcf_values.specs.declared.command.Command.TheVariants.{GetContext, GetState, BpProperties, BpGetStatus, MemGet, RegGet, RegGetm}
+use Rattle.tcf_values.specs.declared.command.Command.TheVariants.{GetContext, GetChildren, GetState, BpProperties, BpGetStatus, MemGet, RegGet, RegGetm}
 use Rattle.tcf_values.specs.declared.ids.ContextId.{ContextId}
 use Rattle.tcf_values.specs.declared.ids.ContextId.TheVariants.{Process, Thread}
 use Rattle.tcf_values.specs.declared.ids.RegisterId.{RegisterId}
@@ -20,11 +20,11 @@ use Rattle.tcf_values.specs.declared.values.Location.{Location}
 use Rattle.tcf_values.specs.declared.values.Range.{Range}
 use Rattle.tcf_values.specs.declared.values.RunState.{RunState}
 use Rattle.tcf_values.specs.declared.values.RunState.TheVariants as run
-use Rattle.knowledge.specs.Changes.{Change, all_gone, context_told, context_gone, state_told, state_gone, register_read, register_gone, thread_registers_gone, registers_gone, bytes_read, bytes_gone, range_gone, properties_told, properties_gone, status_told, status_gone, statuses_gone, after, after_all, at_register, has_byte, is_still, of_each}
-use Rattle.knowledge.specs.Facts.{context_is, state_is, register_is, byte_is, properties_are, status_is, Facts, IsGrounded, IsPart, is_suspended}
+use Rattle.knowledge.specs.Changes.{Change, all_gone, context_told, context_gone, threads_told, thread_joined, threads_gone, threads_stale, state_told, state_gone, register_read, register_gone, thread_registers_gone, registers_gone, bytes_read, bytes_gone, range_gone, properties_told, properties_gone, status_told, status_gone, statuses_gone, after, after_all, are_still, at_register, has_byte, is_still, of_each, with_id}
+use Rattle.knowledge.specs.Facts.{context_is, threads_are, state_is, register_is, byte_is, properties_are, status_is, Facts, IsGrounded, IsPart, is_suspended, state_at, state_of}
 use Rattle.knowledge.specs.Laws.{IsMonotone}
 use Rattle.knowledge.specs.Learning.{Message, event_taken, bad_event_taken, answer_taken, other_taken, changes_of}
-use Rattle.knowledge.specs.Rows.{added_context, answer_changes, are_of_range, changed_context, changed_range, changed_register, context_answered, event_changes, is_outside, is_part, memory_answered, memory_changes, memory_read, moved_for, parts_read, process_for, properties_answered, register_answered, registers_answered, removed_context, removed_properties, stale_for, state_answered, state_changes, state_of_thread, status_answered, told_properties, whole_read, word_read}
+use Rattle.knowledge.specs.Rows.{added_context, added_contexts, answer_changes, are_of_range, begun, begun_for, changed_context, changed_range, changed_register, children_answered, context_answered, event_changes, is_outside, is_part, is_thread_of, joined, joined_for, memory_answered, memory_changes, memory_read, moved_for, parts_read, process_for, properties_answered, register_answered, registers_answered, removed_context, removed_properties, stale_for, state_answered, state_changes, state_of_thread, status_answered, threads_listed, told_properties, unlisted_for, unsettled, unsettled_for, whole_read, word_read}
 use Rattle.knowledge.specs.declared.state.StateFact.{StateFact}
 use Rattle.knowledge.proofs.Same.{after_all-append}
 use Rattle.list_laws.proofs.Flags.{or_then}
@@ -32,15 +32,17 @@ use Rattle.list_laws.proofs.Flags.{or_then}
 -- a part, kind by kind
 pub record IsWithin (some more : Facts) : Type 0 where
   pub contexts : (id : List ℕ) (x : ContextData) → some.contexts id ≡ Some x → more.contexts id ≡ Some x
+  pub threads : (p : ℕ) (x : List (List ℕ)) → some.threads p ≡ Some x → more.threads p ≡ Some x
   pub states : (p t : ℕ) (x : StateFact) → some.states p t ≡ Some x → more.states p t ≡ Some x
   pub registers : (p t i x : ℕ) → some.registers p t i ≡ Some x → more.registers p t i ≡ Some x
   pub bytes : (p place byte : ℕ) → some.bytes p place byte ≡ true → more.bytes p place byte ≡ true
   pub properties : (id : List ℕ) (x : BpProps) → some.properties id ≡ Some x → more.properties id ≡ Some x
   pub statuses : (id : List ℕ) (x : BpStatus) → some.statuses id ≡ Some x → more.statuses id ≡ Some x
 
-within_from : (some more : Facts) → IsPart some more → IsWithin some more
+pub within_from : (some more : Facts) → IsPart some more → IsWithin some more
 within_from some more part = record {
   contexts = λ id x. part (context_is id x);
+  threads = λ p x. part (threads_are p x);
   states = λ p t x. part (state_is p t x);
   registers = λ p t i x. part (register_is p t i x);
   bytes = λ p place byte. part (byte_is p place byte);
@@ -50,6 +52,7 @@ within_from some more part = record {
 
 part_from : (some more : Facts) → IsWithin some more → IsPart some more
 part_from some more within (context_is id x) = within.contexts id x
+part_from some more within (threads_are p x) = within.threads p x
 part_from some more within (state_is p t x) = within.states p t x
 part_from some more within (register_is p t i x) = within.registers p t i x
 part_from some more within (byte_is p place byte) = within.bytes p place byte
@@ -72,6 +75,19 @@ with_contexts : {some more : Facts} (f g : List ℕ → Option ContextData) → 
     → IsWithin (record some { contexts = f }) (record more { contexts = g })
 with_contexts f g within here = record {
   contexts = here;
+  threads = within.threads;
+  states = within.states;
+  registers = within.registers;
+  bytes = within.bytes;
+  properties = within.properties;
+  statuses = within.statuses;
+}
+
+with_threads : {some more : Facts} (f g : ℕ → Option (List (List ℕ))) → IsWithin some more → ((p : ℕ) (x : List (List ℕ)) → f p ≡ Some x → g p ≡ Some x)
+    → IsWithin (record some { threads = f }) (record more { threads = g })
+with_threads f g within here = record {
+  contexts = within.contexts;
+  threads = here;
   states = within.states;
   registers = within.registers;
   bytes = within.bytes;
@@ -83,6 +99,7 @@ with_states : {some more : Facts} (f g : ℕ → ℕ → Option StateFact) → I
     → IsWithin (record some { states = f }) (record more { states = g })
 with_states f g within here = record {
   contexts = within.contexts;
+  threads = within.threads;
   states = here;
   registers = within.registers;
   bytes = within.bytes;
@@ -94,6 +111,7 @@ with_registers : {some more : Facts} (f g : ℕ → ℕ → ℕ → Option ℕ) 
     → IsWithin (record some { registers = f }) (record more { registers = g })
 with_registers f g within here = record {
   contexts = within.contexts;
+  threads = within.threads;
   states = within.states;
   registers = here;
   bytes = within.bytes;
@@ -105,6 +123,7 @@ with_bytes : {some more : Facts} (f g : ℕ → ℕ → ℕ → Bool) → IsWith
     → IsWithin (record some { bytes = f }) (record more { bytes = g })
 with_bytes f g within here = record {
   contexts = within.contexts;
+  threads = within.threads;
   states = within.states;
   registers = within.registers;
   bytes = here;
@@ -116,6 +135,7 @@ with_properties : {some more : Facts} (f g : List ℕ → Option BpProps) → Is
     → IsWithin (record some { properties = f }) (record more { properties = g })
 with_properties f g within here = record {
   contexts = within.contexts;
+  threads = within.threads;
   states = within.states;
   registers = within.registers;
   bytes = within.bytes;
@@ -127,6 +147,7 @@ with_statuses : {some more : Facts} (f g : List ℕ → Option BpStatus) → IsW
     → IsWithin (record some { statuses = f }) (record more { statuses = g })
 with_statuses f g within here = record {
   contexts = within.contexts;
+  threads = within.threads;
   states = within.states;
   registers = within.registers;
   bytes = within.bytes;
@@ -141,9 +162,49 @@ still_by : (s r : Option StateFact) → ((x : StateFact) → s ≡ Some x → r 
 still_by None r part is = absurd (both_ways false refl is)
 still_by (Some x) r part is = ap is_suspended (part x refl) ∙ is
 
+state_by : (some more : Facts) → IsWithin some more → (context : Option ContextId) (x : StateFact)
+    → option_and_then (state_at some) context ≡ Some x → option_and_then (state_at more) context ≡ Some x
+state_by some more within None x is = is
+state_by some more within (Some (Process process)) x is = is
+state_by some more within (Some (Thread process thread)) x is = within.states process thread x is
+
 and_then : (a b c : Bool) → (a ≡ true → c ≡ true) → (a && b) ≡ true → (c && b) ≡ true
 and_then true b c one is = ap (λ e. e && b) (one refl) ∙ is
 and_then false b c one is = absurd (both_ways false refl is)
+
+both_then : (a b c d : Bool) → (a ≡ true → c ≡ true) → (b ≡ true → d ≡ true) → (a && b) ≡ true → (c && d) ≡ true
+both_then a b c d one two is = let parts = and_parts a b is in and_from c d (one parts.0) (two parts.1)
+
+all_by : (some more : Facts) → IsWithin some more → (ids : List (List ℕ))
+    → list_all (λ id. is_suspended (state_of id some)) ids ≡ true → list_all (λ id. is_suspended (state_of id more)) ids ≡ true
+all_by some more within [] is = is
+all_by some more within (id ∷ ids) is =
+    both_then (is_suspended (state_of id some)) (list_all (λ x. is_suspended (state_of x some)) ids)
+    (is_suspended (state_of id more)) (list_all (λ x. is_suspended (state_of x more)) ids)
+    (still_by (state_of id some) (state_of id more) (state_by some more within (context_of id))) (all_by some more within ids) is
+
+are_still_by : (some more : Facts) → IsWithin some more → (f g : Option (List (List ℕ))) → ((x : List (List ℕ)) → f ≡ Some x → g ≡ Some x)
+    → are_still some f ≡ true → are_still more g ≡ true
+are_still_by some more within None g part is = absurd (both_ways false refl is)
+are_still_by some more within (Some ids) g part is =
+    ap (are_still more) (part ids refl)
+    ∙ both_then (nat_lt 0 (length ids)) (list_all (λ id. is_suspended (state_of id some)) ids) (nat_lt 0 (length ids)) (list_all (λ id. is_suspended (state_of id more)) ids)
+    (λ there. there) (all_by some more within ids) is
+
+-- who knows less knows all threads of a process as suspended only where the other does
+pub still_then : (process : ℕ) (some more : Facts) → IsWithin some more → is_still process some ≡ true → is_still process more ≡ true
+still_then process some more within = are_still_by some more within (some.threads process) (more.threads process) (within.threads process)
+
+-- who knows less has the longer list only where the other has it
+joined_by : (id : List ℕ) (f g : Option (List (List ℕ))) → ((x : List (List ℕ)) → f ≡ Some x → g ≡ Some x)
+    → (x : List (List ℕ)) → option_map (with_id id) f ≡ Some x → option_map (with_id id) g ≡ Some x
+joined_by id None g part x is = cc
+joined_by id (Some ids) g part x is = ap (option_map (with_id id)) (part ids refl) ∙ is
+
+both_chosen : {A : Type 0} (b : Bool) (v w f g : Option A) → ((x : A) → v ≡ Some x → w ≡ Some x) → ((x : A) → f ≡ Some x → g ≡ Some x)
+    → (x : A) → cond b v f ≡ Some x → cond b w g ≡ Some x
+both_chosen true v w f g here part x is = here x is
+both_chosen false v w f g here part x is = part x is
 
 -- the register that is read is known before only where its thread is known as suspended
 abbrev IsReady : Change → Facts → Type 0
@@ -185,6 +246,22 @@ within_after (context_told id context) some more ready within =
     with_contexts _ _ within (λ other. choice (bytes_eq id other) (Some context) (some.contexts other) (more.contexts other) (within.contexts other))
 within_after (context_gone id) some more ready within =
     with_contexts _ _ within (λ other. choice (bytes_eq id other) None (some.contexts other) (more.contexts other) (within.contexts other))
+within_after (threads_told process ids) some more ready within =
+    with_threads _ _ within (λ p. choice (nat_eq process p) (Some ids) (some.threads p) (more.threads p) (within.threads p))
+within_after (thread_joined process id) some more ready within =
+    with_threads _ _ within (λ p. both_chosen (nat_eq process p) (option_map (with_id id) (some.threads process)) (option_map (with_id id) (more.threads process))
+    (some.threads p) (more.threads p) (joined_by id (some.threads process) (more.threads process) (within.threads process)) (within.threads p))
+within_after (threads_gone process) some more ready within =
+    with_threads _ _ within (λ p. choice (nat_eq process p) None (some.threads p) (more.threads p) (within.threads p))
+within_after (threads_stale process) some more ready within = record {
+  contexts = within.contexts;
+  threads = within.threads;
+  states = λ p t. choice (nat_eq process p) None (some.states p t) (more.states p t) (within.states p t);
+  registers = λ p t i. choice (nat_eq process p) None (some.registers p t i) (more.registers p t i) (within.registers p t i);
+  bytes = within.bytes;
+  properties = within.properties;
+  statuses = within.statuses;
+}
 within_after (state_told process thread state) some more ready within =
     with_states _ _ within (λ p t. choice (nat_eq process p && nat_eq thread t) (Some state) (some.states p t) (more.states p t) (within.states p t))
 within_after (state_gone process thread) some more ready within =
@@ -201,7 +278,7 @@ within_after (bytes_read process addr bytes) some more ready within =
     with_bytes _ _ within (λ p place byte. or_then (some.bytes p place byte) (is_still process some && nat_eq process p && has_byte addr bytes place byte)
     (more.bytes p place byte) (is_still process more && nat_eq process p && has_byte addr bytes place byte) (within.bytes p place byte)
     (and_then (is_still process some && nat_eq process p) (has_byte addr bytes place byte) (is_still process more && nat_eq process p)
-    (and_then (is_still process some) (nat_eq process p) (is_still process more) (still_by (some.states process 1) (more.states process 1) (within.states process 1)))))
+    (and_then (is_still process some) (nat_eq process p) (is_still process more) (still_then process some more within))))
 within_after (bytes_gone process) some more ready within =
     with_bytes _ _ within (λ p place byte. and_then (some.bytes p place byte) _ (more.bytes p place byte) (within.bytes p place byte))
 within_after (range_gone process addr size) some more ready within =
@@ -238,6 +315,10 @@ plain_ready : (change : Change) (known : Facts) → IsPlain change → IsReady c
 plain_ready all_gone known plain = tt
 plain_ready (context_told id context) known plain = tt
 plain_ready (context_gone id) known plain = tt
+plain_ready (threads_told process ids) known plain = tt
+plain_ready (thread_joined process id) known plain = tt
+plain_ready (threads_gone process) known plain = tt
+plain_ready (threads_stale process) known plain = tt
 plain_ready (state_told process thread state) known plain = tt
 plain_ready (state_gone process thread) known plain = tt
 plain_ready (register_read process thread index value) known plain = absurd plain
@@ -344,6 +425,43 @@ stale_plain None = tt
 stale_plain (Some (Process process)) = (tt, tt)
 stale_plain (Some (Thread process thread)) = (tt, (tt, (tt, tt)))
 
+unlisted_plain : (context : Option ContextId) → AllByRecursion IsPlain (unlisted_for context)
+unlisted_plain None = tt
+unlisted_plain (Some context) = (tt, tt)
+
+pub removed_plain : (id : List ℕ) → AllByRecursion IsPlain (removed_context id)
+removed_plain id = (tt, plain-append (stale_for (context_of id)) (unlisted_for (context_of id)) (stale_plain (context_of id)) (unlisted_plain (context_of id)))
+
+unsettled_plain : (context : Option ContextId) → AllByRecursion IsPlain (unsettled_for context)
+unsettled_plain None = tt
+unsettled_plain (Some context) = (tt, (tt, tt))
+
+begun_plain : (context : Option ContextId) → AllByRecursion IsPlain (begun_for context)
+begun_plain None = tt
+begun_plain (Some (Process process)) = (tt, tt)
+begun_plain (Some (Thread process thread)) = tt
+
+joined_plain : (id : List ℕ) (context : Option ContextId) → AllByRecursion IsPlain (joined_for id context)
+joined_plain id None = tt
+joined_plain id (Some (Process process)) = tt
+joined_plain id (Some (Thread process thread)) = (tt, tt)
+
+pub added_plain : (list : List ContextData) → AllByRecursion IsPlain (added_contexts list)
+added_plain list =
+    plain-append (of_each added_context list) _ (plain_each added_context (λ context. (tt, tt)) list)
+    (plain-append (of_each unsettled list) _ (plain_each unsettled (λ context. unsettled_plain (context_of context.id)) list)
+    (plain-append (of_each begun list) _ (plain_each begun (λ context. begun_plain (context_of context.id)) list)
+    (plain-append (of_each joined list) (statuses_gone ∷ []) (plain_each joined (λ context. joined_plain context.id (context_of context.id)) list) (tt, tt))))
+
+plain_if : (b : Bool) (change : Change) → IsPlain change → AllByRecursion IsPlain (cond b (change ∷ []) [])
+plain_if true change plain = (plain, tt)
+plain_if false change plain = tt
+
+pub listed_plain : (context : Option ContextId) (ids : List (List ℕ)) → AllByRecursion IsPlain (threads_listed context ids)
+listed_plain None ids = tt
+listed_plain (Some (Process process)) ids = plain_if (list_all (is_thread_of process) ids) (threads_told process ids) tt
+listed_plain (Some (Thread process thread)) ids = tt
+
 range_plain_by : (process : ℕ) (range : Range) (b c : Bool)
     → AllByRecursion IsPlain (cond b (bytes_gone process ∷ []) (cond c [] (range_gone process (unsigned_abs range.addr) (unsigned_abs range.size) ∷ [])))
 range_plain_by process range true c = (tt, tt)
@@ -363,13 +481,13 @@ register_plain (Some register) = (tt, tt)
 event_ready : (event : EventData) (known : Facts) → AreReady (event_changes event) known
 event_ready (Hello list) known = (tt, tt)
 event_ready (CtxAdded list) known =
-    plain_all (event_changes (CtxAdded list)) known (plain-append (of_each added_context list) (statuses_gone ∷ []) (plain_each added_context (λ context. (tt, tt)) list) (tt, tt))
+    plain_all (event_changes (CtxAdded list)) known (added_plain list)
 event_ready (CtxChanged list) known =
     plain_all (event_changes (CtxChanged list)) known
     (plain-append (of_each changed_context list) (statuses_gone ∷ []) (plain_each changed_context (λ context. (tt, stale_plain (context_of context.id))) list) (tt, tt))
 event_ready (CtxRemoved list) known =
     plain_all (event_changes (CtxRemoved list)) known
-    (plain-append (of_each removed_context list) (statuses_gone ∷ []) (plain_each removed_context (λ id. (tt, stale_plain (context_of id))) list) (tt, tt))
+    (plain-append (of_each removed_context list) (statuses_gone ∷ []) (plain_each removed_context removed_plain list) (tt, tt))
 event_ready (Suspended id pc reason hits) known = moved_ready (run.Suspended pc reason hits) (context_of id) known
 event_ready (Resumed id) known = moved_ready run.Running (context_of id) known
 event_ready (BpStatusIs id status) known = (tt, tt)
@@ -400,6 +518,10 @@ context_ready : (id : List ℕ) (answer : Answer) (known : Facts) → AreReady (
 context_ready id (Answer.Context context) known = (tt, tt)
 context_ready id _ known = tt
 
+children_ready : (id : List ℕ) (answer : Answer) (known : Facts) → AreReady (children_answered id answer) known
+children_ready id (Answer.Ids ids) known = plain_all (threads_listed (context_of id) ids) known (listed_plain (context_of id) ids)
+children_ready id _ known = tt
+
 state_ready : (id : List ℕ) (answer : Answer) (known : Facts) → AreReady (state_answered id answer) known
 state_ready id (Answer.State state) known = thread_ready (context_of id) state known
 state_ready id _ known = tt
@@ -426,6 +548,7 @@ registers_ready list _ known grounded = tt
 
 answer_ready : (command : Command) (answer : Answer) (known : Facts) → IsGrounded known → AreReady (answer_changes command answer) known
 answer_ready (GetContext id) answer known grounded = context_ready id answer known
+answer_ready (GetChildren id) answer known grounded = children_ready id answer known
 answer_ready (GetState id) answer known grounded = state_ready id answer known
 answer_ready (BpProperties id) answer known grounded = properties_ready id answer known
 answer_ready (BpGetStatus id) answer known grounded = status_ready id answer known

@@ -47,6 +47,7 @@ cache_used : (messages : List Message) (asked : Option Asked) (value : Knowledge
 cache_used messages asked value cache = record {
   facts = record {
     contexts = cache.facts.contexts;
+    threads = cache.facts.threads;
     states = cache.facts.states;
     registers = cache.facts.registers;
     properties = cache.facts.properties;

@@ -1,13 +1,17 @@
 -- What is the same but for bytes is the same after a change.
-use Rattle.std.proofs.Common.{◌≡◌, ℕ, Bool, true, false, cond, List, [], ◌∷◌, ◌++◌, Option, Some, None, nat_eq, ◌&&◌, refl, sym, ap, ◌∙◌, subst}
-use Rattle.std.specs.Prelude.{bytes_eq}
+use Rattle.std.proofs.Common.{◌≡◌, ℕ, Bool, true, false, cond, List, [], ◌∷◌, ◌++◌, length, Option, Some, None, option_map, nat_eq, nat_lt, ◌&&◌, refl, sym, ap, ◌∙◌, subst}
+use Rattle.std.specs.Prelude.{bytes_eq, option_and_then}
+use Rattle.std.specs.List.{list_all}
 use Rattle.block_store.specs.Store.{added}
 use Rattle.block_store.specs.declared.block.Block.{Block}
+use Rattle.tcf_values.specs.Ids.{context_of}
+use Rattle.tcf_values.specs.declared.ids.ContextId.{ContextId}
+use Rattle.tcf_values.specs.declared.ids.ContextId.TheVariants.{Process, Thread}
 use Rattle.tcf_values.specs.declared.values.BpProps.{BpProps}
 use Rattle.tcf_values.specs.declared.values.BpStatus.{BpStatus}
 use Rattle.tcf_values.specs.declared.values.ContextData.{ContextData}
-use Rattle.knowledge.specs.Changes.{Change, all_gone, context_told, context_gone, state_told, state_gone, register_read, register_gone, thread_registers_gone, registers_gone, bytes_read, bytes_gone, range_gone, properties_told, properties_gone, status_told, status_gone, statuses_gone, after, after_all, at_register, at_text, at_thread}
-use Rattle.knowledge.specs.Facts.{AreSame, Facts, is_suspended, nothing}
+use Rattle.knowledge.specs.Changes.{Change, all_gone, context_told, context_gone, threads_told, thread_joined, threads_gone, threads_stale, state_told, state_gone, register_read, register_gone, thread_registers_gone, registers_gone, bytes_read, bytes_gone, range_gone, properties_told, properties_gone, status_told, status_gone, statuses_gone, after, after_all, are_still, at_number, at_register, at_text, at_thread, is_still, with_id}
+use Rattle.knowledge.specs.Facts.{AreSame, Facts, is_suspended, nothing, state_at, state_of}
 use Rattle.knowledge.specs.KnowledgeValue.{blocks_after, blocks_after_all}
 use Rattle.knowledge.specs.Laws.{BlocksStaySame, FactsStaySame}
 use Rattle.knowledge.specs.Learning.{changes_of}
@@ -16,6 +20,7 @@ use Rattle.knowledge.specs.declared.state.StateFact.{StateFact}
 pub same_refl : (known : Facts) → AreSame known known
 same_refl known = record {
   contexts = λ id. refl;
+  threads = λ process. refl;
   states = λ process thread. refl;
   registers = λ process thread index. refl;
   properties = λ id. refl;
@@ -25,6 +30,7 @@ same_refl known = record {
 pub same_then : {known other last : Facts} → AreSame known other → AreSame other last → AreSame known last
 same_then one two = record {
   contexts = λ id. one.contexts id ∙ two.contexts id;
+  threads = λ process. one.threads process ∙ two.threads process;
   states = λ process thread. one.states process thread ∙ two.states process thread;
   registers = λ process thread index. one.registers process thread index ∙ two.registers process thread index;
   properties = λ id. one.properties id ∙ two.properties id;
@@ -36,6 +42,10 @@ same_then one two = record {
 text_same : {A : Type 0} (id : List ℕ) (value : Option A) (f g : List ℕ → Option A) → ((other : List ℕ) → f other ≡ g other)
     → (other : List ℕ) → at_text id value f other ≡ at_text id value g other
 text_same id value f g same other = ap (cond (bytes_eq id other) value) (same other)
+
+number_same : {A : Type 0} (number : ℕ) (value other : A) (f g : ℕ → A) → value ≡ other → ((n : ℕ) → f n ≡ g n)
+    → (n : ℕ) → at_number number value f n ≡ at_number number other g n
+number_same number value other f g is same n = ap (λ x. cond (nat_eq number n) x (f n)) is ∙ ap (cond (nat_eq number n) other) (same n)
 
 thread_same : {A : Type 0} (process thread : ℕ) (value : Option A) (f g : ℕ → ℕ → Option A) → ((p t : ℕ) → f p t ≡ g p t)
     → (p t : ℕ) → at_thread process thread value f p t ≡ at_thread process thread value g p t
@@ -62,41 +72,83 @@ read_same process thread index value known other same p t i =
     (at_register process thread index (Some value) other.registers) other.registers
     (register_same process thread index (Some value) known.registers other.registers same.registers) same.registers p t i
 
+-- ---- the threads of a process
+
+state_at_same : (known other : Facts) → AreSame known other → (context : Option ContextId)
+    → option_and_then (state_at known) context ≡ option_and_then (state_at other) context
+state_at_same known other same None = refl
+state_at_same known other same (Some (Process process)) = refl
+state_at_same known other same (Some (Thread process thread)) = same.states process thread
+
+all_suspended_same : (known other : Facts) → AreSame known other → (ids : List (List ℕ))
+    → list_all (λ id. is_suspended (state_of id known)) ids ≡ list_all (λ id. is_suspended (state_of id other)) ids
+all_suspended_same known other same [] = refl
+all_suspended_same known other same (id ∷ ids) =
+    ap (λ s. is_suspended s && list_all (λ x. is_suspended (state_of x known)) ids) (state_at_same known other same (context_of id))
+    ∙ ap (λ rest. is_suspended (state_of id other) && rest) (all_suspended_same known other same ids)
+
+are_still_same : (known other : Facts) → AreSame known other → (ids : Option (List (List ℕ))) → are_still known ids ≡ are_still other ids
+are_still_same known other same None = refl
+are_still_same known other same (Some ids) = ap (λ all. nat_lt 0 (length ids) && all) (all_suspended_same known other same ids)
+
+pub still_same : (process : ℕ) (known other : Facts) → AreSame known other → is_still process known ≡ is_still process other
+still_same process known other same = ap (are_still known) (same.threads process) ∙ are_still_same known other same (other.threads process)
+
 -- ---- a change
 
 with_contexts : {known other : Facts} (f g : List ℕ → Option ContextData) → AreSame known other → ((id : List ℕ) → f id ≡ g id)
     → AreSame (record known { contexts = f }) (record other { contexts = g })
 with_contexts f g same here =
-    record { contexts = here; states = same.states; registers = same.registers; properties = same.properties; statuses = same.statuses }
+    record { contexts = here; threads = same.threads; states = same.states; registers = same.registers; properties = same.properties; statuses = same.statuses }
+
+with_threads : {known other : Facts} (f g : ℕ → Option (List (List ℕ))) → AreSame known other → ((p : ℕ) → f p ≡ g p)
+    → AreSame (record known { threads = f }) (record other { threads = g })
+with_threads f g same here =
+    record { contexts = same.contexts; threads = here; states = same.states; registers = same.registers; properties = same.properties; statuses = same.statuses }
 
 with_states : {known other : Facts} (f g : ℕ → ℕ → Option StateFact) → AreSame known other → ((p t : ℕ) → f p t ≡ g p t)
     → AreSame (record known { states = f }) (record other { states = g })
 with_states f g same here =
-    record { contexts = same.contexts; states = here; registers = same.registers; properties = same.properties; statuses = same.statuses }
+    record { contexts = same.contexts; threads = same.threads; states = here; registers = same.registers; properties = same.properties; statuses = same.statuses }
 
 with_registers : {known other : Facts} (f g : ℕ → ℕ → ℕ → Option ℕ) → AreSame known other → ((p t i : ℕ) → f p t i ≡ g p t i)
     → AreSame (record known { registers = f }) (record other { registers = g })
 with_registers f g same here =
-    record { contexts = same.contexts; states = same.states; registers = here; properties = same.properties; statuses = same.statuses }
+    record { contexts = same.contexts; threads = same.threads; states = same.states; registers = here; properties = same.properties; statuses = same.statuses }
 
 with_bytes : {known other : Facts} (f g : ℕ → ℕ → ℕ → Bool) → AreSame known other → AreSame (record known { bytes = f }) (record other { bytes = g })
 with_bytes f g same =
-    record { contexts = same.contexts; states = same.states; registers = same.registers; properties = same.properties; statuses = same.statuses }
+    record { contexts = same.contexts; threads = same.threads; states = same.states; registers = same.registers; properties = same.properties; statuses = same.statuses }
 
 with_properties : {known other : Facts} (f g : List ℕ → Option BpProps) → AreSame known other → ((id : List ℕ) → f id ≡ g id)
     → AreSame (record known { properties = f }) (record other { properties = g })
 with_properties f g same here =
-    record { contexts = same.contexts; states = same.states; registers = same.registers; properties = here; statuses = same.statuses }
+    record { contexts = same.contexts; threads = same.threads; states = same.states; registers = same.registers; properties = here; statuses = same.statuses }
 
 with_statuses : {known other : Facts} (f g : List ℕ → Option BpStatus) → AreSame known other → ((id : List ℕ) → f id ≡ g id)
     → AreSame (record known { statuses = f }) (record other { statuses = g })
 with_statuses f g same here =
-    record { contexts = same.contexts; states = same.states; registers = same.registers; properties = same.properties; statuses = here }
+    record { contexts = same.contexts; threads = same.threads; states = same.states; registers = same.registers; properties = same.properties; statuses = here }
 
 pub after_same : (change : Change) (known other : Facts) → AreSame known other → AreSame (after change known) (after change other)
 after_same all_gone known other same = same_refl nothing
 after_same (context_told id context) known other same = with_contexts _ _ same (text_same id (Some context) known.contexts other.contexts same.contexts)
 after_same (context_gone id) known other same = with_contexts _ _ same (text_same id None known.contexts other.contexts same.contexts)
+after_same (threads_told process ids) known other same =
+    with_threads _ _ same (number_same process (Some ids) (Some ids) known.threads other.threads refl same.threads)
+after_same (thread_joined process id) known other same =
+    with_threads _ _ same (number_same process (option_map (with_id id) (known.threads process)) (option_map (with_id id) (other.threads process))
+    known.threads other.threads (ap (option_map (with_id id)) (same.threads process)) same.threads)
+after_same (threads_gone process) known other same =
+    with_threads _ _ same (number_same process None None known.threads other.threads refl same.threads)
+after_same (threads_stale process) known other same = record {
+  contexts = same.contexts;
+  threads = same.threads;
+  states = λ p t. ap (cond (nat_eq process p) None) (same.states p t);
+  registers = λ p t i. ap (cond (nat_eq process p) None) (same.registers p t i);
+  properties = same.properties;
+  statuses = same.statuses;
+}
 after_same (state_told process thread state) known other same = with_states _ _ same (thread_same process thread (Some state) known.states other.states same.states)
 after_same (state_gone process thread) known other same = with_states _ _ same (thread_same process thread None known.states other.states same.states)
 after_same (register_read process thread index value) known other same = with_registers _ _ same (read_same process thread index value known other same)
@@ -129,6 +181,10 @@ pub blocks_same : (change : Change) (known other : Facts) (blocks : List Block) 
 blocks_same all_gone known other blocks same = refl
 blocks_same (context_told id context) known other blocks same = refl
 blocks_same (context_gone id) known other blocks same = refl
+blocks_same (threads_told process ids) known other blocks same = refl
+blocks_same (thread_joined process id) known other blocks same = refl
+blocks_same (threads_gone process) known other blocks same = refl
+blocks_same (threads_stale process) known other blocks same = refl
 blocks_same (state_told process thread state) known other blocks same = refl
 blocks_same (state_gone process thread) known other blocks same = refl
 blocks_same (register_read process thread index value) known other blocks same = refl
@@ -136,7 +192,7 @@ blocks_same (register_gone process thread index) known other blocks same = refl
 blocks_same (thread_registers_gone process thread) known other blocks same = refl
 blocks_same registers_gone known other blocks same = refl
 blocks_same (bytes_read process addr bytes) known other blocks same =
-    ap (λ s. cond (is_suspended s) (added (record { process = process; addr = addr; bytes = bytes }) blocks) blocks) (same.states process 1)
+    ap (λ still. cond still (added (record { process = process; addr = addr; bytes = bytes }) blocks) blocks) (still_same process known other same)
 blocks_same (bytes_gone process) known other blocks same = refl
 blocks_same (range_gone process addr size) known other blocks same = refl
 blocks_same (properties_told id properties) known other blocks same = refl

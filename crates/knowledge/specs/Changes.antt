@@ -1,15 +1,24 @@
 -- What one fact, or one kind of facts, that is told or drops out makes of what is known.
-use Rattle.std.specs.Prelude.{ℕ, ◌+◌, ◌-◌, ◌==◌, nat_le, nat_lt, Bool, false, not, ◌&&◌, ◌||◌, List, [], ◌∷◌, ◌++◌, slice_get, bytes_eq, Option, Some, None, if◌then◌else◌}
+use Rattle.std.specs.Prelude.{ℕ, ◌+◌, ◌-◌, ◌==◌, nat_le, nat_lt, Bool, false, not, ◌&&◌, ◌||◌, List, [], ◌∷◌, ◌++◌, length, slice_get, bytes_eq, Option, Some, None, option_map, if◌then◌else◌}
+use Rattle.std.specs.List.{list_all, list_any}
 use Rattle.tcf_values.specs.declared.values.BpProps.{BpProps}
 use Rattle.tcf_values.specs.declared.values.BpStatus.{BpStatus}
 use Rattle.tcf_values.specs.declared.values.ContextData.{ContextData}
-use Rattle.knowledge.specs.Facts.{Facts, is_suspended, nothing}
+use Rattle.knowledge.specs.Facts.{Facts, is_suspended, nothing, state_of}
 use Rattle.knowledge.specs.declared.state.StateFact.{StateFact}
 
 pub data Change : Type 0 where
   all_gone : Change
   context_told : List ℕ → ContextData → Change
   context_gone : List ℕ → Change
+  -- the threads of a process, all of them
+  threads_told : ℕ → List (List ℕ) → Change
+  -- a thread of a process, which counts only where the process's threads are known
+  thread_joined : ℕ → List ℕ → Change
+  -- that the threads of a process are known
+  threads_gone : ℕ → Change
+  -- the states and the registers of all threads of a process
+  threads_stale : ℕ → Change
   state_told : ℕ → ℕ → StateFact → Change
   state_gone : ℕ → ℕ → Change
   -- a register of a thread, which counts only where the thread is known as suspended
@@ -18,7 +27,7 @@ pub data Change : Type 0 where
   -- all registers of a thread, and those of all threads
   thread_registers_gone : ℕ → ℕ → Change
   registers_gone : Change
-  -- bytes of a process from an address on, which count only where its thread is known as suspended
+  -- bytes of a process from an address on, which count only where each of its threads is known as suspended
   bytes_read : ℕ → ℕ → List ℕ → Change
   -- all bytes of a process, and those of a range: an address, and how many
   bytes_gone : ℕ → Change
@@ -34,6 +43,10 @@ pub data Change : Type 0 where
 abbrev pub at_text : {A : Type 0} → List ℕ → Option A → (List ℕ → Option A) → List ℕ → Option A
 at_text id value known other = if bytes_eq id other then value else known other
 
+-- under a number
+abbrev pub at_number : {A : Type 0} → ℕ → A → (ℕ → A) → ℕ → A
+at_number number value known n = if number == n then value else known n
+
 -- of the thread of a process
 abbrev pub at_thread : {A : Type 0} → ℕ → ℕ → A → (ℕ → ℕ → A) → ℕ → ℕ → A
 at_thread process thread value known p t = if (process == p) && (thread == t) then value else known p t
@@ -41,11 +54,22 @@ at_thread process thread value known p t = if (process == p) && (thread == t) th
 abbrev pub at_register : ℕ → ℕ → ℕ → Option ℕ → (ℕ → ℕ → ℕ → Option ℕ) → ℕ → ℕ → ℕ → Option ℕ
 at_register process thread index value known p t i = if (process == p) && (thread == t) && (index == i) then value else known p t i
 
--- ---- bytes of memory
+-- ---- the threads of a process
 
--- the process's one thread, whose number is 1, is known as suspended
+-- one thread more behind the others, where it isn't among them
+abbrev pub with_id : List ℕ → List (List ℕ) → List (List ℕ)
+with_id id ids = if list_any (λ other. bytes_eq id other) ids then ids else ids ++ id ∷ []
+
+-- there are some, and each is known as suspended
+abbrev pub are_still : Facts → Option (List (List ℕ)) → Bool
+are_still known None = false
+are_still known (Some ids) = nat_lt 0 (length ids) && list_all (λ id. is_suspended (state_of id known)) ids
+
+-- the threads of the process are known, and each is known as suspended. So nothing but what is told changes its memory
 abbrev pub is_still : ℕ → Facts → Bool
-is_still process known = is_suspended (known.states process 1)
+is_still process known = are_still known (known.threads process)
+
+-- ---- bytes of memory
 
 abbrev pub is_byte : ℕ → Option ℕ → Bool
 is_byte byte None = false
@@ -64,6 +88,13 @@ abbrev pub after : Change → Facts → Facts
 after all_gone known = nothing
 after (context_told id context) known = record known { contexts = at_text id (Some context) known.contexts }
 after (context_gone id) known = record known { contexts = at_text id None known.contexts }
+after (threads_told process ids) known = record known { threads = at_number process (Some ids) known.threads }
+after (thread_joined process id) known = record known { threads = at_number process (option_map (with_id id) (known.threads process)) known.threads }
+after (threads_gone process) known = record known { threads = at_number process None known.threads }
+after (threads_stale process) known = record known {
+  states = λ p thread. if process == p then None else known.states p thread;
+  registers = λ p thread index. if process == p then None else known.registers p thread index;
+}
 after (state_told process thread state) known = record known { states = at_thread process thread (Some state) known.states }
 after (state_gone process thread) known = record known { states = at_thread process thread None known.states }
 after (register_read process thread index value) known =

@@ -1,27 +1,26 @@
 -- A cache: rows under keys, and the blocks of memory, of which there are never many.
-use Rattle.std.specs.Prelude.{ℕ, ◌≡◌, ◌==◌, Bool, true, ◌&&◌, List, [], ◌∷◌, Option, None, option_and_then, if◌then◌else◌}
+use Rattle.std.specs.Prelude.{ℕ, ◌≡◌, ◌==◌, Bool, true, ◌&&◌, List, [], ◌∷◌, Option, if◌then◌else◌}
 use Rattle.std.specs.List.{list_any}
 use Rattle.block_store.specs.Store.{added, without_process, without_range}
 use Rattle.block_store.specs.declared.block.Block.{Block}
-use Rattle.tcf_values.specs.Ids.{context_of}
-use Rattle.tcf_values.specs.declared.ids.ContextId.{ContextId}
-use Rattle.tcf_values.specs.declared.ids.ContextId.TheVariants.{Process, Thread}
 use Rattle.tcf_values.specs.declared.values.BpProps.{BpProps}
 use Rattle.tcf_values.specs.declared.values.BpStatus.{BpStatus}
 use Rattle.tcf_values.specs.declared.values.ContextData.{ContextData}
 use Rattle.knowledge.specs.Changes.{Change, all_gone, bytes_gone, bytes_read, range_gone, after, after_all, has_byte, is_still}
 use Rattle.knowledge.specs.Facts.{AreSame, Facts}
-use Rattle.knowledge.specs.Keyed.{of_thread, register_in, under}
+use Rattle.knowledge.specs.Keyed.{of_number, of_thread, register_in, under}
 use Rattle.knowledge.specs.Learning.{Message, changes_of, learned}
 use Rattle.knowledge.specs.declared.state.StateFact.{StateFact}
 
 pub record KnowledgeValue : Type 0 where
   -- under their IDs
   pub contexts : List (List ℕ × ContextData)
-  -- under their threads
-  pub states : List ((ℕ × ℕ) × StateFact)
+  -- the IDs of the threads of each process, under its number
+  pub threads : List (ℕ × List (List ℕ))
+  -- under the numbers of their processes, and there under their own
+  pub states : List (ℕ × List (ℕ × StateFact))
   -- under their threads, and there by their indexes
-  pub registers : List ((ℕ × ℕ) × List (Option ℕ))
+  pub registers : List (ℕ × List (ℕ × List (Option ℕ)))
   -- the most recently used first
   pub blocks : List Block
   -- under the IDs of their breakpoints
@@ -29,7 +28,7 @@ pub record KnowledgeValue : Type 0 where
   pub statuses : List (List ℕ × BpStatus)
 
 abbrev pub empty : KnowledgeValue
-empty = record { contexts = []; states = []; registers = []; blocks = []; properties = []; statuses = [] }
+empty = record { contexts = []; threads = []; states = []; registers = []; blocks = []; properties = []; statuses = [] }
 
 -- one of the blocks has the byte
 abbrev pub has_block_byte : List Block → ℕ → ℕ → ℕ → Bool
@@ -39,6 +38,7 @@ has_block_byte blocks process place byte = list_any (λ block. (block.process ==
 abbrev pub facts_of : KnowledgeValue → Facts
 facts_of value = record {
   contexts = λ id. under id value.contexts;
+  threads = λ process. of_number process value.threads;
   states = λ process thread. of_thread process thread value.states;
   registers = λ process thread index. register_in process thread index value.registers;
   bytes = has_block_byte value.blocks;
@@ -75,11 +75,3 @@ blocks_learned message before = blocks_after_all (changes_of message) (facts_of 
 pub record IsCacheOf (messages : List Message) (value : KnowledgeValue) : Type 0 where
   pub facts : AreSame (facts_of value) (learned messages)
   pub bytes : (process place byte : ℕ) → has_block_byte value.blocks process place byte ≡ true → (learned messages).bytes process place byte ≡ true
-
--- what is known of a thread, by its ID
-abbrev pub state_at : Facts → ContextId → Option StateFact
-state_at known (Process process) = None
-state_at known (Thread process thread) = known.states process thread
-
-abbrev pub state_of : List ℕ → Facts → Option StateFact
-state_of id known = option_and_then (state_at known) (context_of id)

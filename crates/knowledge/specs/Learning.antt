@@ -1,7 +1,9 @@
 -- What a peer learns from the messages that it takes.
 use Rattle.std.specs.Prelude.{Bool, true, false, List, [], ◌∷◌}
 use Rattle.tcf_values.specs.declared.answer.Answer.{Answer}
+use Rattle.tcf_values.specs.Storable.{stores}
 use Rattle.tcf_values.specs.declared.command.Command.{Command}
+use Rattle.tcf_values.specs.declared.command.Command.TheVariants.{GetChildren}
 use Rattle.tcf_values.specs.declared.event.EventData.{EventData}
 use Rattle.tcf_values.specs.declared.event.EventData.TheVariants.{Hello, CtxRemoved, BpRemoved, MemChanged, RegsChanged, Exited}
 use Rattle.knowledge.specs.Changes.{Change, all_gone, after_all}
@@ -46,3 +48,8 @@ only_drops (MemChanged id list) = true
 only_drops RegsChanged = true
 only_drops (Exited id code) = true
 only_drops _ = false
+
+-- the commands whose answers tell something: those that are storable, and the one that asks for the threads of a process
+abbrev pub teaches : Command → Bool
+teaches (GetChildren id) = true
+teaches command = stores command

@@ -1,11 +1,12 @@
 -- What each event and each answer makes of what is known (TCF service pages: what an event says has changed, and what
 -- an answer tells).
-use Rattle.std.specs.Prelude.{ℕ, ℤ, pos, ◌+ℤ◌, int_lt, unsigned_abs, ◌==◌, nat_lt, Bool, not, ◌&&◌, ◌||◌, List, [], ◌∷◌, ◌++◌, length, take, drop, Option, Some, None, if◌then◌else◌}
+use Rattle.std.specs.Prelude.{ℕ, ℤ, pos, ◌+ℤ◌, int_lt, unsigned_abs, ◌==◌, nat_lt, Bool, false, not, ◌&&◌, ◌||◌, List, [], ◌∷◌, ◌++◌, length, take, drop, Option, Some, None, if◌then◌else◌}
+use Rattle.std.specs.List.{list_all}
 use Rattle.std.specs.Int.{w32, from_le_bytes}
 use Rattle.tcf_values.specs.Ids.{context_of, register_of}
 use Rattle.tcf_values.specs.declared.answer.Answer.{Answer}
 use Rattle.tcf_values.specs.declared.command.Command.{Command}
-use Rattle.tcf_values.specs.declared.command.Command.TheVariants.{GetContext, GetState, BpProperties, BpGetStatus, MemGet, RegGet, RegGetm}
+use Rattle.tcf_values.specs.declared.command.Command.TheVariants.{GetContext, GetChildren, GetState, BpProperties, BpGetStatus, MemGet, RegGet, RegGetm}
 use Rattle.tcf_values.specs.declared.event.EventData.{EventData}
 use Rattle.tcf_values.specs.declared.event.EventData.TheVariants.{Hello, CtxAdded, CtxChanged, CtxRemoved, Suspended, Resumed, BpStatusIs, BpAdded, BpChanged, BpRemoved, MemChanged, RegChanged, RegsChanged, Exited}
 use Rattle.tcf_values.specs.declared.ids.ContextId.{ContextId}
@@ -17,8 +18,13 @@ use Rattle.tcf_values.specs.declared.values.Location.{Location}
 use Rattle.tcf_values.specs.declared.values.Range.{Range}
 use Rattle.tcf_values.specs.declared.values.RunState.{RunState}
 use Rattle.tcf_values.specs.declared.values.RunState.TheVariants as run
-use Rattle.knowledge.specs.Changes.{Change, all_gone, context_told, context_gone, state_told, state_gone, register_read, register_gone, thread_registers_gone, registers_gone, bytes_read, bytes_gone, range_gone, properties_told, properties_gone, status_told, status_gone, statuses_gone, of_each}
+use Rattle.knowledge.specs.Changes.{Change, all_gone, context_told, context_gone, threads_told, thread_joined, threads_gone, threads_stale, state_told, state_gone, register_read, register_gone, thread_registers_gone, registers_gone, bytes_read, bytes_gone, range_gone, properties_told, properties_gone, status_told, status_gone, statuses_gone, of_each}
 use Rattle.knowledge.specs.declared.state.StateFact.TheVariants as state
+
+-- a process's number, and that of a thread's process
+abbrev pub process_for : ContextId → ℕ
+process_for (Process process) = process
+process_for (Thread process thread) = process
 
 -- ---- contexts
 
@@ -37,8 +43,66 @@ added_context context = context_told context.id context ∷ []
 abbrev pub changed_context : ContextData → List Change
 changed_context context = context_told context.id context ∷ stale context.id
 
+-- nor are the threads of its process
+abbrev pub unlisted_for : Option ContextId → List Change
+unlisted_for None = []
+unlisted_for (Some context) = threads_gone (process_for context) ∷ []
+
 abbrev pub removed_context : List ℕ → List Change
-removed_context id = context_gone id ∷ stale id
+removed_context id = context_gone id ∷ (stale id ++ unlisted_for (context_of id))
+
+-- ---- contexts that are new
+
+-- a process that has one more thread may have run by then, and so may all its threads
+abbrev pub unsettled_for : Option ContextId → List Change
+unsettled_for None = []
+unsettled_for (Some context) = threads_stale (process_for context) ∷ bytes_gone (process_for context) ∷ []
+
+abbrev pub unsettled : ContextData → List Change
+unsettled context = unsettled_for (context_of context.id)
+
+-- a new process has no threads but those that are told with it and after it
+abbrev pub begun_for : Option ContextId → List Change
+begun_for None = []
+begun_for (Some (Process process)) = threads_told process [] ∷ []
+begun_for (Some (Thread process thread)) = []
+
+abbrev pub begun : ContextData → List Change
+begun context = begun_for (context_of context.id)
+
+-- a new thread is one of its process
+abbrev pub joined_for : List ℕ → Option ContextId → List Change
+joined_for id None = []
+joined_for id (Some (Process process)) = []
+joined_for id (Some (Thread process thread)) = thread_joined process id ∷ []
+
+abbrev pub joined : ContextData → List Change
+joined context = joined_for context.id (context_of context.id)
+
+-- each kind of change is made for all of them before the next kind, so that it makes no difference whether a process
+-- stands before its threads
+abbrev pub added_contexts : List ContextData → List Change
+added_contexts list = of_each added_context list ++ (of_each unsettled list ++ (of_each begun list ++ (of_each joined list ++ statuses_gone ∷ [])))
+
+-- ---- the threads of a process
+
+abbrev pub is_thread_for : ℕ → Option ContextId → Bool
+is_thread_for process None = false
+is_thread_for process (Some (Process number)) = false
+is_thread_for process (Some (Thread number thread)) = process == number
+
+-- the text is the ID of a thread of the process
+abbrev pub is_thread_of : ℕ → List ℕ → Bool
+is_thread_of process id = is_thread_for process (context_of id)
+
+-- texts tell the threads of a process where each is the ID of one
+abbrev pub threads_read : ℕ → List (List ℕ) → List Change
+threads_read process ids = if list_all (is_thread_of process) ids then threads_told process ids ∷ [] else []
+
+abbrev pub threads_listed : Option ContextId → List (List ℕ) → List Change
+threads_listed None ids = []
+threads_listed (Some (Process process)) ids = threads_read process ids
+threads_listed (Some (Thread process thread)) ids = []
 
 -- ---- a thread that stops or goes on
 
@@ -55,11 +119,6 @@ moved_for (Some (Process process)) now = bytes_gone process ∷ []
 moved_for (Some (Thread process thread)) now = bytes_gone process ∷ thread_registers_gone process thread ∷ state_changes now process thread
 
 -- ---- memory
-
--- a process's number, and that of a thread's process
-abbrev pub process_for : ContextId → ℕ
-process_for (Process process) = process
-process_for (Thread process thread) = process
 
 -- the range has addresses outside of 0 to 65,535
 abbrev pub is_outside : ℤ → ℤ → Bool
@@ -126,7 +185,7 @@ removed_properties id = properties_gone id ∷ status_gone id ∷ []
 
 abbrev pub event_changes : EventData → List Change
 event_changes (Hello list) = all_gone ∷ []
-event_changes (CtxAdded list) = of_each added_context list ++ statuses_gone ∷ []
+event_changes (CtxAdded list) = added_contexts list
 event_changes (CtxChanged list) = of_each changed_context list ++ statuses_gone ∷ []
 event_changes (CtxRemoved list) = of_each removed_context list ++ statuses_gone ∷ []
 event_changes (Suspended id pc reason hits) = moved_for (context_of id) (run.Suspended pc reason hits)
@@ -145,6 +204,10 @@ event_changes (Exited id code) = []
 abbrev pub context_answered : List ℕ → Answer → List Change
 context_answered id (Answer.Context context) = context_told id context ∷ []
 context_answered id _ = []
+
+abbrev pub children_answered : List ℕ → Answer → List Change
+children_answered id (Answer.Ids ids) = threads_listed (context_of id) ids
+children_answered id _ = []
 
 abbrev pub state_of_thread : Option ContextId → RunState → List Change
 state_of_thread None state = []
@@ -177,6 +240,7 @@ registers_answered list _ = []
 
 abbrev pub answer_changes : Command → Answer → List Change
 answer_changes (GetContext id) answer = context_answered id answer
+answer_changes (GetChildren id) answer = children_answered id answer
 answer_changes (GetState id) answer = state_answered id answer
 answer_changes (BpProperties id) answer = properties_answered id answer
 answer_changes (BpGetStatus id) answer = status_answered id answer

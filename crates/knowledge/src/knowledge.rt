@@ -1,7 +1,8 @@
 //! The cache of a peer, and what it is asked.
 ghost use Rattle.std.specs.Prelude.{◌≡◌, ◌≤◌, ◌+◌, [], ℕ, Some, option_copied, option_map, slice_get, true, IfOk, IfSome};
 ghost use Rattle.block_store.specs.Store.{covered};
-ghost use Rattle.knowledge.specs.KnowledgeValue.{IsCacheOf, empty, facts_of, state_of};
+ghost use Rattle.knowledge.specs.Facts.{state_of};
+ghost use Rattle.knowledge.specs.KnowledgeValue.{IsCacheOf, empty, facts_of};
 
 mod answers;
 mod changes;
@@ -9,6 +10,7 @@ mod events;
 mod learning;
 mod reply;
 
+use crate::number_map::NumberMap;
 use crate::registers::Registers;
 use crate::state::StateFact;
 use crate::text_map::TextMap;
@@ -16,7 +18,7 @@ use crate::thread_map::ThreadMap;
 use block_store::BlockStore;
 use std::alloc::{AllocError, Global};
 use std::marker::Model;
-use tcf_values::{BpProps, BpStatus, ContextData, ContextId, RegisterId, context_id};
+use tcf_values::{BpProps, BpStatus, ContextData, ContextId, RegisterId, Texts, context_id};
 
 /// What a peer knows of a target. Contracts see the facts as rows under their keys, and the blocks of memory as the
 /// store of blocks is seen.
@@ -24,6 +26,7 @@ use tcf_values::{BpProps, BpStatus, ContextData, ContextId, RegisterId, context_
 pub struct Knowledge {
     alloc: Global,
     contexts: TextMap<ContextData>,
+    threads: NumberMap<Texts>,
     states: ThreadMap<StateFact>,
     registers: ThreadMap<Registers>,
     blocks: BlockStore,
@@ -36,7 +39,7 @@ impl Model for Knowledge {
 
     ghost Value = { KnowledgeValue };
 
-    ghost view = { λ k. record { contexts = k.contexts; states = k.states; registers = k.registers; blocks = k.blocks; properties = k.properties; statuses = k.statuses } };
+    ghost view = { λ k. record { contexts = k.contexts; threads = k.threads; states = k.states; registers = k.registers; blocks = k.blocks; properties = k.properties; statuses = k.statuses } };
 }
 
 impl Knowledge {
@@ -48,6 +51,7 @@ impl Knowledge {
         Ok(Knowledge {
             alloc,
             contexts: TextMap::new(alloc),
+            threads: NumberMap::new(alloc),
             states: ThreadMap::new(alloc),
             registers: ThreadMap::new(alloc),
             blocks: BlockStore::new(alloc)?,
@@ -61,6 +65,13 @@ impl Knowledge {
         ensures { option_copied result ≡ (facts_of self.now).contexts id.now }
     {
         self.contexts.get(id)
+    }
+
+    /// The IDs of a process's threads, in order. `None` comes exactly where they aren't known.
+    pub fn threads(&self, process: u32) -> Option<&Texts>
+        ensures { option_copied result ≡ (facts_of self.now).threads process }
+    {
+        self.threads.get(process)
     }
 
     /// What is known of the thread of this ID. No other ID has a state.

@@ -3,6 +3,7 @@
 
 pub mod knowledge;
 pub mod laws;
+mod number_map;
 mod registers;
 mod span;
 pub mod state;

@@ -1,12 +1,12 @@
 -- Who knows a part of what another has learned still does when both learn the same.
 use Rattle.std.proofs.Common.{◌≡◌, ℕ, nat_eq, ◌&&◌, Bool, true, false, true≢false, cond, List, [], ◌∷◌, Option, Some, None, is_some, refl, sym, ap, ◌∙◌}
 use Rattle.std.proofs.lemmas.Bool.{and_parts, both_ways, eqb-true}
-use Rattle.knowledge.specs.Changes.{Change, after, after_all, all_gone, at_register, bytes_gone, bytes_read, context_gone, context_told, properties_gone, properties_told, range_gone, register_gone, register_read, registers_gone, state_gone, state_told, status_gone, status_told, statuses_gone, thread_registers_gone}
-use Rattle.knowledge.specs.Facts.{Facts, IsPart, byte_is, context_is, is_suspended, properties_are, register_is, state_is, status_is}
+use Rattle.knowledge.specs.Changes.{Change, after, after_all, all_gone, at_register, bytes_gone, bytes_read, context_gone, context_told, properties_gone, properties_told, range_gone, register_gone, register_read, registers_gone, state_gone, state_told, status_gone, status_told, statuses_gone, thread_joined, thread_registers_gone, threads_gone, threads_stale, threads_told}
+use Rattle.knowledge.specs.Facts.{Facts, IsPart, byte_is, context_is, is_suspended, properties_are, register_is, state_is, status_is, threads_are}
 use Rattle.knowledge.specs.Learning.{Message, changes_of, learn}
 use Rattle.knowledge.specs.declared.state.StateFact.{StateFact}
 use Rattle.value_store.specs.Laws.{HaveStates}
-use Rattle.knowledge.proofs.Monotone.{IsWithin, within_after}
+use Rattle.knowledge.proofs.Monotone.{IsWithin, within_after, within_from}
 use Rattle.list_laws.proofs.Lists.{no_some}
 
 -- of each thread of which the one knows a register both know the same state
@@ -93,6 +93,11 @@ alike_after : (change : Change) (some more : Facts) → Suits some more → (p t
 alike_after all_gone some more suits p t i x is = refl
 alike_after (context_told id context) some more suits p t i x is = suits.alike p t i x is
 alike_after (context_gone id) some more suits p t i x is = suits.alike p t i x is
+alike_after (threads_told process ids) some more suits p t i x is = suits.alike p t i x is
+alike_after (thread_joined process id) some more suits p t i x is = suits.alike p t i x is
+alike_after (threads_gone process) some more suits p t i x is = suits.alike p t i x is
+alike_after (threads_stale process) some more suits p t i x is =
+    ap (λ s. cond (nat_eq process p) None s) (suits.alike p t i x (gone (nat_eq process p) (some.registers p t i) x is))
 alike_after (state_told process thread state) some more suits p t i x is = ap (λ s. cond (nat_eq process p && nat_eq thread t) (Some state) s) (suits.alike p t i x is)
 alike_after (state_gone process thread) some more suits p t i x is = ap (λ s. cond (nat_eq process p && nat_eq thread t) None s) (suits.alike p t i x is)
 alike_after (register_read process thread index value) some more suits p t i x is =
@@ -114,6 +119,7 @@ alike_after statuses_gone some more suits p t i x is = suits.alike p t i x is
 part_after : (change : Change) (some more : Facts) → Suits some more → IsWithin (after change some) (after change more)
 part_after (register_read process thread index value) some more suits = record {
   contexts = suits.within.contexts;
+  threads = suits.within.threads;
   states = suits.within.states;
   registers = read_within some more suits process thread index value (is_suspended (some.states process thread)) (is_suspended (more.states process thread)) refl refl;
   bytes = suits.within.bytes;
@@ -123,6 +129,10 @@ part_after (register_read process thread index value) some more suits = record {
 part_after all_gone some more suits = within_after all_gone some more tt suits.within
 part_after (context_told id context) some more suits = within_after (context_told id context) some more tt suits.within
 part_after (context_gone id) some more suits = within_after (context_gone id) some more tt suits.within
+part_after (threads_told process ids) some more suits = within_after (threads_told process ids) some more tt suits.within
+part_after (thread_joined process id) some more suits = within_after (thread_joined process id) some more tt suits.within
+part_after (threads_gone process) some more suits = within_after (threads_gone process) some more tt suits.within
+part_after (threads_stale process) some more suits = within_after (threads_stale process) some more tt suits.within
 part_after (state_told process thread state) some more suits = within_after (state_told process thread state) some more tt suits.within
 part_after (state_gone process thread) some more suits = within_after (state_gone process thread) some more tt suits.within
 part_after (register_gone process thread index) some more suits = within_after (register_gone process thread index) some more tt suits.within
@@ -144,18 +154,9 @@ suits_after (change ∷ changes) some more suits =
 
 -- ---- A message
 
-within_of : (some more : Facts) → IsPart some more → IsWithin some more
-within_of some more part = record {
-  contexts = λ id x. part (context_is id x);
-  states = λ p t x. part (state_is p t x);
-  registers = λ p t i x. part (register_is p t i x);
-  bytes = λ p place byte. part (byte_is p place byte);
-  properties = λ id x. part (properties_are id x);
-  statuses = λ id x. part (status_is id x);
-}
-
 part_of : (some more : Facts) → IsWithin some more → IsPart some more
 part_of some more within (context_is id x) = within.contexts id x
+part_of some more within (threads_are p x) = within.threads p x
 part_of some more within (state_is p t x) = within.states p t x
 part_of some more within (register_is p t i x) = within.registers p t i x
 part_of some more within (byte_is p place byte) = within.bytes p place byte
@@ -169,6 +170,6 @@ known_alike (Some x) r has part = sym (part x refl)
 pub both_learn : (message : Message) (some more : Facts) → HaveStates some → IsPart some more → IsPart (learn message some) (learn message more)
 both_learn message some more has part =
     part_of (learn message some) (learn message more) (suits_after (changes_of message) some more (record {
-      within = within_of some more part;
+      within = within_from some more part;
       alike = λ p t i x is. known_alike (some.states p t) (more.states p t) (has p t i x is) (λ state. part (state_is p t state));
     })).within

@@ -183,7 +183,7 @@ module _ (traffic : List Crossing) (relay : IsRelay traffic) (own : HaveOwnToken
       let known_below : command_under a.command.token (asked_in done) ≡ Some a.command = own_under (asked_in done) number a.command (own_by done (one ∷ rest) whole) a.asked in
       let teaches : lesson (asked_in done) s.message ≡ lesson_of (command_asked a.command) a.body ∷ [] =
       ap (lesson (asked_in done)) a.answer ∙ ap (λ o. lesson_of (option_and_then command_asked o) a.body ∷ []) known_below in
-      let there = stands_answered (asked_in done) (told_in done) (sent_in done) (due done) s (lesson_of (command_asked a.command) a.body) teaches
+      let there = stands_answered (asked_in done) (told_in done) (sent_in done) (due done) s (command_asked a.command) a.body teaches
       (subst (IsFound (asked_in done)) (sym a.answer) (ap is_some known_below))
       (subst (λ xs. AllByRecursion (λ fact. Knows (learned (lessons (sent_in done) xs)) fact) (facts_told (lesson_of (command_asked a.command) a.body))) (sym is_all) a.known) st in
       moved (asked_in done) (asked_in next) (told_in done ++ s ∷ []) (told_in next) (sent_in done) (sent_in next) (due done) (due next)

@@ -1,12 +1,14 @@
 -- What is learned below is a part of what is learned above: kept by each command more, each message passed on and each stored
 -- answer.
-use Rattle.std.proofs.Common.{◌≡◌, List, [], ◌∷◌, ◌++◌, sym, ap, ◌∙◌, subst, append-nil}
+use Rattle.std.proofs.Common.{◌≡◌, ℕ, List, [], ◌∷◌, ◌++◌, Option, sym, ap, ◌∙◌, subst, append-nil}
 use Rattle.std.specs.List.{AllByRecursion}
 use Rattle.std.proofs.lemmas.List.Concat.{flat_map-append}
 use Rattle.channel_core.specs.Arrivals.{Spoken}
 use Rattle.knowledge.specs.Facts.{IsPart, Knows, nothing}
 use Rattle.knowledge.specs.Learning.{Message, learn, learn_all, learned}
+use Rattle.tcf_values.specs.declared.command.Command.{Command}
 use Rattle.value_node.specs.Asked.{Asked}
+use Rattle.value_store.specs.Learning.{lesson_of}
 use Rattle.chain_told.specs.Told.{lesson, lessons}
 use Rattle.relay_laws.specs.Relay.{facts_told}
 use Rattle.chain_told.proofs.Agreeing.{learn_append}
@@ -74,11 +76,11 @@ stands_passed asked told sent due h s t st = record {
   above = all_push (λ (x : Spoken). IsFound sent x.message) due h st.above t.above;
 }
 
-pub stands_answered : (asked : List Asked) (told : List Spoken) (sent : List Asked) (due : List Spoken) (s : Spoken) (message : Message) → lesson asked s.message ≡ message ∷ []
-    → IsFound asked s.message → AllByRecursion (Knows (learned (lessons sent due))) (facts_told message) → Stands asked told sent due → Stands asked (told ++ s ∷ []) sent due
-stands_answered asked told sent due s message teaches found known st = record {
+pub stands_answered : (asked : List Asked) (told : List Spoken) (sent : List Asked) (due : List Spoken) (s : Spoken) (command : Option Command) (body : List ℕ) → lesson asked s.message ≡ lesson_of command body ∷ []
+    → IsFound asked s.message → AllByRecursion (Knows (learned (lessons sent due))) (facts_told (lesson_of command body)) → Stands asked told sent due → Stands asked (told ++ s ∷ []) sent due
+stands_answered asked told sent due s command body teaches found known st = record {
   part = subst (λ x. IsPart x (learned (lessons sent due))) (sym (learned_more asked told s ∙ ap (λ ms. learn_all ms (learned (lessons asked told))) teaches))
-      (stored_part message (learned (lessons asked told)) (learned (lessons sent due)) known st.part);
+      (stored_part command body (learned (lessons asked told)) (learned (lessons sent due)) known st.part);
   below = all_push (λ (x : Spoken). IsFound asked x.message) told s st.below found;
   above = st.above;
 }

@@ -3,8 +3,8 @@
 use Rattle.std.specs.Prelude.{ℕ, ◌≡◌, ◌≤◌, ◌<◌, ◌+◌, Bool, true, false, List, [], ◌∷◌, ◌++◌, filter, map, slice_get, Some}
 use Rattle.std.specs.List.{AllByRecursion, Contains, flat_map}
 use Rattle.channel_core.specs.Arrivals.{Spoken}
-use Rattle.knowledge.specs.Changes.{Change, bytes_read, context_told, properties_told, register_read, state_told, status_told}
-use Rattle.knowledge.specs.Facts.{Fact, Knows, byte_is, context_is, properties_are, register_is, state_is, status_is}
+use Rattle.knowledge.specs.Changes.{Change, bytes_read, context_told, properties_told, register_read, state_told, status_told, threads_told}
+use Rattle.knowledge.specs.Facts.{Fact, Knows, byte_is, context_is, properties_are, register_is, state_is, status_is, threads_are}
 use Rattle.knowledge.specs.Learning.{Message, changes_of, learned}
 use Rattle.list_laws.specs.Fronts.{IsFront}
 use Rattle.tcf_message.specs.Message.{MessageValue, command, event, final, flow, not_known, progress}
@@ -106,6 +106,7 @@ bytes_from process addr (byte ∷ bytes) = byte_is process addr byte ∷ bytes_f
 
 abbrev pub facts_of : Change → List Fact
 facts_of (context_told id context) = context_is id context ∷ []
+facts_of (threads_told process ids) = threads_are process ids ∷ []
 facts_of (state_told process thread state) = state_is process thread state ∷ []
 facts_of (register_read process thread index value) = register_is process thread index value ∷ []
 facts_of (bytes_read process addr bytes) = bytes_from process addr bytes

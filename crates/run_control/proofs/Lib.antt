@@ -1,9 +1,11 @@
-pub mod Contexts
 pub mod Chosen
+pub mod Loops
 pub mod Positive
 pub mod Steps
+pub mod Executed
 pub mod Traces
 pub mod Changed
+pub mod Told
 pub mod Short
 pub mod Soundness
 pub mod Commanded

@@ -16,6 +16,7 @@ use Rattle.target_contexts.specs.Starting.{bytes_refusal, new_process, refusal_f
 use Rattle.target_contexts.specs.TargetsValue.{TargetsValue}
 use Rattle.target_contexts.specs.declared.process.Image.{Image}
 use Rattle.target_contexts.specs.ProcessValue.{ProcessValue}
+use Rattle.target_contexts.specs.Threads.{in_thread}
 use Rattle.target_contexts.specs.declared.process.ThreadState.TheVariants.{Running, Suspended}
 use Rattle.target_contexts.specs.declared.targets.StartRefusal.{StartRefusal}
 use Rattle.target_contexts.specs.declared.targets.StartRefusal.TheVariants.{Full, Numbers}
@@ -25,7 +26,7 @@ use Rattle.run_control.specs.Ending.{end_after}
 use Rattle.run_control.specs.Executing.{settled, stepped}
 use Rattle.run_control.specs.Naming.{process_named}
 use Rattle.run_control.specs.Steering.{left_by, resume_after, suspend_after, with_state}
-use Rattle.run_control.specs.Ticking.{running_number, tick_after, tick_fate, ticked, ticked_at}
+use Rattle.run_control.specs.Ticking.{running_pair, tick_after, tick_fate, ticked, ticked_at}
 use Rattle.run_control.specs.Tracing.{Trace, trace_after, trace_fate, trace_of, traced_at}
 use Rattle.run_control.specs.declared.executing.Fate.{Fate}
 use Rattle.run_control.specs.declared.executing.Fate.TheVariants.{Ends, Lives}
@@ -40,21 +41,21 @@ AreOrderly targets = IsOrderly targets.processes targets.next
 end_orderly : (n : ℕ) (targets : TargetsValue) → AreOrderly targets → AreOrderly (end_after n targets)
 end_orderly n targets orderly = end_stays_orderly targets.processes targets.next n orderly
 
-settled_orderly : (n : ℕ) (fate : Fate) (targets : TargetsValue) → AreOrderly targets → AreOrderly (settled n fate targets)
-settled_orderly n (Ends code) targets orderly = end_orderly n targets orderly
-settled_orderly n (Lives state) targets orderly = orderly_change (with_state state) n targets orderly
+settled_orderly : (number n : ℕ) (fate : Fate) (targets : TargetsValue) → AreOrderly targets → AreOrderly (settled number n fate targets)
+settled_orderly number n (Ends code) targets orderly = end_orderly number targets orderly
+settled_orderly number n (Lives state) targets orderly = orderly_change (in_thread (with_state state) n) number targets orderly
 
-ticked_orderly : (bps : List Placed) (n : ℕ) (found : Option ProcessValue) (targets : TargetsValue) → AreOrderly targets → AreOrderly (ticked_at bps n found targets)
-ticked_orderly bps n None targets orderly = orderly
-ticked_orderly bps n (Some process) targets orderly =
-    settled_orderly n (tick_fate bps n process) (with_change stepped n targets) (orderly_change stepped n targets orderly)
+ticked_orderly : (bps : List Placed) (number n : ℕ) (found : Option ProcessValue) (targets : TargetsValue) → AreOrderly targets → AreOrderly (ticked_at bps number n found targets)
+ticked_orderly bps number n None targets orderly = orderly
+ticked_orderly bps number n (Some process) targets orderly =
+    settled_orderly number n (tick_fate bps number n process) (with_change (stepped n) number targets) (orderly_change (stepped n) number targets orderly)
 
-trace_orderly : (bps : List Placed) (n count : ℕ) (found : Option ProcessValue) (targets : TargetsValue) → AreOrderly targets → AreOrderly (traced_at bps n count found targets)
-trace_orderly bps n count None targets orderly = orderly
-trace_orderly bps n count (Some process) targets orderly =
-    let trace : Trace = trace_of bps n count process in
+trace_orderly : (bps : List Placed) (number n count : ℕ) (found : Option ProcessValue) (targets : TargetsValue) → AreOrderly targets → AreOrderly (traced_at bps number n count found targets)
+trace_orderly bps number n count None targets orderly = orderly
+trace_orderly bps number n count (Some process) targets orderly =
+    let trace : Trace = trace_of bps number n count process in
     let change = λ (q : ProcessValue). trace.process in
-    settled_orderly n (trace_fate process trace) (with_change change n targets) (orderly_change change n targets orderly)
+    settled_orderly number n (trace_fate process trace) (with_change change number targets) (orderly_change change number targets orderly)
 
 -- ---- a start that isn't refused
 
@@ -82,15 +83,17 @@ kept_by : (fault : Option Fault) (left targets : TargetsValue) → (fault ≡ No
 kept_by None left targets given orderly = given refl
 kept_by (Some fault) left targets given orderly = orderly
 
-left_orderly : (change : ℕ → TargetsValue → TargetsValue) (named : Option ℕ) (targets : TargetsValue) → ((n : ℕ) → AreOrderly (change n targets)) → AreOrderly targets → AreOrderly (left_of change named targets)
+left_orderly : {A : Type 0} → (change : A → TargetsValue → TargetsValue) (named : Option A) (targets : TargetsValue) → ((one : A) → AreOrderly (change one targets)) → AreOrderly targets → AreOrderly (left_of change named targets)
 left_orderly change None targets given orderly = orderly
 left_orderly change (Some n) targets given orderly = given n
 
 run_left_orderly : (command : Command) (bps : List Placed) (targets : TargetsValue) → AreOrderly targets → run_fault command targets ≡ None → AreOrderly (run_left command bps targets)
 run_left_orderly (Resume id mode count) bps targets orderly free =
-    left_orderly (resume_after (left_by mode count)) (thread_named id) targets (λ n. orderly_change (with_state (Running (left_by mode count))) n targets orderly) orderly
+    left_orderly (λ pair. resume_after (left_by mode count) pair.0 pair.1) (thread_named id) targets
+    (λ pair. orderly_change (in_thread (with_state (Running (left_by mode count))) pair.1) pair.0 targets orderly) orderly
 run_left_orderly (Suspend id) bps targets orderly free =
-    left_orderly suspend_after (thread_named id) targets (λ n. orderly_change (with_state (Suspended suspended_text [])) n targets orderly) orderly
+    left_orderly (λ pair. suspend_after pair.0 pair.1) (thread_named id) targets
+    (λ pair. orderly_change (in_thread (with_state (Suspended suspended_text [])) pair.1) pair.0 targets orderly) orderly
 run_left_orderly (Terminate id) bps targets orderly free =
     left_orderly end_after (number_named id) targets (λ n. end_orderly n targets orderly) orderly
 run_left_orderly (ProcStart directory file args environment attach) bps targets orderly free =
@@ -102,16 +105,17 @@ run_left_orderly (ProcDetach id) bps targets orderly free =
 run_left_orderly (ProcTerminate id) bps targets orderly free =
     left_orderly end_after (process_named id) targets (λ n. end_orderly n targets orderly) orderly
 run_left_orderly (TraceRun id count) bps targets orderly free =
-    left_orderly (trace_after bps (unsigned_abs count)) (thread_named id) targets (λ n. trace_orderly bps n (unsigned_abs count) (process_of n targets.processes) targets orderly) orderly
+    left_orderly (λ pair. trace_after bps (unsigned_abs count) pair.0 pair.1) (thread_named id) targets
+    (λ pair. trace_orderly bps pair.0 pair.1 (unsigned_abs count) (process_of pair.0 targets.processes) targets orderly) orderly
 run_left_orderly command bps targets orderly free = orderly
 
 pub run_orderly : (command : Command) (bps : List Placed) (targets : TargetsValue) → AreOrderly targets → AreOrderly (run_after command bps targets)
 run_orderly command bps targets orderly =
     kept_by (run_fault command targets) (run_left command bps targets) targets (run_left_orderly command bps targets orderly) orderly
 
-tick_named : (bps : List Placed) (number : Option ℕ) (targets : TargetsValue) → AreOrderly targets → AreOrderly (option_map_or (λ n. ticked bps n targets) number targets)
+tick_named : (bps : List Placed) (pair : Option (ℕ × ℕ)) (targets : TargetsValue) → AreOrderly targets → AreOrderly (option_map_or (λ p. ticked bps p.0 p.1 targets) pair targets)
 tick_named bps None targets orderly = orderly
-tick_named bps (Some number) targets orderly = ticked_orderly bps number (process_of number targets.processes) targets orderly
+tick_named bps (Some pair) targets orderly = ticked_orderly bps pair.0 pair.1 (process_of pair.0 targets.processes) targets orderly
 
 pub tick_orderly : (thread : ContextId) (bps : List Placed) (targets : TargetsValue) → AreOrderly targets → AreOrderly (tick_after bps thread targets)
-tick_orderly thread bps targets orderly = tick_named bps (running_number thread targets.processes) targets orderly
+tick_orderly thread bps targets orderly = tick_named bps (running_pair thread targets.processes) targets orderly

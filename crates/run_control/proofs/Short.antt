@@ -1,38 +1,44 @@
--- The names, the reasons and the hits of the processes stay short through each command and each tick.
-use Rattle.std.proofs.Common.{◌≡◌, ◌≤◌, ◌+◌, ◌-◌, ◌==◌, ℕ, zero, suc, ℤ, Bool, true, false, cond, List, [], ◌∷◌, filter, length, Option, Some, None, IfSome, refl, arith, lit≤}
+-- The threads of the processes stay few, and names, reasons and hits short, through each command and each tick.
+use Rattle.std.proofs.Common.{◌≡◌, ◌≤◌, ◌+◌, ◌-◌, ◌==◌, ℕ, zero, suc, ℤ, Bool, true, false, cond, List, [], ◌∷◌, filter, length, map, Option, Some, None, IfSome, refl, arith, lit≤}
 use Rattle.std.specs.List.{AllByRecursion}
 use Rattle.std.specs.Option.{option_map_or}
 use Rattle.std.specs.Prelude.{unsigned_abs}
+use Rattle.std.proofs.lemmas.List.{length-map}
 use Rattle.tcf_values.specs.declared.command.Command.{Command}
 use Rattle.tcf_values.specs.declared.command.Command.TheVariants.{Resume, Suspend, Terminate, ProcStart, ProcAttach, ProcDetach, ProcTerminate, TraceRun}
 use Rattle.tcf_values.specs.declared.faults.Fault.{Fault}
 use Rattle.breakpoints.specs.declared.rows.Placed.{Placed}
-use Rattle.rv32i_core.specs.Machine.{Step, goes_on, ends, excepts, machine}
+use Rattle.rv32i_core.specs.Machine.{Step, goes_on, ends, excepts, machine, spawns}
 use Rattle.breakpoints.specs.Rows.{ids_of}
 use Rattle.breakpoints.specs.Status.{hits_of, is_hit}
 use Rattle.target_contexts.specs.Changes.{targets_by, with_change}
 use Rattle.target_contexts.specs.Live.{process_of}
 use Rattle.target_contexts.specs.Named.{number_named, thread_named}
-use Rattle.target_contexts.specs.Short.{AllShort, AreShort, IsShort, IsShortState}
+use Rattle.target_contexts.specs.Short.{AllShort, AreShort, AreShortThreads, IsShort, IsShortState}
 use Rattle.target_contexts.specs.Starting.{suspended_text}
 use Rattle.target_contexts.specs.TargetsValue.{TargetsValue}
 use Rattle.target_contexts.specs.ProcessValue.{ProcessValue}
+use Rattle.target_contexts.specs.Spawning.{with_begun}
+use Rattle.target_contexts.specs.Threads.{in_thread, thread_at}
+use Rattle.target_contexts.specs.declared.threads.Thread.{Thread}
 use Rattle.target_contexts.specs.declared.process.ThreadState.{ThreadState}
 use Rattle.target_contexts.specs.declared.process.ThreadState.TheVariants.{Running, Suspended}
-use Rattle.run_control.specs.Attaching.{attach_after, attached, detach_after, detached}
+use Rattle.run_control.specs.Attaching.{attach_after, attached, detach_after, detached, with_states}
 use Rattle.run_control.specs.Commands.{left_of, run_fault, run_left}
 use Rattle.run_control.specs.Ending.{end_after}
-use Rattle.run_control.specs.Executing.{breakpoint_text, exception_text, executed_by, executed_with, fate_by, hits_at, settled, step_text, stepped, stepped_by}
+use Rattle.run_control.specs.Executing.{breakpoint_text, exception_text, executed_at, executed_by, executed_of, executed_with, fate_by, hits_at, hits_in, result_for, settled, step_text, stepped, stepped_at, stepped_by, with_cpu, with_result}
 use Rattle.run_control.specs.Naming.{process_named}
 use Rattle.run_control.specs.Short.{CommandsKeepShort, TicksKeepShort}
 use Rattle.run_control.specs.Steering.{left_by, resume_after, suspend_after, with_state}
-use Rattle.run_control.specs.Ticking.{counted, counted_by, running_number, tick_fate, ticked, ticked_at}
-use Rattle.run_control.specs.Tracing.{Trace, halt_by, last_hits, last_of, next_by, next_of, run_from, states_of, stop_by, trace_after, trace_fate, trace_of, traced_at, up_to_hit}
+use Rattle.run_control.specs.Ticking.{counted, counted_by, counted_in, running_pair, tick_fate, ticked, ticked_at}
+use Rattle.run_control.specs.Tracing.{Trace, halt_at, halt_by, last_hits, last_of, next_at, next_by, next_of, run_from, states_of, stop_by, trace_after, trace_fate, trace_of, traced_at, up_to_hit}
 use Rattle.run_control.specs.declared.executing.Executed.{Executed}
 use Rattle.run_control.specs.declared.executing.Executed.TheVariants.{Plain, Hit, Exit, Exception}
 use Rattle.run_control.specs.declared.executing.Fate.{Fate}
 use Rattle.run_control.specs.declared.executing.Fate.TheVariants.{Ends, Lives}
-use Rattle.target_contexts.proofs.TheLaws.{change_stays_short, end_stays_short, found_is_short, start_stays_short}
+use Rattle.target_contexts.proofs.TheLaws.{begin_stays_short, change_stays_short, end_stays_short, found_is_short, start_stays_short, thread_stays_short}
+use Rattle.target_contexts.proofs.ThreadLists.{found_thread_is}
+use Rattle.list_laws.proofs.AllLists.{all_map}
 
 -- ---- what a thread hits
 
@@ -69,8 +75,12 @@ hits_short number attached pc bps ids =
     if_short attached (ids_of (filter hit bps))
     (omega (arith, ids.0, ids_fewer bps, ids_fewer (filter hit bps), filter_fewer hit bps), filter_ids hit bps ids.1)
 
-at_short : (bps : List Placed) (number : ℕ) (process : ProcessValue) → AreShort (ids_of bps) → AreShort (hits_at bps number process)
-at_short bps number process ids = hits_short number process.attached process.cpu.pc bps ids
+in_short : (bps : List Placed) (number : ℕ) (attached : Bool) (found : Option Thread) → AreShort (ids_of bps) → AreShort (hits_in bps number attached found)
+in_short bps number attached None ids = (lit≤ tt, tt)
+in_short bps number attached (Some thread) ids = hits_short number attached thread.cpu.pc bps ids
+
+at_short : (bps : List Placed) (number n : ℕ) (process : ProcessValue) → AreShort (ids_of bps) → AreShort (hits_at bps number n process)
+at_short bps number n process ids = in_short bps number process.attached (thread_at n process) ids
 
 -- ---- what becomes of a process
 
@@ -107,12 +117,13 @@ fate_short plain attached (Hit hits) short end = hit_short hits end
 fate_short plain attached (Exit code) short end = tt
 fate_short plain attached Exception short end = exception_short attached _
 
-state_short : (state : ThreadState) (process : ProcessValue) → IsShortState state → IsShort process → IsShort (with_state state process)
-state_short state process short is = record { name = is.name; state = short }
+state_short : (state : ThreadState) (n : ℕ) (process : ProcessValue) → IsShortState state → IsShort process → IsShort (in_thread (with_state state) n process)
+state_short state n process short is = thread_stays_short (with_state state) n process (λ thread was. short) is
 
-settled_short : (number : ℕ) (fate : Fate) (targets : TargetsValue) → IsShortFate fate → AllShort targets.processes → AllShort (settled number fate targets).processes
-settled_short number (Ends code) targets short all = end_stays_short targets.processes number all
-settled_short number (Lives state) targets short all = change_stays_short (with_state state) number targets (λ process is. state_short state process short is) all
+settled_short : (number n : ℕ) (fate : Fate) (targets : TargetsValue) → IsShortFate fate → AllShort targets.processes → AllShort (settled number n fate targets).processes
+settled_short number n (Ends code) targets short all = end_stays_short targets.processes number all
+settled_short number n (Lives state) targets short all =
+    change_stays_short (in_thread (with_state state) n) number targets (λ process is. state_short state n process short is) all
 
 -- ---- a tick
 
@@ -128,95 +139,131 @@ counted_short : (state : ThreadState) → IsShortState state → IsShortState (c
 counted_short (Running left) short = counted_by_short left
 counted_short (Suspended reason hits) short = short
 
+counted_in_short : (n : ℕ) (process : ProcessValue) (found : Option Thread) → thread_at n process ≡ found → AreShortThreads process.threads → IsShortState (counted_in found)
+counted_in_short n process None there all = tt
+counted_in_short n process (Some thread) there all =
+    counted_short thread.state (found_thread_is (λ (t : Thread). IsShortState t.state) n thread process there all)
+
 with_short : (hits : List (List ℕ)) → AreShort hits → IsShortEnd (executed_with hits)
 with_short [] short = tt
 with_short (hit ∷ hits) short = short
 
-executed_short : (bps : List Placed) (number : ℕ) (process : ProcessValue) (step : Step) → AreShort (ids_of bps) → IsShortEnd (executed_by bps number process step)
-executed_short bps number process (goes_on cpu memory) ids = with_short _ (at_short bps number (record process { cpu = cpu; memory = memory }) ids)
-executed_short bps number process (ends code) ids = tt
-executed_short bps number process excepts ids = tt
+executed_by_short : (hits : List (List ℕ)) (step : Step) → AreShort hits → IsShortEnd (executed_by hits step)
+executed_by_short hits (goes_on cpu memory) short = with_short hits short
+executed_by_short hits (ends code) short = tt
+executed_by_short hits (spawns entry argument) short = with_short hits short
+executed_by_short hits excepts short = tt
 
-stepped_short : (step : Step) (process : ProcessValue) → IsShort process → IsShort (stepped_by step process)
-stepped_short (goes_on cpu memory) process is = record { name = is.name; state = is.state }
-stepped_short (ends code) process is = is
-stepped_short excepts process is = is
+executed_at_short : (hits : List (List ℕ)) (found : Option Thread) (process : ProcessValue) → AreShort hits → IsShortEnd (executed_at hits found process)
+executed_at_short hits None process short = tt
+executed_at_short hits (Some thread) process short = executed_by_short hits (machine thread.cpu process.memory) short
 
-tick_at_short : (bps : List Placed) (number : ℕ) (found : Option ProcessValue) (targets : TargetsValue) → AreShort (ids_of bps) → ((process : ProcessValue) → found ≡ Some process → IsShort process)
-    → AllShort targets.processes → AllShort (ticked_at bps number found targets).processes
-tick_at_short bps number None targets ids each all = all
-tick_at_short bps number (Some process) targets ids each all =
-    let step = machine process.cpu process.memory in
-    settled_short number (tick_fate bps number process) (with_change stepped number targets)
-    (fate_short (counted process.state) process.attached (executed_by bps number process step) (counted_short process.state (each process refl).state)
-    (executed_short bps number process step ids))
-    (change_stays_short stepped number targets (λ p is. stepped_short (machine p.cpu p.memory) p is) all)
+executed_short : (bps : List Placed) (number n : ℕ) (process : ProcessValue) → AreShort (ids_of bps) → IsShortEnd (executed_of bps number n process)
+executed_short bps number n process ids =
+    executed_at_short (hits_at bps number n (stepped n process)) (thread_at n process) process (at_short bps number n (stepped n process) ids)
 
-tick_short : (bps : List Placed) (number : Option ℕ) (targets : TargetsValue) → AreShort (ids_of bps) → AllShort targets.processes
-    → AllShort (option_map_or (λ n. ticked bps n targets) number targets).processes
+memory_short : (memory : List ℕ) (process : ProcessValue) → IsShort process → IsShort (record process { memory = memory })
+memory_short memory process is = record { name = is.name; threads = is.threads; count = is.count }
+
+stepped_by_short : (step : Step) (n : ℕ) (process : ProcessValue) → IsShort process → IsShort (stepped_by step n process)
+stepped_by_short (goes_on cpu memory) n process is =
+    memory_short memory (in_thread (with_cpu cpu) n process) (thread_stays_short (with_cpu cpu) n process (λ thread short. short) is)
+stepped_by_short (ends code) n process is = is
+stepped_by_short (spawns entry argument) n process is =
+    thread_stays_short (with_result (result_for entry process)) n (with_begun entry argument process) (λ thread short. short) (begin_stays_short entry argument process is)
+stepped_by_short excepts n process is = is
+
+stepped_at_short : (n : ℕ) (found : Option Thread) (process : ProcessValue) → IsShort process → IsShort (stepped_at n found process)
+stepped_at_short n None process is = is
+stepped_at_short n (Some thread) process is = stepped_by_short (machine thread.cpu process.memory) n process is
+
+stepped_short : (n : ℕ) (process : ProcessValue) → IsShort process → IsShort (stepped n process)
+stepped_short n process is = stepped_at_short n (thread_at n process) process is
+
+tick_at_short : (bps : List Placed) (number n : ℕ) (found : Option ProcessValue) (targets : TargetsValue) → AreShort (ids_of bps) → ((process : ProcessValue) → found ≡ Some process → IsShort process)
+    → AllShort targets.processes → AllShort (ticked_at bps number n found targets).processes
+tick_at_short bps number n None targets ids each all = all
+tick_at_short bps number n (Some process) targets ids each all =
+    settled_short number n (tick_fate bps number n process) (with_change (stepped n) number targets)
+    (fate_short (counted_in (thread_at n process)) process.attached (executed_of bps number n process)
+    (counted_in_short n process (thread_at n process) refl (each process refl).threads) (executed_short bps number n process ids))
+    (change_stays_short (stepped n) number targets (λ p is. stepped_short n p is) all)
+
+tick_short : (bps : List Placed) (pair : Option (ℕ × ℕ)) (targets : TargetsValue) → AreShort (ids_of bps) → AllShort targets.processes
+    → AllShort (option_map_or (λ p. ticked bps p.0 p.1 targets) pair targets).processes
 tick_short bps None targets ids all = all
-tick_short bps (Some number) targets ids all =
-    tick_at_short bps number (process_of number targets.processes) targets ids (λ process there. found_is_short targets.processes number process all there) all
+tick_short bps (Some pair) targets ids all =
+    tick_at_short bps pair.0 pair.1 (process_of pair.0 targets.processes) targets ids (λ process there. found_is_short targets.processes pair.0 process all there) all
 
 pub ticks_short : TicksKeepShort
-ticks_short thread bps targets ids all = tick_short bps (running_number thread targets.processes) targets ids all
+ticks_short thread bps targets ids all = tick_short bps (running_pair thread targets.processes) targets ids all
 
 -- ---- a trace
 
 abbrev AreShortStates : List ProcessValue → Type 0
 AreShortStates states = AllByRecursion IsShort states
 
-next_short : (step : Step) (process : ProcessValue) → IsShort process → IfSome (next_by step process) IsShort
-next_short (goes_on cpu memory) process is = record { name = is.name; state = is.state }
-next_short (ends code) process is = tt
-next_short excepts process is = tt
+next_by_short : (step : Step) (after : ProcessValue) → IsShort after → IfSome (next_by step after) IsShort
+next_by_short (goes_on cpu memory) after is = is
+next_by_short (ends code) after is = tt
+next_by_short (spawns entry argument) after is = is
+next_by_short excepts after is = tt
+
+next_at_short : (n : ℕ) (found : Option Thread) (process : ProcessValue) → IsShort process → IfSome (next_at n found process) IsShort
+next_at_short n None process is = stepped_short n process is
+next_at_short n (Some thread) process is = next_by_short (machine thread.cpu process.memory) (stepped n process) (stepped_short n process is)
 
 then_short : (found : Option ProcessValue) (rest : ProcessValue → List ProcessValue) → IfSome found IsShort → ((process : ProcessValue) → IsShort process → AreShortStates (rest process))
     → AreShortStates (option_map_or (λ next. next ∷ rest next) found [])
 then_short None rest short each = tt
 then_short (Some process) rest short each = (short, each process short)
 
-run_short : (count : ℕ) (process : ProcessValue) → IsShort process → AreShortStates (run_from count process)
-run_short zero process is = tt
-run_short (suc count) process is =
-    then_short (next_of process) (run_from count) (next_short (machine process.cpu process.memory) process is) (λ next short. run_short count next short)
+run_short : (n count : ℕ) (process : ProcessValue) → IsShort process → AreShortStates (run_from n count process)
+run_short n zero process is = tt
+run_short n (suc count) process is =
+    then_short (next_of n process) (run_from n count) (next_at_short n (thread_at n process) process is) (λ next short. run_short n count next short)
 
 if_states : (test : Bool) (states : List ProcessValue) → AreShortStates states → AreShortStates (cond test states [])
 if_states true states all = all
 if_states false states all = tt
 
-up_to_short : (bps : List Placed) (number : ℕ) (states : List ProcessValue) → AreShortStates states → AreShortStates (up_to_hit bps number states)
-up_to_short bps number [] all = tt
-up_to_short bps number (state ∷ states) all = (all.0, if_states _ (up_to_hit bps number states) (up_to_short bps number states all.1))
+up_to_short : (bps : List Placed) (number n : ℕ) (states : List ProcessValue) → AreShortStates states → AreShortStates (up_to_hit bps number n states)
+up_to_short bps number n [] all = tt
+up_to_short bps number n (state ∷ states) all = (all.0, if_states _ (up_to_hit bps number n states) (up_to_short bps number n states all.1))
 
 last_short : (process : ProcessValue) (states : List ProcessValue) → IsShort process → AreShortStates states → IsShort (last_of process states)
 last_short process [] is all = is
 last_short process (state ∷ states) is all = last_short state states all.0 all.1
 
-last_hits_short : (bps : List Placed) (number : ℕ) (process : ProcessValue) (states : List ProcessValue) → AreShort (ids_of bps) → AreShort (last_hits bps number process states)
-last_hits_short bps number process [] ids = (lit≤ tt, tt)
-last_hits_short bps number process (state ∷ states) ids = at_short bps number (last_of state states) ids
+last_hits_short : (bps : List Placed) (number n : ℕ) (process : ProcessValue) (states : List ProcessValue) → AreShort (ids_of bps) → AreShort (last_hits bps number n process states)
+last_hits_short bps number n process [] ids = (lit≤ tt, tt)
+last_hits_short bps number n process (state ∷ states) ids = at_short bps number n (last_of state states) ids
 
 halt_short : (step : Step) → IsShortEnd (halt_by step)
 halt_short (goes_on cpu memory) = tt
 halt_short (ends code) = tt
+halt_short (spawns entry argument) = tt
 halt_short excepts = tt
 
-stop_short : (hits : List (List ℕ)) (all : Bool) (last : ProcessValue) → AreShort hits → IsShortEnd (stop_by hits all last)
-stop_short (hit ∷ hits) all last short = short
-stop_short [] true last short = tt
-stop_short [] false last short = halt_short (machine last.cpu last.memory)
+halt_at_short : (found : Option Thread) (last : ProcessValue) → IsShortEnd (halt_at found last)
+halt_at_short None last = tt
+halt_at_short (Some thread) last = halt_short (machine thread.cpu last.memory)
 
-traced_short : (bps : List Placed) (number count : ℕ) (found : Option ProcessValue) (targets : TargetsValue) → AreShort (ids_of bps) → ((process : ProcessValue) → found ≡ Some process → IsShort process)
-    → AllShort targets.processes → AllShort (traced_at bps number count found targets).processes
-traced_short bps number count None targets ids each all = all
-traced_short bps number count (Some process) targets ids each all =
+stop_short : (hits : List (List ℕ)) (all : Bool) (n : ℕ) (last : ProcessValue) → AreShort hits → IsShortEnd (stop_by hits all n last)
+stop_short (hit ∷ hits) all n last short = short
+stop_short [] true n last short = tt
+stop_short [] false n last short = halt_at_short (thread_at n last) last
+
+traced_short : (bps : List Placed) (number n count : ℕ) (found : Option ProcessValue) (targets : TargetsValue) → AreShort (ids_of bps) → ((process : ProcessValue) → found ≡ Some process → IsShort process)
+    → AllShort targets.processes → AllShort (traced_at bps number n count found targets).processes
+traced_short bps number n count None targets ids each all = all
+traced_short bps number n count (Some process) targets ids each all =
     let is = each process refl in
-    let states = states_of bps number count process in
-    let trace : Trace = trace_of bps number count process in
-    let last : IsShort trace.process = last_short process states is (up_to_short bps number (run_from count process) (run_short count process is)) in
-    settled_short number (trace_fate process trace) (with_change (λ _. trace.process) number targets)
-    (fate_short (Suspended step_text []) process.attached trace.stop step_short (stop_short (last_hits bps number process states) (length states == count) (last_of process states) (last_hits_short bps number process states ids)))
+    let states = states_of bps number n count process in
+    let trace : Trace = trace_of bps number n count process in
+    let last : IsShort trace.process = last_short process states is (up_to_short bps number n (run_from n count process) (run_short n count process is)) in
+    settled_short number n (trace_fate process trace) (with_change (λ _. trace.process) number targets)
+    (fate_short (Suspended step_text []) process.attached trace.stop step_short (stop_short (last_hits bps number n process states) (length states == count) n (last_of process states) (last_hits_short bps number n process states ids)))
     (change_stays_short (λ _. trace.process) number targets (λ p short. last) all)
 
 -- ---- each command
@@ -225,29 +272,44 @@ kept_by : (fault : Option Fault) (left targets : TargetsValue) → AllShort left
 kept_by None left targets given all = given
 kept_by (Some fault) left targets given all = all
 
-left_short : (change : ℕ → TargetsValue → TargetsValue) (named : Option ℕ) (targets : TargetsValue) → ((n : ℕ) → AllShort (change n targets).processes) → AllShort targets.processes
+left_short : {A : Type 0} → (change : A → TargetsValue → TargetsValue) (named : Option A) (targets : TargetsValue) → ((one : A) → AllShort (change one targets).processes) → AllShort targets.processes
     → AllShort (left_of change named targets).processes
 left_short change None targets given all = all
-left_short change (Some n) targets given all = given n
+left_short change (Some one) targets given all = given one
 
-state_left : (state : ThreadState) (n : ℕ) (targets : TargetsValue) → IsShortState state → AllShort targets.processes → AllShort (with_change (with_state state) n targets).processes
-state_left state n targets short all = change_stays_short (with_state state) n targets (λ process is. state_short state process short is) all
+state_left : (state : ThreadState) (number n : ℕ) (targets : TargetsValue) → IsShortState state → AllShort targets.processes → AllShort (with_change (in_thread (with_state state) n) number targets).processes
+state_left state number n targets short all = change_stays_short (in_thread (with_state state) n) number targets (λ process is. state_short state n process short is) all
+
+-- all threads have another state
+states_short : (state : ThreadState) (process : ProcessValue) → IsShortState state → IsShort process → IsShort (with_states state process)
+states_short state process short is =
+    let long : length (map (with_state state) process.threads) ≡ length process.threads = length-map process.threads (with_state state) in
+    record {
+      name = is.name;
+      threads = all_map (λ (thread : Thread). IsShortState thread.state) (with_state state) process.threads (λ thread. short);
+      count = record { some = omega (arith, long, is.count.some); few = omega (arith, long, is.count.few) };
+    }
+
+flag_short : (attached : Bool) (process : ProcessValue) → IsShort process → IsShort (record process { attached = attached })
+flag_short attached process is = record { name = is.name; threads = is.threads; count = is.count }
 
 run_left_short : (command : Command) (bps : List Placed) (targets : TargetsValue) → AreShort (ids_of bps) → AllShort targets.processes → AllShort (run_left command bps targets).processes
 run_left_short (Resume id mode count) bps targets ids all =
-    left_short (resume_after (left_by mode count)) (thread_named id) targets (λ n. state_left (Running (left_by mode count)) n targets tt all) all
+    left_short (λ pair. resume_after (left_by mode count) pair.0 pair.1) (thread_named id) targets (λ pair. state_left (Running (left_by mode count)) pair.0 pair.1 targets tt all) all
 run_left_short (Suspend id) bps targets ids all =
-    left_short suspend_after (thread_named id) targets (λ n. state_left (Suspended suspended_text []) n targets suspended_short all) all
+    left_short (λ pair. suspend_after pair.0 pair.1) (thread_named id) targets (λ pair. state_left (Suspended suspended_text []) pair.0 pair.1 targets suspended_short all) all
 run_left_short (Terminate id) bps targets ids all = left_short end_after (number_named id) targets (λ n. end_stays_short targets.processes n all) all
 run_left_short (ProcStart directory file args environment attach) bps targets ids all = start_stays_short file attach targets all
 run_left_short (ProcAttach id) bps targets ids all =
-    left_short attach_after (process_named id) targets (λ n. change_stays_short attached n targets (λ process is. record { name = is.name; state = suspended_short }) all) all
+    left_short attach_after (process_named id) targets (λ n. change_stays_short attached n targets
+    (λ process is. flag_short true (with_states (Suspended suspended_text []) process) (states_short (Suspended suspended_text []) process suspended_short is)) all) all
 run_left_short (ProcDetach id) bps targets ids all =
-    left_short detach_after (process_named id) targets (λ n. change_stays_short detached n targets (λ process is. record { name = is.name; state = tt }) all) all
+    left_short detach_after (process_named id) targets (λ n. change_stays_short detached n targets
+    (λ process is. flag_short false (with_states (Running None) process) (states_short (Running None) process tt is)) all) all
 run_left_short (ProcTerminate id) bps targets ids all = left_short end_after (process_named id) targets (λ n. end_stays_short targets.processes n all) all
 run_left_short (TraceRun id count) bps targets ids all =
-    left_short (trace_after bps (unsigned_abs count)) (thread_named id) targets
-    (λ n. traced_short bps n (unsigned_abs count) (process_of n targets.processes) targets ids (λ process there. found_is_short targets.processes n process all there) all) all
+    left_short (λ pair. trace_after bps (unsigned_abs count) pair.0 pair.1) (thread_named id) targets
+    (λ pair. traced_short bps pair.0 pair.1 (unsigned_abs count) (process_of pair.0 targets.processes) targets ids (λ process there. found_is_short targets.processes pair.0 process all there) all) all
 run_left_short command bps targets ids all = all
 
 pub commands_short : CommandsKeepShort

@@ -1,25 +1,30 @@
 -- A suspended thread's process is attached, and so is that of a thread whose instructions are counted.
-use Rattle.std.proofs.Common.{◌≡◌, ℕ, Bool, true, false, List, Option, Some, None, option_map, refl, sym, ◌∙◌, ap, subst, inl, inr}
+use Rattle.std.proofs.Common.{◌≡◌, ℕ, Bool, true, false, cond, List, [], ◌∷◌, ◌++◌, Option, Some, None, option_map, refl, sym, ◌∙◌, ap, subst, inl, inr}
 use Rattle.breakpoints.specs.declared.rows.Placed.{Placed}
-use Rattle.rv32i_core.specs.Machine.{Step, goes_on, ends, excepts, machine}
+use Rattle.rv32i_core.specs.Machine.{Step, goes_on, ends, excepts, machine, spawns}
 use Rattle.breakpoints.specs.Status.{hits_of}
 use Rattle.target_contexts.specs.Changes.{with_change}
 use Rattle.target_contexts.specs.Live.{IsOrderly, process_of, without}
 use Rattle.target_contexts.specs.TargetsValue.{TargetsValue}
 use Rattle.target_contexts.specs.ProcessValue.{ProcessValue}
+use Rattle.target_contexts.specs.Spawning.{begun_thread, can_begin, with_begun}
+use Rattle.target_contexts.specs.Threads.{in_thread, thread_at}
+use Rattle.target_contexts.specs.declared.threads.Thread.{Thread}
 use Rattle.target_contexts.specs.declared.process.ThreadState.{ThreadState}
 use Rattle.target_contexts.specs.declared.process.ThreadState.TheVariants.{Running, Suspended}
 use Rattle.run_control.specs.Ending.{end_after}
-use Rattle.run_control.specs.Executing.{executed_of, fate_by, settled, stepped, stepped_by}
-use Rattle.run_control.specs.Laws.{AreSound, IsSound, needs_debugger}
+use Rattle.run_control.specs.Executing.{executed_of, fate_by, hits_in, result_for, settled, stepped, stepped_at, stepped_by, with_cpu, with_result}
+use Rattle.run_control.specs.Laws.{AreSound, IsSound, IsSoundThread, needs_debugger}
 use Rattle.run_control.specs.Naming.{is_empty}
 use Rattle.run_control.specs.Steering.{with_state}
-use Rattle.run_control.specs.Ticking.{counted, counted_by, tick_fate, ticked, ticked_at}
+use Rattle.run_control.specs.Ticking.{counted, counted_by, counted_in, tick_fate, ticked, ticked_at}
 use Rattle.run_control.specs.declared.executing.Executed.{Executed}
 use Rattle.run_control.specs.declared.executing.Executed.TheVariants.{Plain, Hit, Exit, Exception}
 use Rattle.run_control.specs.declared.executing.Fate.{Fate}
 use Rattle.run_control.specs.declared.executing.Fate.TheVariants.{Ends, Lives}
 use Rattle.target_contexts.proofs.TheLaws.{ends_one}
+use Rattle.target_contexts.proofs.ThreadLists.{each_thread_keeps, found_thread_is}
+use Rattle.list_laws.proofs.AllLists.{all_append, all_each}
 use Rattle.run_control.proofs.Changed.{changed_process, live_found, orderly_change, others_stay, same_or_other}
 use Rattle.run_control.proofs.Steps.{hit_hits, hit_some}
 
@@ -69,33 +74,73 @@ attached_by : (number pc : ℕ) (bps : List Placed) (attached : Bool) → is_emp
 attached_by number pc bps true some = refl
 attached_by number pc bps false some = absurd cc
 
-stepped_attached : (step : Step) (process : ProcessValue) → (stepped_by step process).attached ≡ process.attached
-stepped_attached (goes_on cpu memory) process = refl
-stepped_attached (ends code) process = refl
-stepped_attached excepts process = refl
+begun_attached : (can : Bool) (entry argument : ℕ) (process : ProcessValue) → (cond can (record process { threads = process.threads ++ begun_thread entry argument ∷ [] }) process).attached ≡ process.attached
+begun_attached true entry argument process = refl
+begun_attached false entry argument process = refl
 
-stepped_state : (step : Step) (process : ProcessValue) → (stepped_by step process).state ≡ process.state
-stepped_state (goes_on cpu memory) process = refl
-stepped_state (ends code) process = refl
-stepped_state excepts process = refl
+stepped_by_attached : (step : Step) (n : ℕ) (process : ProcessValue) → (stepped_by step n process).attached ≡ process.attached
+stepped_by_attached (goes_on cpu memory) n process = refl
+stepped_by_attached (ends code) n process = refl
+stepped_by_attached (spawns entry argument) n process = begun_attached (can_begin entry process) entry argument process
+stepped_by_attached excepts n process = refl
 
-pub hit_attached : (bps : List Placed) (number : ℕ) (process : ProcessValue) (hits : List (List ℕ)) → executed_of bps number process ≡ Hit hits → process.attached ≡ true
-hit_attached bps number process hits hit =
-    let step = machine process.cpu process.memory in
-    let after : ProcessValue = stepped process in
-    sym (stepped_attached step process)
-    ∙ attached_by number after.cpu.pc bps after.attached (ap is_empty (hit_hits bps number process hits step hit) ∙ hit_some bps number process hits step hit)
+stepped_at_attached : (n : ℕ) (found : Option Thread) (process : ProcessValue) → (stepped_at n found process).attached ≡ process.attached
+stepped_at_attached n None process = refl
+stepped_at_attached n (Some thread) process = stepped_by_attached (machine thread.cpu process.memory) n process
+
+pub stepped_attached : (n : ℕ) (process : ProcessValue) → (stepped n process).attached ≡ process.attached
+stepped_attached n process = stepped_at_attached n (thread_at n process) process
+
+in_attached : (bps : List Placed) (number : ℕ) (attached : Bool) (found : Option Thread) → is_empty (hits_in bps number attached found) ≡ false → attached ≡ true
+in_attached bps number attached None some = absurd cc
+in_attached bps number attached (Some thread) some = attached_by number thread.cpu.pc bps attached some
+
+pub hit_attached : (bps : List Placed) (number n : ℕ) (process : ProcessValue) (hits : List (List ℕ)) → executed_of bps number n process ≡ Hit hits → process.attached ≡ true
+hit_attached bps number n process hits hit =
+    let after : ProcessValue = stepped n process in
+    sym (stepped_attached n process)
+    ∙ in_attached bps number after.attached (thread_at n after) (ap is_empty (hit_hits bps number n process hits hit) ∙ hit_some bps number n process hits hit)
+
+-- ---- a thread of a sound process is changed, or one more begins
+
+pub thread_sound : (change : Thread → Thread) (n : ℕ) (process : ProcessValue) → ((thread : Thread) → thread_at n process ≡ Some thread → IsSoundThread process.attached thread → IsSoundThread process.attached (change thread))
+    → IsSound process → IsSound (in_thread change n process)
+thread_sound change n process keeps sound = each_thread_keeps (IsSoundThread process.attached) change n process keeps sound
+
+begun_sound : (can : Bool) (entry argument : ℕ) (process : ProcessValue) → IsSound process
+    → IsSound (cond can (record process { threads = process.threads ++ begun_thread entry argument ∷ [] }) process)
+begun_sound false entry argument process sound = sound
+begun_sound true entry argument process sound =
+    all_append (IsSoundThread process.attached) process.threads (begun_thread entry argument ∷ []) sound ((λ needs. absurd cc), tt)
+
+stepped_by_sound : (step : Step) (n : ℕ) (process : ProcessValue) → IsSound process → IsSound (stepped_by step n process)
+stepped_by_sound (goes_on cpu memory) n process sound = thread_sound (with_cpu cpu) n process (λ thread found is. is) sound
+stepped_by_sound (ends code) n process sound = sound
+stepped_by_sound (spawns entry argument) n process sound =
+    let begun : ProcessValue = with_begun entry argument process in
+    thread_sound (with_result (result_for entry process)) n begun (λ thread found is. is) (begun_sound (can_begin entry process) entry argument process sound)
+stepped_by_sound excepts n process sound = sound
 
 -- a step leaves a sound process sound
-step_sound : (process : ProcessValue) → IsSound process → IsSound (stepped process)
-step_sound process sound needs =
-    let step = machine process.cpu process.memory in
-    stepped_attached step process ∙ sound (sym (ap needs_debugger (stepped_state step process)) ∙ needs)
+step_sound_at : (n : ℕ) (found : Option Thread) (process : ProcessValue) → IsSound process → IsSound (stepped_at n found process)
+step_sound_at n None process sound = sound
+step_sound_at n (Some thread) process sound = stepped_by_sound (machine thread.cpu process.memory) n process sound
+
+pub step_sound : (n : ℕ) (process : ProcessValue) → IsSound process → IsSound (stepped n process)
+step_sound n process sound = step_sound_at n (thread_at n process) process sound
+
+-- a process that is attached is sound
+pub attached_sound : (process : ProcessValue) → process.attached ≡ true → IsSound process
+attached_sound process is = all_each (IsSoundThread process.attached) process.threads (λ thread needs. is)
 
 -- what becomes of a process leaves all sound
-pub sound_settled : (number : ℕ) (fate : Fate) (targets : TargetsValue) → IsOrderly targets.processes targets.next → ((p : ProcessValue) → process_of number targets.processes ≡ Some p → FateSound fate p.attached) → AreSound targets.processes → AreSound (settled number fate targets).processes
-sound_settled number (Ends code) targets orderly fits sound = sound_end number targets orderly sound
-sound_settled number (Lives state) targets orderly fits sound = sound_change (with_state state) number targets fits sound
+state_sound : (state : ThreadState) (n : ℕ) (process : ProcessValue) → FateSound (Lives state) process.attached → IsSound process → IsSound (in_thread (with_state state) n process)
+state_sound state n process fits sound = thread_sound (with_state state) n process (λ thread found is needs. fits needs) sound
+
+pub sound_settled : (number n : ℕ) (fate : Fate) (targets : TargetsValue) → IsOrderly targets.processes targets.next → ((p : ProcessValue) → process_of number targets.processes ≡ Some p → FateSound fate p.attached) → AreSound targets.processes → AreSound (settled number n fate targets).processes
+sound_settled number n (Ends code) targets orderly fits sound = sound_end number targets orderly sound
+sound_settled number n (Lives state) targets orderly fits sound =
+    sound_change (in_thread (with_state state) n) number targets (λ p found. state_sound state n p (fits p found) (sound number p found)) sound
 
 -- ---- a tick
 
@@ -107,24 +152,30 @@ state_needs : (state : ThreadState) → needs_debugger (counted state) ≡ true 
 state_needs (Running left) needs = counted_needs left needs
 state_needs (Suspended reason hits) needs = needs
 
-pub tick_fate_sound : (bps : List Placed) (number : ℕ) (process : ProcessValue) → IsSound process → FateSound (tick_fate bps number process) process.attached
-tick_fate_sound bps number process sound =
-    fate_sound (counted process.state) process.attached (executed_of bps number process) (λ needs. sound (state_needs process.state needs)) (hit_attached bps number process)
+thread_needs : (n : ℕ) (process : ProcessValue) (found : Option Thread) → thread_at n process ≡ found → IsSound process → needs_debugger (counted_in found) ≡ true → process.attached ≡ true
+thread_needs n process None there sound needs = absurd cc
+thread_needs n process (Some thread) there sound needs =
+    found_thread_is (IsSoundThread process.attached) n thread process there sound (state_needs thread.state needs)
 
-some_same : (p q : ProcessValue) (found : Option ProcessValue) → found ≡ Some p → option_map stepped (Some q) ≡ found → p ≡ stepped q
-some_same p q found there is = cc
+pub tick_fate_sound : (bps : List Placed) (number n : ℕ) (process : ProcessValue) → IsSound process → FateSound (tick_fate bps number n process) process.attached
+tick_fate_sound bps number n process sound =
+    fate_sound (counted_in (thread_at n process)) process.attached (executed_of bps number n process)
+    (thread_needs n process (thread_at n process) refl sound) (hit_attached bps number n process)
 
-tick_at : (bps : List Placed) (number : ℕ) (targets : TargetsValue) (found : Option ProcessValue) → process_of number targets.processes ≡ found → IsOrderly targets.processes targets.next → AreSound targets.processes → AreSound (ticked_at bps number found targets).processes
-tick_at bps number targets None there orderly sound = sound
-tick_at bps number targets (Some process) there orderly sound =
+some_same : (n : ℕ) (p q : ProcessValue) (found : Option ProcessValue) → found ≡ Some p → option_map (stepped n) (Some q) ≡ found → p ≡ stepped n q
+some_same n p q found there is = cc
+
+tick_at : (bps : List Placed) (number n : ℕ) (targets : TargetsValue) (found : Option ProcessValue) → process_of number targets.processes ≡ found → IsOrderly targets.processes targets.next → AreSound targets.processes → AreSound (ticked_at bps number n found targets).processes
+tick_at bps number n targets None there orderly sound = sound
+tick_at bps number n targets (Some process) there orderly sound =
     let mine : IsSound process = sound number process there in
-    let after : TargetsValue = with_change stepped number targets in
-    sound_settled number (tick_fate bps number process) after (orderly_change stepped number targets orderly)
-    (λ p found. subst (FateSound (tick_fate bps number process))
-    (sym (ap (λ (q : ProcessValue). q.attached) (some_same p process (process_of number after.processes) found (ap (option_map stepped) (sym there) ∙ sym (changed_process stepped number targets)))
-    ∙ stepped_attached (machine process.cpu process.memory) process))
-    (tick_fate_sound bps number process mine))
-    (sound_change stepped number targets (λ p found. step_sound p (sound number p found)) sound)
+    let after : TargetsValue = with_change (stepped n) number targets in
+    sound_settled number n (tick_fate bps number n process) after (orderly_change (stepped n) number targets orderly)
+    (λ p found. subst (FateSound (tick_fate bps number n process))
+    (sym (ap (λ (q : ProcessValue). q.attached) (some_same n p process (process_of number after.processes) found (ap (option_map (stepped n)) (sym there) ∙ sym (changed_process (stepped n) number targets)))
+    ∙ stepped_attached n process))
+    (tick_fate_sound bps number n process mine))
+    (sound_change (stepped n) number targets (λ p found. step_sound n p (sound number p found)) sound)
 
-pub ticked_sound : (bps : List Placed) (number : ℕ) (targets : TargetsValue) → IsOrderly targets.processes targets.next → AreSound targets.processes → AreSound (ticked bps number targets).processes
-ticked_sound bps number targets orderly sound = tick_at bps number targets (process_of number targets.processes) refl orderly sound
+pub ticked_sound : (bps : List Placed) (number n : ℕ) (targets : TargetsValue) → IsOrderly targets.processes targets.next → AreSound targets.processes → AreSound (ticked bps number n targets).processes
+ticked_sound bps number n targets orderly sound = tick_at bps number n targets (process_of number targets.processes) refl orderly sound

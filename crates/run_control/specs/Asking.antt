@@ -13,12 +13,14 @@ use Rattle.tcf_values.specs.declared.values.ContextData.{ContextData}
 use Rattle.tcf_values.specs.declared.values.RunState.{RunState}
 use Rattle.tcf_values.specs.declared.values.RunState.TheVariants as told
 use Rattle.target_contexts.specs.Contexts.{context_of as data_of}
-use Rattle.target_contexts.specs.Live.{numbers_of}
-use Rattle.target_contexts.specs.Named.{attached_in, process_at_number, thread_named}
+use Rattle.target_contexts.specs.Live.{numbers_of, process_of}
+use Rattle.target_contexts.specs.Named.{attached_in, process_at_number, thread_at_pair, thread_named}
 use Rattle.target_contexts.specs.ProcessValue.{ProcessValue}
+use Rattle.target_contexts.specs.Threads.{count_in}
 use Rattle.target_contexts.specs.declared.process.ThreadState.{ThreadState}
 use Rattle.target_contexts.specs.declared.process.ThreadState.TheVariants.{Running, Suspended}
-use Rattle.run_control.specs.Naming.{is_empty, process_id, process_named, thread_id}
+use Rattle.target_contexts.specs.declared.threads.Thread.{Thread}
+use Rattle.run_control.specs.Naming.{is_empty, process_id, process_named, thread_ids}
 
 -- ---- RunControl.getContext
 
@@ -33,31 +35,31 @@ abbrev pub context_answer : Option ContextData → Answer
 context_answer None = answers.Nothing
 context_answer (Some context) = answers.Context context
 
--- ---- RunControl.getChildren: of the empty ID all processes, of a process its thread, of a thread none
+-- ---- RunControl.getChildren: of the empty ID all processes, of a process its threads in order, of a thread none
 
 abbrev pub children_fault : List ℕ → List (ℕ × ProcessValue) → Option Fault
 children_fault id rows = first_fault ((not (is_empty id) && is_none (data_named id rows), BadContext) ∷ [])
 
-abbrev pub children_of : Option ContextId → List (List ℕ)
-children_of None = []
-children_of (Some (ids.Process number)) = thread_id number ∷ []
-children_of (Some (ids.Thread number thread)) = []
+abbrev pub children_of : Option ContextId → List (ℕ × ProcessValue) → List (List ℕ)
+children_of None rows = []
+children_of (Some (ids.Process number)) rows = thread_ids number (count_in (process_of number rows))
+children_of (Some (ids.Thread number n)) rows = []
 
 abbrev pub children_named : List ℕ → List (ℕ × ProcessValue) → List (List ℕ)
-children_named id rows = if is_empty id then map process_id (numbers_of rows) else children_of (context_of id)
+children_named id rows = if is_empty id then map process_id (numbers_of rows) else children_of (context_of id) rows
 
 -- ---- RunControl.getState
 
 abbrev pub state_fault : List ℕ → List (ℕ × ProcessValue) → Option Fault
-state_fault id rows = first_fault ((is_none (process_at_number (thread_named id) rows), BadContext) ∷ [])
+state_fault id rows = first_fault ((is_none (thread_at_pair (thread_named id) rows), BadContext) ∷ [])
 
 abbrev pub run_state : ℕ → ThreadState → RunState
 run_state pc (Running left) = told.Running
 run_state pc (Suspended reason hits) = told.Suspended pc reason hits
 
-abbrev pub state_answer : Option ProcessValue → Answer
+abbrev pub state_answer : Option Thread → Answer
 state_answer None = answers.Nothing
-state_answer (Some process) = answers.State (run_state process.cpu.pc process.state)
+state_answer (Some thread) = answers.State (run_state thread.cpu.pc thread.state)
 
 -- ---- Processes.getContext
 

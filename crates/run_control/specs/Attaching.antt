@@ -1,6 +1,6 @@
 -- Start, attach and detach (TCF service Processes): their checks, what they leave and what they tell of the target after
 -- them.
-use Rattle.std.specs.Prelude.{ℕ, Bool, true, false, if◌then◌else◌, List, [], ◌∷◌, ◌++◌, Option, None, is_none, option_map}
+use Rattle.std.specs.Prelude.{ℕ, true, false, List, [], ◌∷◌, ◌++◌, map, Option, None, is_none, option_map}
 use Rattle.tcf_values.specs.Faults.{first_fault}
 use Rattle.tcf_values.specs.declared.event.EventData.{EventData}
 use Rattle.tcf_values.specs.declared.faults.Fault.{Fault}
@@ -13,10 +13,12 @@ use Rattle.target_contexts.specs.Starting.{refusal_of, suspended_text}
 use Rattle.target_contexts.specs.TargetsValue.{TargetsValue}
 use Rattle.target_contexts.specs.ProcessValue.{ProcessValue}
 use Rattle.target_contexts.specs.declared.process.ThreadState.TheVariants.{Running, Suspended}
+use Rattle.target_contexts.specs.declared.process.ThreadState.{ThreadState}
 use Rattle.target_contexts.specs.declared.targets.StartRefusal.{StartRefusal}
 use Rattle.target_contexts.specs.declared.targets.StartRefusal.TheVariants as refusals
 use Rattle.run_control.specs.Naming.{process_named}
-use Rattle.run_control.specs.Telling.{added_events, changed_events, resumed_events, statuses_in, suspended_events}
+use Rattle.run_control.specs.Steering.{with_state}
+use Rattle.run_control.specs.Telling.{added_events, all_resumed_events, all_suspended_events, changed_events, statuses_in}
 
 -- the live process that a text names
 abbrev pub process_there : List ℕ → List (ℕ × ProcessValue) → Option ProcessValue
@@ -40,9 +42,14 @@ start_fault file targets = option_map start_fault_for (refusal_of file targets)
 abbrev pub start_events : List Placed → ℕ → TargetsValue → List EventData
 start_events bps number targets =
     let process = process_of number targets.processes in
-    added_events number process ++ (suspended_events number process ++ statuses_in bps targets)
+    added_events number process ++ (all_suspended_events number process ++ statuses_in bps targets)
 
--- ---- attach: the thread is suspended
+-- ---- all threads of a process have another state
+
+abbrev pub with_states : ThreadState → ProcessValue → ProcessValue
+with_states state process = record process { threads = map (with_state state) process.threads }
+
+-- ---- attach: the threads are suspended
 
 abbrev pub attach_fault : List ℕ → List (ℕ × ProcessValue) → Option Fault
 attach_fault id rows = first_fault (
@@ -51,7 +58,7 @@ attach_fault id rows = first_fault (
     ∷ [])
 
 abbrev pub attached : ProcessValue → ProcessValue
-attached process = record process { attached = true; state = Suspended suspended_text [] }
+attached process = record (with_states (Suspended suspended_text []) process) { attached = true }
 
 abbrev pub attach_after : ℕ → TargetsValue → TargetsValue
 attach_after number targets = with_change attached number targets
@@ -59,9 +66,9 @@ attach_after number targets = with_change attached number targets
 abbrev pub attach_events : List Placed → ℕ → TargetsValue → List EventData
 attach_events bps number targets =
     let process = process_of number targets.processes in
-    changed_events number process ++ (suspended_events number process ++ statuses_in bps targets)
+    changed_events number process ++ (all_suspended_events number process ++ statuses_in bps targets)
 
--- ---- detach: the thread runs, and instructions left to step are forgotten
+-- ---- detach: the threads run, and instructions left to step are forgotten
 
 abbrev pub detach_fault : List ℕ → List (ℕ × ProcessValue) → Option Fault
 detach_fault id rows = first_fault (
@@ -70,13 +77,13 @@ detach_fault id rows = first_fault (
     ∷ [])
 
 abbrev pub detached : ProcessValue → ProcessValue
-detached process = record process { attached = false; state = Running None }
+detached process = record (with_states (Running None) process) { attached = false }
 
 abbrev pub detach_after : ℕ → TargetsValue → TargetsValue
 detach_after number targets = with_change detached number targets
 
--- contextResumed where it was suspended
-abbrev pub detach_events : List Placed → Bool → ℕ → TargetsValue → List EventData
-detach_events bps was_suspended number targets =
+-- contextResumed of each thread that was suspended
+abbrev pub detach_events : List Placed → Option ProcessValue → ℕ → TargetsValue → List EventData
+detach_events bps was number targets =
     changed_events number (process_of number targets.processes)
-    ++ ((if was_suspended then resumed_events number else []) ++ statuses_in bps targets)
+    ++ (all_resumed_events number was ++ statuses_in bps targets)

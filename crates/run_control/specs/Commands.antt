@@ -10,9 +10,11 @@ use Rattle.tcf_values.specs.declared.event.EventData.{EventData}
 use Rattle.tcf_values.specs.declared.faults.Fault.{Fault}
 use Rattle.breakpoints.specs.declared.rows.Placed.{Placed}
 use Rattle.target_contexts.specs.Changes.{targets_by}
-use Rattle.target_contexts.specs.Named.{is_suspended, number_named, thread_named}
+use Rattle.target_contexts.specs.Live.{process_of}
+use Rattle.target_contexts.specs.Named.{number_named, thread_named}
 use Rattle.target_contexts.specs.Starting.{started}
 use Rattle.target_contexts.specs.TargetsValue.{TargetsValue}
+use Rattle.target_contexts.specs.Threads.{count_in}
 use Rattle.run_control.specs.Asking.{children_fault, children_named, context_answer, context_fault, data_named, process_answer, process_fault, processes_fault, processes_named, state_answer, state_fault}
 use Rattle.run_control.specs.Attaching.{attach_after, attach_events, attach_fault, detach_after, detach_events, detach_fault, process_there, start_events, start_fault}
 use Rattle.run_control.specs.Ending.{end_after, end_events, terminate_fault}
@@ -72,42 +74,50 @@ run_fault _ targets = None
 
 -- ---- what it leaves where no check fails
 
--- the target changed as that of a process's number, where a text names one
-abbrev pub left_of : (ℕ → TargetsValue → TargetsValue) → Option ℕ → TargetsValue → TargetsValue
-left_of change named targets = option_map_or (λ number. change number targets) named targets
+-- the target changed as that of a process's number, or of a thread, where a text names one
+abbrev pub left_of : {A : Type 0} → (A → TargetsValue → TargetsValue) → Option A → TargetsValue → TargetsValue
+left_of change named targets = option_map_or (λ one. change one targets) named targets
 
 abbrev pub run_left : Command → List Placed → TargetsValue → TargetsValue
-run_left (Resume id mode count) bps targets = left_of (resume_after (left_by mode count)) (thread_named id) targets
-run_left (Suspend id) bps targets = left_of suspend_after (thread_named id) targets
+run_left (Resume id mode count) bps targets =
+    left_of (λ pair. resume_after (left_by mode count) pair.0 pair.1) (thread_named id) targets
+run_left (Suspend id) bps targets = left_of (λ pair. suspend_after pair.0 pair.1) (thread_named id) targets
 run_left (Terminate id) bps targets = left_of end_after (number_named id) targets
 run_left (ProcStart directory file args environment attach) bps targets = started file attach targets
 run_left (ProcAttach id) bps targets = left_of attach_after (process_named id) targets
 run_left (ProcDetach id) bps targets = left_of detach_after (process_named id) targets
 run_left (ProcTerminate id) bps targets = left_of end_after (process_named id) targets
-run_left (TraceRun id count) bps targets = left_of (trace_after bps (unsigned_abs count)) (thread_named id) targets
+run_left (TraceRun id count) bps targets =
+    left_of (λ pair. trace_after bps (unsigned_abs count) pair.0 pair.1) (thread_named id) targets
 run_left _ bps targets = targets
 
 -- ---- what it gives where no check fails, from the target before it and the target after it
 
--- the events of a process's number, where a text names one
-abbrev pub events_of : (ℕ → List EventData) → Option ℕ → List EventData
+-- the events of a process's number, or of a thread, where a text names one
+abbrev pub events_of : {A : Type 0} → (A → List EventData) → Option A → List EventData
 events_of events named = option_map_or events named []
 
-abbrev pub trace_given : List Placed → ℕ → Option ℕ → TargetsValue → TargetsValue → Effect
+-- those of the end of a process that is terminated
+abbrev pub terminate_events : List Placed → ℕ → TargetsValue → TargetsValue → List EventData
+terminate_events bps number targets after =
+    end_events bps number (count_in (process_of number targets.processes)) terminate_code after
+
+abbrev pub trace_given : List Placed → ℕ → Option (ℕ × ℕ) → TargetsValue → TargetsValue → Effect
 trace_given bps count None targets after = gives (answers.Count 0)
-trace_given bps count (Some number) targets after =
-    let addresses = trace_addresses bps count number targets in
-    record { events = trace_events bps count number targets after; progress = addresses; answer = answers.Count (length addresses) }
+trace_given bps count (Some pair) targets after =
+    let addresses = trace_addresses bps count pair.0 pair.1 targets in
+    record { events = trace_events bps count pair.0 pair.1 targets after; progress = addresses; answer = answers.Count (length addresses) }
 
 abbrev pub run_given : Command → List Placed → TargetsValue → TargetsValue → Effect
 run_given (GetContext id) bps targets after = gives (context_answer (data_named id targets.processes))
 run_given (GetChildren id) bps targets after = gives (answers.Ids (children_named id targets.processes))
 run_given (GetState id) bps targets after = gives (state_answer (thread_there id targets.processes))
-run_given (Resume id mode count) bps targets after = tells (events_of resumed_events (thread_named id)) answers.Nothing
+run_given (Resume id mode count) bps targets after =
+    tells (events_of (λ pair. resumed_events pair.0 pair.1) (thread_named id)) answers.Nothing
 run_given (Suspend id) bps targets after =
-    tells (events_of (λ number. suspend_events number after) (thread_named id)) answers.Nothing
+    tells (events_of (λ pair. suspend_events pair.0 pair.1 after) (thread_named id)) answers.Nothing
 run_given (Terminate id) bps targets after =
-    tells (events_of (λ number. end_events bps number terminate_code after) (number_named id)) answers.Nothing
+    tells (events_of (λ number. terminate_events bps number targets after) (number_named id)) answers.Nothing
 run_given (ProcContext id) bps targets after = gives (process_answer (process_named id) targets.processes)
 run_given (ProcChildren id attached) bps targets after = gives (answers.Ids (processes_named id attached targets.processes))
 run_given (ProcStart directory file args environment attach) bps targets after =
@@ -115,9 +125,9 @@ run_given (ProcStart directory file args environment attach) bps targets after =
 run_given (ProcAttach id) bps targets after =
     tells (events_of (λ number. attach_events bps number after) (process_named id)) answers.Nothing
 run_given (ProcDetach id) bps targets after =
-    tells (events_of (λ number. detach_events bps (is_suspended (process_there id targets.processes)) number after) (process_named id)) answers.Nothing
+    tells (events_of (λ number. detach_events bps (process_there id targets.processes) number after) (process_named id)) answers.Nothing
 run_given (ProcTerminate id) bps targets after =
-    tells (events_of (λ number. end_events bps number terminate_code after) (process_named id)) answers.Nothing
+    tells (events_of (λ number. terminate_events bps number targets after) (process_named id)) answers.Nothing
 run_given (TraceRun id count) bps targets after = trace_given bps (unsigned_abs count) (thread_named id) targets after
 run_given _ bps targets after = gives answers.Nothing
 

@@ -1,6 +1,6 @@
 -- The end of a process: by terminate of RunControl or Processes, by an exit, or by an exception without a debugger (TCF
 -- services RunControl, contextRemoved, and Processes, exited).
-use Rattle.std.specs.Prelude.{ℕ, ℤ, List, [], ◌∷◌, Option, is_none}
+use Rattle.std.specs.Prelude.{ℕ, ℤ, List, [], ◌∷◌, ◌++◌, Option, is_none}
 use Rattle.tcf_values.specs.Faults.{first_fault}
 use Rattle.tcf_values.specs.declared.event.EventData.{EventData}
 use Rattle.tcf_values.specs.declared.event.EventData.TheVariants as events
@@ -8,22 +8,23 @@ use Rattle.tcf_values.specs.declared.faults.Fault.{Fault}
 use Rattle.tcf_values.specs.declared.faults.Fault.TheVariants.{BadContext}
 use Rattle.breakpoints.specs.declared.rows.Placed.{Placed}
 use Rattle.target_contexts.specs.Live.{without}
-use Rattle.target_contexts.specs.Named.{number_named, process_at_number}
+use Rattle.target_contexts.specs.Named.{holder_named}
 use Rattle.target_contexts.specs.TargetsValue.{TargetsValue}
 use Rattle.target_contexts.specs.ProcessValue.{ProcessValue}
-use Rattle.run_control.specs.Naming.{process_id, thread_id}
+use Rattle.run_control.specs.Naming.{process_id, thread_ids}
 use Rattle.run_control.specs.Telling.{statuses_in}
 
 -- RunControl.terminate: a thread's ID stands for its process
 abbrev pub terminate_fault : List ℕ → List (ℕ × ProcessValue) → Option Fault
-terminate_fault id rows = first_fault ((is_none (process_at_number (number_named id) rows), BadContext) ∷ [])
+terminate_fault id rows = first_fault ((is_none (holder_named id rows), BadContext) ∷ [])
 
 abbrev pub end_after : ℕ → TargetsValue → TargetsValue
 end_after number targets = record targets { processes = without number targets.processes }
 
--- the thread and its process are gone, the process has exited with this code, and then the statuses after the end
-abbrev pub end_events : List Placed → ℕ → ℤ → TargetsValue → List EventData
-end_events bps number code targets =
-    events.CtxRemoved (thread_id number ∷ process_id number ∷ [])
+-- so many threads, those that the process had before, and the process are gone, the process has exited with this code, and
+-- then the statuses after the end
+abbrev pub end_events : List Placed → ℕ → ℕ → ℤ → TargetsValue → List EventData
+end_events bps number count code targets =
+    events.CtxRemoved (thread_ids number count ++ process_id number ∷ [])
     ∷ events.Exited (process_id number) code
     ∷ statuses_in bps targets

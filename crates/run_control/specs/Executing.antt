@@ -1,19 +1,23 @@
 -- One instruction of a thread, and what becomes of its process by it (RISC-V unprivileged manual, exceptions and
 -- environment calls; TCF services RunControl, contextSuspended, and Processes, exited).
-use Rattle.std.specs.Prelude.{ℕ, ℤ, pos, neg_ℤ, Bool, if◌then◌else◌, List, [], ◌∷◌, codes}
+use Rattle.std.specs.Prelude.{ℕ, ℤ, pos, neg_ℤ, Bool, if◌then◌else◌, List, [], ◌∷◌, ◌++◌, codes, Option, Some, None, unwrap_or}
 use Rattle.tcf_values.specs.declared.event.EventData.{EventData}
 use Rattle.breakpoints.specs.declared.rows.Placed.{Placed}
-use Rattle.rv32i_core.specs.Machine.{Step, goes_on, ends, excepts, machine}
+use Rattle.rv32i_core.specs.Machine.{Step, goes_on, ends, excepts, machine, spawns}
+use Rattle.rv32i_core.specs.Registers.{answered}
+use Rattle.rv32i_core.specs.declared.registers.Cpu.{Cpu}
 use Rattle.breakpoints.specs.Status.{hits_of}
-use Rattle.target_contexts.specs.Changes.{with_change}
 use Rattle.target_contexts.specs.Live.{process_of}
 use Rattle.target_contexts.specs.TargetsValue.{TargetsValue}
 use Rattle.target_contexts.specs.ProcessValue.{ProcessValue}
+use Rattle.target_contexts.specs.Spawning.{begun_number, with_begun}
+use Rattle.target_contexts.specs.Threads.{in_thread, thread_at, thread_of}
 use Rattle.target_contexts.specs.declared.process.ThreadState.{ThreadState}
 use Rattle.target_contexts.specs.declared.process.ThreadState.TheVariants.{Suspended}
+use Rattle.target_contexts.specs.declared.threads.Thread.{Thread}
 use Rattle.run_control.specs.Ending.{end_after, end_events}
-use Rattle.run_control.specs.Steering.{with_state}
-use Rattle.run_control.specs.Telling.{suspended_events}
+use Rattle.run_control.specs.Steering.{state_after}
+use Rattle.run_control.specs.Telling.{made_events, suspended_events}
 use Rattle.run_control.specs.declared.executing.Executed.{Executed}
 use Rattle.run_control.specs.declared.executing.Executed.TheVariants.{Plain, Hit, Exit, Exception}
 use Rattle.run_control.specs.declared.executing.Fate.{Fate}
@@ -21,31 +25,69 @@ use Rattle.run_control.specs.declared.executing.Fate.TheVariants.{Ends, Lives}
 
 -- ---- one instruction
 
--- the process after it; an exit and an exception change nothing
-abbrev pub stepped_by : Step → ProcessValue → ProcessValue
-stepped_by (goes_on cpu memory) process = record process { cpu = cpu; memory = memory }
-stepped_by (ends code) process = process
-stepped_by excepts process = process
+-- the number of the thread that is asked for, or 0 where none can begin, is the result of the call
+abbrev pub result_for : ℕ → ProcessValue → ℕ
+result_for entry process = unwrap_or (begun_number entry process) 0
 
-abbrev pub stepped : ProcessValue → ProcessValue
-stepped process = stepped_by (machine process.cpu process.memory) process
+abbrev pub with_result : ℕ → Thread → Thread
+with_result number thread = record thread { cpu = answered number thread.cpu }
 
--- the breakpoints that a thread hits where it stands
-abbrev pub hits_at : List Placed → ℕ → ProcessValue → List (List ℕ)
-hits_at bps number process = hits_of number process.attached process.cpu.pc bps
+-- the thread that is asked for begins, where it can
+abbrev pub spawned : ℕ → ℕ → ℕ → ProcessValue → ProcessValue
+spawned n entry argument process = in_thread (with_result (result_for entry process)) n (with_begun entry argument process)
+
+abbrev pub with_cpu : Cpu → Thread → Thread
+with_cpu cpu thread = record thread { cpu = cpu }
+
+-- the process after an instruction of its thread n; an exit and an exception change nothing
+abbrev pub stepped_by : Step → ℕ → ProcessValue → ProcessValue
+stepped_by (goes_on cpu memory) n process = record (in_thread (with_cpu cpu) n process) { memory = memory }
+stepped_by (ends code) n process = process
+stepped_by (spawns entry argument) n process = spawned n entry argument process
+stepped_by excepts n process = process
+
+-- a thread that isn't there executes nothing
+abbrev pub stepped_at : ℕ → Option Thread → ProcessValue → ProcessValue
+stepped_at n None process = process
+stepped_at n (Some thread) process = stepped_by (machine thread.cpu process.memory) n process
+
+abbrev pub stepped : ℕ → ProcessValue → ProcessValue
+stepped n process = stepped_at n (thread_at n process) process
+
+-- where a thread stands
+abbrev pub pc_in : Option Thread → ℕ
+pc_in None = 0
+pc_in (Some thread) = thread.cpu.pc
+
+abbrev pub pc_at : ℕ → ProcessValue → ℕ
+pc_at n process = pc_in (thread_at n process)
+
+-- the breakpoints that it hits there
+abbrev pub hits_in : List Placed → ℕ → Bool → Option Thread → List (List ℕ)
+hits_in bps number attached None = []
+hits_in bps number attached (Some thread) = hits_of number attached thread.cpu.pc bps
+
+abbrev pub hits_at : List Placed → ℕ → ℕ → ProcessValue → List (List ℕ)
+hits_at bps number n process = hits_in bps number process.attached (thread_at n process)
 
 abbrev pub executed_with : List (List ℕ) → Executed
 executed_with [] = Plain
 executed_with (hit ∷ hits) = Hit (hit ∷ hits)
 
--- an executed instruction is followed by the test for breakpoints at the new pc
-abbrev pub executed_by : List Placed → ℕ → ProcessValue → Step → Executed
-executed_by bps number process (goes_on cpu memory) = executed_with (hits_at bps number (record process { cpu = cpu; memory = memory }))
-executed_by bps number process (ends code) = Exit code
-executed_by bps number process excepts = Exception
+-- an executed instruction is followed by the test for breakpoints at the new pc, which has these hits
+abbrev pub executed_by : List (List ℕ) → Step → Executed
+executed_by hits (goes_on cpu memory) = executed_with hits
+executed_by hits (ends code) = Exit code
+executed_by hits (spawns entry argument) = executed_with hits
+executed_by hits excepts = Exception
 
-abbrev pub executed_of : List Placed → ℕ → ProcessValue → Executed
-executed_of bps number process = executed_by bps number process (machine process.cpu process.memory)
+-- the instruction at the pc of a thread
+abbrev pub executed_at : List (List ℕ) → Option Thread → ProcessValue → Executed
+executed_at hits None process = Plain
+executed_at hits (Some thread) process = executed_by hits (machine thread.cpu process.memory)
+
+abbrev pub executed_of : List Placed → ℕ → ℕ → ProcessValue → Executed
+executed_of bps number n process = executed_at (hits_at bps number n (stepped n process)) (thread_at n process) process
 
 -- ---- what becomes of the process
 
@@ -70,11 +112,14 @@ fate_by plain attached (Hit hits) = Lives (Suspended breakpoint_text hits)
 fate_by plain attached (Exit code) = Ends code
 fate_by plain attached Exception = if attached then Lives (Suspended exception_text []) else Ends exception_code
 
-abbrev pub settled : ℕ → Fate → TargetsValue → TargetsValue
-settled number (Ends code) targets = end_after number targets
-settled number (Lives state) targets = with_change (with_state state) number targets
+abbrev pub settled : ℕ → ℕ → Fate → TargetsValue → TargetsValue
+settled number n (Ends code) targets = end_after number targets
+settled number n (Lives state) targets = state_after state number n targets
 
--- told of the target after it: the end, or contextSuspended where the thread is suspended now
-abbrev pub settled_events : List Placed → ℕ → Fate → TargetsValue → List EventData
-settled_events bps number (Ends code) targets = end_events bps number code targets
-settled_events bps number (Lives state) targets = suspended_events number (process_of number targets.processes)
+-- told of the target after it, where the process had so many threads before: the end, or contextAdded of the threads that
+-- were made, where there is one, and contextSuspended where the thread is suspended now
+abbrev pub settled_events : List Placed → ℕ → ℕ → ℕ → Fate → TargetsValue → List EventData
+settled_events bps number n before (Ends code) targets = end_events bps number before code targets
+settled_events bps number n before (Lives state) targets =
+    made_events number before (process_of number targets.processes)
+    ++ suspended_events number n (thread_of number n targets.processes)

@@ -1,6 +1,6 @@
 -- The laws of run control, over every target and over whole runs.
 use Rattle.std.specs.Prelude.{ℕ, ℤ, ◌≡◌, Bool, true, false, List, [], ◌∷◌, Option, Some, None}
-use Rattle.std.specs.List.{filter_map}
+use Rattle.std.specs.List.{AllByRecursion, filter_map}
 use Rattle.tcf_values.specs.declared.command.Command.{Command}
 use Rattle.tcf_values.specs.declared.event.EventData.{EventData}
 use Rattle.tcf_values.specs.declared.event.EventData.TheVariants as events
@@ -10,6 +10,7 @@ use Rattle.target_contexts.specs.Laws.{AgreeBut}
 use Rattle.target_contexts.specs.Live.{IsLive, IsOrderly, process_of}
 use Rattle.target_contexts.specs.TargetsValue.{TargetsValue}
 use Rattle.target_contexts.specs.ProcessValue.{ProcessValue}
+use Rattle.target_contexts.specs.declared.threads.Thread.{Thread}
 use Rattle.target_contexts.specs.declared.process.ThreadState.{ThreadState}
 use Rattle.target_contexts.specs.declared.process.ThreadState.TheVariants.{Running, Suspended}
 use Rattle.run_control.specs.Commands.{run_after}
@@ -28,16 +29,16 @@ abbrev pub exits_in : List EventData → List (List ℕ × ℤ)
 exits_in told = filter_map exit_in told
 
 abbrev pub EndsOnce : Type 0
-EndsOnce = (bps : List Placed) (number : ℕ) (code : ℤ) (targets : TargetsValue) → IsOrderly targets.processes targets.next →
-    (exits_in (end_events bps number code (end_after number targets)) ≡ (process_id number, code) ∷ [])
+EndsOnce = (bps : List Placed) (number count : ℕ) (code : ℤ) (targets : TargetsValue) → IsOrderly targets.processes targets.next →
+    (exits_in (end_events bps number count code (end_after number targets)) ≡ (process_id number, code) ∷ [])
     × (IsLive number (end_after number targets).processes → ⊥)
     × AgreeBut number targets.processes (end_after number targets).processes
 
 -- ---- a tick touches no other process
 
 abbrev pub TouchesOne : Type 0
-TouchesOne = (bps : List Placed) (number : ℕ) (targets : TargetsValue) → IsOrderly targets.processes targets.next →
-    AgreeBut number targets.processes (ticked bps number targets).processes
+TouchesOne = (bps : List Placed) (number n : ℕ) (targets : TargetsValue) → IsOrderly targets.processes targets.next →
+    AgreeBut number targets.processes (ticked bps number n targets).processes
 
 -- ---- a suspended thread's process is attached, and so is that of a thread whose instructions are counted
 
@@ -46,8 +47,11 @@ needs_debugger (Running None) = false
 needs_debugger (Running (Some left)) = true
 needs_debugger (Suspended reason hits) = true
 
+abbrev pub IsSoundThread : Bool → Thread → Type 0
+IsSoundThread attached thread = needs_debugger thread.state ≡ true → attached ≡ true
+
 abbrev pub IsSound : ProcessValue → Type 0
-IsSound process = needs_debugger process.state ≡ true → process.attached ≡ true
+IsSound process = AllByRecursion (IsSoundThread process.attached) process.threads
 
 abbrev pub AreSound : List (ℕ × ProcessValue) → Type 0
 AreSound rows = (number : ℕ) (process : ProcessValue) → process_of number rows ≡ Some process → IsSound process

@@ -1,16 +1,21 @@
--- How a process and its one thread are spelled, and which process a text names to the service Processes (TCF services
+-- How a process and its threads are spelled, and which process a text names to the service Processes (TCF services
 -- RunControl and Processes, where the agent chooses IDs).
-use Rattle.std.specs.Prelude.{ℕ, Bool, true, false, List, [], ◌∷◌, Option, Some, None, option_and_then}
+use Rattle.std.specs.Prelude.{ℕ, Bool, true, false, List, [], ◌∷◌, map, Option, Some, None, option_and_then}
 use Rattle.tcf_values.specs.Ids.{context_of}
 use Rattle.tcf_values.specs.Spelling.{context_spelling}
 use Rattle.tcf_values.specs.declared.ids.ContextId.{ContextId}
 use Rattle.tcf_values.specs.declared.ids.ContextId.TheVariants as ids
+use Rattle.target_contexts.specs.Threads.{numbers_to}
 
 abbrev pub process_id : ℕ → List ℕ
 process_id number = context_spelling (ids.Process number)
 
-abbrev pub thread_id : ℕ → List ℕ
-thread_id number = context_spelling (ids.Thread number 1)
+abbrev pub thread_id : ℕ → ℕ → List ℕ
+thread_id number n = context_spelling (ids.Thread number n)
+
+-- of so many threads of a process, in order
+abbrev pub thread_ids : ℕ → ℕ → List (List ℕ)
+thread_ids number count = map (thread_id number) (numbers_to count)
 
 -- a thread is no process, to the service Processes
 abbrev pub process_for : ContextId → Option ℕ

@@ -6,21 +6,29 @@ use Rattle.tcf_values.specs.declared.event.EventData.{EventData}
 use Rattle.tcf_values.specs.declared.faults.Fault.{Fault}
 use Rattle.tcf_values.specs.declared.faults.Fault.TheVariants.{Other, AlreadyStopped, AlreadyRunning, BadContext, BadNumber, Unsupported}
 use Rattle.target_contexts.specs.Changes.{with_change}
-use Rattle.target_contexts.specs.Live.{process_of}
-use Rattle.target_contexts.specs.Named.{is_running, is_suspended, is_unattached, process_at_number, thread_named}
+use Rattle.target_contexts.specs.Named.{is_running, is_suspended, is_unattached, number_named, process_at_number, thread_at_pair, thread_named}
 use Rattle.target_contexts.specs.Starting.{suspended_text}
 use Rattle.target_contexts.specs.TargetsValue.{TargetsValue}
 use Rattle.target_contexts.specs.ProcessValue.{ProcessValue}
+use Rattle.target_contexts.specs.Threads.{in_thread, thread_of}
 use Rattle.target_contexts.specs.declared.process.ThreadState.{ThreadState}
 use Rattle.target_contexts.specs.declared.process.ThreadState.TheVariants.{Running, Suspended}
+use Rattle.target_contexts.specs.declared.threads.Thread.{Thread}
 use Rattle.run_control.specs.Telling.{suspended_events}
 
--- the live process whose thread a text names
-abbrev pub thread_there : List ℕ → List (ℕ × ProcessValue) → Option ProcessValue
-thread_there id rows = process_at_number (thread_named id) rows
+-- the thread of a live process that a text names, and the live process of its number
+abbrev pub thread_there : List ℕ → List (ℕ × ProcessValue) → Option Thread
+thread_there id rows = thread_at_pair (thread_named id) rows
 
-abbrev pub with_state : ThreadState → ProcessValue → ProcessValue
-with_state state process = record process { state = state }
+abbrev pub owner_there : List ℕ → List (ℕ × ProcessValue) → Option ProcessValue
+owner_there id rows = process_at_number (number_named id) rows
+
+abbrev pub with_state : ThreadState → Thread → Thread
+with_state state thread = record thread { state = state }
+
+-- a thread of a live process has another state
+abbrev pub state_after : ThreadState → ℕ → ℕ → TargetsValue → TargetsValue
+state_after state number n targets = with_change (in_thread (with_state state) n) number targets
 
 -- ---- resume: mode 0 goes on, and mode 2 steps so many instructions
 
@@ -49,8 +57,8 @@ resume_fault id mode count rows = first_fault (
 abbrev pub left_by : ℤ → ℤ → Option ℕ
 left_by mode count = if is_step mode then Some (unsigned_abs count) else None
 
-abbrev pub resume_after : Option ℕ → ℕ → TargetsValue → TargetsValue
-resume_after left number targets = with_change (with_state (Running left)) number targets
+abbrev pub resume_after : Option ℕ → ℕ → ℕ → TargetsValue → TargetsValue
+resume_after left number n targets = state_after (Running left) number n targets
 
 -- ---- suspend
 
@@ -58,12 +66,12 @@ abbrev pub suspend_fault : List ℕ → List (ℕ × ProcessValue) → Option Fa
 suspend_fault id rows = first_fault (
     (is_none (thread_there id rows), BadContext)
     ∷ (is_suspended (thread_there id rows), AlreadyStopped)
-    ∷ (is_unattached (thread_there id rows), Other)
+    ∷ (is_unattached (owner_there id rows), Other)
     ∷ [])
 
-abbrev pub suspend_after : ℕ → TargetsValue → TargetsValue
-suspend_after number targets = with_change (with_state (Suspended suspended_text [])) number targets
+abbrev pub suspend_after : ℕ → ℕ → TargetsValue → TargetsValue
+suspend_after number n targets = state_after (Suspended suspended_text []) number n targets
 
 -- told of the target after it
-abbrev pub suspend_events : ℕ → TargetsValue → List EventData
-suspend_events number targets = suspended_events number (process_of number targets.processes)
+abbrev pub suspend_events : ℕ → ℕ → TargetsValue → List EventData
+suspend_events number n targets = suspended_events number n (thread_of number n targets.processes)

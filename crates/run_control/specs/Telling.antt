@@ -1,39 +1,64 @@
--- What the services tell of a process and its thread, as they are (TCF services RunControl and Breakpoints, events).
-use Rattle.std.specs.Prelude.{ℕ, List, [], ◌∷◌, Option, Some, None}
+-- What the services tell of a process and its threads, as they are (TCF services RunControl and Breakpoints, events).
+use Rattle.std.specs.Prelude.{ℕ, List, [], ◌∷◌, map, Option, Some, None}
+use Rattle.std.specs.List.{flat_map}
 use Rattle.tcf_values.specs.declared.event.EventData.{EventData}
 use Rattle.tcf_values.specs.declared.event.EventData.TheVariants as events
+use Rattle.tcf_values.specs.declared.values.ContextData.{ContextData}
 use Rattle.breakpoints.specs.declared.rows.Placed.{Placed}
 use Rattle.breakpoints.specs.Statuses.{statuses_of}
-use Rattle.target_contexts.specs.Contexts.{process_data, thread_data}
-use Rattle.target_contexts.specs.Named.{attached_in}
+use Rattle.target_contexts.specs.Contexts.{threads_behind, threads_data, whole_data}
+use Rattle.target_contexts.specs.Named.{attached_in, stood_numbers}
 use Rattle.target_contexts.specs.TargetsValue.{TargetsValue}
 use Rattle.target_contexts.specs.ProcessValue.{ProcessValue}
+use Rattle.target_contexts.specs.Threads.{thread_at, thread_numbers}
 use Rattle.target_contexts.specs.declared.process.ThreadState.{ThreadState}
 use Rattle.target_contexts.specs.declared.process.ThreadState.TheVariants.{Running, Suspended}
+use Rattle.target_contexts.specs.declared.threads.Thread.{Thread}
 use Rattle.run_control.specs.Naming.{thread_id}
 
--- contextAdded, with the process and its thread
+-- contextAdded, with the process and its threads
 abbrev pub added_events : ℕ → Option ProcessValue → List EventData
 added_events number None = []
-added_events number (Some process) = events.CtxAdded (process_data number process ∷ thread_data number process ∷ []) ∷ []
+added_events number (Some process) = events.CtxAdded (whole_data number process) ∷ []
 
--- contextChanged, with the thread alone
+-- contextAdded, with the threads behind the first so many, where there is one
+abbrev pub contexts_events : List ContextData → List EventData
+contexts_events [] = []
+contexts_events (context ∷ contexts) = events.CtxAdded (context ∷ contexts) ∷ []
+
+abbrev pub made_events : ℕ → ℕ → Option ProcessValue → List EventData
+made_events number before process = contexts_events (threads_behind before number process)
+
+-- contextChanged, with all threads alone
 abbrev pub changed_events : ℕ → Option ProcessValue → List EventData
 changed_events number None = []
-changed_events number (Some process) = events.CtxChanged (thread_data number process ∷ []) ∷ []
+changed_events number (Some process) = events.CtxChanged (threads_data 0 number process) ∷ []
 
 -- contextSuspended, with the pc, the reason and the hits; nothing of a thread that runs
-abbrev pub stop_events : ℕ → ℕ → ThreadState → List EventData
-stop_events number pc (Running left) = []
-stop_events number pc (Suspended reason hits) = events.Suspended (thread_id number) pc reason hits ∷ []
+abbrev pub stop_events : ℕ → ℕ → ℕ → ThreadState → List EventData
+stop_events number n pc (Running left) = []
+stop_events number n pc (Suspended reason hits) = events.Suspended (thread_id number n) pc reason hits ∷ []
 
-abbrev pub suspended_events : ℕ → Option ProcessValue → List EventData
-suspended_events number None = []
-suspended_events number (Some process) = stop_events number process.cpu.pc process.state
+abbrev pub suspended_events : ℕ → ℕ → Option Thread → List EventData
+suspended_events number n None = []
+suspended_events number n (Some thread) = stop_events number n thread.cpu.pc thread.state
+
+-- of all threads, in order
+abbrev pub all_suspended_events : ℕ → Option ProcessValue → List EventData
+all_suspended_events number None = []
+all_suspended_events number (Some process) =
+    flat_map (λ n. suspended_events number n (thread_at n process)) (thread_numbers process)
 
 -- contextResumed
-abbrev pub resumed_events : ℕ → List EventData
-resumed_events number = events.Resumed (thread_id number) ∷ []
+abbrev pub resumed_event : ℕ → ℕ → EventData
+resumed_event number n = events.Resumed (thread_id number n)
+
+abbrev pub resumed_events : ℕ → ℕ → List EventData
+resumed_events number n = resumed_event number n ∷ []
+
+-- of those threads that stood, in order, where this was the process
+abbrev pub all_resumed_events : ℕ → Option ProcessValue → List EventData
+all_resumed_events number was = map (resumed_event number) (stood_numbers was)
 
 -- one status for each breakpoint, in the order of the list
 abbrev pub statuses_in : List Placed → TargetsValue → List EventData

@@ -6,14 +6,16 @@ use Rattle.tcf_values.specs.declared.event.EventData.{EventData}
 use Rattle.tcf_values.specs.declared.faults.Fault.{Fault}
 use Rattle.tcf_values.specs.declared.faults.Fault.TheVariants.{AlreadyRunning, BadContext, BadNumber}
 use Rattle.breakpoints.specs.declared.rows.Placed.{Placed}
-use Rattle.rv32i_core.specs.Machine.{Step, goes_on, ends, excepts, machine}
+use Rattle.rv32i_core.specs.Machine.{Step, goes_on, ends, excepts, machine, spawns}
 use Rattle.target_contexts.specs.Changes.{with_change}
 use Rattle.target_contexts.specs.Live.{process_of}
 use Rattle.target_contexts.specs.Named.{is_running}
 use Rattle.target_contexts.specs.TargetsValue.{TargetsValue}
 use Rattle.target_contexts.specs.ProcessValue.{ProcessValue}
+use Rattle.target_contexts.specs.Threads.{thread_at, thread_count}
+use Rattle.target_contexts.specs.declared.threads.Thread.{Thread}
 use Rattle.target_contexts.specs.declared.process.ThreadState.TheVariants.{Suspended}
-use Rattle.run_control.specs.Executing.{fate_by, hits_at, settled, settled_events, step_text}
+use Rattle.run_control.specs.Executing.{fate_by, hits_at, pc_at, settled, settled_events, step_text, stepped}
 use Rattle.run_control.specs.Naming.{is_empty}
 use Rattle.run_control.specs.Steering.{is_no_count, thread_there}
 use Rattle.run_control.specs.declared.executing.Executed.{Executed}
@@ -28,30 +30,36 @@ trace_fault id count rows = first_fault (
     ∷ (is_running (thread_there id rows), AlreadyRunning)
     ∷ [])
 
--- ---- the states of a trace
+-- ---- the states of a trace, which are those of the process while its thread n executes
 
--- the process after one instruction, where its machine goes on
+-- where the machine goes on, the process after the instruction
 abbrev pub next_by : Step → ProcessValue → Option ProcessValue
-next_by (goes_on cpu memory) process = Some (record process { cpu = cpu; memory = memory })
-next_by (ends code) process = None
-next_by excepts process = None
+next_by (goes_on cpu memory) after = Some after
+next_by (ends code) after = None
+next_by (spawns entry argument) after = Some after
+next_by excepts after = None
 
-abbrev pub next_of : ProcessValue → Option ProcessValue
-next_of process = next_by (machine process.cpu process.memory) process
+-- a thread that isn't there stays as it is
+abbrev pub next_at : ℕ → Option Thread → ProcessValue → Option ProcessValue
+next_at n None process = Some (stepped n process)
+next_at n (Some thread) process = next_by (machine thread.cpu process.memory) (stepped n process)
+
+abbrev pub next_of : ℕ → ProcessValue → Option ProcessValue
+next_of n process = next_at n (thread_at n process) process
 
 -- the states that a process comes to, one after the other, as far as its machine goes on and so many at most
-abbrev pub run_from : ℕ → ProcessValue → List ProcessValue
-run_from zero process = []
-run_from (suc count) process = option_map_or (λ next. next ∷ run_from count next) (next_of process) []
+abbrev pub run_from : ℕ → ℕ → ProcessValue → List ProcessValue
+run_from n zero process = []
+run_from n (suc count) process = option_map_or (λ next. next ∷ run_from n count next) (next_of n process) []
 
 -- up to the first that hits a breakpoint, with that one
-abbrev pub up_to_hit : List Placed → ℕ → List ProcessValue → List ProcessValue
-up_to_hit bps number [] = []
-up_to_hit bps number (state ∷ states) =
-    state ∷ (if is_empty (hits_at bps number state) then up_to_hit bps number states else [])
+abbrev pub up_to_hit : List Placed → ℕ → ℕ → List ProcessValue → List ProcessValue
+up_to_hit bps number n [] = []
+up_to_hit bps number n (state ∷ states) =
+    state ∷ (if is_empty (hits_at bps number n state) then up_to_hit bps number n states else [])
 
-abbrev pub states_of : List Placed → ℕ → ℕ → ProcessValue → List ProcessValue
-states_of bps number count process = up_to_hit bps number (run_from count process)
+abbrev pub states_of : List Placed → ℕ → ℕ → ℕ → ProcessValue → List ProcessValue
+states_of bps number n count process = up_to_hit bps number n (run_from n count process)
 
 -- the state in which a trace stops; the first where no instruction is executed
 abbrev pub last_of : ProcessValue → List ProcessValue → ProcessValue
@@ -61,40 +69,45 @@ last_of process (state ∷ states) = last_of state states
 -- ---- why it stops
 
 -- the hits in the last state; none where no instruction is executed
-abbrev pub last_hits : List Placed → ℕ → ProcessValue → List ProcessValue → List (List ℕ)
-last_hits bps number process [] = []
-last_hits bps number process (state ∷ states) = hits_at bps number (last_of state states)
+abbrev pub last_hits : List Placed → ℕ → ℕ → ProcessValue → List ProcessValue → List (List ℕ)
+last_hits bps number n process [] = []
+last_hits bps number n process (state ∷ states) = hits_at bps number n (last_of state states)
 
 -- the machine doesn't go on
 abbrev pub halt_by : Step → Executed
 halt_by (goes_on cpu memory) = Plain
 halt_by (ends code) = Exit code
+halt_by (spawns entry argument) = Plain
 halt_by excepts = Exception
 
+abbrev pub halt_at : Option Thread → ProcessValue → Executed
+halt_at None process = Plain
+halt_at (Some thread) process = halt_by (machine thread.cpu process.memory)
+
 -- breakpoints are hit, or all instructions that were asked for are executed, or the machine doesn't go on
-abbrev pub stop_by : List (List ℕ) → Bool → ProcessValue → Executed
-stop_by hits all last =
+abbrev pub stop_by : List (List ℕ) → Bool → ℕ → ProcessValue → Executed
+stop_by hits all n last =
     if not (is_empty hits) then Hit hits
     else if all then Plain
-    else halt_by (machine last.cpu last.memory)
+    else halt_at (thread_at n last) last
 
-abbrev pub stop_of : List Placed → ℕ → ℕ → ProcessValue → List ProcessValue → Executed
-stop_of bps number count process states =
-    stop_by (last_hits bps number process states) (length states == count) (last_of process states)
+abbrev pub stop_of : List Placed → ℕ → ℕ → ℕ → ProcessValue → List ProcessValue → Executed
+stop_of bps number n count process states =
+    stop_by (last_hits bps number n process states) (length states == count) n (last_of process states)
 
 -- ---- the addresses of the executed instructions
 
 -- an ECALL that exits is executed, and an instruction that raises an exception isn't
-abbrev pub exit_address : ProcessValue → Executed → List ℕ
-exit_address last Plain = []
-exit_address last (Hit hits) = []
-exit_address last (Exit code) = last.cpu.pc ∷ []
-exit_address last Exception = []
+abbrev pub exit_address : ℕ → ProcessValue → Executed → List ℕ
+exit_address n last Plain = []
+exit_address n last (Hit hits) = []
+exit_address n last (Exit code) = pc_at n last ∷ []
+exit_address n last Exception = []
 
 -- each state but the last has executed the instruction at its pc
-abbrev pub addresses_of : ProcessValue → List ProcessValue → Executed → List ℕ
-addresses_of process states stop =
-    map (λ state. state.cpu.pc) (take (length states) (process ∷ states)) ++ exit_address (last_of process states) stop
+abbrev pub addresses_of : ℕ → ProcessValue → List ProcessValue → Executed → List ℕ
+addresses_of n process states stop =
+    map (pc_at n) (take (length states) (process ∷ states)) ++ exit_address n (last_of process states) stop
 
 -- ---- the trace as a whole
 
@@ -103,44 +116,44 @@ pub record Trace : Type 0 where
   pub addresses : List ℕ  -- of the executed instructions, in order
   pub stop : Executed  -- why it stops
 
-abbrev pub trace_by : List Placed → ℕ → ℕ → ProcessValue → List ProcessValue → Trace
-trace_by bps number count process states =
-    let stop = stop_of bps number count process states in
-    record { process = last_of process states; addresses = addresses_of process states stop; stop = stop }
+abbrev pub trace_by : List Placed → ℕ → ℕ → ℕ → ProcessValue → List ProcessValue → Trace
+trace_by bps number n count process states =
+    let stop = stop_of bps number n count process states in
+    record { process = last_of process states; addresses = addresses_of n process states stop; stop = stop }
 
-abbrev pub trace_of : List Placed → ℕ → ℕ → ProcessValue → Trace
-trace_of bps number count process = trace_by bps number count process (states_of bps number count process)
+abbrev pub trace_of : List Placed → ℕ → ℕ → ℕ → ProcessValue → Trace
+trace_of bps number n count process = trace_by bps number n count process (states_of bps number n count process)
 
 -- ---- what becomes of the process: where all are executed, its thread is suspended by the step
 
 abbrev pub trace_fate : ProcessValue → Trace → Fate
 trace_fate process trace = fate_by (Suspended step_text []) process.attached trace.stop
 
-abbrev pub traced_of : List Placed → ℕ → ℕ → ProcessValue → Traced
-traced_of bps number count process =
-    let trace = trace_of bps number count process in
+abbrev pub traced_of : List Placed → ℕ → ℕ → ℕ → ProcessValue → Traced
+traced_of bps number n count process =
+    let trace = trace_of bps number n count process in
     record { addresses = trace.addresses; fate = trace_fate process trace }
 
-abbrev pub traced_at : List Placed → ℕ → ℕ → Option ProcessValue → TargetsValue → TargetsValue
-traced_at bps number count None targets = targets
-traced_at bps number count (Some process) targets =
-    let trace = trace_of bps number count process in
-    settled number (trace_fate process trace) (with_change (λ _. trace.process) number targets)
+abbrev pub traced_at : List Placed → ℕ → ℕ → ℕ → Option ProcessValue → TargetsValue → TargetsValue
+traced_at bps number n count None targets = targets
+traced_at bps number n count (Some process) targets =
+    let trace = trace_of bps number n count process in
+    settled number n (trace_fate process trace) (with_change (λ _. trace.process) number targets)
 
-abbrev pub trace_after : List Placed → ℕ → ℕ → TargetsValue → TargetsValue
-trace_after bps count number targets = traced_at bps number count (process_of number targets.processes) targets
+abbrev pub trace_after : List Placed → ℕ → ℕ → ℕ → TargetsValue → TargetsValue
+trace_after bps count number n targets = traced_at bps number n count (process_of number targets.processes) targets
 
-abbrev pub traced_events_at : List Placed → ℕ → ℕ → Option ProcessValue → TargetsValue → List EventData
-traced_events_at bps number count None after = []
-traced_events_at bps number count (Some process) after =
-    settled_events bps number (trace_fate process (trace_of bps number count process)) after
+abbrev pub traced_events_at : List Placed → ℕ → ℕ → ℕ → Option ProcessValue → TargetsValue → List EventData
+traced_events_at bps number n count None after = []
+traced_events_at bps number n count (Some process) after =
+    settled_events bps number n (thread_count process) (trace_fate process (trace_of bps number n count process)) after
 
-abbrev pub trace_events : List Placed → ℕ → ℕ → TargetsValue → TargetsValue → List EventData
-trace_events bps count number targets after = traced_events_at bps number count (process_of number targets.processes) after
+abbrev pub trace_events : List Placed → ℕ → ℕ → ℕ → TargetsValue → TargetsValue → List EventData
+trace_events bps count number n targets after = traced_events_at bps number n count (process_of number targets.processes) after
 
-abbrev pub addresses_at : List Placed → ℕ → ℕ → Option ProcessValue → List ℕ
-addresses_at bps number count None = []
-addresses_at bps number count (Some process) = (trace_of bps number count process).addresses
+abbrev pub addresses_at : List Placed → ℕ → ℕ → ℕ → Option ProcessValue → List ℕ
+addresses_at bps number n count None = []
+addresses_at bps number n count (Some process) = (trace_of bps number n count process).addresses
 
-abbrev pub trace_addresses : List Placed → ℕ → ℕ → TargetsValue → List ℕ
-trace_addresses bps count number targets = addresses_at bps number count (process_of number targets.processes)
+abbrev pub trace_addresses : List Placed → ℕ → ℕ → ℕ → TargetsValue → List ℕ
+trace_addresses bps count number n targets = addresses_at bps number n count (process_of number targets.processes)

@@ -3,14 +3,14 @@ ghost use Rattle.std.specs.Prelude.{◌≡◌, ◌<◌, map, All, if◌then◌el
 ghost use Rattle.target_contexts.specs.Refusals.{IsRefusalOf};
 ghost use Rattle.tcf_values.specs.Ids.{context_of};
 ghost use Rattle.target_contexts.specs.Live.{numbers_of, process_of};
-ghost use Rattle.target_contexts.specs.Named.{attached_in, process_at_number, thread_named};
+ghost use Rattle.target_contexts.specs.Named.{attached_in, thread_at_pair, thread_named};
 ghost use Rattle.run_control.specs.Naming.{is_empty, process_id, process_named};
 ghost use Rattle.run_control.specs.Asking.{children_fault, children_named, children_of, context_answer, context_fault, data_named, process_answer, process_answer_of, process_fault, processes_fault, processes_named, run_state, state_answer, state_fault};
 
 use crate::named::{live_process, live_thread};
-use crate::telling::{attached, process_id, thread_id};
+use crate::telling::{attached, process_id, thread_ids};
 use std::alloc::{AllocError, Global};
-use target_contexts::{Process, Targets, ThreadState};
+use target_contexts::{Targets, Thread, ThreadState};
 use tcf_values::{
     Answer, ContextData, ContextId, Duplicate, Fault, ProcessData, Refusal, RunState, Text, Texts,
     context_id,
@@ -39,7 +39,7 @@ fn data_named(targets: &Targets, id: &Text) -> Result<Option<ContextData>, Alloc
     }
 }
 
-/// RunControl.getChildren: of the empty ID all processes, of a process its thread, of a thread none.
+/// RunControl.getChildren: of the empty ID all processes, of a process its threads in order, of a thread none.
 pub(crate) fn children(alloc: Global, targets: &Targets, id: &Text) -> Result<Texts, Refusal>
     ensures ids { IfOk result (λ ids. ids ≡ children_named id.now targets.now.seen.processes) }
     ensures free { OnOk result (children_fault id.now targets.now.seen.processes ≡ None) }
@@ -49,7 +49,7 @@ pub(crate) fn children(alloc: Global, targets: &Targets, id: &Text) -> Result<Te
         return Ok(listed(alloc, targets, false)?);
     }
     match data_named(targets, id)? {
-        Some(_) => Ok(children_of(alloc, id)?),
+        Some(_) => Ok(children_of(alloc, targets, id)?),
         None => Err(Fault::BadContext.into()),
     }
 }
@@ -72,35 +72,36 @@ fn process_ids(alloc: Global, numbers: &[u32]) -> Result<Texts, AllocError>
     Ok(ids)
 }
 
-/// The thread of a process.
-fn children_of(alloc: Global, id: &Text) -> Result<Texts, AllocError>
-    ensures { IfOk result (λ ids. ids ≡ children_of (context_of id.now)) }
+/// The threads of a process, in order.
+fn children_of(alloc: Global, targets: &Targets, id: &Text) -> Result<Texts, AllocError>
+    ensures { IfOk result (λ ids. ids ≡ children_of (context_of id.now) targets.now.seen.processes) }
 {
-    let mut ids = Texts::new(alloc);
-    if let Some(ContextId::Process(number)) = context_id(id.as_bytes()) {
-        ids.push(thread_id(alloc, number)?)?;
+    match context_id(id.as_bytes()) {
+        Some(ContextId::Process(number)) => {
+            thread_ids(alloc, number, targets.thread_count(number))
+        }
+        _ => Ok(Texts::new(alloc)),
     }
-    Ok(ids)
 }
 
 /// RunControl.getState: whether a live thread runs, or why and where it is suspended.
 pub(crate) fn state(targets: &Targets, id: &Text) -> Result<Answer, Refusal>
-    ensures answer { IfOk result (λ answer. answer ≡ state_answer (process_at_number (thread_named id.now) targets.now.seen.processes)) }
+    ensures answer { IfOk result (λ answer. answer ≡ state_answer (thread_at_pair (thread_named id.now) targets.now.seen.processes)) }
     ensures free { OnOk result (state_fault id.now targets.now.seen.processes ≡ None) }
     ensures refused { IfErr result (IsRefusalOf (state_fault id.now targets.now.seen.processes)) }
 {
-    let number = live_thread(targets, id)?;
-    let process = targets.process(number).ok_or(Fault::BadContext)?;
-    Ok(Answer::State(run_state(process)?))
+    let (number, n) = live_thread(targets, id)?;
+    let thread = targets.thread(number, n).ok_or(Fault::BadContext)?;
+    Ok(Answer::State(run_state(thread)?))
 }
 
-fn run_state(process: &Process) -> Result<RunState, AllocError>
-    ensures { IfOk result (λ state. state ≡ run_state process.now.seen.cpu.pc process.now.seen.state) }
+fn run_state(thread: &Thread) -> Result<RunState, AllocError>
+    ensures { IfOk result (λ state. state ≡ run_state thread.now.cpu.pc thread.now.state) }
 {
-    match &process.state {
+    match &thread.state {
         ThreadState::Running { .. } => Ok(RunState::Running),
         ThreadState::Suspended { reason, hits } => Ok(RunState::Suspended {
-            pc: process.cpu.pc,
+            pc: thread.cpu.pc,
             reason: reason.copy()?,
             hits: hits.copy()?,
         }),

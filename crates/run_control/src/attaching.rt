@@ -1,26 +1,28 @@
 //! Start, attach and detach.
-ghost use Rattle.std.specs.Prelude.{◌≡◌, ◌<◌, Some, None, IfErr, IfOk, OnErr, OnOk};
+ghost use Rattle.std.specs.Prelude.{◌≡◌, ◌<◌, map, Some, None, IfErr, IfOk, OnErr, OnOk};
 ghost use Rattle.tcf_values.specs.Effects.{tells};
 ghost use Rattle.target_contexts.specs.Refusals.{IsRefusalOf};
 ghost use Rattle.target_contexts.specs.Changes.{with_change};
-ghost use Rattle.target_contexts.specs.Named.{is_suspended};
-ghost use Rattle.target_contexts.specs.Starting.{started};
+ghost use Rattle.target_contexts.specs.Starting.{first_state, started};
+ghost use Rattle.run_control.specs.Steering.{with_state};
 ghost use Rattle.run_control.specs.Asking.{process_answer};
-ghost use Rattle.run_control.specs.Attaching.{attach_after, attach_events, attach_fault, detach_after, detach_events, detach_fault, process_there, start_events, start_fault};
+ghost use Rattle.run_control.specs.Attaching.{attach_after, attach_events, attach_fault, detach_after, detach_events, detach_fault, process_there, start_events, start_fault, with_states};
 ghost use Rattle.run_control.specs.Commands.{events_of, left_of};
 ghost use Rattle.run_control.specs.Naming.{process_named};
 ghost use Rattle.run_control.specs.Refusing.{IfDue};
 
 use crate::asking::process_answer;
 use crate::named::live_process;
-use crate::steering::suspended;
-use crate::telling::{tell_added, tell_changed, tell_resumed, tell_statuses, tell_suspended};
+use crate::steering::{set_one, suspended};
+use crate::telling::{
+    tell_added, tell_all_resumed, tell_all_suspended, tell_changed, tell_statuses,
+};
 use breakpoints::Breakpoints;
 use std::alloc::{AllocError, Global};
-use target_contexts::{StartRefusal, Targets, ThreadState};
+use target_contexts::{StartRefusal, Targets, ThreadState, Threads};
 use tcf_values::{Effect, Events, Fault, Refusal, Text};
 
-/// Processes.start: starts a process from the image of this name. With `attach` its thread is suspended, else it runs.
+/// Processes.start: starts a process from the image of this name. With `attach` its one thread is suspended, else it runs.
 pub(crate) fn start(
     alloc: Global,
     targets: &mut Targets,
@@ -37,8 +39,8 @@ pub(crate) fn start(
 {
     let number = add(targets, file, attach)?;
     let mut events = Events::new(alloc);
-    tell_added(alloc, targets, number, &mut events)?;
-    tell_suspended(alloc, targets, number, &mut events)?;
+    tell_added(targets, number, &mut events)?;
+    tell_all_suspended(alloc, targets, number, &mut events)?;
     tell_statuses(targets, bps, &mut events)?;
     let answer = process_answer(alloc, targets, number)?;
     Ok(Effect::tells(alloc, events, answer))
@@ -60,7 +62,7 @@ fn add(targets: &mut Targets, file: &Text, attach: bool) -> Result<u32, Refusal>
     }
 }
 
-/// Processes.attach: the process is attached, and its thread is suspended.
+/// Processes.attach: the process is attached, and its threads are suspended.
 pub(crate) fn attach(
     alloc: Global,
     targets: &mut Targets,
@@ -74,11 +76,10 @@ pub(crate) fn attach(
     ensures kept { IfErr result (λ refusal. IfDue refusal (targets.new.seen ≡ targets.old.seen)) }
 {
     let number = to_attach(targets, id)?;
-    let state = suspended(alloc)?;
-    set_attached(targets, number, true, state);
+    set_attached(alloc, targets, number, true)?;
     let mut events = Events::new(alloc);
     tell_changed(alloc, targets, number, &mut events)?;
-    tell_suspended(alloc, targets, number, &mut events)?;
+    tell_all_suspended(alloc, targets, number, &mut events)?;
     tell_statuses(targets, bps, &mut events)?;
     Ok(events)
 }
@@ -96,17 +97,47 @@ fn to_attach(targets: &Targets, id: &Text) -> Result<u32, Fault>
     Ok(number)
 }
 
-/// Attaches a live process or detaches it, with this state of its thread.
-fn set_attached(targets: &mut Targets, number: u32, attached: bool, state: ThreadState)
-    ensures { targets.new.seen ≡ with_change (λ process. record process { attached = attached; state = state }) number targets.old.seen }
+/// Attaches a live process, and suspends its threads, or detaches it, and lets them run.
+fn set_attached(
+    alloc: Global,
+    targets: &mut Targets,
+    number: u32,
+    attached: bool,
+) -> Result<(), AllocError>
+    ensures { OnOk result (targets.new.seen
+        ≡ with_change (λ process. record (with_states (first_state attached) process) { attached = attached }) number targets.old.seen) }
 {
     if let Some(process) = targets.process_mut(number) {
+        set_states(alloc, &mut process.threads, attached)?;
         process.attached = attached;
-        process.state = state;
+    }
+    Ok(())
+}
+
+/// Suspends all threads, or lets them run.
+#[tactic(auto, using(crate::proofs::Loops::states_more))]
+fn set_states(alloc: Global, threads: &mut Threads, attached: bool) -> Result<(), AllocError>
+    ensures { OnOk result (threads.new ≡ map (with_state (first_state attached)) threads.old) }
+{
+    for place in 0..threads.count() {
+        let state = state_when(alloc, attached)?;
+        set_one(threads, place + 1, state);
+    }
+    Ok(())
+}
+
+/// The state of a thread when its process is attached or detached.
+fn state_when(alloc: Global, attached: bool) -> Result<ThreadState, AllocError>
+    ensures { IfOk result (λ state. state ≡ first_state attached) }
+{
+    if attached {
+        suspended(alloc)
+    } else {
+        Ok(ThreadState::Running { left: None })
     }
 }
 
-/// Processes.detach: the process is no longer attached, and its thread runs. Instructions that were left to step are
+/// Processes.detach: the process is no longer attached, and its threads run. Instructions that were left to step are
 /// forgotten.
 pub(crate) fn detach(
     alloc: Global,
@@ -115,20 +146,18 @@ pub(crate) fn detach(
     id: &Text,
 ) -> Result<Events, Refusal>
     ensures events { IfOk result (λ events. events
-        ≡ events_of (λ number. detach_events bps.now (is_suspended (process_there id.now targets.old.seen.processes)) number targets.new.seen) (process_named id.now)) }
+        ≡ events_of (λ number. detach_events bps.now (process_there id.now targets.old.seen.processes) number targets.new.seen) (process_named id.now)) }
     ensures free { OnOk result (detach_fault id.now targets.old.seen.processes ≡ None) }
     ensures after { OnOk result (targets.new.seen ≡ left_of detach_after (process_named id.now) targets.old.seen) }
     ensures refused { IfErr result (IsRefusalOf (detach_fault id.now targets.old.seen.processes)) }
     ensures kept { IfErr result (λ refusal. IfDue refusal (targets.new.seen ≡ targets.old.seen)) }
 {
     let number = to_detach(targets, id)?;
-    let was_suspended = !targets.is_running(number);
-    set_attached(targets, number, false, ThreadState::Running { left: None });
+    let stood = targets.suspended_threads(number)?;
+    set_attached(alloc, targets, number, false)?;
     let mut events = Events::new(alloc);
     tell_changed(alloc, targets, number, &mut events)?;
-    if was_suspended {
-        tell_resumed(alloc, number, &mut events)?;
-    }
+    tell_all_resumed(alloc, number, &stood, &mut events)?;
     tell_statuses(targets, bps, &mut events)?;
     Ok(events)
 }

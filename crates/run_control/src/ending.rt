@@ -3,7 +3,7 @@ ghost use Rattle.std.specs.Prelude.{◌≡◌, ◌<◌, None, IfErr, IfOk, OnOk}
 ghost use Rattle.target_contexts.specs.Refusals.{IsRefusalOf};
 ghost use Rattle.target_contexts.specs.Named.{number_named};
 ghost use Rattle.run_control.specs.Asking.{process_fault};
-ghost use Rattle.run_control.specs.Commands.{events_of, left_of, terminate_code};
+ghost use Rattle.run_control.specs.Commands.{events_of, left_of, terminate_events};
 ghost use Rattle.run_control.specs.Ending.{end_after, end_events, terminate_fault};
 ghost use Rattle.run_control.specs.Naming.{process_named};
 ghost use Rattle.run_control.specs.Refusing.{IfDue};
@@ -18,23 +18,40 @@ use tcf_values::{Events, Refusal, Text};
 /// The code of a process that is terminated.
 const TERMINATED: i32 = -1;
 
-/// Ends a process, and tells of it: contextRemoved, exited with the code, and the statuses after the end.
+/// Ends a process, and tells of it: contextRemoved of so many threads, which it had before the input, and of the process,
+/// exited with the code, and the statuses after the end.
 pub(crate) fn end(
     alloc: Global,
     targets: &mut Targets,
     bps: &Breakpoints,
     number: u32,
+    count: u32,
     code: i32,
 ) -> Result<Events, AllocError>
     requires { 0 < number }
-    ensures events { IfOk result (λ events. events ≡ end_events bps.now number code targets.new.seen) }
+    ensures events { IfOk result (λ events. events ≡ end_events bps.now number count code targets.new.seen) }
     ensures after { OnOk result (targets.new.seen ≡ end_after number targets.old.seen) }
 {
     let mut events = Events::new(alloc);
-    tell_ended(alloc, number, code, &mut events)?;
+    tell_ended(alloc, number, count, code, &mut events)?;
     targets.remove(number);
     tell_statuses(targets, bps, &mut events)?;
     Ok(events)
+}
+
+/// Ends a process on request.
+fn terminated(
+    alloc: Global,
+    targets: &mut Targets,
+    bps: &Breakpoints,
+    number: u32,
+) -> Result<Events, AllocError>
+    requires { 0 < number }
+    ensures events { IfOk result (λ events. events ≡ terminate_events bps.now number targets.old.seen targets.new.seen) }
+    ensures after { OnOk result (targets.new.seen ≡ end_after number targets.old.seen) }
+{
+    let count = targets.thread_count(number);
+    end(alloc, targets, bps, number, count, TERMINATED)
 }
 
 /// RunControl.terminate: ends the process that a process's or a thread's ID stands for.
@@ -44,14 +61,14 @@ pub(crate) fn terminate(
     bps: &Breakpoints,
     id: &Text,
 ) -> Result<Events, Refusal>
-    ensures events { IfOk result (λ events. events ≡ events_of (λ number. end_events bps.now number terminate_code targets.new.seen) (number_named id.now)) }
+    ensures events { IfOk result (λ events. events ≡ events_of (λ number. terminate_events bps.now number targets.old.seen targets.new.seen) (number_named id.now)) }
     ensures free { OnOk result (terminate_fault id.now targets.old.seen.processes ≡ None) }
     ensures after { OnOk result (targets.new.seen ≡ left_of end_after (number_named id.now) targets.old.seen) }
     ensures refused { IfErr result (IsRefusalOf (terminate_fault id.now targets.old.seen.processes)) }
     ensures kept { IfErr result (λ refusal. IfDue refusal (targets.new.seen ≡ targets.old.seen)) }
 {
     let number = live(targets, id)?;
-    Ok(end(alloc, targets, bps, number, TERMINATED)?)
+    Ok(terminated(alloc, targets, bps, number)?)
 }
 
 /// Processes.terminate: ends a process.
@@ -61,12 +78,12 @@ pub(crate) fn terminate_process(
     bps: &Breakpoints,
     id: &Text,
 ) -> Result<Events, Refusal>
-    ensures events { IfOk result (λ events. events ≡ events_of (λ number. end_events bps.now number terminate_code targets.new.seen) (process_named id.now)) }
+    ensures events { IfOk result (λ events. events ≡ events_of (λ number. terminate_events bps.now number targets.old.seen targets.new.seen) (process_named id.now)) }
     ensures free { OnOk result (process_fault id.now targets.old.seen.processes ≡ None) }
     ensures after { OnOk result (targets.new.seen ≡ left_of end_after (process_named id.now) targets.old.seen) }
     ensures refused { IfErr result (IsRefusalOf (process_fault id.now targets.old.seen.processes)) }
     ensures kept { IfErr result (λ refusal. IfDue refusal (targets.new.seen ≡ targets.old.seen)) }
 {
     let number = live_process(targets, id)?;
-    Ok(end(alloc, targets, bps, number, TERMINATED)?)
+    Ok(terminated(alloc, targets, bps, number)?)
 }

@@ -1,10 +1,14 @@
 //! One instruction of a thread, and what becomes of its process by it.
-ghost use Rattle.std.specs.Prelude.{◌≡◌, ◌<◌, [], IfOk, OnOk};
-ghost use Rattle.run_control.specs.Executing.{breakpoint_text, exception_code, exception_text, executed_of, executed_with, fate_by, settled, settled_events, step_text, stepped};
+ghost use Rattle.std.specs.Prelude.{◌≡◌, ◌<◌, ◌++◌, [], Some, IfOk, OnOk};
+ghost use Rattle.breakpoints.specs.Status.{hits_of};
+ghost use Rattle.target_contexts.specs.Threads.{in_thread, thread_at};
+ghost use Rattle.run_control.specs.Steering.{with_state};
+ghost use Rattle.run_control.specs.Telling.{made_events, suspended_events};
+ghost use Rattle.run_control.specs.Executing.{breakpoint_text, exception_code, exception_text, executed_of, executed_with, fate_by, hits_at, pc_at, settled, settled_events, spawned, step_text, stepped};
 
 use crate::ending::end;
-use crate::steering::set_state;
-use crate::telling::tell_suspended;
+use crate::steering::set_one;
+use crate::telling::{tell_made, tell_one};
 use breakpoints::Breakpoints;
 use rv32i_core::{Outcome, execute};
 use std::alloc::{AllocError, Global};
@@ -29,7 +33,7 @@ pub(crate) enum Executed {
 pub(crate) enum Fate {
     /// It ends with this code.
     Ends(i32),
-    /// It lives on, and its thread has this state.
+    /// It lives on, and the thread that executed has this state.
     Lives(ThreadState),
 }
 
@@ -70,23 +74,72 @@ pub(crate) fn stopped_by_step(alloc: Global) -> Result<ThreadState, AllocError>
     })
 }
 
-/// Executes one instruction of a process, and tests for breakpoints at the new pc.
+/// Executes one instruction of a thread of a process, and tests for breakpoints at its new pc. A thread that it asks for
+/// begins, where it can.
 pub(crate) fn execute_one(
     process: &mut Process,
     bps: &Breakpoints,
     number: u32,
+    n: u32,
 ) -> Result<Executed, AllocError>
-    ensures executed { IfOk result (λ executed. executed ≡ executed_of bps.now number process.old.seen) }
-    ensures after { OnOk result (process.new.seen ≡ stepped process.old.seen) }
+    ensures executed { IfOk result (λ executed. executed ≡ executed_of bps.now number n process.old.seen) }
+    ensures after { OnOk result (process.new.seen ≡ stepped n process.old.seen) }
 {
     process.memory.ready(STORED_PAGES)?;
-    match execute(&mut process.cpu, &mut process.memory) {
-        Outcome::Next => {
-            let hits = bps.hits(number, process.attached, process.cpu.pc)?;
-            Ok(executed_with(hits))
-        }
+    let Some(thread) = process.threads.get_mut(n) else {
+        return Ok(Executed::Plain);
+    };
+    match execute(&mut thread.cpu, &mut process.memory) {
+        Outcome::Next => tested_at(bps, number, process.attached, thread.cpu.pc),
         Outcome::Exit(code) => Ok(Executed::Exit(code)),
+        Outcome::Spawn { entry, argument } => {
+            spawn(process, n, entry, argument)?;
+            tested(process, bps, number, n)
+        }
         Outcome::Exception => Ok(Executed::Exception),
+    }
+}
+
+/// Begins the thread that a thread asks for, and gives this one the number of it, or 0 where none can begin.
+fn spawn(process: &mut Process, n: u32, entry: u32, argument: u32) -> Result<(), AllocError>
+    ensures { OnOk result (process.new.seen ≡ spawned n entry argument process.old.seen) }
+{
+    let number = process.begin_thread(entry, argument)?.unwrap_or(0);
+    if let Some(thread) = process.threads.get_mut(n) {
+        thread.cpu.answer(number);
+    }
+    Ok(())
+}
+
+/// Tests for breakpoints where a thread stands.
+fn tested(process: &Process, bps: &Breakpoints, number: u32, n: u32) -> Result<Executed, AllocError>
+    ensures { IfOk result (λ executed. executed ≡ executed_with (hits_at bps.now number n process.now.seen)) }
+{
+    match process.threads.get(n) {
+        Some(thread) => tested_at(bps, number, process.attached, thread.cpu.pc),
+        None => Ok(Executed::Plain),
+    }
+}
+
+/// Tests for breakpoints at a pc.
+fn tested_at(
+    bps: &Breakpoints,
+    number: u32,
+    attached: bool,
+    pc: u32,
+) -> Result<Executed, AllocError>
+    ensures { IfOk result (λ executed. executed ≡ executed_with (hits_of number attached pc bps.now)) }
+{
+    Ok(executed_with(bps.hits(number, attached, pc)?))
+}
+
+/// Where a thread stands; 0 where there is none of this number.
+pub(crate) fn pc_at(process: &Process, n: u32) -> u32
+    ensures { result ≡ pc_at n process.now.seen }
+{
+    match process.threads.get(n) {
+        Some(thread) => thread.cpu.pc,
+        None => 0,
     }
 }
 
@@ -124,25 +177,48 @@ pub(crate) fn fate_of(
     }
 }
 
-/// Gives a live process its fate, and tells of it.
+/// Gives a live process, which had so many threads before the input, and its thread their fate, and tells of it.
 pub(crate) fn settle(
     alloc: Global,
     targets: &mut Targets,
     bps: &Breakpoints,
     number: u32,
+    n: u32,
+    before: u32,
     fate: Fate,
 ) -> Result<Events, AllocError>
-    requires { 0 < number }
-    ensures events { IfOk result (λ events. events ≡ settled_events bps.now number fate targets.new.seen) }
-    ensures after { OnOk result (targets.new.seen ≡ settled number fate targets.old.seen) }
+    requires process { 0 < number }
+    requires thread { 0 < n }
+    ensures events { IfOk result (λ events. events ≡ settled_events bps.now number n before fate targets.new.seen) }
+    ensures after { OnOk result (targets.new.seen ≡ settled number n fate targets.old.seen) }
 {
     match fate {
-        Fate::Ends(code) => end(alloc, targets, bps, number, code),
-        Fate::Lives(state) => {
-            set_state(targets, number, state);
-            let mut events = Events::new(alloc);
-            tell_suspended(alloc, targets, number, &mut events)?;
-            Ok(events)
-        }
+        Fate::Ends(code) => end(alloc, targets, bps, number, before, code),
+        Fate::Lives(state) => match targets.process_mut(number) {
+            Some(process) => live_on(alloc, process, number, n, before, state),
+            None => Ok(Events::new(alloc)),
+        },
     }
+}
+
+/// Gives a thread of a process, which had so many threads before the input, its state, and tells of it.
+fn live_on(
+    alloc: Global,
+    process: &mut Process,
+    number: u32,
+    n: u32,
+    before: u32,
+    state: ThreadState,
+) -> Result<Events, AllocError>
+    requires process { 0 < number }
+    requires thread { 0 < n }
+    ensures events { IfOk result (λ events. events
+        ≡ made_events number before (Some process.new.seen) ++ suspended_events number n (thread_at n process.new.seen)) }
+    ensures after { OnOk result (process.new.seen ≡ in_thread (with_state state) n process.old.seen) }
+{
+    set_one(&mut process.threads, n, state);
+    let mut events = Events::new(alloc);
+    tell_made(alloc, process, number, before, &mut events)?;
+    tell_one(alloc, number, n, &process.threads, &mut events)?;
+    Ok(events)
 }

@@ -8,7 +8,7 @@ ghost use Rattle.run_control.specs.Commands.{left_of, trace_given};
 ghost use Rattle.run_control.specs.Refusing.{IfDue};
 ghost use Rattle.run_control.specs.Tracing.{trace_after, trace_fault, trace_of, traced_of};
 
-use crate::executing::{Executed, Fate, execute_one, fate_of, settle, stopped_by_step};
+use crate::executing::{Executed, Fate, execute_one, fate_of, pc_at, settle, stopped_by_step};
 use crate::named::live_thread;
 use crate::steering::{MOST_STEPS, is_no_count};
 use breakpoints::Breakpoints;
@@ -23,8 +23,8 @@ struct Traced {
     fate: Fate,
 }
 
-/// Executes up to count instructions, until breakpoints are hit, an exception is raised or the process exits, and
-/// answers how many were executed. Of the count any number can be asked for.
+/// Executes up to count instructions of a suspended thread, until breakpoints are hit, an exception is raised or the process
+/// exits, and answers how many were executed. Of the count any number can be asked for.
 pub(crate) fn run(
     alloc: Global,
     targets: &mut Targets,
@@ -34,49 +34,53 @@ pub(crate) fn run(
 ) -> Result<Effect, Refusal>
     ensures effect { IfOk result (λ effect. effect ≡ trace_given bps.now (unsigned_abs count) (thread_named id.now) targets.old.seen targets.new.seen) }
     ensures free { OnOk result (trace_fault id.now count targets.old.seen.processes ≡ None) }
-    ensures after { OnOk result (targets.new.seen ≡ left_of (trace_after bps.now (unsigned_abs count)) (thread_named id.now) targets.old.seen) }
+    ensures after { OnOk result (targets.new.seen ≡ left_of (λ pair. trace_after bps.now (unsigned_abs count) pair.0 pair.1) (thread_named id.now) targets.old.seen) }
     ensures refused { IfErr result (IsRefusalOf (trace_fault id.now count targets.old.seen.processes)) }
     ensures kept { IfErr result (λ refusal. IfDue refusal (targets.new.seen ≡ targets.old.seen)) }
 {
-    let number = to_trace(targets, id, count)?;
-    Ok(trace(alloc, targets, bps, number, count as u32)?)
+    let (number, n) = to_trace(targets, id, count)?;
+    Ok(trace(alloc, targets, bps, number, n, count as u32)?)
 }
 
 /// The checks of a trace.
-fn to_trace(targets: &Targets, id: &Text, count: i128) -> Result<u32, Fault>
-    ensures number { IfOk result (λ number. thread_named id.now ≡ Some number) }
-    ensures positive { IfOk result (λ number. 0 < number) }
+fn to_trace(targets: &Targets, id: &Text, count: i128) -> Result<(u32, u32), Fault>
+    ensures pair { IfOk result (λ pair. thread_named id.now ≡ Some pair) }
+    ensures positive { IfOk result (λ pair. 0 < pair.0) }
+    ensures numbered { IfOk result (λ pair. 0 < pair.1) }
     ensures lower_bound { OnOk result (pos 1 ≤ℤ count) }
     ensures upper_bound { OnOk result (count ≤ℤ pos 64) }
     ensures free { OnOk result (trace_fault id.now count targets.now.seen.processes ≡ None) }
     ensures due { IfErr result (λ fault. trace_fault id.now count targets.now.seen.processes ≡ Some fault) }
 {
-    let number = live_thread(targets, id)?;
+    let (number, n) = live_thread(targets, id)?;
     if is_no_count(MOST_STEPS, count) {
         return Err(Fault::BadNumber);
     }
-    if targets.is_running(number) {
+    if targets.is_running(number, n) {
         return Err(Fault::AlreadyRunning);
     }
-    Ok(number)
+    Ok((number, n))
 }
 
-/// Executes up to count instructions of a live process, and settles what becomes of it.
+/// Executes up to count instructions of a thread of a live process, and settles what becomes of them.
 fn trace(
     alloc: Global,
     targets: &mut Targets,
     bps: &Breakpoints,
     number: u32,
+    n: u32,
     count: u32,
 ) -> Result<Effect, AllocError>
-    requires { 0 < number }
-    ensures effect { IfOk result (λ effect. effect ≡ trace_given bps.now count (Some number) targets.old.seen targets.new.seen) }
-    ensures after { OnOk result (targets.new.seen ≡ trace_after bps.now count number targets.old.seen) }
+    requires process { 0 < number }
+    requires thread { 0 < n }
+    ensures effect { IfOk result (λ effect. effect ≡ trace_given bps.now count (Some (number, n)) targets.old.seen targets.new.seen) }
+    ensures after { OnOk result (targets.new.seen ≡ trace_after bps.now count number n targets.old.seen) }
 {
-    match execute_trace(alloc, targets, bps, number, count)? {
+    let before = targets.thread_count(number);
+    match execute_trace(alloc, targets, bps, number, n, count)? {
         Some(Traced { addresses, fate }) => {
             let executed = addresses.len() as u32;
-            let events = settle(alloc, targets, bps, number, fate)?;
+            let events = settle(alloc, targets, bps, number, n, before, fate)?;
             Ok(Effect {
                 events,
                 progress: addresses,
@@ -93,17 +97,18 @@ fn execute_trace(
     targets: &mut Targets,
     bps: &Breakpoints,
     number: u32,
+    n: u32,
     count: u32,
 ) -> Result<Option<Traced>, AllocError>
-    ensures done { IfOk result (λ traced. traced ≡ option_map (λ process. traced_of bps.now number count process) (process_of number targets.old.seen.processes)) }
+    ensures done { IfOk result (λ traced. traced ≡ option_map (λ process. traced_of bps.now number n count process) (process_of number targets.old.seen.processes)) }
     ensures few { IfOk result (λ traced. IfSome traced (λ some. length some.addresses ≤ count)) }
-    ensures after { OnOk result (targets.new.seen ≡ with_change (λ process. (trace_of bps.now number count process).process) number targets.old.seen) }
+    ensures after { OnOk result (targets.new.seen ≡ with_change (λ process. (trace_of bps.now number n count process).process) number targets.old.seen) }
 {
     match targets.process_mut(number) {
         Some(process) => {
             let attached = process.attached;
             let plain = stopped_by_step(alloc)?;
-            let (addresses, stop) = execute_up_to(alloc, process, bps, number, count)?;
+            let (addresses, stop) = execute_up_to(alloc, process, bps, number, n, count)?;
             let fate = fate_of(alloc, plain, attached, stop)?;
             Ok(Some(Traced { addresses, fate }))
         }
@@ -111,21 +116,22 @@ fn execute_trace(
     }
 }
 
-/// Executes up to count instructions of a process. The answer has their addresses, and what came of the last one.
+/// Executes up to count instructions of a thread of a process. The answer has their addresses, and what came of the last one.
 fn execute_up_to(
     alloc: Global,
     process: &mut Process,
     bps: &Breakpoints,
     number: u32,
+    n: u32,
     count: u32,
 ) -> Result<(Numbers, Executed), AllocError>
-    ensures trace { IfOk result (λ done. trace_of bps.now number count process.old.seen ≡ record { process = process.new.seen; addresses = done.0; stop = done.1 }) }
+    ensures trace { IfOk result (λ done. trace_of bps.now number n count process.old.seen ≡ record { process = process.new.seen; addresses = done.0; stop = done.1 }) }
     ensures few { IfOk result (λ done. length done.0 ≤ count) }
 {
     let mut addresses = Numbers::new(alloc);
     for _step in 0..count {
-        let pc = process.cpu.pc;
-        let executed = execute_one(process, bps, number)?;
+        let pc = pc_at(process, n);
+        let executed = execute_one(process, bps, number, n)?;
         match executed {
             Executed::Plain => addresses.push(pc)?,
             Executed::Hit(_) | Executed::Exit(_) => {

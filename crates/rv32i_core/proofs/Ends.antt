@@ -5,7 +5,7 @@ use Rattle.rv32i_core.specs.Bytes.{is_inside, word_at}
 use Rattle.rv32i_core.specs.Integers.{signed, sum, unsigned}
 use Rattle.rv32i_core.specs.Laws.{EndsSigned, IsSigned}
 use Rattle.rv32i_core.specs.Listing.{instruction_of}
-use Rattle.rv32i_core.specs.Machine.{goes_on, ends, excepts, decoded_step, effect, is_taken, jump_step, load_step, loaded, machine, next_step, store_step, stored}
+use Rattle.rv32i_core.specs.Machine.{goes_on, ends, excepts, spawns, decoded_step, effect, is_taken, jump_step, load_step, loaded, machine, next_step, store_step, stored}
 use Rattle.rv32i_core.specs.Registers.{following, register_of, with_register}
 use Rattle.rv32i_core.specs.declared.instructions.Instruction.{Instruction}
 use Rattle.rv32i_core.specs.declared.instructions.Instruction.TheVariants.{Lui, Auipc, Jal, Jalr, Load, ImmOp, Branch, Store, Op, Fence, Ecall, Ebreak}
@@ -44,7 +44,9 @@ effect_signed (Load kind rd rs1 imm) cpu memory = load_signed rd (loaded kind (s
 effect_signed (Store kind rs1 rs2 imm) cpu memory = store_signed (stored kind (sum (register_of rs1 cpu) (unsigned imm)) (register_of rs2 cpu) memory) cpu
 effect_signed Fence cpu memory = tt
 effect_signed Ecall cpu memory =
-    cond_both (register_of 17 cpu == 93) (ends (signed (register_of 10 cpu))) excepts EndsSigned (λ is. number_signed (register_of 10 cpu)) (λ isnt. tt)
+    cond_both (register_of 17 cpu == 93) (ends (signed (register_of 10 cpu))) (cond (register_of 17 cpu == 1000) (spawns (register_of 10 cpu) (register_of 11 cpu)) excepts) EndsSigned
+    (λ is. number_signed (register_of 10 cpu))
+    (λ isnt. cond_both (register_of 17 cpu == 1000) (spawns (register_of 10 cpu) (register_of 11 cpu)) excepts EndsSigned (λ is. tt) (λ none. tt))
 effect_signed Ebreak cpu memory = tt
 
 decoded_signed : (instruction : Option Instruction) (cpu : Cpu) (memory : List ℕ) → EndsSigned (decoded_step instruction cpu memory)

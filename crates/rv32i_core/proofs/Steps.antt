@@ -1,14 +1,16 @@
 -- The machine keeps its numbers below 2^32 and its bytes below 256, and memory its size.
-use Rattle.std.proofs.Common.{ℕ, zero, suc, ◌+◌, ◌-◌, ◌/◌, ◌%◌, ◌^◌, ◌<◌, ◌==◌, Bool, true, false, cond, List, [], ◌∷◌, ℤ, slice_index, slice_set, Option, Some, None, IfSome, ◌∙◌, arith}
+use Rattle.std.proofs.Common.{ℕ, zero, suc, ◌+◌, ◌-◌, ◌/◌, ◌%◌, ◌^◌, ◌<◌, ◌==◌, Bool, true, false, cond, List, [], ◌∷◌, ℤ, replicate, slice_index, slice_set, Option, Some, None, IfSome, ◌∙◌, arith}
 use Rattle.std.specs.List.{AllByRecursion}
 use Rattle.std.proofs.Math.ListN.{length-set}
+use Rattle.std.proofs.lemmas.List.{length-replicate}
+use Rattle.std.proofs.lemmas.List.Elements.{All-replicate, recursion_from_All}
 use Rattle.std.proofs.lemmas.Nat.{mod_below}
 use Rattle.std.proofs.Math.Dec.{lit<}
 use Rattle.rv32i_core.specs.Bytes.{byte_at, halfword_at, is_inside, with_byte, with_halfword, with_word, word_at}
 use Rattle.rv32i_core.specs.Laws.{IsCpu, IsMemory, IsWord, LeavesWhole}
 use Rattle.rv32i_core.specs.Listing.{instruction_of}
-use Rattle.rv32i_core.specs.Machine.{decoded_step, effect, ends, excepts, goes_on, is_taken, jump_step, load_step, loaded, machine, next_step, store_step, stored}
-use Rattle.rv32i_core.specs.Registers.{following, register_of, with_register}
+use Rattle.rv32i_core.specs.Machine.{decoded_step, effect, ends, excepts, goes_on, is_taken, jump_step, load_step, loaded, machine, next_step, spawns, store_step, stored}
+use Rattle.rv32i_core.specs.Registers.{answered, begun, following, register_of, with_register}
 use Rattle.rv32i_core.specs.declared.instructions.Instruction.{Instruction}
 use Rattle.rv32i_core.specs.declared.instructions.Instruction.TheVariants.{Lui, Auipc, Jal, Jalr, Load, ImmOp, Branch, Store, Op, Fence, Ecall, Ebreak}
 use Rattle.rv32i_core.specs.declared.instructions.LoadKind.{LoadKind}
@@ -46,6 +48,17 @@ written_whole n value cpu is below = written_by (n == 0) n value cpu is below
 
 pub moved_whole : (pc : ℕ) (cpu : Cpu) → IsCpu cpu → IsWord pc → IsCpu (record cpu { pc = pc })
 moved_whole pc cpu is below = record { pc = below; count = is.count; registers = is.registers }
+
+pub answered_whole : (number : ℕ) (cpu : Cpu) → IsCpu cpu → IsWord number → IsCpu (answered number cpu)
+answered_whole number cpu is below = moved_whole (following cpu) (with_register 10 number cpu) (written_whole 10 number cpu is below) (rest_below (cpu.pc + 4))
+
+zeros_words : AllByRecursion IsWord (replicate 32 0)
+zeros_words = recursion_from_All IsWord (replicate 32 0) (All-replicate IsWord 32 0 (omega arith))
+
+pub begun_whole : (entry argument : ℕ) → IsWord entry → IsWord argument → IsCpu (begun entry argument)
+begun_whole entry argument first second =
+    written_whole 10 argument (record { pc = entry; x = replicate 32 0 })
+    (record { pc = first; count = length-replicate {A = ℕ} 32 0; registers = zeros_words }) second
 
 -- ---- memory
 
@@ -124,9 +137,11 @@ store_by (Some memory) cpu is also = next_whole cpu memory is also
 
 -- ---- each instruction
 
-call_by : (ends_it : Bool) (code : ℤ) → LeavesWhole (cond ends_it (ends code) excepts)
-call_by true code = tt
-call_by false code = tt
+call_by : (ends_it spawns_it : Bool) (code : ℤ) (entry argument : ℕ) → IsWord entry → IsWord argument
+    → LeavesWhole (cond ends_it (ends code) (cond spawns_it (spawns entry argument) excepts))
+call_by true spawns_it code entry argument first second = tt
+call_by false true code entry argument first second = (first, second)
+call_by false false code entry argument first second = tt
 
 even_below : (n : ℕ) → IsWord n → IsWord (n - n % 2)
 even_below n below = omega arith
@@ -145,7 +160,8 @@ effect_whole (Branch kind rs1 rs2 imm) cpu memory is also has =
 effect_whole (Load kind rd rs1 imm) cpu memory is also has = load_by _ rd cpu memory is also (loaded_below kind _ memory also.bytes)
 effect_whole (Store kind rs1 rs2 imm) cpu memory is also has = store_by _ cpu is (stored_whole kind _ _ memory also)
 effect_whole Fence cpu memory is also has = next_whole cpu memory is also
-effect_whole Ecall cpu memory is also has = call_by (register_of 17 cpu == 93) _
+effect_whole Ecall cpu memory is also has =
+    call_by (register_of 17 cpu == 93) (register_of 17 cpu == 1000) _ (register_of 10 cpu) (register_of 11 cpu) (read_below 10 cpu is) (read_below 11 cpu is)
 effect_whole Ebreak cpu memory is also has = tt
 
 decoded_whole : (instruction : Option Instruction) (cpu : Cpu) (memory : List ℕ) → IsCpu cpu → IsMemory memory → IfSome instruction HasWord → LeavesWhole (decoded_step instruction cpu memory)

@@ -10,7 +10,7 @@ use Rattle.rv32i_core.specs.Bytes.{is_inside, byte_at, halfword_at, word_at, wit
 use Rattle.rv32i_core.specs.Integers.{signed, unsigned, sum, immediate_result, operation_result}
 use Rattle.rv32i_core.specs.declared.registers.Cpu.{Cpu}
 use Rattle.rv32i_core.specs.declared.execution.Outcome.{Outcome}
-use Rattle.rv32i_core.specs.declared.execution.Outcome.TheVariants.{Next, Exit, Exception}
+use Rattle.rv32i_core.specs.declared.execution.Outcome.TheVariants.{Next, Exit, Spawn, Exception}
 use Rattle.rv32i_core.specs.declared.instructions.Instruction.{Instruction}
 use Rattle.rv32i_core.specs.declared.instructions.Instruction.TheVariants.{Lui, Auipc, Jal, Jalr, Load, ImmOp, Branch, Store, Op, Fence, Ecall, Ebreak}
 use Rattle.rv32i_core.specs.declared.instructions.LoadKind.{LoadKind}
@@ -20,11 +20,12 @@ use Rattle.rv32i_core.specs.declared.instructions.StoreKind.TheVariants.{Sb, Sh,
 use Rattle.rv32i_core.specs.declared.instructions.BranchKind.{BranchKind}
 use Rattle.rv32i_core.specs.declared.instructions.BranchKind.TheVariants.{Beq, Bne, Blt, Bge, Bltu, Bgeu}
 
--- what an instruction comes to: the processor and memory after it, the end of the program with its status, or an
--- exception, which changes nothing
+-- what an instruction comes to: the processor and memory after it, the end of the program with its status, a thread that
+-- is asked for with its first address and its argument, or an exception, which changes nothing
 pub data Step : Type 0 where
   goes_on : Cpu → List ℕ → Step
   ends : ℤ → Step
+  spawns : (entry argument : ℕ) → Step
   excepts : Step
 
 -- on to the instruction that follows
@@ -81,9 +82,13 @@ store_step None cpu = excepts
 
 -- ---- environment call (2.8)
 
--- x17 says what is asked for: 93 is the end of the program with the status in x10, and nothing else is known here
+-- x17 says what is asked for: 93 is the end of the program with the status in x10, 1000 is a thread that begins at the
+-- address in x10 with the argument in x11, and nothing else is known here
 abbrev pub call_step : Cpu → Step
-call_step cpu = if register_of 17 cpu == 93 then ends (signed (register_of 10 cpu)) else excepts
+call_step cpu =
+    if register_of 17 cpu == 93 then ends (signed (register_of 10 cpu))
+    else if register_of 17 cpu == 1000 then spawns (register_of 10 cpu) (register_of 11 cpu)
+    else excepts
 
 -- ---- each instruction, in the manual's order
 
@@ -125,4 +130,5 @@ machine cpu memory =
 abbrev pub step_of : Outcome → Cpu → List ℕ → Step
 step_of Next cpu memory = goes_on cpu memory
 step_of (Exit status) cpu memory = ends status
+step_of (Spawn entry argument) cpu memory = spawns entry argument
 step_of Exception cpu memory = excepts

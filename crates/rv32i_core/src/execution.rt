@@ -20,6 +20,9 @@ pub enum Outcome {
     Next,
     /// The program asked to end, by ECALL with 93 in x17. The status is x10 as a signed number.
     Exit(i32),
+    /// The program asked for a thread, by ECALL with 1000 in x17: one that begins at the address in x10, with the number
+    /// in x11 as its argument.
+    Spawn { entry: u32, argument: u32 },
     /// The instruction can't be done.
     Exception,
 }
@@ -28,8 +31,8 @@ pub enum Outcome {
 ///
 /// An exception is a fetch or a data access with a byte past 65,535, a word that [`decode`] doesn't
 /// know, a taken jump to an address that is no multiple of 4, EBREAK, and ECALL with another number
-/// than 93 in x17. After `Exit` and `Exception` the processor and its memory are as they were, so `pc`
-/// stays on the instruction.
+/// than 93 and 1000 in x17. After `Exit`, `Spawn` and `Exception` the processor and its memory are as
+/// they were, so `pc` stays on the instruction.
 ///
 /// The memory has to have 4 spare pages or more, since the bytes of a store can lie in two pages. At most
 /// four pages become own, and all others stay as they were kept.
@@ -302,12 +305,18 @@ fn store_number(memory: &mut Memory, kind: StoreKind, place: u32, value: u32) ->
 /// The number in x17 by which a program asks to end.
 const EXIT: u32 = 93;
 
+/// The number in x17 by which a program asks for a thread.
+const SPAWN: u32 = 1000;
+
 fn environment_call(cpu: &Cpu) -> Outcome
     ensures step { (m : List ℕ) → step_of result cpu.now m ≡ effect Instruction.Ecall cpu.now m }
 {
-    if cpu.read(17) == EXIT {
-        Outcome::Exit(cpu.read(10).cast_signed())
-    } else {
-        Outcome::Exception
+    match cpu.read(17) {
+        EXIT => Outcome::Exit(cpu.read(10).cast_signed()),
+        SPAWN => Outcome::Spawn {
+            entry: cpu.read(10),
+            argument: cpu.read(11),
+        },
+        _ => Outcome::Exception,
     }
 }

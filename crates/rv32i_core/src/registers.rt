@@ -11,8 +11,32 @@ pub struct Cpu {
     pub x: [u32; 32],
 }
 
+/// The register in which a thread finds its argument, and a call of the environment leaves its result.
+const RESULT: u8 = 10;
+
 impl Cpu {
-    ghost use Rattle.rv32i_core.specs.Registers.{following, register_of, with_register};
+    ghost use Rattle.rv32i_core.specs.Registers.{answered, begun, following, register_of, with_register};
+
+    /// A processor that begins at this address with the argument in x10. All other registers are 0.
+    pub fn begin(entry: u32, argument: u32) -> Cpu
+        ensures { result ≡ begun entry argument }
+    {
+        let mut cpu = Cpu {
+            pc: entry,
+            x: [0; 32],
+        };
+        cpu.write(RESULT, argument);
+        cpu
+    }
+
+    /// Gives a call of the environment its result, in x10, and goes on to the instruction that follows.
+    pub fn answer(&mut self, number: u32)
+        ensures { self.new ≡ answered number self.old }
+    {
+        let next = self.following();
+        self.write(RESULT, number);
+        self.pc = next;
+    }
 
     pub(crate) fn read(&self, register: u8) -> u32
         requires { register < 32 }

@@ -109,6 +109,7 @@ impl Caches {
         let (kind, id) = first(words);
         let text = match kind {
             "context" => self.context(id)?,
+            "threads" => self.threads(id)?,
             "state" => self.state(id)?,
             "register" => self.register(id)?,
             "properties" => self.properties(id)?,
@@ -140,6 +141,24 @@ impl Caches {
             return Ok(None);
         };
         Ok(Some(status_value(self.alloc, status)?.to_string(self.alloc)?))
+    }
+
+    /// The IDs of a process's threads, each behind a space.
+    fn threads(&self, id: &str) -> Result<Option<String>> {
+        let Some(ContextId::Process(process)) = context_id(id.as_bytes()) else {
+            return Ok(None);
+        };
+        match self.known.threads(process) {
+            Some(ids) => {
+                let mut text = String::from_str(self.alloc, "threads")?;
+                for thread in ids.as_slice() {
+                    text.push(' ')?;
+                    text.push_str(thread.as_str())?;
+                }
+                Ok(Some(text))
+            }
+            None => Ok(None),
+        }
     }
 
     fn state(&self, id: &str) -> Result<Option<String>> {

@@ -22,14 +22,14 @@ file_by true bytes is none = parts_are_loaded bytes none
 file_by false bytes is none = absurd cc
 
 pub file_loaded : FileIsLoaded
-file_loaded attach image is none = file_by (is_elf image.bytes) image.bytes (elf_is image.bytes is) none
+file_loaded attach image is none = (file_by (is_elf image.bytes) image.bytes (elf_is image.bytes is) none, tt)
 
 pub others_at_zero : OthersStandAtZero
 others_at_zero attach image isnt =
     let flag = elf_isnt image.bytes isnt in (
-      ap (λ b. cond b (entry_of image.bytes) 0) flag,
+      (ap (λ b. cond b (entry_of image.bytes) 0) flag, tt),
       ap (λ b. cond b (placed (parts_of image.bytes) zeros) (image_memory image.bytes)) flag,
     )
 
 pub registers_zero : RegistersAreZero
-registers_zero attach image = refl
+registers_zero attach image = (refl, tt)

@@ -1,19 +1,24 @@
 -- The rows of a target, and what is seen of them.
-use Rattle.std.proofs.Common.{◌≡◌, ℕ, zero, suc, ◌+◌, ◌<◌, ◌^◌, Bool, cond, not, nat_eq, List, [], ◌∷◌, ◌++◌, length, map, get_or, remove, slice_set, Option, Some, None, refl, sym, ◌∙◌, ap, subst}
+use Rattle.std.proofs.Common.{◌≡◌, ℕ, zero, suc, ◌+◌, ◌<◌, ◌^◌, Bool, cond, not, nat_eq, List, [], ◌∷◌, ◌++◌, length, map, get_or, remove, slice_get, slice_set, Option, Some, None, option_and_then, option_map, refl, sym, ◌∙◌, ap, subst}
 use Rattle.std.proofs.Math.ListN.{get_or-map}
 use Rattle.std.specs.List.{position, position_or_len}
 use Rattle.std.proofs.lemmas.List.{length-map, map-append, map-set}
 use Rattle.std.proofs.lemmas.List.Quantifiers.{position-Some}
+use Rattle.std.proofs.lemmas.Option.{slice_get-map, slice_get_read}
+use Rattle.list_laws.proofs.Lists.{set_same}
 use Rattle.rv32i_core.specs.Bytes.{image_memory}
-use Rattle.target_contexts.specs.Kept.{kinds_of, place_in, put_at, removed_at, seen_row, seen_rows}
+use Rattle.rv32i_core.specs.PageKind.{PageKind}
+use Rattle.target_contexts.specs.Kept.{kinds_at, kinds_of, place_in, put_at, removed_at, seen_row, seen_rows, with_kept}
 use Rattle.target_contexts.specs.KeptImages.{IsOf}
 use Rattle.target_contexts.specs.KeptProcess.{KeptProcess}
+use Rattle.target_contexts.specs.KeptTargets.{KeptTargets}
 use Rattle.target_contexts.specs.Live.{IsOrderly, place_of, process_of, with_process}
 use Rattle.target_contexts.specs.ProcessValue.{ProcessValue}
 use Rattle.target_contexts.specs.Starting.{process_from, with_started}
 use Rattle.target_contexts.specs.TargetsValue.{TargetsValue}
 use Rattle.target_contexts.specs.declared.process.Image.{Image}
 use Rattle.target_contexts.proofs.Found.{positive_there, process_there, written_there}
+use Rattle.target_contexts.proofs.PutBack.{put_back}
 use Rattle.target_contexts.proofs.Rising.{orderly_push, orderly_remove, orderly_set}
 
 pub as_many : (rows : List (ℕ × KeptProcess)) → length (seen_rows rows) ≡ length rows
@@ -34,6 +39,9 @@ place_seen number rows = position_mapped seen_row (λ (r : ℕ × ProcessValue).
 pub within : (number : ℕ) (rows : List (ℕ × KeptProcess)) (place : ℕ) → place_in number rows ≡ Some place → place < length rows
 within number [] place found = cc
 within number (row ∷ rows) place found = (position-Some (λ (r : ℕ × KeptProcess). nat_eq r.0 number) (row ∷ rows) place row found).0
+
+pub inside_seen : (rows : List (ℕ × KeptProcess)) (place number : ℕ) → place_of number (seen_rows rows) ≡ Some place → place < length rows
+inside_seen rows place number found = within number rows place (sym (place_seen number rows) ∙ found)
 
 -- ---- the row there
 
@@ -62,6 +70,31 @@ pub orderly_written : (rows : List (ℕ × KeptProcess)) (next place : ℕ) (row
 orderly_written rows next place row process orderly there =
     let P : List (ℕ × ProcessValue) → Type 0 = λ seen. IsOrderly seen next in
     subst P (sym (map-set seen_row rows place (row.0, process))) (orderly_set (seen_rows rows) next place (seen_row row) process.seen orderly (row_seen rows place row there))
+
+-- the pages at the place of a process
+pub kinds_there : (rows : List (ℕ × KeptProcess)) (place : ℕ) (row : ℕ × KeptProcess) (o : Option ℕ) → o ≡ Some place → place < length rows → row ≡ get_or rows place row
+    → option_and_then (slice_get (kinds_of rows)) o ≡ Some row.1.kinds
+kinds_there rows place row o found inside there =
+    let read : slice_get rows place ≡ Some row = slice_get_read rows (length rows) place row refl inside there in
+    ap (option_and_then (slice_get (kinds_of rows))) found
+    ∙ slice_get-map (λ (r : ℕ × KeptProcess). r.1.kinds) rows place
+    ∙ ap (λ (r : Option (ℕ × KeptProcess)). option_map (λ (r : ℕ × KeptProcess). r.1.kinds) r) read
+
+-- pages that are put back are as they were
+pub kinds_back : (kinds : List (List PageKind)) (o : Option ℕ) (pages : List PageKind) → option_and_then (slice_get kinds) o ≡ Some pages → put_at kinds o pages ≡ kinds
+kinds_back kinds None pages is = refl
+kinds_back kinds (Some place) pages is = set_same place kinds pages is
+
+-- and so is a process that is put back with its pages
+pub kinds_same : (kinds : List (List PageKind)) (o : Option ℕ) (pages new : List PageKind) → Some pages ≡ option_and_then (slice_get kinds) o → new ≡ pages → put_at kinds o new ≡ kinds
+kinds_same kinds o pages new there same = ap (put_at kinds o) same ∙ kinds_back kinds o pages (sym there)
+
+pub kept_same : (number : ℕ) (targets : KeptTargets) (process : KeptProcess) → Some process.seen ≡ process_of number targets.seen.processes → Some process.kinds ≡ kinds_at number targets
+    → with_kept number process targets ≡ targets
+kept_same number targets process there pages =
+    ap (λ (rows : List (ℕ × ProcessValue)). record targets { seen = record targets.seen { processes = rows }; kinds = put_at targets.kinds (place_of number targets.seen.processes) process.kinds })
+    (put_back targets.seen.processes number process.seen (sym there))
+    ∙ ap (λ (kinds : List (List PageKind)). record targets { kinds = kinds }) (kinds_back targets.kinds (place_of number targets.seen.processes) process.kinds (sym pages))
 
 -- ---- a process more
 

@@ -4,8 +4,12 @@ pub mod Placing
 pub mod KeptImages
 pub mod Kept
 pub mod Lookup
+pub mod ThreadLists
 pub mod PutBack
+pub mod Holding
+pub mod Ranges
 pub mod Running
+pub mod Told
 pub mod Orderly
 pub mod Short
 pub mod Whole

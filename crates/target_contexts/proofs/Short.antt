@@ -1,15 +1,19 @@
--- The names, the reasons and the hits of the processes stay short.
-use Rattle.std.proofs.Common.{◌≡◌, ◌≤◌, ℕ, zero, suc, Bool, true, false, cond, nat_le, bytes_eq, List, [], ◌∷◌, length, take, drop, slice_get, slice_set, Option, Some, None, option_map, IfSome, refl, subst, lit≤, leb-true}
+-- The threads of the processes stay few, and names, reasons and hits short.
+use Rattle.std.proofs.Common.{◌≡◌, ◌≤◌, ℕ, zero, suc, Bool, true, false, cond, nat_le, bytes_eq, List, [], ◌∷◌, length, take, drop, slice_get, slice_set, Option, Some, None, option_map, IfSome, refl, subst, ◌+◌, ◌++◌, arith, length-append, lit≤, leb-true}
 use Rattle.std.specs.List.{AllByRecursion}
 use Rattle.std.proofs.lemmas.Bool.{and_parts}
 use Rattle.target_contexts.specs.Changes.{with_change_at}
 use Rattle.target_contexts.specs.Images.{image_of, is_named}
 use Rattle.target_contexts.specs.Live.{place_of, process_at, process_of, with_at, with_row, without_at}
-use Rattle.target_contexts.specs.Short.{AllShort, ChangeStaysShort, EndStaysShort, FoundIsShort, IsShort, IsShortState, StartStaysShort}
+use Rattle.target_contexts.specs.Short.{AllShort, BeginStaysShort, ChangeStaysShort, EndStaysShort, FoundIsShort, IsShort, IsShortState, StartStaysShort, ThreadStaysShort}
 use Rattle.target_contexts.specs.Starting.{first_state, new_process, suspended_text, with_started}
+use Rattle.target_contexts.specs.Spawning.{begun_thread, can_begin}
 use Rattle.target_contexts.specs.TargetsValue.{TargetsValue}
+use Rattle.target_contexts.specs.ThreadList.{AreFew, changed_numbered}
+use Rattle.target_contexts.specs.declared.threads.Thread.{Thread}
 use Rattle.target_contexts.specs.declared.process.Image.{Image}
 use Rattle.target_contexts.specs.ProcessValue.{ProcessValue}
+use Rattle.target_contexts.proofs.ThreadLists.{changed_count, each_thread_keeps, few_before}
 use Rattle.list_laws.proofs.AllLists.{all_take, all_append, all_drop}
 
 abbrev IsRow : ℕ × ProcessValue → Type 0
@@ -65,7 +69,8 @@ started_short : (attach : Bool) (targets : TargetsValue) (image : Option Image) 
     → AllShort (with_started attach targets image).processes
 started_short attach targets None short all = all
 started_short attach targets (Some image) short all =
-    let new : IsShort (new_process attach image) = record { name = short; state = first_short attach } in
+    let few : AreFew (new_process attach image).threads = record { some = lit≤ tt; few = lit≤ tt } in
+    let new : IsShort (new_process attach image) = record { name = short; threads = (first_short attach, tt); count = few } in
     all_append IsRow targets.processes ((targets.next, new_process attach image) ∷ []) all (new, tt)
 
 pub start_stays_short : StartStaysShort
@@ -99,3 +104,33 @@ without_short rows (Some place) all = all_append IsRow (take place rows) (drop (
 
 pub end_stays_short : EndStaysShort
 end_stays_short rows number all = without_short rows (place_of number rows) all
+
+-- ---- a thread more, and a thread that is changed
+
+abbrev IsShortThread : Thread → Type 0
+IsShortThread thread = IsShortState thread.state
+
+begun_by : (can : Bool) (pc argument : ℕ) (process : ProcessValue) → (can ≡ true → length process.threads + 1 ≤ 8) → IsShort process
+    → IsShort (cond can (record process { threads = process.threads ++ begun_thread pc argument ∷ [] }) process)
+begun_by false pc argument process room is = is
+begun_by true pc argument process room is =
+    let thread : Thread = begun_thread pc argument in
+    let long : length (process.threads ++ thread ∷ []) ≡ length process.threads + 1 = length-append process.threads (thread ∷ []) in
+    record {
+      name = is.name;
+      threads = all_append IsShortThread process.threads (thread ∷ []) is.threads (tt, tt);
+      count = record { some = omega (arith, long); few = omega (arith, long, room refl) };
+    }
+
+pub begin_stays_short : BeginStaysShort
+begin_stays_short pc argument process is =
+    begun_by (can_begin pc process) pc argument process (λ can. omega (arith, few_before pc process can)) is
+
+pub thread_stays_short : ThreadStaysShort
+thread_stays_short change n process keeps is =
+    let long : length (changed_numbered change n process.threads) ≡ length process.threads = changed_count change n process.threads in
+    record {
+      name = is.name;
+      threads = each_thread_keeps IsShortThread change n process (λ thread found short. keeps thread short) is.threads;
+      count = record { some = omega (arith, long, is.count.some); few = omega (arith, long, is.count.few) };
+    }

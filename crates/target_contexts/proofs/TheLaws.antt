@@ -1,13 +1,14 @@
 -- The laws of contexts, as terms.
-use Rattle.target_contexts.specs.Laws.{ChangeStaysOrderly, ChangesOne, EndStaysOrderly, EndsOne, PutBackChangesNothing, StartStaysOrderly, StartsOne}
+use Rattle.target_contexts.specs.Laws.{BeginsOneThread, ChangeStaysOrderly, ChangesOne, ChangesOneThread, EndStaysOrderly, EndsOne, PutBackChangesNothing, StartStaysOrderly, StartsOne, ThreadPutBack}
 use Rattle.target_contexts.specs.Loaded.{FileIsLoaded, OthersStandAtZero, RegistersAreZero}
-use Rattle.target_contexts.specs.Short.{ChangeStaysShort, EndStaysShort, FoundIsShort, StartStaysShort}
-use Rattle.target_contexts.specs.Whole.{StartIsWhole, StartStands}
+use Rattle.target_contexts.specs.Short.{BeginStaysShort, ChangeStaysShort, EndStaysShort, FoundIsShort, StartStaysShort, ThreadStaysShort}
+use Rattle.target_contexts.specs.Whole.{BeginStaysWhole, StartIsWhole, StartStands}
 use Rattle.target_contexts.proofs.Begun as begun
 use Rattle.target_contexts.proofs.Lookup as lookup
 use Rattle.target_contexts.proofs.Orderly.{change_orderly, end_orderly, start_orderly}
 use Rattle.target_contexts.proofs.PutBack as back
 use Rattle.target_contexts.proofs.Short as short
+use Rattle.target_contexts.proofs.ThreadLists as threads
 use Rattle.target_contexts.proofs.Whole as whole
 
 pub starts_one : StartsOne
@@ -57,3 +58,21 @@ others_stand_at_zero = begun.others_at_zero
 
 pub registers_are_zero : RegistersAreZero
 registers_are_zero = begun.registers_zero
+
+pub changes_one_thread : ChangesOneThread
+changes_one_thread = threads.changes_one_thread
+
+pub begins_one_thread : BeginsOneThread
+begins_one_thread = threads.begins_one_thread
+
+pub thread_put_back : ThreadPutBack
+thread_put_back = threads.thread_back
+
+pub begin_stays_short : BeginStaysShort
+begin_stays_short = short.begin_stays_short
+
+pub thread_stays_short : ThreadStaysShort
+thread_stays_short = short.thread_stays_short
+
+pub begin_stays_whole : BeginStaysWhole
+begin_stays_whole = whole.begin_whole

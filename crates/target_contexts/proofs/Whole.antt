@@ -13,9 +13,14 @@ use Rattle.elf_image.specs.Segments.{has_bytes, indices, program_header}
 use Rattle.elf_image.specs.declared.part.Part.{Part}
 use Rattle.elf_image.proofs.TheLaws.{parts_are_loaded}
 use Rattle.rv32i_core.specs.Bytes.{image_memory}
-use Rattle.rv32i_core.specs.Laws.{IsMemory, IsWord}
-use Rattle.target_contexts.specs.Loading.{is_bad, is_elf, is_long}
-use Rattle.target_contexts.specs.Whole.{StartIsWhole, StartStands}
+use Rattle.rv32i_core.specs.Laws.{IsCpu, IsMemory, IsWord}
+use Rattle.rv32i_core.proofs.TheLaws.{beginnings_are_within}
+use Rattle.target_contexts.specs.Loading.{entry_in, is_bad, is_elf, is_long, memory_in}
+use Rattle.target_contexts.specs.ProcessValue.{ProcessValue}
+use Rattle.target_contexts.specs.Spawning.{begun_thread, can_begin}
+use Rattle.target_contexts.specs.Starting.{bytes_refusal}
+use Rattle.target_contexts.specs.Whole.{BeginStaysWhole, IsWhole, StartIsWhole, StartStands}
+use Rattle.target_contexts.specs.declared.threads.Thread.{Thread}
 use Rattle.target_contexts.specs.declared.targets.StartRefusal.TheVariants as refusals
 
 abbrev IsByte : ℕ → Type 0
@@ -122,9 +127,22 @@ pub start_whole : StartIsWhole
 start_whole attach image are free =
     let both = small_by (is_long image.bytes) (is_bad image.bytes) free in
     record {
-      cpu = record { pc = entry_by (is_elf image.bytes) image.bytes are; count = length-replicate {A = ℕ} 32 0; registers = zeros_words };
+      cpus = (record { pc = entry_by (is_elf image.bytes) image.bytes are; count = length-replicate {A = ℕ} 32 0; registers = zeros_words }, tt);
       memory = memory_by (is_elf image.bytes) image.bytes are both.0 both.1;
     }
 
 pub start_stands : StartStands
 start_stands attach image = refl
+
+-- ---- a thread more
+
+begun_whole : (can : Bool) (pc argument : ℕ) (process : ProcessValue) → IsWord pc → IsWord argument → IsWhole process
+    → IsWhole (cond can (record process { threads = process.threads ++ begun_thread pc argument ∷ [] }) process)
+begun_whole false pc argument process first second is = is
+begun_whole true pc argument process first second is = record {
+  cpus = all_append (λ (thread : Thread). IsCpu thread.cpu) process.threads (begun_thread pc argument ∷ []) is.cpus (beginnings_are_within pc argument first second, tt);
+  memory = is.memory;
+}
+
+pub begin_whole : BeginStaysWhole
+begin_whole pc argument process first second is = begun_whole (can_begin pc process) pc argument process first second is

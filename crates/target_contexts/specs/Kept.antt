@@ -1,5 +1,5 @@
 -- The processes of a target with the kinds of their pages, which nothing that is told speaks of.
-use Rattle.std.specs.Prelude.{ℕ, ◌≡◌, ◌==◌, List, [], ◌∷◌, ◌++◌, map, position, remove, slice_set, Option, Some, None}
+use Rattle.std.specs.Prelude.{ℕ, ◌≡◌, ◌==◌, List, [], ◌∷◌, ◌++◌, map, position, remove, slice_get, slice_set, Option, Some, None, option_and_then}
 use Rattle.rv32i_core.specs.PageKind.{PageKind, own_count}
 use Rattle.target_contexts.specs.KeptProcess.{KeptProcess}
 use Rattle.target_contexts.specs.KeptTargets.{KeptTargets}
@@ -28,6 +28,10 @@ put_at xs None x = xs
 abbrev pub removed_at : {A : Type 0} → List A → Option ℕ → List A
 removed_at xs (Some place) = remove xs place
 removed_at xs None = xs
+
+-- the pages of the process of this number
+abbrev pub kinds_at : ℕ → KeptTargets → Option (List PageKind)
+kinds_at number targets = option_and_then (slice_get targets.kinds) (place_of number targets.seen.processes)
 
 -- the process of this number is now this one, with these pages; all others stay
 abbrev pub with_kept : ℕ → KeptProcess → KeptTargets → KeptTargets

@@ -1,7 +1,11 @@
--- The laws of a list of live processes: to start, change or end one leaves the others as they are, and the list orderly.
-use Rattle.std.specs.Prelude.{ℕ, ◌≡◌, ◌≢◌, ◌+◌, ◌^◌, ◌<◌, List, [], ◌∷◌, ◌++◌, length, Some}
+-- The laws of a list of live processes, and of the threads of one: to start, change or end one leaves the others as they
+-- are, and the list orderly.
+use Rattle.std.specs.Prelude.{ℕ, ◌≡◌, ◌≢◌, ◌+◌, ◌^◌, ◌<◌, List, [], ◌∷◌, ◌++◌, length, Some, option_map}
 use Rattle.target_contexts.specs.Live.{IsLive, IsOrderly, numbers_of, process_of, with_process, without}
 use Rattle.target_contexts.specs.ProcessValue.{ProcessValue}
+use Rattle.target_contexts.specs.Spawning.{begun_number, begun_thread, with_begun}
+use Rattle.target_contexts.specs.Threads.{in_thread, thread_at, thread_count, with_thread}
+use Rattle.target_contexts.specs.declared.threads.Thread.{Thread}
 
 -- under every number but this one there is the process that was there
 abbrev pub AgreeBut : ℕ → List (ℕ × ProcessValue) → List (ℕ × ProcessValue) → Type 0
@@ -44,3 +48,28 @@ ChangeStaysOrderly = (rows : List (ℕ × ProcessValue)) (next number : ℕ) (pr
 
 abbrev pub EndStaysOrderly : Type 0
 EndStaysOrderly = (rows : List (ℕ × ProcessValue)) (next number : ℕ) → IsOrderly rows next → IsOrderly (without number rows) next
+
+-- ---- threads
+
+-- under every number but this one there is the thread that was there, and name, debugger and memory stay
+pub record ThreadsAgreeBut (n : ℕ) (old new : ProcessValue) : Type 0 where
+  pub others : (other : ℕ) → other ≢ n → thread_at other new ≡ thread_at other old
+  pub name : new.name ≡ old.name
+  pub attached : new.attached ≡ old.attached
+  pub memory : new.memory ≡ old.memory
+
+-- the thread that is changed is the one of its number, and no number comes or goes
+abbrev pub ChangesOneThread : Type 0
+ChangesOneThread = (change : Thread → Thread) (n : ℕ) (process : ProcessValue) →
+    let new = in_thread change n process in
+    (thread_at n new ≡ option_map change (thread_at n process)) × ThreadsAgreeBut n process new × (thread_count new ≡ thread_count process)
+
+-- a thread that is written as it was changes nothing
+abbrev pub ThreadPutBack : Type 0
+ThreadPutBack = (n : ℕ) (thread : Thread) (process : ProcessValue) → thread_at n process ≡ Some thread → with_thread n thread process ≡ process
+
+-- the thread that begins is the one of the number behind the last
+abbrev pub BeginsOneThread : Type 0
+BeginsOneThread = (pc argument n : ℕ) (process : ProcessValue) → begun_number pc process ≡ Some n →
+    let new = with_begun pc argument process in
+    (thread_at n new ≡ Some (begun_thread pc argument)) × ThreadsAgreeBut n process new × (thread_count new ≡ thread_count process + 1)

@@ -1,3 +1,4 @@
+pub mod ThreadList
 pub mod ProcessValue
 pub mod TargetsValue
 pub mod KeptProcess
@@ -6,6 +7,8 @@ pub mod KeptImages
 pub mod Images
 pub mod Loading
 pub mod Live
+pub mod Threads
+pub mod Spawning
 pub mod Starting
 pub mod Kept
 pub mod Contexts

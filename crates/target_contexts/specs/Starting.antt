@@ -8,6 +8,7 @@ use Rattle.target_contexts.specs.declared.process.Image.{Image}
 use Rattle.target_contexts.specs.ProcessValue.{ProcessValue}
 use Rattle.target_contexts.specs.declared.process.ThreadState.{ThreadState}
 use Rattle.target_contexts.specs.declared.process.ThreadState.TheVariants.{Running, Suspended}
+use Rattle.target_contexts.specs.declared.threads.Thread.{Thread}
 use Rattle.target_contexts.specs.declared.targets.StartRefusal.{StartRefusal}
 use Rattle.target_contexts.specs.declared.targets.StartRefusal.TheVariants.{NoImage, Full, Size, Bad, Numbers}
 
@@ -43,16 +44,19 @@ first_state true = Suspended suspended_text []
 first_state false = Running None
 
 -- all registers 0
+abbrev pub first_thread : Bool → ℕ → Thread
+first_thread attach entry = record { state = first_state attach; cpu = record { pc = entry; x = replicate 32 0 } }
+
+-- with one thread
 abbrev pub process_from : Bool → List ℕ → ℕ → List ℕ → ProcessValue
 process_from attach name entry memory = record {
   name = name;
   attached = attach;
-  state = first_state attach;
-  cpu = record { pc = entry; x = replicate 32 0 };
+  threads = first_thread attach entry ∷ [];
   memory = memory;
 }
 
--- the image in memory, and pc on its first instruction
+-- the image in memory, and the pc of the thread on its first instruction
 abbrev pub new_process : Bool → Image → ProcessValue
 new_process attach image = process_from attach image.name (entry_in image.bytes) (memory_in image.bytes)
 

@@ -1,8 +1,8 @@
-//! The laws of a list of live processes: to start, change or end one leaves the others as they are, and the list
-//! orderly; and the law of the process that starts.
-ghost use Rattle.target_contexts.specs.Laws.{ChangeStaysOrderly, ChangesOne, EndStaysOrderly, EndsOne, PutBackChangesNothing, StartStaysOrderly, StartsOne};
+//! The laws of a list of live processes, and of the threads of one: to start, change or end one leaves the others as they
+//! are, and the list orderly; and the law of the process that starts.
+ghost use Rattle.target_contexts.specs.Laws.{BeginsOneThread, ChangeStaysOrderly, ChangesOne, ChangesOneThread, EndStaysOrderly, EndsOne, PutBackChangesNothing, StartStaysOrderly, StartsOne, ThreadPutBack};
 ghost use Rattle.target_contexts.specs.Loaded.{FileIsLoaded, OthersStandAtZero, RegistersAreZero};
-ghost use Rattle.target_contexts.specs.Whole.{StartIsWhole, StartStands};
+ghost use Rattle.target_contexts.specs.Whole.{BeginStaysWhole, StartIsWhole, StartStands};
 
 /// The law that a process that starts is the one of its number, and that all others stay.
 pub fn a_start_adds_one()
@@ -33,11 +33,21 @@ pub fn they_stay_orderly()
 {}
 
 /// The law that a start from an ELF file without a fault, and one from another image of at most 65,536 bytes, makes a
-/// process whose processor and memory are such as the machine has them, and whose thread is suspended where the debugger
-/// is attached and else runs.
+/// process whose processor and memory are such as the machine has them, with one thread, which is suspended where the
+/// debugger is attached and else runs; and that a thread that begins leaves them such.
 pub fn a_start_makes_a_whole_process()
     ensures whole { StartIsWhole }
     ensures state { StartStands }
+    ensures thread { BeginStaysWhole }
+{}
+
+/// The law that a thread that is changed is the one of its number, and one that begins is the one of the number behind the
+/// last, and that all other threads, the name, the debugger and the memory stay; and that a thread that is written as it
+/// was changes nothing.
+pub fn a_thread_changes_alone()
+    ensures change { ChangesOneThread }
+    ensures back { ThreadPutBack }
+    ensures begin { BeginsOneThread }
 {}
 
 /// The law that a process that is started from an ELF file without a fault has the memory that the file is loaded with,

@@ -9,13 +9,15 @@ mod loading;
 mod named;
 mod process;
 mod targets;
+mod threads;
 
-pub use context::THREAD;
 pub use laws::{
     a_change_changes_one, a_file_is_started_as_it_is_loaded, a_process_put_back_changes_nothing,
-    a_start_adds_one, a_start_makes_a_whole_process, an_end_ends_one, they_stay_orderly,
+    a_start_adds_one, a_start_makes_a_whole_process, a_thread_changes_alone, an_end_ends_one,
+    they_stay_orderly,
 };
 pub use lengths::they_stay_short;
 pub use named::{number_for, thread_for};
 pub use process::{Image, Process, ThreadState};
 pub use targets::{StartRefusal, Targets};
+pub use threads::{Thread, Threads};

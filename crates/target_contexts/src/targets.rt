@@ -1,20 +1,26 @@
 //! The target's processes: started from images, found by number, and taken away.
-ghost use Rattle.std.specs.Prelude.{[], ◌≡◌, ◌≢◌, ◌<◌, ◌≤◌, ◌^◌, ◌↔◌, length, option_copied, option_map, Some, None, IfErr, IfNone, IfOk, IfSome, IsTrue, IsSome, OnErr, OnOk, OnSome};
+ghost use Rattle.std.specs.Prelude.{[], ◌≡◌, ◌≢◌, ◌<◌, ◌≤◌, ◌^◌, ◌↔◌, ◌++◌, ◌∷◌, if◌then◌else◌, length, All, option_copied, option_map, Some, None, IfErr, IfNone, IfOk, IfSome, IsTrue, IsSome, OnErr, OnOk, OnSome};
 ghost use Rattle.std.specs.Borrow.{sem};
 ghost use Rattle.target_contexts.specs.Images.{image_of, is_named};
 ghost use Rattle.target_contexts.specs.KeptImages.{IsOf};
-ghost use Rattle.target_contexts.specs.Kept.{AddsNoOwn, place_in, removed_at, seen_rows};
+ghost use Rattle.target_contexts.specs.Kept.{AddsNoOwn, kinds_at, place_in, removed_at, seen_rows};
 ghost use Rattle.target_contexts.specs.Live.{IsLive, IsOrderly, numbers_of, place_of, process_of, without};
-ghost use Rattle.target_contexts.specs.Contexts.{IsThere, context_of};
-ghost use Rattle.target_contexts.specs.Named.{running_numbers, running_rows};
+ghost use Rattle.target_contexts.specs.Contexts.{IsThere, context_of, whole_of};
+ghost use Rattle.target_contexts.specs.Changes.{with_change};
+ghost use Rattle.target_contexts.specs.Named.{is_running, is_suspended, running_row, running_rows, running_threads, stood_in, stood_numbers};
+ghost use Rattle.target_contexts.specs.Spawning.{added_number, with_begun};
+ghost use Rattle.target_contexts.specs.ThreadList.{numbered};
+ghost use Rattle.target_contexts.specs.Threads.{count_in, thread_of};
 
-use crate::context::{THREAD, process_data, thread_data};
+use crate::context::{add_threads, process_data, thread_data};
 use crate::image::{KeptImage, kept_images};
+use crate::laws::a_process_put_back_changes_nothing;
 use crate::process::{Image, Process, new_process};
+use crate::threads::{Thread, Threads};
 use rv32i_core::Pages;
 use std::alloc::{AllocError, AllocFailed, Global};
 use std::marker::Model;
-use tcf_values::{ContextData, ContextId, Text};
+use tcf_values::{ContextData, ContextId, Contexts, Text};
 
 /// How many processes can live at once.
 const MOST_LIVE: usize = 64;
@@ -103,7 +109,7 @@ impl Targets {
 
     /// Starts a process from the image of this name, and answers its number. From an ELF file it has the memory that the
     /// file is loaded with, and begins at its entry; every other image stands in its memory from the address 0 on, and
-    /// it begins there. With `attach` its thread is suspended, else it runs. No page of its memory is own: it shares
+    /// it begins there. With `attach` its one thread is suspended, else it runs. No page of its memory is own: it shares
     /// those of the image. A refused call changes nothing; a refusal other than for want of memory is answered whatever
     /// the memory.
     #[tactic(auto, using(crate::proofs::Kept::orderly_added, crate::proofs::Kept::started_by, crate::proofs::Kept::rows_added, crate::proofs::Kept::kinds_added, crate::proofs::Found::next_unused))]
@@ -160,11 +166,67 @@ impl Targets {
     pub fn process_mut(&mut self, process: u32) -> Option<&mut Process>
         ensures* writes_back { sem 𝓛 (LendsProcess self.entry process result) }
         ensures value { option_map (λ p. p.now.seen) result ≡ process_of process self.old.seen.processes }
+        ensures kinds { option_map (λ p. p.now.kinds) result ≡ kinds_at process self.old }
         ensures found { IsSome result ↔ IsLive process self.old.seen.processes }
     {
         let place = place_of(process, &self.live)?;
         let row = self.live.get_mut(place)?;
         Some(&mut row.1)
+    }
+
+    /// Begins a thread of a live process: it runs from this address on, with the argument in x10 and all other registers 0.
+    /// The answer is its number. `None` comes exactly where the process isn't live, has 8 threads, or the address is no
+    /// multiple of 4, whatever the memory, and then nothing changes; nor does it after want of memory.
+    #[tactic(auto, using(crate::proofs::Kept::kinds_same, crate::proofs::Kept::kept_same))]
+    pub fn add_thread(
+        &mut self,
+        process: u32,
+        pc: u32,
+        argument: u32,
+    ) -> Result<Option<u32>, AllocError>
+        ensures number { IfOk result (λ number. number ≡ added_number process pc self.old.seen.processes) }
+        ensures none { IfNone (added_number process pc self.old.seen.processes) (result ≡ Ok None) }
+        ensures after { OnOk result (self.new.seen ≡ with_change (with_begun pc argument) process self.old.seen) }
+        ensures kinds { self.new.kinds ≡ self.old.kinds }
+        ensures kept { OnErr result (self.new ≡ self.old) }
+    {
+        a_process_put_back_changes_nothing();
+        match self.process_mut(process) {
+            Some(process) => process.begin_thread(pc, argument),
+            None => Ok(None),
+        }
+    }
+
+    /// The thread of this number of a live process; `None` exactly where there is none.
+    pub fn thread(&self, process: u32, number: u32) -> Option<&Thread>
+        ensures value { option_map (λ t. t.now) result ≡ thread_of process number self.now.seen.processes }
+        ensures positive { OnSome result (0 < process) }
+        ensures numbered { OnSome result (0 < number) }
+    {
+        let process = self.process(process)?;
+        process.threads.get(number)
+    }
+
+    /// How many threads a live process has; 0 where there is none of this number.
+    pub fn thread_count(&self, process: u32) -> u32
+        ensures count { result ≡ count_in (process_of process self.now.seen.processes) }
+        ensures few { result ≤ 8 }
+    {
+        match self.process(process) {
+            Some(process) => process.threads.count(),
+            None => 0,
+        }
+    }
+
+    /// The numbers of the threads of a live process that don't run, in order.
+    pub fn suspended_threads(&self, process: u32) -> Result<Vec<u32>, AllocError>
+        ensures numbers { IfOk result (λ numbers. numbers.items ≡ stood_numbers (process_of process self.now.seen.processes)) }
+        ensures positive { IfOk result (λ numbers. All (λ number. 0 < number) numbers.items) }
+    {
+        match self.process(process) {
+            Some(process) => suspended_in(self.alloc, &process.threads),
+            None => Ok(Vec::new(self.alloc)),
+        }
     }
 
     /// The numbers of the live processes, in order.
@@ -175,10 +237,10 @@ impl Targets {
         numbers_in(self.alloc, &self.live)
     }
 
-    /// The numbers of the live processes whose thread runs, in order. Each process is looked at once.
+    /// The threads that run, in the order of their processes and then of their numbers. Each is looked at once.
     #[tactic(auto, using(crate::proofs::Running::running_walked))]
-    pub fn running(&self) -> Result<Vec<u32>, AllocError>
-        ensures { IfOk result (λ numbers. numbers.items ≡ running_numbers self.now.seen.processes) }
+    pub fn running(&self) -> Result<Vec<ContextId>, AllocError>
+        ensures { IfOk result (λ threads. threads.items ≡ running_threads self.now.seen.processes) }
     {
         running_in(self.alloc, &self.live)
     }
@@ -191,8 +253,8 @@ impl Targets {
         let _next = self.next;
     }
 
-    /// What RunControl tells of a live process, or of its thread, which has the number 1; `None` exactly where there
-    /// is no such process or thread, and then whatever the memory.
+    /// What RunControl tells of a live process, or of a thread of one; `None` exactly where there is no such process or
+    /// thread, and then whatever the memory.
     pub fn context(&self, id: ContextId) -> Result<Option<ContextData>, AllocError>
         ensures told { IfOk result (λ told. told ≡ context_of id self.now.seen.processes) }
         ensures found { IfOk result (λ told. IsSome told ↔ IsThere id self.now.seen.processes) }
@@ -203,12 +265,25 @@ impl Targets {
                 Some(process) => Ok(Some(process_data(self.alloc, number, process)?)),
                 None => Ok(None),
             },
-            ContextId::Thread(number, THREAD) => match self.process(number) {
-                Some(process) => Ok(Some(thread_data(self.alloc, number, process)?)),
-                None => Ok(None),
+            ContextId::Thread(number, n) => match self.process(number) {
+                Some(process) if process.threads.has(n) => {
+                    Ok(Some(thread_data(self.alloc, number, n, process)?))
+                }
+                _ => Ok(None),
             },
-            ContextId::Thread(..) => Ok(None),
         }
+    }
+
+    /// What RunControl tells of a live process, and of its threads in order.
+    pub fn whole_context(&self, number: u32) -> Result<Contexts, AllocError>
+        ensures { IfOk result (λ told. told ≡ whole_of number (process_of number self.now.seen.processes)) }
+    {
+        let mut list = Contexts::new(self.alloc);
+        if let Some(process) = self.process(number) {
+            list.push(process_data(self.alloc, number, process)?)?;
+            add_threads(self.alloc, 0, number, process, &mut list)?;
+        }
+        Ok(list)
     }
 
     /// The name, the pages and the first instruction of the image that a start of this name is to start from, where no
@@ -272,17 +347,76 @@ fn numbers_in(alloc: Global, live: &[(u32, Process)]) -> Result<Vec<u32>, AllocE
     Ok(numbers)
 }
 
-/// The numbers of those whose thread runs.
-fn running_in(alloc: Global, live: &[(u32, Process)]) -> Result<Vec<u32>, AllocError>
-    ensures { IfOk result (λ numbers. numbers.items ≡ running_rows (seen_rows live.now)) }
+/// The threads that run.
+#[tactic(auto, using(crate::proofs::Running::row_more))]
+fn running_in(alloc: Global, live: &[(u32, Process)]) -> Result<Vec<ContextId>, AllocError>
+    ensures { IfOk result (λ running. running.items ≡ running_rows (seen_rows live.now)) }
+{
+    let mut running = Vec::new(alloc);
+    for row in live {
+        add_running(&mut running, row.0, &row.1.threads)?;
+    }
+    Ok(running)
+}
+
+/// Puts those threads of a process last that run.
+#[tactic(auto, using(crate::proofs::Running::thread_walked))]
+fn add_running(
+    running: &mut Vec<ContextId>,
+    number: u32,
+    threads: &Threads,
+) -> Result<(), AllocError>
+    ensures { OnOk result (running.new.items ≡ running.old.items ++ running_row number threads.now) }
+{
+    for place in 0..threads.count() {
+        add_if_running(running, number, place + 1, threads)?;
+    }
+    Ok(())
+}
+
+/// Puts the thread of this number last, where it runs.
+fn add_if_running(
+    running: &mut Vec<ContextId>,
+    number: u32,
+    n: u32,
+    threads: &Threads,
+) -> Result<(), AllocError>
+    ensures { OnOk result (running.new.items
+        ≡ running.old.items ++ (if is_running (numbered n threads.now) then ContextId.Thread number n ∷ [] else [])) }
+{
+    if threads.is_running(n) {
+        running.push(ContextId::Thread(number, n))?;
+    }
+    Ok(())
+}
+
+/// The numbers of those threads that don't run.
+#[tactic(auto, using(crate::proofs::Running::stood_walked))]
+fn suspended_in(alloc: Global, threads: &Threads) -> Result<Vec<u32>, AllocError>
+    ensures numbers { IfOk result (λ numbers. numbers.items ≡ stood_in threads.now) }
+    ensures positive { IfOk result (λ numbers. All (λ number. 0 < number) numbers.items) }
 {
     let mut numbers = Vec::new(alloc);
-    for row in live {
-        if row.1.state.runs() {
-            numbers.push(row.0)?;
-        }
+    for place in 0..threads.count() {
+        add_if_suspended(&mut numbers, place + 1, threads)?;
     }
     Ok(numbers)
+}
+
+/// Puts the number of a thread last, where it doesn't run.
+fn add_if_suspended(numbers: &mut Vec<u32>, n: u32, threads: &Threads) -> Result<(), AllocError>
+    requires positive { All (λ number. 0 < number) numbers.old.items }
+    requires number { 0 < n }
+    ensures numbers { OnOk result (numbers.new.items ≡ numbers.old.items ++ (if is_suspended (numbered n threads.now) then n ∷ [] else [])) }
+    ensures positive { OnOk result (All (λ number. 0 < number) numbers.new.items) }
+{
+    match threads.get(n) {
+        Some(thread) if !thread.state.runs() => {
+            numbers.push(n)?;
+            Ok(())
+        }
+        _ => Ok(()),
+    }
 }
 
 #[cfg(test)]

@@ -21,7 +21,9 @@ use Rattle.tcf_values.specs.declared.faults.Fault.{Fault}
 use Rattle.tcf_values.specs.declared.values.BpProps.{BpProps}
 use Rattle.tcf_values.specs.declared.values.Location.{Location}
 use Rattle.target_contexts.specs.Live.{process_of}
-use Rattle.target_contexts.specs.Named.{attached_in, is_suspended, number_named, thread_named}
+use Rattle.target_contexts.specs.ProcessValue.{ProcessValue}
+use Rattle.target_contexts.specs.Threads.{count_in, thread_of}
+use Rattle.target_contexts.specs.Named.{attached_in, number_named, thread_named}
 use Rattle.target_contexts.specs.TargetsValue.{TargetsValue}
 use Rattle.breakpoints.specs.Changes.{added_by, changed_by, changes_list, done, is_refused, is_switched, removed_by, switched, with_flag}
 use Rattle.breakpoints.specs.Statuses.{status_event}
@@ -30,19 +32,18 @@ use Rattle.breakpoints.specs.declared.breakpoints.BpDone.TheVariants.{Failed, Ch
 use Rattle.data_services.specs.Commands.{data_effect, data_fault, data_given}
 use Rattle.data_services.specs.MemoryRows.{is_no_size, is_outside, memory_events}
 use Rattle.data_services.specs.RegisterRows.{events_from, name_one}
-use Rattle.run_control.specs.Commands.{events_of, run_effect, run_fault, run_given, run_left, terminate_code, trace_given}
+use Rattle.run_control.specs.Commands.{events_of, run_effect, run_fault, run_given, run_left, terminate_code, terminate_events, trace_given}
 use Rattle.run_control.specs.Attaching.{attach_events, detach_events, process_there, start_events}
-use Rattle.run_control.specs.Ending.{end_events}
 use Rattle.run_control.specs.Naming.{process_named}
 use Rattle.run_control.specs.Steering.{suspend_events}
-use Rattle.run_control.specs.Telling.{added_events, changed_events, resumed_events, statuses_in, suspended_events}
+use Rattle.run_control.specs.Telling.{added_events, all_resumed_events, all_suspended_events, changed_events, resumed_events, statuses_in}
 use Rattle.target_hub.specs.BreakpointsRows.{ask_answer, ask_fault, breakpoints_effect, effect_of, removed_events, status_events}
 use Rattle.target_hub.specs.BreakpointsRows as bp_rows
 use Rattle.target_hub.specs.Execution.{effect_in, exec_effect}
 use Rattle.target_hub.specs.Limits.{AreEvents, AreReadable}
 use Rattle.run_control.specs.TargetValue.{TargetValue}
 use Rattle.target_hub.proofs.Lists.{all_mapped}
-use Rattle.target_hub.proofs.Told.{added_fit, changed_fit, end_fits, status_fits, statuses_fit, suspended_fit, trace_fits}
+use Rattle.target_hub.proofs.Told.{added_fit, all_resumed_fit, all_suspended_fit, changed_fit, end_fits, status_fits, statuses_fit, suspended_fit, trace_fits}
 use Rattle.list_laws.proofs.Flags.{second_false}
 use Rattle.list_laws.proofs.AllLists.{all_append, all_filter, all_map}
 use Rattle.breakpoints.specs.declared.rows.Placed.{Placed}
@@ -59,9 +60,9 @@ by_fault (Some fault) given fit = none_told fault
 
 -- ---- RunControl, Processes and Trace
 
-of_fit : (events : ℕ → List EventData) (named : Option ℕ) → ((number : ℕ) → AreEvents (events number)) → AreEvents (events_of events named)
+of_fit : {A : Type 0} → (events : A → List EventData) (named : Option A) → ((one : A) → AreEvents (events one)) → AreEvents (events_of events named)
 of_fit events None each = tt
-of_fit events (Some number) each = each number
+of_fit events (Some one) each = each one
 
 test_fit : (test : Bool) (one other : List EventData) → AreEvents one → AreEvents other → AreEvents (cond test one other)
 test_fit true one other fit also = fit
@@ -70,50 +71,51 @@ test_fit false one other fit also = also
 three : (xs ys zs : List EventData) → AreEvents xs → AreEvents ys → AreEvents zs → AreEvents (xs ++ (ys ++ zs))
 three xs ys zs first second third = all_append IsEvent xs (ys ++ zs) first (all_append IsEvent ys zs second third)
 
-trace_fit : (bps : List Placed) (count : ℕ) (named : Option ℕ) (targets after : TargetsValue) → AreEvents (trace_given bps count named targets after).events
+trace_fit : (bps : List Placed) (count : ℕ) (named : Option (ℕ × ℕ)) (targets after : TargetsValue) → AreEvents (trace_given bps count named targets after).events
 trace_fit bps count None targets after = tt
-trace_fit bps count (Some number) targets after = trace_fits bps count number targets after
+trace_fit bps count (Some pair) targets after = trace_fits bps count pair.0 pair.1 targets after
 
-resumed_fit : (number : ℕ) → AreEvents (resumed_events number)
-resumed_fit number = (tt, tt)
+resumed_fit : (number n : ℕ) → AreEvents (resumed_events number n)
+resumed_fit number n = (tt, tt)
 
-ended_fit : (bps : List Placed) (after : TargetsValue) (number : ℕ) → AreEvents (end_events bps number terminate_code after)
-ended_fit bps after number = end_fits bps number terminate_code after (lit< {m = 0} {n = 2 ^ 63} tt)
+ended_fit : (bps : List Placed) (targets after : TargetsValue) (number : ℕ) → AreEvents (terminate_events bps number targets after)
+ended_fit bps targets after number =
+    end_fits bps number (count_in (process_of number targets.processes)) terminate_code after (lit< {m = 0} {n = 2 ^ 63} tt)
 
 started_fit : (bps : List Placed) (number : ℕ) (after : TargetsValue) → AreEvents (start_events bps number after)
 started_fit bps number after =
     let process = process_of number after.processes in
-    three (added_events number process) (suspended_events number process) (statuses_in bps after)
-    (added_fit number process) (suspended_fit number process) (statuses_fit (attached_in after.processes) bps)
+    three (added_events number process) (all_suspended_events number process) (statuses_in bps after)
+    (added_fit number process) (all_suspended_fit number process) (statuses_fit (attached_in after.processes) bps)
 
 attached_fit : (bps : List Placed) (after : TargetsValue) (number : ℕ) → AreEvents (attach_events bps number after)
 attached_fit bps after number =
     let process = process_of number after.processes in
-    three (changed_events number process) (suspended_events number process) (statuses_in bps after)
-    (changed_fit number process) (suspended_fit number process) (statuses_fit (attached_in after.processes) bps)
+    three (changed_events number process) (all_suspended_events number process) (statuses_in bps after)
+    (changed_fit number process) (all_suspended_fit number process) (statuses_fit (attached_in after.processes) bps)
 
-detached_fit : (bps : List Placed) (was_suspended : Bool) (after : TargetsValue) (number : ℕ) → AreEvents (detach_events bps was_suspended number after)
-detached_fit bps was_suspended after number =
+detached_fit : (bps : List Placed) (was : Option ProcessValue) (after : TargetsValue) (number : ℕ) → AreEvents (detach_events bps was number after)
+detached_fit bps was after number =
     let process = process_of number after.processes in
-    three (changed_events number process) (cond was_suspended (resumed_events number) []) (statuses_in bps after)
-    (changed_fit number process) (test_fit was_suspended (resumed_events number) [] (resumed_fit number) tt) (statuses_fit (attached_in after.processes) bps)
+    three (changed_events number process) (all_resumed_events number was) (statuses_in bps after)
+    (changed_fit number process) (all_resumed_fit number was) (statuses_fit (attached_in after.processes) bps)
 
 run_fit : (command : Command) (bps : List Placed) (targets after : TargetsValue) → AreEvents (run_given command bps targets after).events
 run_fit (GetContext id) bps targets after = tt
 run_fit (GetChildren id) bps targets after = tt
 run_fit (GetState id) bps targets after = tt
-run_fit (Resume id mode count) bps targets after = of_fit resumed_events (thread_named id) resumed_fit
+run_fit (Resume id mode count) bps targets after = of_fit (λ pair. resumed_events pair.0 pair.1) (thread_named id) (λ pair. resumed_fit pair.0 pair.1)
 run_fit (Suspend id) bps targets after =
-    of_fit (λ number. suspend_events number after) (thread_named id) (λ number. suspended_fit number (process_of number after.processes))
-run_fit (Terminate id) bps targets after = of_fit (λ number. end_events bps number terminate_code after) (number_named id) (ended_fit bps after)
+    of_fit (λ pair. suspend_events pair.0 pair.1 after) (thread_named id) (λ pair. suspended_fit pair.0 pair.1 (thread_of pair.0 pair.1 after.processes))
+run_fit (Terminate id) bps targets after = of_fit (λ number. terminate_events bps number targets after) (number_named id) (ended_fit bps targets after)
 run_fit (ProcContext id) bps targets after = tt
 run_fit (ProcChildren id attached) bps targets after = tt
 run_fit (ProcStart directory file args environment attach) bps targets after = started_fit bps targets.next after
 run_fit (ProcAttach id) bps targets after = of_fit (λ number. attach_events bps number after) (process_named id) (attached_fit bps after)
 run_fit (ProcDetach id) bps targets after =
-    let was_suspended = is_suspended (process_there id targets.processes) in
-    of_fit (λ number. detach_events bps was_suspended number after) (process_named id) (detached_fit bps was_suspended after)
-run_fit (ProcTerminate id) bps targets after = of_fit (λ number. end_events bps number terminate_code after) (process_named id) (ended_fit bps after)
+    let was = process_there id targets.processes in
+    of_fit (λ number. detach_events bps was number after) (process_named id) (detached_fit bps was after)
+run_fit (ProcTerminate id) bps targets after = of_fit (λ number. terminate_events bps number targets after) (process_named id) (ended_fit bps targets after)
 run_fit (TraceRun id count) bps targets after = trace_fit bps (unsigned_abs count) (thread_named id) targets after
 run_fit _ bps targets after = tt
 

@@ -1,6 +1,8 @@
 -- The target tells no Hello: it tells of its processes, its breakpoints, its memory and its registers.
-use Rattle.std.proofs.Common.{ℕ, ℤ, pos, ◌==◌, length, Bool, true, false, cond, List, [], ◌∷◌, ◌++◌, Option, Some, None, option_map}
+use Rattle.std.proofs.Common.{ℕ, ℤ, pos, Bool, true, false, cond, List, [], ◌∷◌, ◌++◌, Option, Some, None, option_map}
+use Rattle.std.specs.List.{flat_map}
 use Rattle.std.specs.Prelude.{IfSome, int_lt, slice_get, unsigned_abs}
+use Rattle.tcf_values.specs.declared.values.ContextData.{ContextData}
 use Rattle.breakpoints.specs.Changes.{changes_list, done}
 use Rattle.breakpoints.specs.Rows.{ids_of, owned_by}
 use Rattle.breakpoints.specs.Statuses.{statuses_of}
@@ -11,20 +13,22 @@ use Rattle.data_services.specs.Commands.{data_effect, data_fault, data_given}
 use Rattle.data_services.specs.MemoryRows.{memory_events}
 use Rattle.data_services.specs.RegisterRows.{events_from, name_one}
 use Rattle.run_control.specs.Attaching.{attach_events, detach_events, process_there, start_events}
-use Rattle.run_control.specs.Commands.{events_of, run_effect, run_fault, run_given, run_left, terminate_code, trace_given}
+use Rattle.run_control.specs.Commands.{events_of, run_effect, run_fault, run_given, run_left, terminate_code, terminate_events, trace_given}
 use Rattle.run_control.specs.Ending.{end_events}
-use Rattle.run_control.specs.Executing.{exception_code, executed_by, executed_with, fate_by, settled_events, step_text}
+use Rattle.run_control.specs.Executing.{settled_events, step_text}
 use Rattle.run_control.specs.Naming.{process_named}
 use Rattle.run_control.specs.Steering.{suspend_events}
-use Rattle.run_control.specs.Telling.{added_events, changed_events, resumed_events, statuses_in, stop_events, suspended_events}
-use Rattle.run_control.specs.Ticking.{counted, running_number, ticked, ticked_events, ticked_events_at}
-use Rattle.run_control.specs.Tracing.{halt_by, last_hits, last_of, states_of, stop_by, traced_events_at}
-use Rattle.rv32i_core.specs.Machine.{Step, ends, excepts, goes_on, machine}
+use Rattle.run_control.specs.Telling.{added_events, all_resumed_events, all_suspended_events, changed_events, contexts_events, made_events, resumed_event, resumed_events, statuses_in, stop_events, suspended_events}
+use Rattle.run_control.specs.Ticking.{counted_in, running_pair, ticked, ticked_events, ticked_events_at}
+use Rattle.run_control.specs.Tracing.{traced_events_at}
 use Rattle.service_names.specs.Commands.{named_as}
 use Rattle.service_names.specs.declared.commands.CommandName.{CommandName}
 use Rattle.service_names.specs.declared.commands.CommandName.TheVariants as service
+use Rattle.target_contexts.specs.Contexts.{threads_behind}
 use Rattle.target_contexts.specs.Live.{process_of}
-use Rattle.target_contexts.specs.Named.{attached_in, is_suspended, number_named, thread_named}
+use Rattle.target_contexts.specs.Threads.{count_in, thread_at, thread_count, thread_numbers, thread_of}
+use Rattle.target_contexts.specs.declared.threads.Thread.{Thread}
+use Rattle.target_contexts.specs.Named.{attached_in, number_named, thread_named}
 use Rattle.target_contexts.specs.TargetsValue.{TargetsValue}
 use Rattle.target_contexts.specs.ProcessValue.{ProcessValue}
 use Rattle.target_contexts.specs.declared.process.ThreadState.{ThreadState}
@@ -42,7 +46,8 @@ use Rattle.tcf_values.specs.declared.event.EventData.{EventData}
 use Rattle.tcf_values.specs.declared.faults.Fault.{Fault}
 use Rattle.tcf_values.specs.declared.values.BpProps.{BpProps}
 use Rattle.tcf_values.specs.declared.values.Location.{Location}
-use Rattle.list_laws.proofs.AllLists.{all_append}
+use Rattle.target_hub.proofs.Fates.{Covers, tick_keeps, trace_keeps}
+use Rattle.list_laws.proofs.AllLists.{all_append, all_map}
 use Rattle.breakpoints.specs.declared.rows.Placed.{Placed}
 
 -- ---- lists of events
@@ -54,9 +59,9 @@ either : (test : Bool) (one other : List EventData) → AreNoHello one → AreNo
 either true one other first second = first
 either false one other first second = second
 
-of_number : (events : ℕ → List EventData) (named : Option ℕ) → ((number : ℕ) → AreNoHello (events number)) → AreNoHello (events_of events named)
-of_number events None each = tt
-of_number events (Some number) each = each number
+of_one : {A : Type 0} → (events : A → List EventData) (named : Option A) → ((one : A) → AreNoHello (events one)) → AreNoHello (events_of events named)
+of_one events None each = tt
+of_one events (Some one) each = each one
 
 -- a command that fails tells nothing
 none_told : (fault : Fault) → AreNoHello (failed fault).events
@@ -80,99 +85,99 @@ added_told : (number : ℕ) (process : Option ProcessValue) → AreNoHello (adde
 added_told number None = tt
 added_told number (Some process) = (tt, tt)
 
+contexts_told : (contexts : List ContextData) → AreNoHello (contexts_events contexts)
+contexts_told [] = tt
+contexts_told (context ∷ contexts) = (tt, tt)
+
 changed_told : (number : ℕ) (process : Option ProcessValue) → AreNoHello (changed_events number process)
 changed_told number None = tt
 changed_told number (Some process) = (tt, tt)
 
-stop_told : (number pc : ℕ) (state : ThreadState) → AreNoHello (stop_events number pc state)
-stop_told number pc (Running left) = tt
-stop_told number pc (Suspended reason hits) = (tt, tt)
+stop_told : (number n pc : ℕ) (state : ThreadState) → AreNoHello (stop_events number n pc state)
+stop_told number n pc (Running left) = tt
+stop_told number n pc (Suspended reason hits) = (tt, tt)
 
-suspended_told : (number : ℕ) (process : Option ProcessValue) → AreNoHello (suspended_events number process)
-suspended_told number None = tt
-suspended_told number (Some process) = stop_told number process.cpu.pc process.state
+suspended_told : (number n : ℕ) (thread : Option Thread) → AreNoHello (suspended_events number n thread)
+suspended_told number n None = tt
+suspended_told number n (Some thread) = stop_told number n thread.cpu.pc thread.state
 
-resumed_told : (number : ℕ) → AreNoHello (resumed_events number)
-resumed_told number = (tt, tt)
+flat_told : (told : ℕ → List EventData) (numbers : List ℕ) → ((n : ℕ) → AreNoHello (told n)) → AreNoHello (flat_map told numbers)
+flat_told told [] each = tt
+flat_told told (n ∷ numbers) each = all_append IsNoHello (told n) (flat_map told numbers) (each n) (flat_told told numbers each)
 
-end_told : (bps : List Placed) (number : ℕ) (code : ℤ) (targets : TargetsValue) → AreNoHello (end_events bps number code targets)
-end_told bps number code targets = (tt, (tt, statuses_told bps targets))
+all_suspended_told : (number : ℕ) (process : Option ProcessValue) → AreNoHello (all_suspended_events number process)
+all_suspended_told number None = tt
+all_suspended_told number (Some process) =
+    flat_told (λ n. suspended_events number n (thread_at n process)) (thread_numbers process) (λ n. suspended_told number n (thread_at n process))
+
+resumed_told : (number n : ℕ) → AreNoHello (resumed_events number n)
+resumed_told number n = (tt, tt)
+
+all_resumed_told : (number : ℕ) (was : Option ProcessValue) → AreNoHello (all_resumed_events number was)
+all_resumed_told number was = all_map IsNoHello (resumed_event number) _ (λ n. tt)
+
+end_told : (bps : List Placed) (number count : ℕ) (code : ℤ) (targets : TargetsValue) → AreNoHello (end_events bps number count code targets)
+end_told bps number count code targets = (tt, (tt, statuses_told bps targets))
 
 started_told : (bps : List Placed) (number : ℕ) (after : TargetsValue) → AreNoHello (start_events bps number after)
 started_told bps number after =
     let process = process_of number after.processes in
-    three (added_events number process) (suspended_events number process) (statuses_in bps after)
-    (added_told number process) (suspended_told number process) (statuses_told bps after)
+    three (added_events number process) (all_suspended_events number process) (statuses_in bps after)
+    (added_told number process) (all_suspended_told number process) (statuses_told bps after)
 
 attached_told : (bps : List Placed) (after : TargetsValue) (number : ℕ) → AreNoHello (attach_events bps number after)
 attached_told bps after number =
     let process = process_of number after.processes in
-    three (changed_events number process) (suspended_events number process) (statuses_in bps after)
-    (changed_told number process) (suspended_told number process) (statuses_told bps after)
+    three (changed_events number process) (all_suspended_events number process) (statuses_in bps after)
+    (changed_told number process) (all_suspended_told number process) (statuses_told bps after)
 
-detached_told : (bps : List Placed) (was_suspended : Bool) (after : TargetsValue) (number : ℕ) → AreNoHello (detach_events bps was_suspended number after)
-detached_told bps was_suspended after number =
+detached_told : (bps : List Placed) (was : Option ProcessValue) (after : TargetsValue) (number : ℕ) → AreNoHello (detach_events bps was number after)
+detached_told bps was after number =
     let process = process_of number after.processes in
-    three (changed_events number process) (cond was_suspended (resumed_events number) []) (statuses_in bps after)
-    (changed_told number process) (either was_suspended (resumed_events number) [] (resumed_told number) tt) (statuses_told bps after)
+    three (changed_events number process) (all_resumed_events number was) (statuses_in bps after)
+    (changed_told number process) (all_resumed_told number was) (statuses_told bps after)
 
 -- ---- what becomes of a process after its instructions
 
-hit_told : (bps : List Placed) (number : ℕ) (plain : ThreadState) (attached : Bool) (after : TargetsValue) (hits : List (List ℕ)) → AreNoHello (settled_events bps number (fate_by plain attached (executed_with hits)) after)
-hit_told bps number plain attached after [] = suspended_told number (process_of number after.processes)
-hit_told bps number plain attached after (hit ∷ hits) = suspended_told number (process_of number after.processes)
+fate_told : (bps : List Placed) (number n before : ℕ) (plain : ThreadState) (after : TargetsValue) → Covers (λ fate. AreNoHello (settled_events bps number n before fate after)) plain
+fate_told bps number n before plain after =
+    let lived =
+    all_append IsNoHello (made_events number before (process_of number after.processes)) (suspended_events number n (thread_of number n after.processes))
+    (contexts_told (threads_behind before number (process_of number after.processes))) (suspended_told number n (thread_of number n after.processes)) in
+    record { plainly = lived; suspended = λ state stands. lived; ended = λ code whole. end_told bps number before code after }
 
-exception_told : (bps : List Placed) (number : ℕ) (plain : ThreadState) (attached : Bool) (after : TargetsValue) (process : ProcessValue) → AreNoHello (settled_events bps number (fate_by plain attached (executed_by bps number process excepts)) after)
-exception_told bps number plain true after process = suspended_told number (process_of number after.processes)
-exception_told bps number plain false after process = end_told bps number exception_code after
+traced_told : (bps : List Placed) (number n count : ℕ) (process : Option ProcessValue) (after : TargetsValue) → AreNoHello (traced_events_at bps number n count process after)
+traced_told bps number n count None after = tt
+traced_told bps number n count (Some process) after =
+    trace_keeps (λ fate. AreNoHello (settled_events bps number n (thread_count process) fate after)) bps number n count process
+    (fate_told bps number n (thread_count process) (Suspended step_text []) after)
 
-executed_told : (bps : List Placed) (number : ℕ) (plain : ThreadState) (attached : Bool) (after : TargetsValue) (process : ProcessValue) (step : Step)
-    → AreNoHello (settled_events bps number (fate_by plain attached (executed_by bps number process step)) after)
-executed_told bps number plain attached after process (goes_on cpu memory) = hit_told bps number plain attached after _
-executed_told bps number plain attached after process (ends code) = end_told bps number code after
-executed_told bps number plain attached after process excepts = exception_told bps number plain attached after process
-
-halt_told : (bps : List Placed) (number : ℕ) (plain : ThreadState) (attached : Bool) (after : TargetsValue) (step : Step)
-    → AreNoHello (settled_events bps number (fate_by plain attached (halt_by step)) after)
-halt_told bps number plain attached after (goes_on cpu memory) = suspended_told number (process_of number after.processes)
-halt_told bps number plain attached after (ends code) = end_told bps number code after
-halt_told bps number plain true after excepts = suspended_told number (process_of number after.processes)
-halt_told bps number plain false after excepts = end_told bps number exception_code after
-
-stopped_told : (bps : List Placed) (number : ℕ) (plain : ThreadState) (attached : Bool) (after : TargetsValue) (hits : List (List ℕ)) (all : Bool) (last : ProcessValue)
-    → AreNoHello (settled_events bps number (fate_by plain attached (stop_by hits all last)) after)
-stopped_told bps number plain attached after (hit ∷ hits) all last = suspended_told number (process_of number after.processes)
-stopped_told bps number plain attached after [] true last = suspended_told number (process_of number after.processes)
-stopped_told bps number plain attached after [] false last = halt_told bps number plain attached after (machine last.cpu last.memory)
-
-traced_told : (bps : List Placed) (number count : ℕ) (process : Option ProcessValue) (after : TargetsValue) → AreNoHello (traced_events_at bps number count process after)
-traced_told bps number count None after = tt
-traced_told bps number count (Some process) after =
-    let states = states_of bps number count process in
-    stopped_told bps number (Suspended step_text []) process.attached after (last_hits bps number process states) (length states == count) (last_of process states)
-
-trace_told : (bps : List Placed) (count : ℕ) (named : Option ℕ) (targets after : TargetsValue) → AreNoHello (trace_given bps count named targets after).events
+trace_told : (bps : List Placed) (count : ℕ) (named : Option (ℕ × ℕ)) (targets after : TargetsValue) → AreNoHello (trace_given bps count named targets after).events
 trace_told bps count None targets after = tt
-trace_told bps count (Some number) targets after = traced_told bps number count (process_of number targets.processes) after
+trace_told bps count (Some pair) targets after = traced_told bps pair.0 pair.1 count (process_of pair.0 targets.processes) after
+
+terminate_told : (bps : List Placed) (targets after : TargetsValue) (number : ℕ) → AreNoHello (terminate_events bps number targets after)
+terminate_told bps targets after number = end_told bps number (count_in (process_of number targets.processes)) terminate_code after
 
 run_all : (command : Command) (bps : List Placed) (targets after : TargetsValue) → AreNoHello (run_given command bps targets after).events
 run_all (GetContext id) bps targets after = tt
 run_all (GetChildren id) bps targets after = tt
 run_all (GetState id) bps targets after = tt
-run_all (Resume id mode count) bps targets after = of_number resumed_events (thread_named id) resumed_told
+run_all (Resume id mode count) bps targets after =
+    of_one (λ pair. resumed_events pair.0 pair.1) (thread_named id) (λ pair. resumed_told pair.0 pair.1)
 run_all (Suspend id) bps targets after =
-    of_number (λ number. suspend_events number after) (thread_named id) (λ number. suspended_told number (process_of number after.processes))
+    of_one (λ pair. suspend_events pair.0 pair.1 after) (thread_named id) (λ pair. suspended_told pair.0 pair.1 (thread_of pair.0 pair.1 after.processes))
 run_all (Terminate id) bps targets after =
-    of_number (λ number. end_events bps number terminate_code after) (number_named id) (λ number. end_told bps number terminate_code after)
+    of_one (λ number. terminate_events bps number targets after) (number_named id) (terminate_told bps targets after)
 run_all (ProcContext id) bps targets after = tt
 run_all (ProcChildren id attached) bps targets after = tt
 run_all (ProcStart directory file args environment attach) bps targets after = started_told bps targets.next after
-run_all (ProcAttach id) bps targets after = of_number (λ number. attach_events bps number after) (process_named id) (attached_told bps after)
+run_all (ProcAttach id) bps targets after = of_one (λ number. attach_events bps number after) (process_named id) (attached_told bps after)
 run_all (ProcDetach id) bps targets after =
-    let was_suspended = is_suspended (process_there id targets.processes) in
-    of_number (λ number. detach_events bps was_suspended number after) (process_named id) (detached_told bps was_suspended after)
+    let was = process_there id targets.processes in
+    of_one (λ number. detach_events bps was number after) (process_named id) (detached_told bps was after)
 run_all (ProcTerminate id) bps targets after =
-    of_number (λ number. end_events bps number terminate_code after) (process_named id) (λ number. end_told bps number terminate_code after)
+    of_one (λ number. terminate_events bps number targets after) (process_named id) (terminate_told bps targets after)
 run_all (TraceRun id count) bps targets after = trace_told bps (unsigned_abs count) (thread_named id) targets after
 run_all _ bps targets after = tt
 
@@ -260,17 +265,18 @@ commands_greetless channel service name (readings.Known command) target = exec_t
 commands_greetless channel service name readings.Unknown target = tt
 commands_greetless channel service name (readings.Bad index code) target = tt
 
-ticked_told : (bps : List Placed) (number : ℕ) (process : Option ProcessValue) (after : TargetsValue) → AreNoHello (ticked_events_at bps number process after)
-ticked_told bps number None after = tt
-ticked_told bps number (Some process) after =
-    executed_told bps number (counted process.state) process.attached after process (machine process.cpu process.memory)
+ticked_told : (bps : List Placed) (number n : ℕ) (process : Option ProcessValue) (after : TargetsValue) → AreNoHello (ticked_events_at bps number n process after)
+ticked_told bps number n None after = tt
+ticked_told bps number n (Some process) after =
+    tick_keeps (λ fate. AreNoHello (settled_events bps number n (thread_count process) fate after)) bps number n process
+    (fate_told bps number n (thread_count process) (counted_in (thread_at n process)) after)
 
-tick_named : (bps : List Placed) (targets : TargetsValue) (named : Option ℕ) → IfSome (option_map (λ number. ticked_events bps number targets) named) AreNoHello
+tick_named : (bps : List Placed) (targets : TargetsValue) (named : Option (ℕ × ℕ)) → IfSome (option_map (λ pair. ticked_events bps pair.0 pair.1 targets) named) AreNoHello
 tick_named bps targets None = tt
-tick_named bps targets (Some number) = ticked_told bps number (process_of number targets.processes) (ticked bps number targets)
+tick_named bps targets (Some pair) = ticked_told bps pair.0 pair.1 (process_of pair.0 targets.processes) (ticked bps pair.0 pair.1 targets)
 
 pub ticks_greetless : TicksTellNoHello
-ticks_greetless thread target = tick_named target.breakpoints target.contexts (running_number thread target.contexts.processes)
+ticks_greetless thread target = tick_named target.breakpoints target.contexts (running_pair thread target.contexts.processes)
 
 pub closings_greetless : ClosingsTellNoHello
 closings_greetless channel target = removed_told (ids_of (owned_by channel target.breakpoints))

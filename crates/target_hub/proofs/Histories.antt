@@ -1,5 +1,6 @@
 -- What every legal list of inputs keeps.
-use Rattle.std.proofs.Common.{◌≡◌, ◌≢◌, ℕ, ◌&&◌, ◌||◌, Bool, true, false, not, List, [], ◌∷◌, ◌++◌, Option, Some, None, option_map, refl, sym, ◌∙◌, ap, subst, arith, inl, inr, ◌⊎◌}
+use Rattle.std.proofs.Common.{◌≡◌, ◌≢◌, ℕ, ◌&&◌, ◌||◌, Bool, true, false, not, List, [], ◌∷◌, ◌++◌, map, Option, Some, None, option_map, refl, sym, ◌∙◌, ap, subst, arith, inl, inr, ◌⊎◌}
+use Rattle.std.specs.List.{AllByRecursion}
 use Rattle.std.specs.Prelude.{unwrap_or}
 use Rattle.std.proofs.lemmas.List.{append-nil, append_assoc}
 use Rattle.std.proofs.lemmas.List.Folds.{list_any-append}
@@ -17,12 +18,14 @@ use Rattle.breakpoints.specs.Rows.{IsOrderly as AreListed, others, owned_by}
 use Rattle.data_services.specs.Commands.{data_after}
 use Rattle.data_services.specs.Laws.{thread_part}
 use Rattle.run_control.specs.Commands.{run_after}
-use Rattle.run_control.specs.Laws.{AreSound, IsSound, needs_debugger}
+use Rattle.run_control.specs.Laws.{AreSound, IsSound, IsSoundThread, needs_debugger}
 use Rattle.target_contexts.specs.Live.{IsOrderly, process_of}
 use Rattle.target_contexts.specs.TargetsValue.{TargetsValue}
 use Rattle.target_contexts.specs.declared.process.Image.{Image}
 use Rattle.target_contexts.specs.ProcessValue.{ProcessValue}
 use Rattle.target_contexts.specs.declared.process.ThreadState.{ThreadState}
+use Rattle.target_contexts.specs.declared.threads.Thread.{Thread}
+use Rattle.list_laws.proofs.Lists.{cons_parts}
 use Rattle.target_hub.specs.Execution.{after_in, exec_after}
 use Rattle.target_hub.specs.History.{IsAllowed, IsLegal, closes, input_after, inputs_after, was_closed, was_opened}
 use Rattle.target_hub.specs.HistoryLaws.{ClosedOwnsNothing, StaysConsistent}
@@ -56,13 +59,21 @@ pub record AreKept (before : List Input) (rows : List Placed) : Type 0 where
 
 -- ---- the processes through a command
 
+-- threads with the same states are as sound
+states_sound : (threads was : List Thread) (attached before : Bool) → map (λ (t : Thread). t.state) threads ≡ map (λ (t : Thread). t.state) was → attached ≡ before
+    → AllByRecursion (IsSoundThread before) was → AllByRecursion (IsSoundThread attached) threads
+states_sound [] was attached before states same sound = tt
+states_sound (t ∷ threads) [] attached before states same sound = absurd cc
+states_sound (t ∷ threads) (u ∷ was) attached before states same sound =
+    let parts = cons_parts t.state u.state (map (λ (t : Thread). t.state) threads) (map (λ (t : Thread). t.state) was) states in
+    ((λ needs. same ∙ sound.0 (ap needs_debugger (sym parts.0) ∙ needs)), states_sound threads was attached before parts.1 same sound.1)
+
 sound_at : (found : Option ProcessValue) (process : ProcessValue) → option_map thread_part (Some process) ≡ option_map thread_part found → ((p : ProcessValue) → found ≡ Some p → IsSound p) → IsSound process
 sound_at None process same sound = absurd cc
 sound_at (Some p) process same sound =
-    let parts : thread_part process ≡ thread_part p = ap (λ (o : Option (ThreadState × Bool)). unwrap_or o (thread_part p)) same in
-    let state : process.state ≡ p.state = ap (λ (q : ThreadState × Bool). q.0) parts in
-    let attached : process.attached ≡ p.attached = ap (λ (q : ThreadState × Bool). q.1) parts in
-    λ needs. attached ∙ sound p refl (ap needs_debugger (sym state) ∙ needs)
+    let parts : thread_part process ≡ thread_part p = ap (λ (o : Option (List ThreadState × Bool)). unwrap_or o (thread_part p)) same in
+    states_sound process.threads p.threads process.attached p.attached
+    (ap (λ (q : List ThreadState × Bool). q.0) parts) (ap (λ (q : List ThreadState × Bool). q.1) parts) (sound p refl)
 
 data_sound : (c : Command) (contexts : TargetsValue) → AreSound contexts.processes → AreSound (data_after c contexts).processes
 data_sound c contexts sound number process there =

@@ -1,5 +1,5 @@
 -- The answer to each command is one of its row.
-use Rattle.std.proofs.Common.{◌≡◌, ℕ, ◌<◌, ◌^◌, Bool, true, false, cond, List, [], ◌∷◌, Option, Some, None, option_map, option_and_then, refl, bytes_eq, length, ◌==◌, lit<}
+use Rattle.std.proofs.Common.{◌≡◌, ℕ, ◌<◌, ◌^◌, Bool, true, false, cond, List, [], ◌∷◌, Option, Some, None, option_map, option_and_then, refl, bytes_eq, length, lit<}
 use Rattle.std.specs.Prelude.{is_none, unsigned_abs}
 use Rattle.json_values.specs.Contexts.{IsContext}
 use Rattle.json_values.specs.Props.{is_bp}
@@ -30,6 +30,8 @@ use Rattle.target_contexts.specs.Live.{IsOrderly, process_of}
 use Rattle.target_contexts.specs.Named.{attached_in, process_at_number, thread_named}
 use Rattle.target_contexts.specs.Starting.{new_process, refusal_for, started, with_started}
 use Rattle.target_contexts.specs.TargetsValue.{TargetsValue}
+use Rattle.target_contexts.specs.Threads.{holding}
+use Rattle.target_contexts.specs.declared.threads.Thread.{Thread}
 use Rattle.target_contexts.specs.declared.process.Image.{Image}
 use Rattle.target_contexts.specs.ProcessValue.{ProcessValue}
 use Rattle.run_control.specs.Asking.{context_answer, data_named, process_answer, process_answer_of, state_answer}
@@ -77,19 +79,13 @@ process_context : (number : ℕ) (found : Option ProcessValue) → IfContext (op
 process_context number None = tt
 process_context number (Some process) = process_within number process
 
-thread_context : (number : ℕ) (found : Option ProcessValue) → IfContext (option_map (λ process. thread_data number process) found)
-thread_context number None = tt
-thread_context number (Some process) = thread_within number process
-
-if_first : (test : Bool) (found : Option ContextData) → IfContext found → IfContext (cond test found None)
-if_first true found within = within
-if_first false found within = tt
+thread_context : (number n : ℕ) (found : Option ProcessValue) → IfContext (option_map (λ process. thread_data number n process) found)
+thread_context number n None = tt
+thread_context number n (Some process) = thread_within number n process
 
 data_within : (context : ContextId) (rows : List (ℕ × ProcessValue)) → IfContext (data_of context rows)
 data_within (ids.Process number) rows = process_context number (process_of number rows)
-data_within (ids.Thread number thread) rows =
-    let found = process_of number rows in
-    if_first (thread == 1) (option_map (λ process. thread_data number process) found) (thread_context number found)
+data_within (ids.Thread number n) rows = thread_context number n (holding n (process_of number rows))
 
 named_within : (rows : List (ℕ × ProcessValue)) (context : Option ContextId) → IfContext (option_and_then (λ c. data_of c rows) context)
 named_within rows None = tt
@@ -101,9 +97,9 @@ context_row (Some context) within none = (refl, within)
 
 -- ---- states and processes
 
-state_row : (found : Option ProcessValue) → first_fault ((is_none found, faults.BadContext) ∷ []) ≡ None → IsOfRow ErrorState (state_answer found)
+state_row : (found : Option Thread) → first_fault ((is_none found, faults.BadContext) ∷ []) ≡ None → IsOfRow ErrorState (state_answer found)
 state_row None none = absurd cc
-state_row (Some process) none = tt
+state_row (Some thread) none = tt
 
 process_of_row : (number : ℕ) (found : Option ProcessValue) → first_fault ((is_none found, faults.BadContext) ∷ []) ≡ None → IsOfRow (ErrorThen Kind.Process) (process_answer_of number found)
 process_of_row number None none = absurd cc
@@ -128,9 +124,9 @@ start_row : (file : List ℕ) (attach : Bool) (targets : TargetsValue) → IsOrd
     → IsOfRow (ErrorThen Kind.Process) (process_answer (Some targets.next) (started file attach targets).processes)
 start_row file attach targets orderly none = start_row_of attach targets (image_of file targets.images) orderly none
 
-trace_row : (bps : List Placed) (count : ℕ) (named : Option ℕ) (targets after : TargetsValue) → IsOfRow (ErrorThen Kind.Count) (trace_given bps count named targets after).answer
+trace_row : (bps : List Placed) (count : ℕ) (named : Option (ℕ × ℕ)) (targets after : TargetsValue) → IsOfRow (ErrorThen Kind.Count) (trace_given bps count named targets after).answer
 trace_row bps count None targets after = refl
-trace_row bps count (Some number) targets after = refl
+trace_row bps count (Some pair) targets after = refl
 
 -- ---- breakpoints
 

@@ -15,7 +15,7 @@ use Rattle.tcf_values.specs.declared.event.EventData.{EventData}
 use Rattle.tcf_values.specs.declared.faults.Fault.{Fault}
 use Rattle.breakpoints.specs.Rows.{ids_of}
 use Rattle.run_control.specs.Commands.{run_fault, run_left}
-use Rattle.run_control.specs.Ticking.{running_number}
+use Rattle.run_control.specs.Ticking.{running_pair}
 use Rattle.target_contexts.specs.Changes.{targets_by}
 use Rattle.target_contexts.specs.Live.{IsOrderly}
 use Rattle.target_contexts.specs.Short.{AllShort, AreShort}
@@ -113,14 +113,14 @@ left_bounded command target bounded none =
 told_in : (name : CommandName) (channel : ℕ) (command : Command) (target : TargetValue) → IsReadable command → IsBounded target → AreSmall (effect_in name channel command target).events
 told_in (service.Locator name) channel command target readable bounded = tt
 told_in (service.RunControl name) channel command target readable bounded =
-    run_told command target.breakpoints target.contexts (left_bounded command target bounded)
+    run_told command target.breakpoints target.contexts bounded.processes (left_bounded command target bounded)
 told_in (service.Breakpoints name) channel command target readable bounded = breakpoints_told channel command target readable (now_bounded target bounded)
 told_in (service.Memory name) channel command target readable bounded = data_told command target.contexts
 told_in (service.Registers name) channel command target readable bounded = data_told command target.contexts
 told_in (service.Processes name) channel command target readable bounded =
-    run_told command target.breakpoints target.contexts (left_bounded command target bounded)
+    run_told command target.breakpoints target.contexts bounded.processes (left_bounded command target bounded)
 told_in (service.Trace name) channel command target readable bounded =
-    run_told command target.breakpoints target.contexts (left_bounded command target bounded)
+    run_told command target.breakpoints target.contexts bounded.processes (left_bounded command target bounded)
 
 exec_sendable : (channel : ℕ) (command : Command) (target : TargetValue) → IsReadable command → IsBounded target → AreSendable (exec_effect channel command target).events
 unfolding exec_effect
@@ -177,7 +177,7 @@ ticks_sendable thread target bounded =
       properties = bounded.properties;
       listed = bounded.listed.few;
     } in
-    if_sendable _ (tick_told_small target.breakpoints target.contexts (running_number thread target.contexts.processes) after)
+    if_sendable _ (tick_told_small target.breakpoints target.contexts (running_pair thread target.contexts.processes) bounded.processes after)
 
 pub closings_sendable : ClosingsTellSendable
 closings_sendable channel target bounded = sendable _ (removed_small channel target.breakpoints bounded.listed.few bounded.properties)

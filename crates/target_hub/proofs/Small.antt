@@ -1,11 +1,12 @@
 -- What the target tells of its processes and breakpoints is small.
-use Rattle.std.proofs.Common.{◌≡◌, ◌≤◌, ℕ, ℤ, Bool, true, false, cond, ◌&&◌, nat_le, List, [], ◌∷◌, ◌++◌, filter, length, map, Option, Some, None, IfSome, refl, arith, lit≤, leb-true, length-append}
-use Rattle.std.specs.List.{AllByRecursion, list_all}
+use Rattle.std.proofs.Common.{◌≡◌, ◌≤◌, ◌+◌, ◌-◌, ℕ, ℤ, Bool, true, false, cond, ◌&&◌, nat_le, List, [], ◌∷◌, ◌++◌, filter, length, map, Option, Some, None, option_and_then, IfSome, refl, ◌∙◌, ap, arith, lit≤, leb-true, length-append}
+use Rattle.std.specs.List.{AllByRecursion, flat_map, list_all, range_with_len}
 use Rattle.std.specs.Prelude.{codes, decimal}
 use Rattle.std.proofs.lemmas.Bool.{and_parts}
 use Rattle.std.proofs.lemmas.List.{length-map}
+use Rattle.std.proofs.lemmas.List.FromFn.{length-range_with_len}
 use Rattle.json_values.specs.Props.{are_contexts, is_bp, is_location, is_short}
-use Rattle.json_values.specs.Sizes.{AreWords, IsSmallContext, IsSmallInstance, IsSmallPlace, IsSmallStatus, IsWord}
+use Rattle.json_values.specs.Sizes.{AreWords, has_name, IsSmallContext, IsSmallInstance, IsSmallPlace, IsSmallStatus, IsWord}
 use Rattle.json_values.specs.SizeLaws.{decimal_size}
 use Rattle.reply_tables.specs.Sizes.{IsSmallEvent}
 use Rattle.tcf_values.specs.declared.event.EventData.{EventData}
@@ -14,21 +15,24 @@ use Rattle.breakpoints.specs.Rows.{ids_of}
 use Rattle.breakpoints.specs.Status.{bad_location, instance_of, instances_of, is_for, place_at, place_of}
 use Rattle.breakpoints.specs.Statuses.{status_event}
 use Rattle.run_control.specs.Ending.{end_events}
-use Rattle.run_control.specs.Executing.{exception_code, executed_by, executed_with, fate_by, settled_events}
-use Rattle.run_control.specs.Naming.{process_id, thread_id}
-use Rattle.run_control.specs.Telling.{added_events, changed_events, resumed_events, statuses_in, stop_events, suspended_events}
-use Rattle.run_control.specs.Tracing.{halt_by, stop_by}
-use Rattle.rv32i_core.specs.Machine.{Step, goes_on, ends, excepts, machine}
-use Rattle.target_contexts.specs.Contexts.{process_data, thread_data}
+use Rattle.run_control.specs.Executing.{settled_events}
+use Rattle.run_control.specs.Naming.{process_id, thread_id, thread_ids}
+use Rattle.run_control.specs.Telling.{added_events, all_resumed_events, all_suspended_events, changed_events, contexts_events, made_events, resumed_event, resumed_events, statuses_in, stop_events, suspended_events}
+use Rattle.target_contexts.specs.Contexts.{process_data, thread_data, threads_data}
 use Rattle.target_contexts.specs.Live.{numbers_of, process_of}
 use Rattle.target_contexts.specs.Named.{attached_in, is_attached}
 use Rattle.target_contexts.specs.Short.{AllShort, IsShort, IsShortState}
 use Rattle.target_contexts.specs.TargetsValue.{TargetsValue}
+use Rattle.target_contexts.specs.Threads.{count_in, numbers_to, thread_at, thread_count, thread_numbers, thread_of}
+use Rattle.target_contexts.specs.declared.threads.Thread.{Thread}
+use Rattle.tcf_values.specs.declared.values.ContextData.{ContextData}
 use Rattle.target_contexts.specs.ProcessValue.{ProcessValue}
 use Rattle.target_contexts.specs.declared.process.ThreadState.{ThreadState}
 use Rattle.target_contexts.specs.declared.process.ThreadState.TheVariants.{Running, Suspended}
 use Rattle.target_hub.specs.Limits.{AreReadable}
 use Rattle.target_contexts.proofs.TheLaws.{found_is_short}
+use Rattle.target_contexts.proofs.ThreadLists.{found_thread_is}
+use Rattle.target_hub.proofs.Fates.{Covers}
 use Rattle.target_hub.proofs.Lists.{all_mapped}
 use Rattle.run_control.proofs.Short.{filter_fewer}
 use Rattle.list_laws.proofs.AllLists.{all_append, all_map}
@@ -58,8 +62,23 @@ three_small xs ys zs first second third = all_append IsSmallEvent xs (ys ++ zs) 
 pub process_word : (number : ℕ) → IsWord (process_id number)
 process_word number = omega (arith, decimal_size number)
 
-pub thread_word : (number : ℕ) → IsWord (thread_id number)
-thread_word number = omega (arith, length-append (decimal number) (codes "." ++ decimal 1), decimal_size number, decimal_size 1)
+pub thread_word : (number n : ℕ) → IsWord (thread_id number n)
+thread_word number n = omega (arith, length-append (decimal number) (codes "." ++ decimal n), length-append (codes ".") (decimal n), decimal_size number, decimal_size n)
+
+threads_words : (number count : ℕ) → AllByRecursion IsWord (thread_ids number count)
+threads_words number count = all_map IsWord (thread_id number) (numbers_to count) (thread_word number)
+
+threads_long : (number count : ℕ) → length (thread_ids number count) ≡ count
+threads_long number count = length-map (numbers_to count) (thread_id number) ∙ length-range_with_len 1 count
+
+pub ids_of_threads : (number count : ℕ) → count ≤ 8 → AreWords (thread_ids number count)
+ids_of_threads number count few = (omega (arith, few, threads_long number count), threads_words number count)
+
+ids_of_all : (number count : ℕ) → count ≤ 8 → AreWords (thread_ids number count ++ process_id number ∷ [])
+ids_of_all number count few = (
+  omega (arith, few, threads_long number count, length-append (thread_ids number count) (process_id number ∷ [])),
+  all_append IsWord (thread_ids number count) (process_id number ∷ []) (threads_words number count) (process_word number, tt),
+)
 
 pub id_word : (props : BpProps) → is_bp props ≡ true → IsWord props.id
 id_word props within =
@@ -115,8 +134,26 @@ statuses_small bps targets bounded =
 pub process_small : (number : ℕ) (process : ProcessValue) → IsShort process → IsSmallContext (process_data number process)
 process_small number process is = record { id = process_word number; parent = tt; process = process_word number; name = is.name }
 
-pub thread_small : (number : ℕ) (process : ProcessValue) → IsSmallContext (thread_data number process)
-thread_small number process = record { id = thread_word number; parent = process_word number; process = process_word number; name = tt }
+pub thread_small : (number n : ℕ) (process : ProcessValue) → IsSmallContext (thread_data number n process)
+thread_small number n process = record { id = thread_word number n; parent = process_word number; process = process_word number; name = tt }
+
+threads_small : (behind number : ℕ) (process : ProcessValue) → AllByRecursion IsSmallContext (threads_data behind number process)
+threads_small behind number process = all_map IsSmallContext (λ n. thread_data number n process) _ (λ n. thread_small number n process)
+
+-- no thread has a name
+nameless : (number : ℕ) (process : ProcessValue) (numbers : List ℕ) → filter has_name (map (λ n. thread_data number n process) numbers) ≡ []
+nameless number process [] = refl
+nameless number process (n ∷ numbers) = nameless number process numbers
+
+threads_named : (behind number : ℕ) (process : ProcessValue) → length (filter has_name (threads_data behind number process)) ≡ 0
+threads_named behind number process = ap (λ (xs : List ContextData). length xs) (nameless number process (range_with_len (behind + 1) (thread_count process - behind)))
+
+threads_few : (behind number : ℕ) (process : ProcessValue) → IsShort process → length (threads_data behind number process) ≤ 8
+threads_few behind number process is =
+    let count : ℕ = thread_count process - behind in
+    let long : length (threads_data behind number process) ≡ count =
+    length-map (range_with_len (behind + 1) count) (λ n. thread_data number n process) ∙ length-range_with_len (behind + 1) count in
+    omega (arith, long, is.count.few)
 
 found_by : (rows : List (ℕ × ProcessValue)) (number : ℕ) (found : Option ProcessValue) → process_of number rows ≡ found → AllShort rows → IfSome found IsShort
 found_by rows number None there all = tt
@@ -127,53 +164,96 @@ found_short rows number all = found_by rows number (process_of number rows) refl
 
 pub added_small : (number : ℕ) (process : Option ProcessValue) → IfSome process IsShort → AreSmall (added_events number process)
 added_small number None is = tt
-added_small number (Some process) is = (record { few = lit≤ tt; named = lit≤ tt; small = (process_small number process is, (thread_small number process, tt)) }, tt)
+added_small number (Some process) is = (
+  record {
+    few = omega (arith, threads_few 0 number process is);
+    named = omega (arith, threads_named 0 number process);
+    small = (process_small number process is, threads_small 0 number process);
+  },
+  tt,
+)
 
-pub changed_small : (number : ℕ) (process : Option ProcessValue) → AreSmall (changed_events number process)
-changed_small number None = tt
-changed_small number (Some process) = (record { few = lit≤ tt; named = lit≤ tt; small = (thread_small number process, tt) }, tt)
+contexts_small : (contexts : List ContextData) → length contexts ≤ 9 → length (filter has_name contexts) ≤ 2 → AllByRecursion IsSmallContext contexts → AreSmall (contexts_events contexts)
+contexts_small [] few named small = tt
+contexts_small (context ∷ contexts) few named small = (record { few = few; named = named; small = small }, tt)
 
-stop_small : (number pc : ℕ) (state : ThreadState) → IsShortState state → AreSmall (stop_events number pc state)
-stop_small number pc (Running left) short = tt
-stop_small number pc (Suspended reason hits) short = ((thread_word number, short.0, short.1), tt)
+made_small : (number before : ℕ) (process : Option ProcessValue) → IfSome process IsShort → AreSmall (made_events number before process)
+made_small number before None is = tt
+made_small number before (Some process) is =
+    contexts_small (threads_data before number process) (omega (arith, threads_few before number process is)) (omega (arith, threads_named before number process))
+    (threads_small before number process)
 
-pub suspended_small : (number : ℕ) (process : Option ProcessValue) → IfSome process IsShort → AreSmall (suspended_events number process)
-suspended_small number None is = tt
-suspended_small number (Some process) is = stop_small number process.cpu.pc process.state is.state
+pub changed_small : (number : ℕ) (process : Option ProcessValue) → IfSome process IsShort → AreSmall (changed_events number process)
+changed_small number None is = tt
+changed_small number (Some process) is = (
+  record {
+    few = omega (arith, threads_few 0 number process is);
+    named = omega (arith, threads_named 0 number process);
+    small = threads_small 0 number process;
+  },
+  tt,
+)
 
-pub resumed_small : (number : ℕ) → AreSmall (resumed_events number)
-resumed_small number = (thread_word number, tt)
+stop_small : (number n pc : ℕ) (state : ThreadState) → IsShortState state → AreSmall (stop_events number n pc state)
+stop_small number n pc (Running left) short = tt
+stop_small number n pc (Suspended reason hits) short = ((thread_word number n, short.0, short.1), tt)
+
+abbrev pub IsShortThread : Thread → Type 0
+IsShortThread thread = IsShortState thread.state
+
+pub suspended_small : (number n : ℕ) (thread : Option Thread) → IfSome thread IsShortThread → AreSmall (suspended_events number n thread)
+suspended_small number n None is = tt
+suspended_small number n (Some thread) is = stop_small number n thread.cpu.pc thread.state is
+
+-- the threads that are found are short
+
+at_by : (n : ℕ) (process : ProcessValue) (found : Option Thread) → thread_at n process ≡ found → IsShort process → IfSome found IsShortThread
+at_by n process None there is = tt
+at_by n process (Some thread) there is = found_thread_is IsShortThread n thread process there is.threads
+
+thread_short : (n : ℕ) (process : ProcessValue) → IsShort process → IfSome (thread_at n process) IsShortThread
+thread_short n process is = at_by n process (thread_at n process) refl is
+
+of_by : (n : ℕ) (found : Option ProcessValue) → IfSome found IsShort → IfSome (option_and_then (thread_at n) found) IsShortThread
+of_by n None is = tt
+of_by n (Some process) is = thread_short n process is
+
+pub thread_found_short : (rows : List (ℕ × ProcessValue)) (number n : ℕ) → AllShort rows → IfSome (thread_of number n rows) IsShortThread
+thread_found_short rows number n all = of_by n (process_of number rows) (found_short rows number all)
+
+pub count_few : (rows : List (ℕ × ProcessValue)) (number : ℕ) → AllShort rows → count_in (process_of number rows) ≤ 8
+count_few rows number all = counted (process_of number rows) (found_short rows number all)
+  where
+    counted : (found : Option ProcessValue) → IfSome found IsShort → count_in found ≤ 8
+    counted None is = lit≤ tt
+    counted (Some process) is = is.count.few
+
+flat_small : (told : ℕ → List EventData) (numbers : List ℕ) → ((n : ℕ) → AreSmall (told n)) → AreSmall (flat_map told numbers)
+flat_small told [] each = tt
+flat_small told (n ∷ numbers) each = all_append IsSmallEvent (told n) (flat_map told numbers) (each n) (flat_small told numbers each)
+
+pub all_suspended_small : (number : ℕ) (process : Option ProcessValue) → IfSome process IsShort → AreSmall (all_suspended_events number process)
+all_suspended_small number None is = tt
+all_suspended_small number (Some process) is =
+    flat_small (λ n. suspended_events number n (thread_at n process)) (thread_numbers process) (λ n. suspended_small number n (thread_at n process) (thread_short n process is))
+
+pub all_resumed_small : (number : ℕ) (was : Option ProcessValue) → AreSmall (all_resumed_events number was)
+all_resumed_small number was = all_map IsSmallEvent (resumed_event number) _ (λ n. thread_word number n)
+
+pub resumed_small : (number n : ℕ) → AreSmall (resumed_events number n)
+resumed_small number n = (thread_word number n, tt)
 
 -- ---- the end of a process, and what becomes of one
 
-pub end_small : (bps : List Placed) (number : ℕ) (code : ℤ) (targets : TargetsValue) → AreBounded bps targets → AreSmall (end_events bps number code targets)
-end_small bps number code targets bounded =
-    ((lit≤ tt, (thread_word number, (process_word number, tt))), (process_word number, statuses_small bps targets bounded))
+pub end_small : (bps : List Placed) (number count : ℕ) (code : ℤ) (targets : TargetsValue) → count ≤ 8 → AreBounded bps targets → AreSmall (end_events bps number count code targets)
+end_small bps number count code targets few bounded =
+    (ids_of_all number count few, (process_word number, statuses_small bps targets bounded))
 
-hit_small : (bps : List Placed) (number : ℕ) (plain : ThreadState) (attached : Bool) (after : TargetsValue) (hits : List (List ℕ)) → AreBounded bps after
-    → AreSmall (settled_events bps number (fate_by plain attached (executed_with hits)) after)
-hit_small bps number plain attached after [] bounded = suspended_small number (process_of number after.processes) (found_short after.processes number bounded.short)
-hit_small bps number plain attached after (hit ∷ hits) bounded = suspended_small number (process_of number after.processes) (found_short after.processes number bounded.short)
-
-exception_small : (bps : List Placed) (number : ℕ) (plain : ThreadState) (attached : Bool) (after : TargetsValue) → AreBounded bps after
-    → AreSmall (settled_events bps number (fate_by plain attached (halt_by excepts)) after)
-exception_small bps number plain true after bounded = suspended_small number (process_of number after.processes) (found_short after.processes number bounded.short)
-exception_small bps number plain false after bounded = end_small bps number exception_code after bounded
-
-pub executed_small : (bps : List Placed) (number : ℕ) (plain : ThreadState) (attached : Bool) (after : TargetsValue) (process : ProcessValue) (step : Step) → AreBounded bps after
-    → AreSmall (settled_events bps number (fate_by plain attached (executed_by bps number process step)) after)
-executed_small bps number plain attached after process (goes_on cpu memory) bounded = hit_small bps number plain attached after _ bounded
-executed_small bps number plain attached after process (ends code) bounded = end_small bps number code after bounded
-executed_small bps number plain attached after process excepts bounded = exception_small bps number plain attached after bounded
-
-halt_small : (bps : List Placed) (number : ℕ) (plain : ThreadState) (attached : Bool) (after : TargetsValue) (step : Step) → AreBounded bps after
-    → AreSmall (settled_events bps number (fate_by plain attached (halt_by step)) after)
-halt_small bps number plain attached after (goes_on cpu memory) bounded = suspended_small number (process_of number after.processes) (found_short after.processes number bounded.short)
-halt_small bps number plain attached after (ends code) bounded = end_small bps number code after bounded
-halt_small bps number plain attached after excepts bounded = exception_small bps number plain attached after bounded
-
-pub stop_all_small : (bps : List Placed) (number : ℕ) (plain : ThreadState) (attached : Bool) (after : TargetsValue) (hits : List (List ℕ)) (all : Bool) (last : ProcessValue) → AreBounded bps after
-    → AreSmall (settled_events bps number (fate_by plain attached (stop_by hits all last)) after)
-stop_all_small bps number plain attached after (hit ∷ hits) all last bounded = suspended_small number (process_of number after.processes) (found_short after.processes number bounded.short)
-stop_all_small bps number plain attached after [] true last bounded = suspended_small number (process_of number after.processes) (found_short after.processes number bounded.short)
-stop_all_small bps number plain attached after [] false last bounded = halt_small bps number plain attached after (machine last.cpu last.memory) bounded
+pub fate_small : (bps : List Placed) (number n before : ℕ) (plain : ThreadState) (after : TargetsValue) → before ≤ 8 → AreBounded bps after
+    → Covers (λ fate. AreSmall (settled_events bps number n before fate after)) plain
+fate_small bps number n before plain after few bounded =
+    let lived =
+    all_append IsSmallEvent (made_events number before (process_of number after.processes)) (suspended_events number n (thread_of number n after.processes))
+    (made_small number before (process_of number after.processes) (found_short after.processes number bounded.short))
+    (suspended_small number n (thread_of number n after.processes) (thread_found_short after.processes number n bounded.short)) in
+    record { plainly = lived; suspended = λ state stands. lived; ended = λ code whole. end_small bps number before code after few bounded }

@@ -1,5 +1,5 @@
 -- The answer to each command is small.
-use Rattle.std.proofs.Common.{◌≡◌, ◌≤◌, ◌+◌, ◌*◌, ℕ, ℤ, pos, negsuc, Bool, true, false, cond, nat_lt, List, [], ◌∷◌, drop, length, map, Option, Some, None, IfSome, option_map, option_and_then, refl, arith, lit≤, length-append, length-drop, length-take, ◌==◌}
+use Rattle.std.proofs.Common.{◌≡◌, ◌≤◌, ◌+◌, ◌*◌, ℕ, ℤ, pos, negsuc, Bool, true, false, cond, nat_lt, List, [], ◌∷◌, drop, length, map, Option, Some, None, IfSome, option_map, option_and_then, refl, arith, lit≤, length-append, length-drop, length-take}
 use Rattle.std.specs.List.{cons_option}
 use Rattle.std.specs.Prelude.{int_lt, unsigned_abs}
 use Rattle.std.proofs.lemmas.Bool.{ltb-false, or_parts}
@@ -30,7 +30,7 @@ use Rattle.breakpoints.specs.declared.breakpoints.BpDone.TheVariants.{Failed, Ch
 use Rattle.data_services.specs.Bytes.{part_of, word_bytes}
 use Rattle.data_services.specs.Commands.{data_effect, data_fault, data_given}
 use Rattle.data_services.specs.MemoryRows.{is_no_size, memory_bytes}
-use Rattle.data_services.specs.Named.{holder_of}
+use Rattle.data_services.specs.Named.{holder_of, thread_with}
 use Rattle.data_services.specs.Parts.{bytes_in, bytes_of, number_in, parts_named}
 use Rattle.data_services.specs.RegisterRows.{locations_fault, register_bytes}
 use Rattle.run_control.specs.Asking.{children_named, children_of, context_answer, data_named, process_answer, process_answer_of, processes_named, run_state, state_answer}
@@ -39,9 +39,11 @@ use Rattle.run_control.specs.Naming.{is_empty, process_id, process_named}
 use Rattle.run_control.specs.Steering.{thread_there}
 use Rattle.target_contexts.specs.Contexts.{context_of as data_of, process_data, thread_data}
 use Rattle.target_contexts.specs.Live.{numbers_of, process_of}
-use Rattle.target_contexts.specs.Named.{attached_in, process_at_number, thread_named}
+use Rattle.target_contexts.specs.Named.{attached_in, thread_at_pair, thread_named}
 use Rattle.target_contexts.specs.Short.{AllShort, IsShort, IsShortState}
 use Rattle.target_contexts.specs.TargetsValue.{TargetsValue}
+use Rattle.target_contexts.specs.Threads.{count_in, holding}
+use Rattle.target_contexts.specs.declared.threads.Thread.{Thread}
 use Rattle.target_contexts.specs.ProcessValue.{ProcessValue}
 use Rattle.target_contexts.specs.declared.process.ThreadState.{ThreadState}
 use Rattle.target_contexts.specs.declared.process.ThreadState.TheVariants.{Running, Suspended}
@@ -51,7 +53,7 @@ use Rattle.target_hub.specs.LocatorRows.{locator_answer}
 use Rattle.run_control.specs.TargetValue.{TargetValue}
 use Rattle.reply_tables.proofs.TheLaws.{reports_are_small}
 use Rattle.target_hub.proofs.Rows.{IfReadable, found_readable}
-use Rattle.target_hub.proofs.Small.{AreBounded, attached_few, found_short, ids_words, instances_small, process_small, process_word, thread_small, thread_word}
+use Rattle.target_hub.proofs.Small.{AreBounded, IsShortThread, attached_few, count_few, found_short, ids_of_threads, ids_words, instances_small, process_small, process_word, thread_found_short, thread_small}
 use Rattle.list_laws.proofs.AllLists.{all_map}
 use Rattle.breakpoints.specs.declared.rows.Placed.{Placed}
 
@@ -71,17 +73,13 @@ process_context : (number : ℕ) (found : Option ProcessValue) → IfSome found 
 process_context number None is = tt
 process_context number (Some process) is = process_small number process is
 
-thread_context : (number : ℕ) (found : Option ProcessValue) → IfSome (option_map (λ process. thread_data number process) found) IsSmallContext
-thread_context number None = tt
-thread_context number (Some process) = thread_small number process
-
-if_first : (test : Bool) (found : Option ContextData) → IfSome found IsSmallContext → IfSome (cond test found None) IsSmallContext
-if_first true found small = small
-if_first false found small = tt
+thread_context : (number n : ℕ) (found : Option ProcessValue) → IfSome (option_map (λ process. thread_data number n process) found) IsSmallContext
+thread_context number n None = tt
+thread_context number n (Some process) = thread_small number n process
 
 of_context : (context : ContextId) (rows : List (ℕ × ProcessValue)) → AllShort rows → IfSome (data_of context rows) IsSmallContext
 of_context (ids.Process number) rows all = process_context number (process_of number rows) (found_short rows number all)
-of_context (ids.Thread number thread) rows all = if_first (thread == 1) _ (thread_context number (process_of number rows))
+of_context (ids.Thread number n) rows all = thread_context number n (holding n (process_of number rows))
 
 named_small : (context : Option ContextId) (rows : List (ℕ × ProcessValue)) → AllShort rows → IfSome (option_and_then (λ c. data_of c rows) context) IsSmallContext
 named_small None rows all = tt
@@ -95,13 +93,13 @@ state_small : (pc : ℕ) (state : ThreadState) → IsShortState state → IsSmal
 state_small pc (Running left) short = tt
 state_small pc (Suspended reason hits) short = short
 
-state_of_small : (found : Option ProcessValue) → IfSome found IsShort → IsSmallAnswer (state_answer found)
+state_of_small : (found : Option Thread) → IfSome found IsShortThread → IsSmallAnswer (state_answer found)
 state_of_small None is = tt
-state_of_small (Some process) is = state_small process.cpu.pc process.state is.state
+state_of_small (Some thread) is = state_small thread.cpu.pc thread.state is
 
-at_number : (rows : List (ℕ × ProcessValue)) (number : Option ℕ) → AllShort rows → IfSome (process_at_number number rows) IsShort
-at_number rows None all = tt
-at_number rows (Some number) all = found_short rows number all
+at_pair : (rows : List (ℕ × ProcessValue)) (pair : Option (ℕ × ℕ)) → AllShort rows → IfSome (thread_at_pair pair rows) IsShortThread
+at_pair rows None all = tt
+at_pair rows (Some pair) all = thread_found_short rows pair.0 pair.1 all
 
 process_of_small : (number : ℕ) (found : Option ProcessValue) → IfSome found IsShort → IsSmallAnswer (process_answer_of number found)
 process_of_small number None is = tt
@@ -123,13 +121,13 @@ either_words : (test : Bool) (one other : List (List ℕ)) → AreWords one → 
 either_words true one other words also = words
 either_words false one other words also = also
 
-children_words : (context : Option ContextId) → AreWords (children_of context)
-children_words None = (lit≤ tt, tt)
-children_words (Some (ids.Process number)) = (lit≤ tt, (thread_word number, tt))
-children_words (Some (ids.Thread number thread)) = (lit≤ tt, tt)
+children_words : (context : Option ContextId) (rows : List (ℕ × ProcessValue)) → AllShort rows → AreWords (children_of context rows)
+children_words None rows all = (lit≤ tt, tt)
+children_words (Some (ids.Process number)) rows all = ids_of_threads number (count_in (process_of number rows)) (count_few rows number all)
+children_words (Some (ids.Thread number n)) rows all = (lit≤ tt, tt)
 
-named_words : (id : List ℕ) (rows : List (ℕ × ProcessValue)) → length rows ≤ 64 → AreWords (children_named id rows)
-named_words id rows few = either_words (is_empty id) (map process_id (numbers_of rows)) _ (numbers_words (numbers_of rows) (numbers_few rows few)) (children_words (context_of id))
+named_words : (id : List ℕ) (rows : List (ℕ × ProcessValue)) → length rows ≤ 64 → AllShort rows → AreWords (children_named id rows)
+named_words id rows few all = either_words (is_empty id) (map process_id (numbers_of rows)) _ (numbers_words (numbers_of rows) (numbers_few rows few)) (children_words (context_of id) rows all)
 
 either_numbers : (test : Bool) (one other : List ℕ) → length one ≤ 64 → length other ≤ 64 → length (cond test one other) ≤ 64
 either_numbers true one other few also = few
@@ -143,14 +141,14 @@ processes_words id attached rows few =
 
 -- ---- RunControl, Processes and Trace
 
-trace_answer : (bps : List Placed) (count : ℕ) (number : Option ℕ) (targets after : TargetsValue) → IsSmallAnswer (trace_given bps count number targets after).answer
+trace_answer : (bps : List Placed) (count : ℕ) (pair : Option (ℕ × ℕ)) (targets after : TargetsValue) → IsSmallAnswer (trace_given bps count pair targets after).answer
 trace_answer bps count None targets after = tt
-trace_answer bps count (Some number) targets after = tt
+trace_answer bps count (Some pair) targets after = tt
 
 run_answer : (command : Command) (bps : List Placed) (targets after : TargetsValue) → AreBounded bps targets → AllShort after.processes → IsSmallAnswer (run_given command bps targets after).answer
 run_answer (GetContext id) bps targets after bounded short = context_small (data_named id targets.processes) (named_small (context_of id) targets.processes bounded.short)
-run_answer (GetChildren id) bps targets after bounded short = named_words id targets.processes bounded.few
-run_answer (GetState id) bps targets after bounded short = state_of_small (thread_there id targets.processes) (at_number targets.processes (thread_named id) bounded.short)
+run_answer (GetChildren id) bps targets after bounded short = named_words id targets.processes bounded.few bounded.short
+run_answer (GetState id) bps targets after bounded short = state_of_small (thread_there id targets.processes) (at_pair targets.processes (thread_named id) bounded.short)
 run_answer (ProcContext id) bps targets after bounded short = process_answer_small targets.processes (process_named id) bounded.short
 run_answer (ProcChildren id attached) bps targets after bounded short = processes_words id attached targets.processes bounded.few
 run_answer (ProcStart directory file args environment attach) bps targets after bounded short = process_answer_small after.processes (Some targets.next) short
@@ -180,19 +178,19 @@ word_four : (number : ℕ) → length (word_bytes number) ≡ 4
 unfolding word_bytes
 word_four number = refl
 
-register_few : (register : Option RegisterId) (found : Option ProcessValue) → length (register_bytes register found) ≤ 65536
+register_few : (register : Option RegisterId) (found : Option Thread) → length (register_bytes register found) ≤ 65536
 register_few None found = lit≤ tt
 register_few (Some register) None = lit≤ tt
-register_few (Some register) (Some process) = omega (arith, word_four (number_in register.index process.cpu))
+register_few (Some register) (Some thread) = omega (arith, word_four (number_in register.index thread.cpu))
 
-word_part : (offset size index : ℕ) (process : ProcessValue) → length (part_of offset size (word_bytes (number_in index process.cpu))) ≤ 4
-word_part offset size index process =
-    let word = word_bytes (number_in index process.cpu) in
-    omega (arith, length-take size (drop offset word), length-drop offset word, word_four (number_in index process.cpu))
+word_part : (offset size index : ℕ) (thread : Thread) → length (part_of offset size (word_bytes (number_in index thread.cpu))) ≤ 4
+word_part offset size index thread =
+    let word = word_bytes (number_in index thread.cpu) in
+    omega (arith, length-take size (drop offset word), length-drop offset word, word_four (number_in index thread.cpu))
 
-in_few : (register : RegisterId) (offset size : ℕ) (found : Option ProcessValue) → length (bytes_in (record { register = register; offset = offset; size = size }) found) ≤ 4
+in_few : (register : RegisterId) (offset size : ℕ) (found : Option Thread) → length (bytes_in (record { register = register; offset = offset; size = size }) found) ≤ 4
 in_few register offset size None = lit≤ tt
-in_few register offset size (Some process) = word_part offset size register.index process
+in_few register offset size (Some thread) = word_part offset size register.index thread
 
 one_few : (register : Option RegisterId) (location : Location) (list : List Location) (rows : List (ℕ × ProcessValue)) → length (bytes_of rows (parts_named list)) ≤ 4 * length list
     → length (bytes_of rows (cons_option (option_map (λ (r : RegisterId). record { register = r; offset = unsigned_abs location.offset; size = unsigned_abs location.size }) register) (parts_named list))) ≤ 4 * length list + 4
@@ -200,7 +198,7 @@ one_few None location list rows few = omega arith
 one_few (Some r) location list rows few =
     let offset = unsigned_abs location.offset in
     let size = unsigned_abs location.size in
-    let found = process_of r.process rows in
+    let found = thread_with rows r in
     omega (arith, few, length-append (bytes_in (record { register = r; offset = offset; size = size }) found) (bytes_of rows (parts_named list)), in_few r offset size found)
 
 -- four bytes of each location

@@ -29,23 +29,23 @@ use Rattle.breakpoints.specs.declared.breakpoints.BpDone.{BpDone}
 use Rattle.breakpoints.specs.declared.breakpoints.BpDone.TheVariants.{Failed, Changed}
 use Rattle.data_services.specs.Commands.{data_effect, data_fault, data_given}
 use Rattle.data_services.specs.MemoryRows.{memory_events}
-use Rattle.data_services.specs.Named.{holder_of, process_with}
+use Rattle.data_services.specs.Named.{holder_of, thread_with}
 use Rattle.data_services.specs.RegisterRows.{events_from, location_fault, locations_fault, name_one, registers_get_fault}
 use Rattle.run_control.specs.Attaching.{attach_events, detach_events, process_there, start_events}
-use Rattle.run_control.specs.Commands.{events_of, run_effect, run_fault, run_given, run_left, terminate_code, trace_given}
-use Rattle.run_control.specs.Ending.{end_events}
+use Rattle.run_control.specs.Commands.{events_of, run_effect, run_fault, run_given, run_left, terminate_code, terminate_events, trace_given}
 use Rattle.run_control.specs.Naming.{process_named}
 use Rattle.run_control.specs.Steering.{suspend_events}
-use Rattle.run_control.specs.Telling.{added_events, changed_events, resumed_events, statuses_in, suspended_events}
-use Rattle.run_control.specs.Executing.{step_text}
-use Rattle.run_control.specs.Ticking.{counted, ticked, ticked_events, ticked_events_at}
-use Rattle.run_control.specs.Tracing.{last_hits, last_of, states_of, traced_events_at}
-use Rattle.rv32i_core.specs.Machine.{machine}
+use Rattle.run_control.specs.Telling.{added_events, all_resumed_events, all_suspended_events, changed_events, resumed_events, statuses_in}
+use Rattle.run_control.specs.Executing.{settled_events, step_text}
+use Rattle.run_control.specs.Ticking.{counted_in, ticked, ticked_events, ticked_events_at}
+use Rattle.run_control.specs.Tracing.{traced_events_at}
 use Rattle.target_contexts.specs.Live.{process_of}
-use Rattle.target_contexts.specs.Named.{attached_in, is_suspended, number_named, thread_named}
+use Rattle.target_contexts.specs.Named.{attached_in, number_named, thread_named}
+use Rattle.target_contexts.specs.Short.{AllShort, IsShort}
+use Rattle.target_contexts.specs.Threads.{count_in, thread_at, thread_count, thread_of}
+use Rattle.target_contexts.specs.declared.process.ThreadState.TheVariants.{Suspended}
 use Rattle.target_contexts.specs.TargetsValue.{TargetsValue}
 use Rattle.target_contexts.specs.ProcessValue.{ProcessValue}
-use Rattle.target_contexts.specs.declared.process.ThreadState.TheVariants.{Suspended}
 use Rattle.target_hub.specs.BreakpointsRows.{ask_answer, ask_fault, breakpoints_effect, effect_of, removed_events, status_events}
 use Rattle.target_hub.specs.BreakpointsRows as bp_rows
 use Rattle.target_hub.specs.Limits.{AreReadable}
@@ -53,7 +53,8 @@ use Rattle.run_control.specs.TargetValue.{TargetValue}
 use Rattle.tcf_values.proofs.TheLaws.{register_round_trip}
 use Rattle.target_hub.proofs.Given.{AreProps, added_readable, changed_readable}
 use Rattle.target_hub.proofs.Lists.{all_mapped}
-use Rattle.target_hub.proofs.Small.{AreBounded, AreSmall, added_small, attached_few, changed_small, end_small, found_short, ids_words, process_word, executed_small, resumed_small, status_small, statuses_small, stop_all_small, suspended_small, test_small, three_small}
+use Rattle.target_hub.proofs.Fates.{tick_keeps, trace_keeps}
+use Rattle.target_hub.proofs.Small.{AreBounded, AreSmall, added_small, all_resumed_small, all_suspended_small, attached_few, changed_small, count_few, end_small, fate_small, found_short, ids_words, process_word, resumed_small, status_small, statuses_small, suspended_small, test_small, thread_found_short, three_small}
 use Rattle.list_laws.proofs.AllLists.{all_append, all_filter}
 use Rattle.run_control.proofs.Short.{filter_fewer}
 use Rattle.breakpoints.specs.declared.rows.Placed.{Placed}
@@ -70,63 +71,71 @@ by_fault (Some fault) given small = none_told fault
 
 -- ---- RunControl, Processes and Trace, of the target after the command
 
-of_small : (events : ℕ → List EventData) (number : Option ℕ) → ((n : ℕ) → AreSmall (events n)) → AreSmall (events_of events number)
+of_small : {A : Type 0} → (events : A → List EventData) (named : Option A) → ((one : A) → AreSmall (events one)) → AreSmall (events_of events named)
 of_small events None each = tt
-of_small events (Some n) each = each n
+of_small events (Some one) each = each one
 
-traced_small : (bps : List Placed) (number count : ℕ) (process : Option ProcessValue) (after : TargetsValue) → AreBounded bps after → AreSmall (traced_events_at bps number count process after)
-traced_small bps number count None after bounded = tt
-traced_small bps number count (Some process) after bounded =
-    let states = states_of bps number count process in
-    stop_all_small bps number (Suspended step_text []) process.attached after (last_hits bps number process states) (length states == count) (last_of process states) bounded
+traced_small : (bps : List Placed) (number n count : ℕ) (process : Option ProcessValue) (after : TargetsValue) → IfSome process IsShort → AreBounded bps after → AreSmall (traced_events_at bps number n count process after)
+traced_small bps number n count None after is bounded = tt
+traced_small bps number n count (Some process) after is bounded =
+    trace_keeps (λ fate. AreSmall (settled_events bps number n (thread_count process) fate after)) bps number n count process
+    (fate_small bps number n (thread_count process) (Suspended step_text []) after is.count.few bounded)
 
-trace_small : (bps : List Placed) (count : ℕ) (number : Option ℕ) (targets after : TargetsValue) → AreBounded bps after → AreSmall (trace_given bps count number targets after).events
-trace_small bps count None targets after bounded = tt
-trace_small bps count (Some number) targets after bounded = traced_small bps number count (process_of number targets.processes) after bounded
+trace_small : (bps : List Placed) (count : ℕ) (pair : Option (ℕ × ℕ)) (targets after : TargetsValue) → AllShort targets.processes → AreBounded bps after → AreSmall (trace_given bps count pair targets after).events
+trace_small bps count None targets after short bounded = tt
+trace_small bps count (Some pair) targets after short bounded =
+    traced_small bps pair.0 pair.1 count (process_of pair.0 targets.processes) after (found_short targets.processes pair.0 short) bounded
 
 started_small : (bps : List Placed) (number : ℕ) (after : TargetsValue) → AreBounded bps after → AreSmall (start_events bps number after)
 started_small bps number after bounded =
     let process = process_of number after.processes in
     let is = found_short after.processes number bounded.short in
-    three_small (added_events number process) (suspended_events number process) (statuses_in bps after)
-    (added_small number process is) (suspended_small number process is) (statuses_small bps after bounded)
+    three_small (added_events number process) (all_suspended_events number process) (statuses_in bps after)
+    (added_small number process is) (all_suspended_small number process is) (statuses_small bps after bounded)
 
 attached_small : (bps : List Placed) (number : ℕ) (after : TargetsValue) → AreBounded bps after → AreSmall (attach_events bps number after)
 attached_small bps number after bounded =
     let process = process_of number after.processes in
-    three_small (changed_events number process) (suspended_events number process) (statuses_in bps after)
-    (changed_small number process) (suspended_small number process (found_short after.processes number bounded.short)) (statuses_small bps after bounded)
+    let is = found_short after.processes number bounded.short in
+    three_small (changed_events number process) (all_suspended_events number process) (statuses_in bps after)
+    (changed_small number process is) (all_suspended_small number process is) (statuses_small bps after bounded)
 
-detached_small : (bps : List Placed) (was_suspended : Bool) (number : ℕ) (after : TargetsValue) → AreBounded bps after → AreSmall (detach_events bps was_suspended number after)
-detached_small bps was_suspended number after bounded =
+detached_small : (bps : List Placed) (was : Option ProcessValue) (number : ℕ) (after : TargetsValue) → AreBounded bps after → AreSmall (detach_events bps was number after)
+detached_small bps was number after bounded =
     let process = process_of number after.processes in
-    three_small (changed_events number process) (cond was_suspended (resumed_events number) []) (statuses_in bps after)
-    (changed_small number process) (test_small was_suspended (resumed_events number) [] (resumed_small number) tt) (statuses_small bps after bounded)
+    three_small (changed_events number process) (all_resumed_events number was) (statuses_in bps after)
+    (changed_small number process (found_short after.processes number bounded.short)) (all_resumed_small number was) (statuses_small bps after bounded)
 
-run_small : (command : Command) (bps : List Placed) (targets after : TargetsValue) → AreBounded bps after → AreSmall (run_given command bps targets after).events
-run_small (GetContext id) bps targets after bounded = tt
-run_small (GetChildren id) bps targets after bounded = tt
-run_small (GetState id) bps targets after bounded = tt
-run_small (Resume id mode count) bps targets after bounded = of_small resumed_events (thread_named id) resumed_small
-run_small (Suspend id) bps targets after bounded =
-    of_small (λ n. suspend_events n after) (thread_named id) (λ n. suspended_small n (process_of n after.processes) (found_short after.processes n bounded.short))
-run_small (Terminate id) bps targets after bounded =
-    of_small (λ n. end_events bps n terminate_code after) (number_named id) (λ n. end_small bps n terminate_code after bounded)
-run_small (ProcContext id) bps targets after bounded = tt
-run_small (ProcChildren id attached) bps targets after bounded = tt
-run_small (ProcStart directory file args environment attach) bps targets after bounded = started_small bps targets.next after bounded
-run_small (ProcAttach id) bps targets after bounded = of_small (λ n. attach_events bps n after) (process_named id) (λ n. attached_small bps n after bounded)
-run_small (ProcDetach id) bps targets after bounded =
-    let was_suspended = is_suspended (process_there id targets.processes) in
-    of_small (λ n. detach_events bps was_suspended n after) (process_named id) (λ n. detached_small bps was_suspended n after bounded)
-run_small (ProcTerminate id) bps targets after bounded =
-    of_small (λ n. end_events bps n terminate_code after) (process_named id) (λ n. end_small bps n terminate_code after bounded)
-run_small (TraceRun id count) bps targets after bounded = trace_small bps (unsigned_abs count) (thread_named id) targets after bounded
-run_small _ bps targets after bounded = tt
+terminate_small : (bps : List Placed) (targets after : TargetsValue) (number : ℕ) → AllShort targets.processes → AreBounded bps after → AreSmall (terminate_events bps number targets after)
+terminate_small bps targets after number short bounded =
+    end_small bps number (count_in (process_of number targets.processes)) terminate_code after (count_few targets.processes number short) bounded
 
-pub run_told : (command : Command) (bps : List Placed) (targets : TargetsValue) → (run_fault command targets ≡ None → AreBounded bps (run_left command bps targets))
+run_small : (command : Command) (bps : List Placed) (targets after : TargetsValue) → AllShort targets.processes → AreBounded bps after → AreSmall (run_given command bps targets after).events
+run_small (GetContext id) bps targets after short bounded = tt
+run_small (GetChildren id) bps targets after short bounded = tt
+run_small (GetState id) bps targets after short bounded = tt
+run_small (Resume id mode count) bps targets after short bounded =
+    of_small (λ pair. resumed_events pair.0 pair.1) (thread_named id) (λ pair. resumed_small pair.0 pair.1)
+run_small (Suspend id) bps targets after short bounded =
+    of_small (λ pair. suspend_events pair.0 pair.1 after) (thread_named id)
+    (λ pair. suspended_small pair.0 pair.1 (thread_of pair.0 pair.1 after.processes) (thread_found_short after.processes pair.0 pair.1 bounded.short))
+run_small (Terminate id) bps targets after short bounded =
+    of_small (λ n. terminate_events bps n targets after) (number_named id) (λ n. terminate_small bps targets after n short bounded)
+run_small (ProcContext id) bps targets after short bounded = tt
+run_small (ProcChildren id attached) bps targets after short bounded = tt
+run_small (ProcStart directory file args environment attach) bps targets after short bounded = started_small bps targets.next after bounded
+run_small (ProcAttach id) bps targets after short bounded = of_small (λ n. attach_events bps n after) (process_named id) (λ n. attached_small bps n after bounded)
+run_small (ProcDetach id) bps targets after short bounded =
+    let was = process_there id targets.processes in
+    of_small (λ n. detach_events bps was n after) (process_named id) (λ n. detached_small bps was n after bounded)
+run_small (ProcTerminate id) bps targets after short bounded =
+    of_small (λ n. terminate_events bps n targets after) (process_named id) (λ n. terminate_small bps targets after n short bounded)
+run_small (TraceRun id count) bps targets after short bounded = trace_small bps (unsigned_abs count) (thread_named id) targets after short bounded
+run_small _ bps targets after short bounded = tt
+
+pub run_told : (command : Command) (bps : List Placed) (targets : TargetsValue) → AllShort targets.processes → (run_fault command targets ≡ None → AreBounded bps (run_left command bps targets))
     → AreSmall (run_effect command bps targets).events
-run_told command bps targets after = by_fault (run_fault command targets) _ (λ none. run_small command bps targets (run_left command bps targets) (after none))
+run_told command bps targets short after = by_fault (run_fault command targets) _ (λ none. run_small command bps targets (run_left command bps targets) short (after none))
 
 -- ---- Memory and Registers: a register that is there has a short ID
 
@@ -151,7 +160,7 @@ spelling_size id =
       name_size (id.index == 32) id.index,
     )
 
-held_word : (text : List ℕ) (register : Option RegisterId) (rows : List (ℕ × ProcessValue)) → register_of text ≡ register → is_none (option_and_then (process_with rows) register) ≡ false → IsWord text
+held_word : (text : List ℕ) (register : Option RegisterId) (rows : List (ℕ × ProcessValue)) → register_of text ≡ register → is_none (option_and_then (thread_with rows) register) ≡ false → IsWord text
 held_word text None rows there held = absurd cc
 held_word text (Some register) rows there held =
     let spelled : text ≡ register_spelling register = ((register_round_trip text register).0 there).1 in
@@ -278,12 +287,14 @@ breakpoints_told channel command target readable bounded =
 
 -- ---- a tick
 
-ticked_small : (bps : List Placed) (number : ℕ) (process : Option ProcessValue) (after : TargetsValue) → AreBounded bps after → AreSmall (ticked_events_at bps number process after)
-ticked_small bps number None after bounded = tt
-ticked_small bps number (Some process) after bounded =
-    executed_small bps number (counted process.state) process.attached after process (machine process.cpu process.memory) bounded
+ticked_small : (bps : List Placed) (number n : ℕ) (process : Option ProcessValue) (after : TargetsValue) → IfSome process IsShort → AreBounded bps after → AreSmall (ticked_events_at bps number n process after)
+ticked_small bps number n None after is bounded = tt
+ticked_small bps number n (Some process) after is bounded =
+    tick_keeps (λ fate. AreSmall (settled_events bps number n (thread_count process) fate after)) bps number n process
+    (fate_small bps number n (thread_count process) (counted_in (thread_at n process)) after is.count.few bounded)
 
-pub tick_told_small : (bps : List Placed) (targets : TargetsValue) (number : Option ℕ) → AreBounded bps (option_map_or (λ n. ticked bps n targets) number targets)
-    → IfSome (option_map (λ n. ticked_events bps n targets) number) AreSmall
-tick_told_small bps targets None bounded = tt
-tick_told_small bps targets (Some number) bounded = ticked_small bps number (process_of number targets.processes) (ticked bps number targets) bounded
+pub tick_told_small : (bps : List Placed) (targets : TargetsValue) (pair : Option (ℕ × ℕ)) → AllShort targets.processes → AreBounded bps (option_map_or (λ p. ticked bps p.0 p.1 targets) pair targets)
+    → IfSome (option_map (λ p. ticked_events bps p.0 p.1 targets) pair) AreSmall
+tick_told_small bps targets None short bounded = tt
+tick_told_small bps targets (Some pair) short bounded =
+    ticked_small bps pair.0 pair.1 (process_of pair.0 targets.processes) (ticked bps pair.0 pair.1 targets) (found_short targets.processes pair.0 short) bounded

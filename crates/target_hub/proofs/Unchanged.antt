@@ -16,6 +16,7 @@ use Rattle.breakpoints.specs.declared.breakpoints.BpDone.TheVariants.{Failed, Ch
 use Rattle.data_services.specs.Commands.{data_after, data_effect}
 use Rattle.target_contexts.specs.Changes.{targets_by}
 use Rattle.target_contexts.specs.Live.{process_of}
+use Rattle.target_contexts.specs.declared.threads.Thread.{Thread}
 use Rattle.target_contexts.specs.Named.{attached_in, thread_named}
 use Rattle.target_contexts.specs.TargetsValue.{TargetsValue}
 use Rattle.target_contexts.specs.ProcessValue.{ProcessValue}
@@ -105,9 +106,9 @@ context_none : (found : Option ContextData) → IsNoFailure (context_answer foun
 context_none None = tt
 context_none (Some context) = tt
 
-state_none : (found : Option ProcessValue) → IsNoFailure (state_answer found)
+state_none : (found : Option Thread) → IsNoFailure (state_answer found)
 state_none None = tt
-state_none (Some process) = tt
+state_none (Some thread) = tt
 
 there_none : (number : ℕ) (found : Option ProcessValue) → IsNoFailure (process_answer_of number found)
 there_none number None = tt
@@ -117,9 +118,9 @@ process_none : (named : Option ℕ) (rows : List (ℕ × ProcessValue)) → IsNo
 process_none None rows = tt
 process_none (Some number) rows = there_none number (process_of number rows)
 
-trace_none : (bps : List Placed) (count : ℕ) (named : Option ℕ) (targets after : TargetsValue) → IsNoFailure (trace_given bps count named targets after).answer
+trace_none : (bps : List Placed) (count : ℕ) (named : Option (ℕ × ℕ)) (targets after : TargetsValue) → IsNoFailure (trace_given bps count named targets after).answer
 trace_none bps count None targets after = tt
-trace_none bps count (Some number) targets after = tt
+trace_none bps count (Some pair) targets after = tt
 
 run_none : (command : Command) (bps : List Placed) (targets after : TargetsValue) → IsNoFailure (run_given command bps targets after).answer
 run_none (GetContext id) bps targets after = context_none (data_named id targets.processes)

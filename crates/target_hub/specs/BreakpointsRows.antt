@@ -14,7 +14,7 @@ use Rattle.tcf_values.specs.declared.faults.Fault.{Fault}
 use Rattle.tcf_values.specs.declared.faults.Fault.TheVariants.{Other, BadContext}
 use Rattle.tcf_values.specs.declared.values.BpProps.{BpProps}
 use Rattle.tcf_values.specs.declared.values.BpStatus.{BpStatus}
-use Rattle.target_contexts.specs.Named.{attached_in, number_named, process_at_number}
+use Rattle.target_contexts.specs.Named.{attached_in, holder_named}
 use Rattle.breakpoints.specs.Changes.{after, changes_list, done}
 use Rattle.breakpoints.specs.Rows.{ids_of, props_of}
 use Rattle.breakpoints.specs.Status.{status_of}
@@ -56,7 +56,7 @@ abbrev pub ask_fault : Command → TargetValue → Option Fault
 ask_fault (BpProperties id) target = first_fault ((is_none (props_of id target.breakpoints), Other) ∷ [])
 ask_fault (BpGetStatus id) target = first_fault ((is_none (props_of id target.breakpoints), Other) ∷ [])
 ask_fault (BpCapabilities id) target =
-    first_fault ((not (is_empty id) && is_none (process_at_number (number_named id) target.contexts.processes), BadContext) ∷ [])
+    first_fault ((not (is_empty id) && is_none (holder_named id target.contexts.processes), BadContext) ∷ [])
 ask_fault _ target = None
 
 abbrev pub props_answer : Option BpProps → Answer

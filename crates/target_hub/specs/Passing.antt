@@ -1,11 +1,10 @@
 -- What passes without a command: a thread that executes an instruction, and a channel that goes.
-use Rattle.std.specs.Prelude.{ℕ, List, map, Option}
+use Rattle.std.specs.Prelude.{ℕ, List, Option}
 use Rattle.tcf_values.specs.declared.event.EventData.{EventData}
 use Rattle.tcf_values.specs.declared.ids.ContextId.{ContextId}
-use Rattle.tcf_values.specs.declared.ids.ContextId.TheVariants as ids
 use Rattle.breakpoints.specs.Rows.{ids_of, others, owned_by}
 use Rattle.run_control.specs.Ticking.{tick_after, tick_events}
-use Rattle.target_contexts.specs.Named.{running_numbers}
+use Rattle.target_contexts.specs.Named.{running_threads}
 use Rattle.target_contexts.specs.ProcessValue.{ProcessValue}
 use Rattle.target_hub.specs.BreakpointsRows.{removed_events}
 use Rattle.run_control.specs.TargetValue.{TargetValue}
@@ -18,13 +17,9 @@ ticked thread target = record target { contexts = tick_after target.breakpoints 
 abbrev pub tick_told : ContextId → TargetValue → Option (List EventData)
 tick_told thread target = tick_events target.breakpoints thread target.contexts
 
--- the one thread of each process
-abbrev pub threads_of : List ℕ → List ContextId
-threads_of numbers = map (λ number. ids.Thread number 1) numbers
-
--- the threads that run, in the order of their processes
+-- the threads that run, in the order of their processes and then of their numbers
 abbrev pub running_in : List (ℕ × ProcessValue) → List ContextId
-running_in rows = threads_of (running_numbers rows)
+running_in rows = running_threads rows
 
 -- ---- a channel that goes takes its breakpoints with it, and contextRemoved tells them where there are some
 

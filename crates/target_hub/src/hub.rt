@@ -9,7 +9,7 @@ ghost use Rattle.target_hub.specs.Execution.{exec_after, exec_effect};
 ghost use Rattle.target_hub.specs.HubValue.{new_target, usable};
 ghost use Rattle.target_hub.specs.Limits.{AreEvents};
 ghost use Rattle.target_hub.specs.Sendable.{AreSendable, IsBounded, IsSendable};
-ghost use Rattle.target_hub.specs.Passing.{closed, closed_told, running_in, threads_of, tick_told, ticked};
+ghost use Rattle.target_hub.specs.Passing.{closed, closed_told, running_in, tick_told, ticked};
 
 use crate::breakpoints_rows::removed_events;
 use crate::done::{Answered, Done};
@@ -21,7 +21,7 @@ use command_tables::Reading;
 use reply_tables::{write_answer, write_refusal};
 use std::alloc::{AllocError, Global};
 use std::marker::Model;
-use target_contexts::{Image, THREAD, Targets, a_start_adds_one};
+use target_contexts::{Image, Targets, a_start_adds_one};
 use tcf_outside::Octets;
 use tcf_values::{Command, ContextId, Events};
 
@@ -132,7 +132,7 @@ impl Hub {
         Ok(told)
     }
 
-    /// The threads that run, in the order of their processes.
+    /// The threads that run, in the order of their processes and then of their numbers.
     pub fn running(&self) -> Result<Vec<ContextId>, AllocError>
         ensures threads { IfOk result (λ threads. threads.items ≡ running_in self.now.target.contexts.processes) }
         ensures fresh { OnOk result (self.now.is_spent ≡ false) }
@@ -140,8 +140,7 @@ impl Hub {
         if self.spent {
             return Err(AllocError);
         }
-        let numbers = self.target.contexts.running()?;
-        threads_of(self.alloc, &numbers)
+        self.target.contexts.running()
     }
 
     /// Begins a call that may meet want of memory: the hub is spent until the call is done.
@@ -216,15 +215,4 @@ impl Hub {
         write_refusal(self.alloc, service, name, code, &mut data)?;
         Ok(Done::only(self.alloc, Answered::Result(data)))
     }
-}
-
-/// The threads of these processes.
-fn threads_of(alloc: Global, numbers: &[u32]) -> Result<Vec<ContextId>, AllocError>
-    ensures { IfOk result (λ threads. threads.items ≡ threads_of numbers.now) }
-{
-    let mut threads = Vec::new(alloc);
-    for number in numbers {
-        threads.push(ContextId::Thread(*number, THREAD))?;
-    }
-    Ok(threads)
 }

@@ -21,7 +21,7 @@ fn targets(alloc: Global) -> Result<Targets, Fail> {
 }
 
 fn cpu(targets: &Targets) -> Option<Cpu> {
-    Some(targets.process(1)?.cpu)
+    Some(targets.thread(1, 1)?.cpu)
 }
 
 fn locations(alloc: Global, list: &[(&str, i128, i128)]) -> Result<Locations, AllocError> {
@@ -105,7 +105,9 @@ fn registers_are_set_together_and_x0_stays_0(rt: HostRuntime) -> Result<(), Fail
 /// What a getm of x0 comes to where 7 stands there.
 fn get_text(alloc: Global, targets: &mut Targets) -> Result<String, AllocError> {
     if let Some(process) = targets.process_mut(1) {
-        process.cpu.x[0] = 7;
+        if let Some(thread) = process.threads.get_mut(1) {
+            thread.cpu.x[0] = 7;
+        }
     }
     let list = locations(alloc, &[("P1.1.x0", 0, 2)])?;
     let effect = apply(alloc, targets, &Command::RegGetm { list })?;

@@ -15,7 +15,7 @@ use Rattle.tcf_values.specs.Faults.{code_of}
 use Rattle.tcf_values.specs.declared.answer.Answer.{Answer}
 use Rattle.tcf_values.specs.declared.answer.Answer.TheVariants.{Failed}
 use Rattle.tcf_values.specs.declared.command.Command.{Command}
-use Rattle.tcf_values.specs.declared.command.Command.TheVariants.{GetContext, GetState, BpProperties, BpGetStatus, MemGet, RegGet, RegGetm}
+use Rattle.tcf_values.specs.declared.command.Command.TheVariants.{GetChildren, GetContext, GetState, BpProperties, BpGetStatus, MemGet, RegGet, RegGetm}
 use Rattle.tcf_values.specs.declared.effect.Effect.{Effect}
 use Rattle.tcf_values.specs.declared.errors.ErrorReport.{ErrorReport}
 use Rattle.tcf_values.specs.declared.faults.Fault.{Fault}
@@ -45,6 +45,7 @@ unheard target command body silent = silent_by target command (answer_read comma
 
 failed_silent : (command : Command) (report : ErrorReport) → answer_changes command (Failed report) ≡ []
 failed_silent (GetContext id) report = refl
+failed_silent (GetChildren id) report = refl
 failed_silent (GetState id) report = refl
 failed_silent (BpProperties id) report = refl
 failed_silent (BpGetStatus id) report = refl

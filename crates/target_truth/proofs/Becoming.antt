@@ -1,5 +1,5 @@
 -- One process becomes another, and all others stay as they are.
-use Rattle.std.proofs.Common.{◌≡◌, ℕ, ◌≤◌, nat_eq, length, Option, Some, refl, sym, ◌∙◌, ap, subst, inl, inr}
+use Rattle.std.proofs.Common.{◌≡◌, ℕ, ◌≤◌, nat_eq, length, Option, Some, option_map, refl, sym, ◌∙◌, ap, subst, inl, inr}
 use Rattle.std.proofs.lemmas.Bool.{cases_Bool, eqb-false, eqb-true}
 use Rattle.std.proofs.lemmas.List.{length-map}
 use Rattle.target_contexts.specs.Changes.{with_change, with_change_at}
@@ -10,8 +10,10 @@ use Rattle.target_contexts.specs.TargetsValue.{TargetsValue}
 use Rattle.target_contexts.specs.ProcessValue.{ProcessValue}
 use Rattle.run_control.specs.TargetValue.{TargetValue}
 use Rattle.target_truth.specs.Holds.{process_in}
-use Rattle.target_contexts.proofs.TheLaws.{changes_one}
-use Rattle.target_truth.proofs.First.{Stays, StaysAttached}
+use Rattle.target_contexts.specs.Threads.{in_thread, thread_at}
+use Rattle.target_contexts.specs.declared.threads.Thread.{Thread}
+use Rattle.target_contexts.proofs.TheLaws.{changes_one, changes_one_thread}
+use Rattle.target_truth.proofs.First.{OthersStand, Stays, StaysAttached}
 use Rattle.target_truth.proofs.Silent.{attached_same}
 use Rattle.data_services.proofs.PartSteps.{live_found}
 
@@ -102,3 +104,15 @@ rests number target process there = record {
   attached = refl;
   all = refl;
 }
+
+-- ---- one of its threads is changed
+
+pub changed_at : (change : Thread → Thread) (n : ℕ) (process : ProcessValue) (thread : Thread) → thread_at n process ≡ Some thread → thread_at n (in_thread change n process) ≡ Some (change thread)
+changed_at change n process thread there = (changes_one_thread change n process).0 ∙ ap (option_map change) there
+
+pub others_stand : (change : Thread → Thread) (n : ℕ) (process : ProcessValue) → OthersStand n process (in_thread change n process)
+others_stand change n process = record { others = (changes_one_thread change n process).1.others; count = (changes_one_thread change n process).2 }
+
+-- none is
+pub none_changed : (n : ℕ) (process : ProcessValue) → OthersStand n process process
+none_changed n process = record { others = λ other differ. refl; count = refl }

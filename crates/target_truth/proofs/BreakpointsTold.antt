@@ -8,7 +8,8 @@ use Rattle.knowledge.specs.Facts.{properties_are, status_is}
 use Rattle.knowledge.specs.Rows.{removed_properties, told_properties}
 use Rattle.run_control.specs.TargetValue.{TargetValue}
 use Rattle.target_truth.proofs.Agree.{IsTouched}
-use Rattle.target_truth.proofs.Changes.{IsSo, is_bytes, touches}
+use Rattle.target_truth.proofs.Changes.{IsSaid, is_bytes, touches}
+use Rattle.target_truth.proofs.Origins.{ListsNone}
 use Rattle.target_truth.proofs.Texts.{turned}
 use Rattle.tcf_values.specs.declared.values.BpProps.{BpProps}
 use Rattle.tcf_values.specs.declared.values.BpStatus.{BpStatus}
@@ -16,13 +17,22 @@ use Rattle.list_laws.proofs.Flags.{or_then}
 
 -- what is told is so
 pub told_so : (now : TargetValue) (list : List BpProps) → AllByRecursion (λ props. props_of props.id now.breakpoints ≡ Some props) list
-    → AllByRecursion (IsSo now) (of_each told_properties list)
+    → AllByRecursion (IsSaid now) (of_each told_properties list)
 told_so now [] there = tt
 told_so now (props ∷ list) there = (there.0, (tt, told_so now list there.1))
 
-pub removed_so : (now : TargetValue) (ids : List (List ℕ)) → AllByRecursion (IsSo now) (of_each removed_properties ids)
+pub removed_so : (now : TargetValue) (ids : List (List ℕ)) → AllByRecursion (IsSaid now) (of_each removed_properties ids)
 removed_so now [] = tt
 removed_so now (id ∷ ids) = (tt, (tt, removed_so now ids))
+
+-- and lists of threads stay
+pub told_lists : (list : List BpProps) → AllByRecursion ListsNone (of_each told_properties list)
+told_lists [] = tt
+told_lists (props ∷ list) = (tt, (tt, told_lists list))
+
+pub removed_lists : (ids : List (List ℕ)) → AllByRecursion ListsNone (of_each removed_properties ids)
+removed_lists [] = tt
+removed_lists (id ∷ ids) = (tt, (tt, removed_lists ids))
 
 pub told_none : (list : List BpProps) → list_any is_bytes (of_each told_properties list) ≡ false
 told_none [] = refl

@@ -1,5 +1,5 @@
 -- One process may be another in the target as it is now, and all else stays.
-use Rattle.std.proofs.Common.{◌≡◌, ℕ, ◌⊎◌, List, Option, Some, None, inl, refl, sym, ap, ◌∙◌, subst, arith}
+use Rattle.std.proofs.Common.{◌≡◌, ℕ, ◌⊎◌, List, Option, Some, None, inl, sym, ap, ◌∙◌, subst, refl}
 use Rattle.std.specs.Prelude.{option_map}
 use Rattle.std.proofs.lemmas.Option.{none-some}
 use Rattle.breakpoints.specs.Status.{instances_of, status_of}
@@ -7,19 +7,14 @@ use Rattle.knowledge.specs.Changes.{Change, after_all}
 use Rattle.knowledge.specs.Facts.{IsPart, status_is}
 use Rattle.knowledge.specs.Learning.{event_taken, learn}
 use Rattle.knowledge.specs.Rows.{event_changes}
-use Rattle.run_control.specs.Naming.{process_id, thread_id}
 use Rattle.target_contexts.specs.Laws.{AgreeBut}
 use Rattle.target_contexts.specs.Named.{attached_in}
 use Rattle.target_contexts.specs.ProcessValue.{ProcessValue}
 use Rattle.run_control.specs.TargetValue.{TargetValue}
 use Rattle.target_truth.specs.Holds.{process_in}
-use Rattle.tcf_values.proofs.TheLaws.{context_round_trip}
 use Rattle.target_truth.proofs.Agree.{IsTouched}
 use Rattle.target_truth.proofs.Seen.{seen}
-use Rattle.tcf_values.specs.Ids.{context_of}
-use Rattle.tcf_values.specs.Spelling.{IsNumber}
 use Rattle.tcf_values.specs.declared.event.EventData.{EventData}
-use Rattle.tcf_values.specs.declared.ids.ContextId.TheVariants as contexts
 use Rattle.tcf_values.specs.declared.values.BpProps.{BpProps}
 use Rattle.tcf_values.specs.declared.values.BpStatus.{BpStatus}
 
@@ -45,14 +40,7 @@ pub record StaysAttached (number : ℕ) (before now : TargetValue) (old new : Pr
   pub attached : new.attached ≡ old.attached
   pub all : attached_in now.contexts.processes ≡ attached_in before.contexts.processes
 
--- ---- IDs, and what stays
-
--- the IDs of a process and of its thread are read as theirs
-pub process_named : (number : ℕ) → IsNumber number → context_of (process_id number) ≡ Some (contexts.Process number)
-process_named number is = (context_round_trip (process_id number) (contexts.Process number)).1 (is, refl)
-
-pub thread_named : (number : ℕ) → IsNumber number → context_of (thread_id number) ≡ Some (contexts.Thread number 1)
-thread_named number is = (context_round_trip (thread_id number) (contexts.Thread number 1)).1 ((is, (omega arith, omega arith)), refl)
+-- ---- what stays
 
 -- an event that makes these changes leads on where they do
 pub by_changes : (before now : TargetValue) (event : EventData) (changes : List Change) → event_changes event ≡ changes

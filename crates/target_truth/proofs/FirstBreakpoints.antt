@@ -12,9 +12,10 @@ use Rattle.target_contexts.specs.Named.{attached_in}
 use Rattle.run_control.specs.TargetValue.{TargetValue}
 use Rattle.target_truth.specs.Holds.{process_in}
 use Rattle.target_truth.proofs.Agree.{Accounts, IsTouched, led, same_accounts}
-use Rattle.target_truth.proofs.BreakpointsTold.{removed_none, removed_so, removed_touched, removed_touched_status, told_none, told_so, told_touched, told_touched_status}
+use Rattle.target_truth.proofs.BreakpointsTold.{removed_lists, removed_none, removed_so, removed_touched, removed_touched_status, told_lists, told_none, told_so, told_touched, told_touched_status}
 use Rattle.target_truth.proofs.Changes.{parts_kept}
 use Rattle.target_truth.proofs.Differs.{Leads, status_kept}
+use Rattle.target_truth.proofs.Origins.{ListsNone, no_lists}
 use Rattle.target_truth.proofs.Seen.{seen}
 use Rattle.tcf_values.specs.declared.event.EventData.TheVariants as events
 use Rattle.tcf_values.specs.declared.values.BpProps.{BpProps}
@@ -29,10 +30,11 @@ abbrev pub AreThere : List BpProps → List Placed → Type 0
 AreThere list rows = AllByRecursion (λ props. props_of props.id rows ≡ Some props) list
 
 -- no process is another
-contexts_same : (before now : TargetValue) (changes : List Change) → now.contexts ≡ before.contexts → (p : ℕ) → Accounts p (process_in p before) (process_in p now) changes
-contexts_same before now changes same p =
+contexts_same : (before now : TargetValue) (changes : List Change) → AllByRecursion ListsNone changes → now.contexts ≡ before.contexts
+    → (p : ℕ) → Accounts p (process_in p before) (process_in p now) changes
+contexts_same before now changes none same p =
     subst (λ process. Accounts p (process_in p before) process changes) (sym (ap (λ contexts. process_of p contexts.processes) same))
-    (same_accounts p (process_in p before) changes)
+    (same_accounts p (process_in p before) changes (λ list. no_lists p changes list none))
 
 -- a status follows from the properties
 status_from : (before now : TargetValue) → now.contexts ≡ before.contexts → (id : List ℕ) (x : BpStatus)
@@ -67,7 +69,7 @@ pub put : (before now : TargetValue) (list : List BpProps) → now.contexts ≡ 
 put before now list same there stay =
     let changes : List Change = of_each told_properties list in
     let ids : List (List ℕ) = map (λ props. props.id) list in
-    led before now changes (told_so now list there) (told_none list) (contexts_same before now changes same)
+    led before now changes (told_so now list there) (told_none list) (contexts_same before now changes (told_lists list) same)
     (properties_but before now ids changes stay (told_touched list)) (status_but before now ids changes same stay (told_touched_status list))
 
 pub changed : (before now : TargetValue) (list : List BpProps) → now.contexts ≡ before.contexts → AreThere list now.breakpoints
@@ -78,7 +80,7 @@ pub taken_out : (before now : TargetValue) (ids : List (List ℕ)) → now.conte
     → Leads before now (events.BpRemoved ids)
 taken_out before now ids same stay =
     let changes : List Change = of_each removed_properties ids in
-    led before now changes (removed_so now ids) (removed_none ids) (contexts_same before now changes same)
+    led before now changes (removed_so now ids) (removed_none ids) (contexts_same before now changes (removed_lists ids) same)
     (properties_but before now ids changes stay (removed_touched ids)) (status_but before now ids changes same stay (removed_touched_status ids))
 
 pub status_is_so : (target : TargetValue) (id : List ℕ) (status : BpStatus) → status_of id (attached_in target.contexts.processes) target.breakpoints ≡ Some status

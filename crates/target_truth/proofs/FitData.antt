@@ -6,8 +6,8 @@ use Rattle.data_services.specs.Bytes.{with_part, word_bytes, word_of}
 use Rattle.data_services.specs.Commands.{data_after, data_fault, data_left}
 use Rattle.data_services.specs.MemoryRows.{is_no_size, is_outside, with_memory}
 use Rattle.data_services.specs.Named.{process_named}
-use Rattle.data_services.specs.Parts.{bytes_in, number_in, parts_named, with_bytes, with_number, with_parts}
-use Rattle.data_services.specs.RegisterRows.{register_after, with_word}
+use Rattle.data_services.specs.Parts.{bytes_in, number_in, parts_named, with_bytes, with_number, with_part_bytes, with_parts, with_register_bytes}
+use Rattle.data_services.specs.RegisterRows.{register_after, with_register_word, with_word}
 use Rattle.rv32i_core.proofs.TheLaws.{writes_stay_within}
 use Rattle.rv32i_core.proofs.Words.{byte_below}
 use Rattle.rv32i_core.specs.Laws.{IsCpu, IsWord}
@@ -19,7 +19,7 @@ use Rattle.target_contexts.specs.TargetsValue.{TargetsValue}
 use Rattle.target_contexts.specs.Whole.{IsWhole}
 use Rattle.target_contexts.specs.ProcessValue.{ProcessValue}
 use Rattle.target_truth.proofs.Fit.{IsFit, change_fit}
-use Rattle.target_truth.proofs.FitRun.{fault_fit}
+use Rattle.target_truth.proofs.FitRun.{fault_fit, thread_whole}
 use Rattle.tcf_values.specs.Faults.{first_fault}
 use Rattle.tcf_values.specs.Ids.{register_of}
 use Rattle.tcf_values.specs.declared.command.Command.{Command}
@@ -46,7 +46,7 @@ part_length first part bytes within = simp (length-append, length-take, length-d
 
 memory_whole : (first : ℕ) (bytes : List ℕ) (process : ProcessValue) → first + length bytes ≤ 65536 → AreBytes bytes → IsWhole process → IsWhole (with_memory first bytes process)
 memory_whole first bytes process within are is = record {
-  cpu = is.cpu;
+  cpus = is.cpus;
   memory = record {
     size = part_length first bytes process.memory (omega (arith, is.memory.size)) ∙ is.memory.size;
     bytes = part_bytes first bytes process.memory are is.memory.bytes;
@@ -94,8 +94,8 @@ number_whole index number cpu is below = number_by (nat_lt index 32) index numbe
 register_fit : (register : Option RegisterId) (number : ℕ) (targets : TargetsValue) → IsFit targets → IsWord number → IsFit (register_after register number targets)
 register_fit None number targets fit below = fit
 register_fit (Some register) number targets fit below =
-    change_fit (with_word register.index number) register.process targets fit
-    (λ process is. record { cpu = number_whole register.index number process.cpu is.cpu below; memory = is.memory })
+    change_fit (with_register_word register number) register.process targets fit
+    (λ process is. thread_whole (with_word register.index number) register.thread process (λ thread whole. number_whole register.index number thread.cpu whole below) is)
 
 -- the type of parts
 abbrev DomainOf : {A B : Type 0} → (A → B) → Type 0
@@ -104,20 +104,21 @@ DomainOf {A = A} f = A
 abbrev Part : Type 0
 Part = DomainOf bytes_in
 
-part_whole : (part : Part) (bytes : List ℕ) (process : ProcessValue) → AreBytes bytes → IsWhole process → IsWhole (with_bytes part bytes process)
+part_cpu : (part : Part) (bytes : List ℕ) (cpu : Cpu) → AreBytes bytes → IsCpu cpu → IsCpu (with_register_bytes part bytes cpu)
+part_cpu part bytes cpu are is =
+    let old = word_bytes (number_in part.register.index cpu) in
+    number_whole part.register.index (word_of (with_part part.offset bytes old)) cpu is
+    (word_is (with_part part.offset bytes old) (part_bytes part.offset bytes old are (bytes_are (number_in part.register.index cpu))))
+
+part_whole : (part : Part) (bytes : List ℕ) (process : ProcessValue) → AreBytes bytes → IsWhole process → IsWhole (with_part_bytes part bytes process)
 part_whole part bytes process are is =
-    let old = word_bytes (number_in part.register.index process.cpu) in
-    record {
-      cpu = number_whole part.register.index (word_of (with_part part.offset bytes old)) process.cpu is.cpu
-          (word_is (with_part part.offset bytes old) (part_bytes part.offset bytes old are (bytes_are (number_in part.register.index process.cpu))));
-      memory = is.memory;
-    }
+    thread_whole (with_bytes part bytes) part.register.thread process (λ thread whole. part_cpu part bytes thread.cpu are whole) is
 
 parts_fit : (parts : List Part) (bytes : List ℕ) (targets : TargetsValue) → AreBytes bytes → IsFit targets → IsFit (with_parts parts bytes targets)
 parts_fit [] bytes targets are fit = fit
 parts_fit (part ∷ parts) bytes targets are fit =
-    parts_fit parts (drop part.size bytes) (with_change (with_bytes part (take part.size bytes)) part.register.process targets) (all_drop IsByte part.size bytes are)
-    (change_fit (with_bytes part (take part.size bytes)) part.register.process targets fit
+    parts_fit parts (drop part.size bytes) (with_change (with_part_bytes part (take part.size bytes)) part.register.process targets) (all_drop IsByte part.size bytes are)
+    (change_fit (with_part_bytes part (take part.size bytes)) part.register.process targets fit
     (λ process is. part_whole part (take part.size bytes) process (all_take IsByte part.size bytes are) is))
 
 -- ---- each command

@@ -1,34 +1,41 @@
 -- What the commands of RunControl, Processes and Trace, and ticks, leave is fit.
-use Rattle.std.proofs.Common.{◌≡◌, ℕ, zero, suc, ◌+◌, ◌==◌, nat_lt, nat_le, Bool, true, false, cond, List, [], ◌∷◌, length, Option, Some, None, IfSome, option_map, refl}
-use Rattle.std.specs.Prelude.{unsigned_abs}
+use Rattle.std.proofs.Common.{◌≡◌, ℕ, zero, suc, ◌+◌, ◌<◌, nat_lt, nat_le, Bool, true, false, cond, List, [], ◌∷◌, length, Option, Some, None, IfSome, option_map, refl, arith}
+use Rattle.std.specs.Prelude.{unsigned_abs, unwrap_or}
 use Rattle.std.specs.List.{AllByRecursion}
 use Rattle.std.specs.Option.{option_map_or, option_or}
-use Rattle.run_control.specs.Attaching.{attach_after, attached, detach_after, detached, start_fault_for}
+use Rattle.std.proofs.lemmas.Bool.{and_parts, ltb-true}
+use Rattle.list_laws.proofs.AllLists.{all_map_then}
+use Rattle.run_control.specs.Attaching.{attach_after, attached, detach_after, detached, start_fault_for, with_states}
 use Rattle.run_control.specs.Commands.{left_of, run_after, run_fault, run_left}
 use Rattle.run_control.specs.Ending.{end_after}
-use Rattle.run_control.specs.Executing.{breakpoint_text, exception_text, executed_by, executed_with, fate_by, hits_at, settled, step_text, stepped, stepped_by}
+use Rattle.run_control.specs.Executing.{hits_at, result_for, settled, step_text, stepped, stepped_at, stepped_by, with_cpu, with_result}
 use Rattle.run_control.specs.Naming.{is_empty, process_named}
 use Rattle.run_control.specs.Steering.{left_by, resume_after, suspend_after, with_state}
-use Rattle.run_control.specs.Ticking.{counted, running_number, tick_after, ticked, ticked_at}
-use Rattle.run_control.specs.Tracing.{halt_by, last_hits, last_of, next_by, next_of, run_from, states_of, stop_by, trace_after, traced_at, up_to_hit}
-use Rattle.rv32i_core.proofs.TheLaws.{steps_stay_within}
-use Rattle.rv32i_core.specs.Laws.{LeavesWhole}
-use Rattle.rv32i_core.specs.Machine.{Step, ends, excepts, goes_on, machine}
+use Rattle.run_control.specs.Ticking.{counted_in, running_pair, tick_after, ticked, ticked_at}
+use Rattle.run_control.specs.Tracing.{last_of, next_at, next_by, next_of, run_from, states_of, trace_after, trace_of, traced_at, up_to_hit}
+use Rattle.rv32i_core.proofs.TheLaws.{results_stay_within, steps_stay_within}
+use Rattle.rv32i_core.specs.Laws.{IsCpu, IsWord, LeavesWhole}
+use Rattle.rv32i_core.specs.Machine.{Step, ends, excepts, goes_on, machine, spawns}
 use Rattle.target_contexts.specs.Changes.{targets_by, with_change}
 use Rattle.target_contexts.specs.Images.{image_of, is_named}
 use Rattle.target_contexts.specs.Live.{process_of}
 use Rattle.target_contexts.specs.Named.{number_named, thread_named}
+use Rattle.target_contexts.specs.Spawning.{can_begin, with_begun}
 use Rattle.target_contexts.specs.Starting.{bytes_refusal, new_process, refusal_for, suspended_text, with_started}
 use Rattle.target_contexts.specs.TargetsValue.{TargetsValue}
+use Rattle.target_contexts.specs.Threads.{in_thread, thread_at, thread_count}
 use Rattle.target_contexts.specs.Whole.{IsWhole}
 use Rattle.target_contexts.specs.declared.process.Image.{Image}
 use Rattle.target_contexts.specs.ProcessValue.{ProcessValue}
 use Rattle.target_contexts.specs.declared.process.ThreadState.{ThreadState}
 use Rattle.target_contexts.specs.declared.process.ThreadState.TheVariants.{Running, Suspended}
+use Rattle.target_contexts.specs.declared.threads.Thread.{Thread}
 use Rattle.target_contexts.specs.declared.targets.StartRefusal.{StartRefusal}
 use Rattle.target_contexts.specs.declared.targets.StartRefusal.TheVariants.{Full, Numbers}
 use Rattle.command_tables.specs.Canonical.{AreBytes}
-use Rattle.target_contexts.proofs.TheLaws.{start_is_whole}
+use Rattle.target_contexts.proofs.TheLaws.{begin_stays_whole, start_is_whole}
+use Rattle.target_contexts.proofs.ThreadLists.{each_thread_keeps, found_thread_is}
+use Rattle.target_hub.proofs.Fates.{Covers, tick_keeps, trace_keeps}
 use Rattle.target_truth.proofs.Fit.{IsFit, change_fit, end_fit, found_whole, start_fit}
 use Rattle.tcf_values.specs.declared.command.Command.{Command}
 use Rattle.tcf_values.specs.declared.command.Command.TheVariants.{Resume, Suspend, Terminate, ProcStart, ProcAttach, ProcDetach, ProcTerminate, TraceRun}
@@ -36,114 +43,140 @@ use Rattle.tcf_values.specs.declared.faults.Fault.{Fault}
 use Rattle.tcf_values.specs.declared.ids.ContextId.{ContextId}
 use Rattle.breakpoints.specs.declared.rows.Placed.{Placed}
 
+abbrev HasCpu : Thread → Type 0
+HasCpu thread = IsCpu thread.cpu
+
 -- ---- a thread, and what becomes of a process
 
-state_whole : (state : ThreadState) (process : ProcessValue) → IsWhole process → IsWhole (with_state state process)
-state_whole state process is = record { cpu = is.cpu; memory = is.memory }
+-- a change of a thread that keeps its processor, or leaves another
+pub thread_whole : (change : Thread → Thread) (n : ℕ) (process : ProcessValue) → ((thread : Thread) → IsCpu thread.cpu → IsCpu (change thread).cpu) → IsWhole process
+    → IsWhole (in_thread change n process)
+thread_whole change n process keeps is = record {
+  cpus = each_thread_keeps HasCpu change n process (λ thread there whole. keeps thread whole) is.cpus;
+  memory = is.memory;
+}
 
-attached_whole : (process : ProcessValue) → IsWhole process → IsWhole (attached process)
-attached_whole process is = record { cpu = is.cpu; memory = is.memory }
+pub cpu_found : (n : ℕ) (process : ProcessValue) (thread : Thread) → thread_at n process ≡ Some thread → IsWhole process → IsCpu thread.cpu
+cpu_found n process thread there is = found_thread_is HasCpu n thread process there is.cpus
 
-detached_whole : (process : ProcessValue) → IsWhole process → IsWhole (detached process)
-detached_whole process is = record { cpu = is.cpu; memory = is.memory }
+state_whole : (state : ThreadState) (n : ℕ) (process : ProcessValue) → IsWhole process → IsWhole (in_thread (with_state state) n process)
+state_whole state n process is = thread_whole (with_state state) n process (λ thread whole. whole) is
 
-state_fit : (state : ThreadState) (number : ℕ) (targets : TargetsValue) → IsFit targets → IsFit (with_change (with_state state) number targets)
-state_fit state number targets fit = change_fit (with_state state) number targets fit (state_whole state)
+all_whole : (state : ThreadState) (process : ProcessValue) → IsWhole process → AllByRecursion HasCpu (with_states state process).threads
+all_whole state process is = all_map_then HasCpu HasCpu (with_state state) process.threads (λ thread whole. whole) is.cpus
 
-hits_fit : (number : ℕ) (plain : ThreadState) (attached : Bool) (hits : List (List ℕ)) (targets : TargetsValue) → IsFit targets
-    → IsFit (settled number (fate_by plain attached (executed_with hits)) targets)
-hits_fit number plain attached [] targets fit = state_fit plain number targets fit
-hits_fit number plain attached (hit ∷ hits) targets fit = state_fit (Suspended breakpoint_text (hit ∷ hits)) number targets fit
+pub attached_whole : (process : ProcessValue) → IsWhole process → IsWhole (attached process)
+attached_whole process is = record { cpus = all_whole (Suspended suspended_text []) process is; memory = is.memory }
 
-exception_fit : (number : ℕ) (plain : ThreadState) (attached : Bool) (targets : TargetsValue) → IsFit targets → IsFit (settled number (fate_by plain attached (halt_by excepts)) targets)
-exception_fit number plain true targets fit = state_fit (Suspended exception_text []) number targets fit
-exception_fit number plain false targets fit = end_fit number targets fit
+pub detached_whole : (process : ProcessValue) → IsWhole process → IsWhole (detached process)
+detached_whole process is = record { cpus = all_whole (Running None) process is; memory = is.memory }
 
--- by the machine's step
-settled_fit : (bps : List Placed) (number : ℕ) (process : ProcessValue) (plain : ThreadState) (attached : Bool) (step : Step) (targets : TargetsValue) → IsFit targets
-    → IsFit (settled number (fate_by plain attached (executed_by bps number process step)) targets)
-settled_fit bps number process plain attached (goes_on cpu memory) targets fit =
-    hits_fit number plain attached (hits_at bps number (record process { cpu = cpu; memory = memory })) targets fit
-settled_fit bps number process plain attached (ends code) targets fit = end_fit number targets fit
-settled_fit bps number process plain attached excepts targets fit = exception_fit number plain attached targets fit
+state_fit : (state : ThreadState) (number n : ℕ) (targets : TargetsValue) → IsFit targets → IsFit (with_change (in_thread (with_state state) n) number targets)
+state_fit state number n targets fit = change_fit (in_thread (with_state state) n) number targets fit (state_whole state n)
 
-halted_fit : (number : ℕ) (plain : ThreadState) (attached : Bool) (step : Step) (targets : TargetsValue) → IsFit targets → IsFit (settled number (fate_by plain attached (halt_by step)) targets)
-halted_fit number plain attached (goes_on cpu memory) targets fit = state_fit plain number targets fit
-halted_fit number plain attached (ends code) targets fit = end_fit number targets fit
-halted_fit number plain attached excepts targets fit = exception_fit number plain attached targets fit
-
--- by why a trace stops
-stopped_fit : (number : ℕ) (plain : ThreadState) (attached : Bool) (hits : List (List ℕ)) (all : Bool) (last : ProcessValue) (targets : TargetsValue) → IsFit targets
-    → IsFit (settled number (fate_by plain attached (stop_by hits all last)) targets)
-stopped_fit number plain attached (hit ∷ hits) all last targets fit = state_fit (Suspended breakpoint_text (hit ∷ hits)) number targets fit
-stopped_fit number plain attached [] true last targets fit = state_fit plain number targets fit
-stopped_fit number plain attached [] false last targets fit = halted_fit number plain attached (machine last.cpu last.memory) targets fit
+-- whatever becomes of it
+fate_covers : (number n : ℕ) (plain : ThreadState) (targets : TargetsValue) → IsFit targets → Covers (λ fate. IsFit (settled number n fate targets)) plain
+fate_covers number n plain targets fit = record {
+  plainly = state_fit plain number n targets fit;
+  suspended = λ state stands. state_fit state number n targets fit;
+  ended = λ code whole. end_fit number targets fit;
+}
 
 -- ---- one instruction
 
-stepped_whole : (step : Step) (process : ProcessValue) → LeavesWhole step → IsWhole process → IsWhole (stepped_by step process)
-stepped_whole (goes_on cpu memory) process step is = record { cpu = step.0; memory = step.1 }
-stepped_whole (ends code) process step is = is
-stepped_whole excepts process step is = is
+-- the number of a thread that begins, or 0, is a word
+result_by : (can : Bool) (count : ℕ) → (can ≡ true → count < 8) → IsWord (unwrap_or (cond can (Some (count + 1)) None) 0)
+result_by true count few = let less : count < 8 = few refl in omega (arith, less)
+result_by false count few = omega arith
 
-one_whole : (process : ProcessValue) → IsWhole process → IsWhole (stepped process)
-one_whole process is = stepped_whole (machine process.cpu process.memory) process (steps_stay_within process.cpu process.memory is.cpu is.memory) is
+result_small : (entry : ℕ) (process : ProcessValue) → IsWord (result_for entry process)
+result_small entry process =
+    result_by (can_begin entry process) (thread_count process) (λ can. ltb-true (thread_count process) 8 (and_parts (nat_lt (thread_count process) 8) _ can).0)
 
-ticked_fit : (bps : List Placed) (number : ℕ) (found : Option ProcessValue) (targets : TargetsValue) → IsFit targets → IsFit (ticked_at bps number found targets)
-ticked_fit bps number None targets fit = fit
-ticked_fit bps number (Some process) targets fit =
-    settled_fit bps number process (counted process.state) process.attached (machine process.cpu process.memory) (with_change stepped number targets)
-    (change_fit stepped number targets fit one_whole)
+step_whole : (n : ℕ) (step : Step) (process : ProcessValue) → LeavesWhole step → IsWhole process → IsWhole (stepped_by step n process)
+step_whole n (goes_on cpu memory) process step is = record {
+  cpus = (thread_whole (with_cpu cpu) n process (λ thread whole. step.0) is).cpus;
+  memory = step.1;
+}
+step_whole n (ends code) process step is = is
+step_whole n (spawns entry argument) process step is =
+    thread_whole (with_result (result_for entry process)) n (with_begun entry argument process)
+    (λ thread whole. results_stay_within (result_for entry process) thread.cpu whole (result_small entry process))
+    (begin_stays_whole entry argument process step.0 step.1 is)
+step_whole n excepts process step is = is
 
-tick_by : (bps : List Placed) (named : Option ℕ) (targets : TargetsValue) → IsFit targets → IsFit (option_map_or (λ number. ticked bps number targets) named targets)
+stepped_by_whole : (n : ℕ) (process : ProcessValue) (found : Option Thread) → thread_at n process ≡ found → IsWhole process → IsWhole (stepped_at n found process)
+stepped_by_whole n process None there is = is
+stepped_by_whole n process (Some thread) there is =
+    step_whole n (machine thread.cpu process.memory) process (steps_stay_within thread.cpu process.memory (cpu_found n process thread there is) is.memory) is
+
+pub one_whole : (n : ℕ) (process : ProcessValue) → IsWhole process → IsWhole (stepped n process)
+one_whole n process is = stepped_by_whole n process (thread_at n process) refl is
+
+ticked_fit : (bps : List Placed) (number n : ℕ) (found : Option ProcessValue) (targets : TargetsValue) → IsFit targets → IsFit (ticked_at bps number n found targets)
+ticked_fit bps number n None targets fit = fit
+ticked_fit bps number n (Some process) targets fit =
+    let after = with_change (stepped n) number targets in
+    tick_keeps (λ fate. IsFit (settled number n fate after)) bps number n process
+    (fate_covers number n (counted_in (thread_at n process)) after (change_fit (stepped n) number targets fit (one_whole n)))
+
+tick_by : (bps : List Placed) (named : Option (ℕ × ℕ)) (targets : TargetsValue) → IsFit targets → IsFit (option_map_or (λ pair. ticked bps pair.0 pair.1 targets) named targets)
 tick_by bps None targets fit = fit
-tick_by bps (Some number) targets fit = ticked_fit bps number (process_of number targets.processes) targets fit
+tick_by bps (Some pair) targets fit = ticked_fit bps pair.0 pair.1 (process_of pair.0 targets.processes) targets fit
 
 pub tick_fit : (bps : List Placed) (thread : ContextId) (targets : TargetsValue) → IsFit targets → IsFit (tick_after bps thread targets)
-tick_fit bps thread targets fit = tick_by bps (running_number thread targets.processes) targets fit
+tick_fit bps thread targets fit = tick_by bps (running_pair thread targets.processes) targets fit
 
 -- ---- several
 
-next_whole : (step : Step) (process : ProcessValue) → LeavesWhole step → IfSome (next_by step process) IsWhole
-next_whole (goes_on cpu memory) process step = record { cpu = step.0; memory = step.1 }
-next_whole (ends code) process step = tt
-next_whole excepts process step = tt
+-- where the machine goes on, the next state is the one after the instruction
+pub next_is : (P : ProcessValue → Type 0) (n : ℕ) (process : ProcessValue) → P (stepped n process) → IfSome (next_of n process) P
+next_is P n process is = by (thread_at n process)
+  where
+    by_step : (step : Step) → IfSome (next_by step (stepped n process)) P
+    by_step (goes_on cpu memory) = is
+    by_step (ends code) = tt
+    by_step (spawns entry argument) = is
+    by_step excepts = tt
+
+    by : (found : Option Thread) → IfSome (next_at n found process) P
+    by None = is
+    by (Some thread) = by_step (machine thread.cpu process.memory)
 
 run_by : (next : Option ProcessValue) (run : ProcessValue → List ProcessValue) → IfSome next IsWhole → ((process : ProcessValue) → IsWhole process → AllByRecursion IsWhole (run process))
     → AllByRecursion IsWhole (option_map_or (λ process. process ∷ run process) next [])
 run_by None run is all = tt
 run_by (Some process) run is all = (is, all process is)
 
-run_whole : (count : ℕ) (process : ProcessValue) → IsWhole process → AllByRecursion IsWhole (run_from count process)
-run_whole zero process is = tt
-run_whole (suc count) process is =
-    run_by (next_of process) (run_from count) (next_whole (machine process.cpu process.memory) process (steps_stay_within process.cpu process.memory is.cpu is.memory)) (run_whole count)
+run_whole : (n count : ℕ) (process : ProcessValue) → IsWhole process → AllByRecursion IsWhole (run_from n count process)
+run_whole n zero process is = tt
+run_whole n (suc count) process is = run_by (next_of n process) (run_from n count) (next_is IsWhole n process (one_whole n process is)) (run_whole n count)
 
 hit_by : (goes : Bool) (states : List ProcessValue) → AllByRecursion IsWhole states → AllByRecursion IsWhole (cond goes states [])
 hit_by true states all = all
 hit_by false states all = tt
 
-hit_whole : (bps : List Placed) (number : ℕ) (states : List ProcessValue) → AllByRecursion IsWhole states → AllByRecursion IsWhole (up_to_hit bps number states)
-hit_whole bps number [] all = tt
-hit_whole bps number (state ∷ states) all = (all.0, hit_by (is_empty (hits_at bps number state)) (up_to_hit bps number states) (hit_whole bps number states all.1))
+hit_whole : (bps : List Placed) (number n : ℕ) (states : List ProcessValue) → AllByRecursion IsWhole states → AllByRecursion IsWhole (up_to_hit bps number n states)
+hit_whole bps number n [] all = tt
+hit_whole bps number n (state ∷ states) all = (all.0, hit_by (is_empty (hits_at bps number n state)) (up_to_hit bps number n states) (hit_whole bps number n states all.1))
 
 last_whole : (process : ProcessValue) (states : List ProcessValue) → IsWhole process → AllByRecursion IsWhole states → IsWhole (last_of process states)
 last_whole process [] is all = is
 last_whole process (state ∷ states) is all = last_whole state states all.0 all.1
 
-traced_fit : (bps : List Placed) (number count : ℕ) (found : Option ProcessValue) (targets : TargetsValue) → IsFit targets → ((process : ProcessValue) → found ≡ Some process → IsWhole process)
-    → IsFit (traced_at bps number count found targets)
-traced_fit bps number count None targets fit whole = fit
-traced_fit bps number count (Some process) targets fit whole =
-    let states = states_of bps number count process in
-    let last = last_of process states in
-    let is : IsWhole last = last_whole process states (whole process refl) (hit_whole bps number (run_from count process) (run_whole count process (whole process refl))) in
-    stopped_fit number (Suspended step_text []) process.attached (last_hits bps number process states) (length states == count) last (with_change (λ _. last) number targets)
-    (change_fit (λ _. last) number targets fit (λ _ _. is))
+traced_fit : (bps : List Placed) (number n count : ℕ) (found : Option ProcessValue) (targets : TargetsValue) → IsFit targets → ((process : ProcessValue) → found ≡ Some process → IsWhole process)
+    → IsFit (traced_at bps number n count found targets)
+traced_fit bps number n count None targets fit whole = fit
+traced_fit bps number n count (Some process) targets fit whole =
+    let trace = trace_of bps number n count process in
+    let is : IsWhole trace.process = last_whole process (states_of bps number n count process) (whole process refl) (hit_whole bps number n (run_from n count process) (run_whole n count process (whole process refl))) in
+    let after = with_change (λ _. trace.process) number targets in
+    trace_keeps (λ fate. IsFit (settled number n fate after)) bps number n count process
+    (fate_covers number n (Suspended step_text []) after (change_fit (λ _. trace.process) number targets fit (λ _ _. is)))
 
-trace_fit : (bps : List Placed) (count number : ℕ) (targets : TargetsValue) → IsFit targets → IsFit (trace_after bps count number targets)
-trace_fit bps count number targets fit =
-    traced_fit bps number count (process_of number targets.processes) targets fit (λ process is. found_whole number targets.processes process fit.processes is)
+trace_fit : (bps : List Placed) (count number n : ℕ) (targets : TargetsValue) → IsFit targets → IsFit (trace_after bps count number n targets)
+trace_fit bps count number n targets fit =
+    traced_fit bps number n count (process_of number targets.processes) targets fit (λ process is. found_whole number targets.processes process fit.processes is)
 
 -- ---- a start
 
@@ -170,20 +203,23 @@ started_fit attach targets (Some image) fit are none =
 
 -- ---- each command
 
-left_fit : (change : ℕ → TargetsValue → TargetsValue) (named : Option ℕ) (targets : TargetsValue) → IsFit targets → ((number : ℕ) → IsFit (change number targets)) → IsFit (left_of change named targets)
+left_fit : {A : Type 0} (change : A → TargetsValue → TargetsValue) (named : Option A) (targets : TargetsValue) → IsFit targets → ((one : A) → IsFit (change one targets)) → IsFit (left_of change named targets)
 left_fit change None targets fit keeps = fit
-left_fit change (Some number) targets fit keeps = keeps number
+left_fit change (Some one) targets fit keeps = keeps one
 
 run_left_fit : (command : Command) (bps : List Placed) (targets : TargetsValue) → IsFit targets → run_fault command targets ≡ None → IsFit (run_left command bps targets)
-run_left_fit (Resume id mode count) bps targets fit none = left_fit (resume_after (left_by mode count)) (thread_named id) targets fit (λ number. state_fit (Running (left_by mode count)) number targets fit)
-run_left_fit (Suspend id) bps targets fit none = left_fit suspend_after (thread_named id) targets fit (λ number. state_fit (Suspended suspended_text []) number targets fit)
+run_left_fit (Resume id mode count) bps targets fit none =
+    left_fit (λ pair. resume_after (left_by mode count) pair.0 pair.1) (thread_named id) targets fit (λ pair. state_fit (Running (left_by mode count)) pair.0 pair.1 targets fit)
+run_left_fit (Suspend id) bps targets fit none =
+    left_fit (λ pair. suspend_after pair.0 pair.1) (thread_named id) targets fit (λ pair. state_fit (Suspended suspended_text []) pair.0 pair.1 targets fit)
 run_left_fit (Terminate id) bps targets fit none = left_fit end_after (number_named id) targets fit (λ number. end_fit number targets fit)
 run_left_fit (ProcStart directory file args environment attach) bps targets fit none =
     started_fit attach targets (image_of file targets.images) fit (found_image file targets.images fit.images) none
 run_left_fit (ProcAttach id) bps targets fit none = left_fit attach_after (process_named id) targets fit (λ number. change_fit attached number targets fit attached_whole)
 run_left_fit (ProcDetach id) bps targets fit none = left_fit detach_after (process_named id) targets fit (λ number. change_fit detached number targets fit detached_whole)
 run_left_fit (ProcTerminate id) bps targets fit none = left_fit end_after (process_named id) targets fit (λ number. end_fit number targets fit)
-run_left_fit (TraceRun id count) bps targets fit none = left_fit (trace_after bps (unsigned_abs count)) (thread_named id) targets fit (λ number. trace_fit bps (unsigned_abs count) number targets fit)
+run_left_fit (TraceRun id count) bps targets fit none =
+    left_fit (λ pair. trace_after bps (unsigned_abs count) pair.0 pair.1) (thread_named id) targets fit (λ pair. trace_fit bps (unsigned_abs count) pair.0 pair.1 targets fit)
 run_left_fit _ bps targets fit none = fit
 
 pub fault_fit : (fault : Option Fault) (left targets : TargetsValue) → IsFit targets → (fault ≡ None → IsFit left) → IsFit (targets_by fault left targets)

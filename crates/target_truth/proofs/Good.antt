@@ -18,7 +18,8 @@ use Rattle.target_hub.specs.declared.input.Input.TheVariants.{Opened, Executed, 
 use Rattle.run_control.specs.TargetValue.{TargetValue}
 use Rattle.target_truth.specs.Holds.{process_in}
 use Rattle.target_truth.specs.Typed.{AreTyped}
-use Rattle.target_hub.proofs.TheLaws.{stays_consistent}
+use Rattle.target_contexts.proofs.TheLaws.{found_is_short}
+use Rattle.target_hub.proofs.TheLaws.{stays_bounded, stays_consistent}
 use Rattle.target_truth.proofs.Fronts.{IsReadInput, inputs_read}
 use Rattle.target_truth.proofs.Fit.{IsFit, found_whole, orderly_whole}
 use Rattle.target_truth.proofs.FitData.{data_fit}
@@ -79,4 +80,5 @@ history_good images history legal typed =
       consistent = stays_consistent images history legal;
       images = fit.images;
       whole = λ number process is. found_whole number target.contexts.processes process fit.processes is;
+      few = λ number process is. (found_is_short target.contexts.processes number process (stays_bounded images history legal).processes is).count;
     }

@@ -22,8 +22,9 @@ use Rattle.target_truth.proofs.Good.{history_good}
 use Rattle.target_truth.proofs.Hearing.{front_so, heard_so, in_parts}
 use Rattle.target_truth.proofs.Lives.{in_part, nowhere}
 use Rattle.target_truth.proofs.Messages.{Lead, all_kept, input_leads, stays}
+use Rattle.target_truth.proofs.Live.{numbered}
 use Rattle.target_truth.proofs.Positions.{last_at, target_there}
-use Rattle.target_truth.proofs.Truth.{each_true, learn_append, left_by, live_answers, opening_tells, tells_while}
+use Rattle.target_truth.proofs.Truth.{each_true, learn_append, left_by, left_good, live_answers, opening_tells, tells_while}
 use Rattle.target_truth.proofs.Whole.{IsGood}
 
 -- ---- one input
@@ -60,10 +61,10 @@ behind_so k before target input commands earlier left begin good allowed told =
     ]
 
 -- whatever is heard of what is so
-so_holds : (target : TargetValue) (commands : List ReadCommand) (told : List Told) (messages : List Message) (known : Facts) → Hears commands told messages
+so_holds : (target : TargetValue) (commands : List ReadCommand) (told : List Told) (messages : List Message) (known : Facts) → IsGood target → Hears commands told messages
     → AllByRecursion (Moves target target) (taught commands told) → Holds known target → Holds (learn_all messages known) target
-so_holds target commands told messages known heard so holds =
-    all_kept target target messages known (stays target messages (heard_so target commands told messages heard so)) holds
+so_holds target commands told messages known good heard so holds =
+    all_kept target target messages known (numbered target good) (numbered target good) (stays target messages (heard_so target commands told messages heard so)) holds
 
 -- ---- all inputs
 
@@ -92,6 +93,7 @@ from_here images k before inputs input legal typed earlier front rest left begin
     let awaited = left_after (earlier ++ begin ∷ []) asked in
     let allowed : IsAllowed before target input = legal before input inputs refl in
     let good : IsGood target = history_good images before (front_legal images before (input ∷ inputs) legal) typed in
+    let left_is_good : IsGood now = left_good images before inputs input legal typed in
     let told : told_by k (length before + 1) target input ≡ earlier ++ begin ∷ left = (tells_while k before target input earlier left begin is).1 in
     let so : AllByRecursion (Moves now now) (taught awaited left) = behind_so k before target input (executed_on k inputs) earlier left begin good allowed told in
     let there : (message : Told) → position_of message ≡ length before + 1 → target_at images (before ++ input ∷ inputs) (position_of message) ≡ now =
@@ -104,7 +106,7 @@ from_here images k before inputs input legal typed earlier front rest left begin
           told ∙ ap (λ (more : List Told). earlier ++ begin ∷ more) found.1 ∙ sym (append_assoc earlier (begin ∷ front) (last ∷ found.0)) in
           let at = last_at k (length before + 1) target input (earlier ++ begin ∷ front) found.0 last split in
           subst (Holds (learn_all messages known)) (sym (there last at))
-          (so_holds now awaited (front ++ last ∷ []) messages known heard
+          (so_holds now awaited (front ++ last ∷ []) messages known left_is_good heard
           (front_so now awaited front found.0 last (subst (λ (more : List Told). AllByRecursion (Moves now now) (taught awaited more)) found.1 so))
           known_now)
       | inr found ↦
@@ -118,7 +120,7 @@ from_here images k before inputs input legal typed earlier front rest left begin
           ∙ live_answers k before target input (executed_on k inputs) allowed in
           let then : Holds (learn_all parts.second newly) (target_at images ((before ++ input ∷ []) ++ inputs) (position_of last)) =
           each_true images k (before ++ input ∷ []) inputs newly (subst (IsLegal images) (sym together) legal) typed
-          (λ live. subst (Holds newly) (left_by images before input) (so_holds now awaited left parts.first known parts.of_some so known_now)) more rest last
+          (λ live. subst (Holds newly) (left_by images before input) (so_holds now awaited left parts.first known left_is_good parts.of_some so known_now)) more rest last
           (ap (λ (t : TargetValue). sent_after k (before ++ input ∷ []) t inputs) (sym (left_by images before input)) ∙ found.2) parts.second
           (subst (λ (commands : List ReadCommand). Hears commands (more ++ last ∷ []) parts.second) none parts.of_more) in
           let learned : learn_all messages known ≡ learn_all parts.second newly =

@@ -1,10 +1,13 @@
 pub mod Lists
 pub mod Texts
+pub mod Threads
+pub mod ThreadIds
 pub mod Seen
 pub mod Based
 pub mod Origins
 pub mod Steady
 pub mod Changes
+pub mod Ranged
 pub mod Agree
 pub mod KeptBytes
 pub mod Accounts
@@ -29,6 +32,7 @@ pub mod Live
 pub mod Becoming
 pub mod Faults
 pub mod Telling
+pub mod Following
 pub mod Settling
 pub mod Answering
 pub mod Holders

@@ -1,9 +1,11 @@
 -- A process that is found is live: its number lies between 0 and the next one.
-use Rattle.std.proofs.Common.{◌≡◌, ℕ, zero, suc, ◌<◌, List, [], ◌∷◌, length, get_or, Option, Some, None, refl, ap, arith}
+use Rattle.std.proofs.Common.{◌≡◌, ℕ, zero, suc, ◌≤◌, ◌<◌, List, [], ◌∷◌, length, get_or, Option, Some, None, refl, ap, arith}
 use Rattle.target_contexts.specs.Live.{IsLive, IsOrderly, Rise, numbers_of, process_of}
 use Rattle.target_contexts.specs.ProcessValue.{ProcessValue}
+use Rattle.target_contexts.specs.Threads.{thread_count}
 use Rattle.run_control.specs.TargetValue.{TargetValue}
 use Rattle.target_truth.specs.Holds.{process_in}
+use Rattle.target_truth.proofs.Seen.{AreNumbered}
 use Rattle.target_truth.proofs.Whole.{IsGood}
 use Rattle.tcf_values.specs.Spelling.{IsNumber}
 use Rattle.data_services.proofs.PartSteps.{live_found}
@@ -40,6 +42,13 @@ live_number number next rows orderly (place, row, inside, there, same) =
 pub number_found : (target : TargetValue) (number : ℕ) (process : ProcessValue) → IsGood target → process_in number target ≡ Some process → IsNumber number
 number_found target number process good there =
     (live_number number target.contexts.next target.contexts.processes good.consistent.processes (live_found number target.contexts.processes process there)).0
+
+-- and it has at most eight threads
+pub few_found : (target : TargetValue) (number : ℕ) (process : ProcessValue) → IsGood target → process_in number target ≡ Some process → thread_count process ≤ 8
+few_found target number process good there = (good.few number process there).few
+
+pub numbered : (target : TargetValue) → IsGood target → AreNumbered target
+numbered target good number process there = (number_found target number process good there, few_found target number process good there)
 
 -- the next number is that of no process
 pub next_unused : (next : ℕ) (rows : List (ℕ × ProcessValue)) → IsOrderly rows next → IsLive next rows → ⊥

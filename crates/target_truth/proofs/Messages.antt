@@ -29,7 +29,7 @@ use Rattle.target_truth.proofs.Decoding.{event_back}
 use Rattle.target_truth.proofs.Rows.{answers_so, events_tell}
 use Rattle.target_truth.proofs.RowsBreakpoints.{close}
 use Rattle.target_truth.proofs.RowsTrace.{tick}
-use Rattle.target_truth.proofs.Seen.{seen}
+use Rattle.target_truth.proofs.Seen.{AreNumbered, seen}
 use Rattle.target_truth.proofs.Tells.{IsTold, Tell}
 use Rattle.target_truth.proofs.Whole.{IsGood}
 use Rattle.tcf_values.specs.declared.event.EventData.{EventData}
@@ -46,17 +46,17 @@ stays target [] all = λ fact knows. knows
 stays target (message ∷ messages) all = all
 
 -- then after each of them, and where there is none, what is known holds of the target as it is now
-pub lead_kept : (before now : TargetValue) (front rest : List Message) (last : Message) (known : Facts) → Lead before now (front ++ last ∷ rest)
+pub lead_kept : (before now : TargetValue) (front rest : List Message) (last : Message) (known : Facts) → AreNumbered before → AreNumbered now → Lead before now (front ++ last ∷ rest)
     → Holds known before → Holds (learn_all (front ++ last ∷ []) known) now
-lead_kept before now [] rest last known lead holds = moved before now last known lead.0 holds
-lead_kept before now (message ∷ front) rest last known lead holds =
-    lead_kept now now front rest last (learn message known) (stays now (front ++ last ∷ rest) lead.1) (moved before now message known lead.0 holds)
+lead_kept before now [] rest last known was is lead holds = moved before now last known was lead.0 holds
+lead_kept before now (message ∷ front) rest last known was is lead holds =
+    lead_kept now now front rest last (learn message known) is is (stays now (front ++ last ∷ rest) lead.1) (moved before now message known was lead.0 holds)
 
-pub all_kept : (before now : TargetValue) (messages : List Message) (known : Facts) → Lead before now messages → Holds known before
+pub all_kept : (before now : TargetValue) (messages : List Message) (known : Facts) → AreNumbered before → AreNumbered now → Lead before now messages → Holds known before
     → Holds (learn_all messages known) now
-all_kept before now [] known lead holds = rested before now known lead holds
-all_kept before now (message ∷ messages) known lead holds =
-    all_kept now now messages (learn message known) (stays now messages lead.1) (moved before now message known lead.0 holds)
+all_kept before now [] known was is lead holds = rested before now known was lead holds
+all_kept before now (message ∷ messages) known was is lead holds =
+    all_kept now now messages (learn message known) is is (stays now messages lead.1) (moved before now message known was lead.0 holds)
 
 -- ---- the messages of what is told
 

@@ -1,13 +1,15 @@
 -- Bytes that are put over parts of registers: what there is of each process then.
 use Rattle.std.proofs.Common.{◌≡◌, ℕ, nat_eq, Bool, true, false, cond, List, [], ◌∷◌, take, drop, Option, Some, None, option_map, refl, sym, ◌∙◌, ap}
-use Rattle.data_services.specs.Parts.{cpu_after, parts_named, with_bytes, with_parts, with_register_bytes}
+use Rattle.data_services.specs.Parts.{parts_named, with_bytes, with_part_bytes, with_parts}
 use Rattle.target_contexts.specs.Changes.{with_change, with_change_at}
 use Rattle.target_contexts.specs.Laws.{AgreeBut}
 use Rattle.target_contexts.specs.Live.{numbers_of, process_of}
 use Rattle.target_contexts.specs.TargetsValue.{TargetsValue}
 use Rattle.target_contexts.specs.ProcessValue.{ProcessValue}
 use Rattle.target_contexts.proofs.TheLaws.{changes_one}
+use Rattle.target_truth.proofs.Accounts.{ButRegisters}
 use Rattle.target_truth.proofs.Becoming.{Becomes}
+use Rattle.target_truth.proofs.Threads.{kept_states}
 use Rattle.data_services.proofs.PartSteps.{changed_process, live_found}
 
 -- ---- a change of one process
@@ -30,31 +32,65 @@ item_of {A = A} list = A
 abbrev pub Part : Type 0
 Part = item_of (parts_named [])
 
-abbrev pub with_cpu_after : ℕ → List Part → List ℕ → ProcessValue → ProcessValue
-with_cpu_after number parts bytes process = record process { cpu = cpu_after number parts bytes process.cpu }
+-- what they leave in one process: the parts of other processes are passed over
+abbrev pub parts_in : ℕ → List Part → List ℕ → ProcessValue → ProcessValue
+parts_in number [] bytes process = process
+parts_in number (part ∷ parts) bytes process =
+    parts_in number parts (drop part.size bytes) (cond (nat_eq part.register.process number) (with_part_bytes part (take part.size bytes) process) process)
 
-unchanged : (number : ℕ) (bytes : List ℕ) (found : Option ProcessValue) → found ≡ option_map (λ process. with_cpu_after number [] bytes process) found
-unchanged number bytes None = refl
-unchanged number bytes (Some process) = refl
+unchanged : (found : Option ProcessValue) → found ≡ option_map (λ process. process) found
+unchanged None = refl
+unchanged (Some process) = refl
 
 -- the part is first put over, or passed over, and then the others
-one_more : (number : ℕ) (part : Part) (parts : List Part) (bytes : List ℕ) (same : Bool) → nat_eq part.register.process number ≡ same → (found : Option ProcessValue) →
-    option_map (λ process. with_cpu_after number parts (drop part.size bytes) process) (cond same (option_map (with_bytes part (take part.size bytes)) found) found) ≡ option_map (λ process. with_cpu_after number (part ∷ parts) bytes process) found
+one_more : (number : ℕ) (part : Part) (parts : List Part) (bytes : List ℕ) (same : Bool) → nat_eq part.register.process number ≡ same → (found : Option ProcessValue)
+    → option_map (λ process. parts_in number parts (drop part.size bytes) process) (cond same (option_map (with_part_bytes part (take part.size bytes)) found) found)
+    ≡ option_map (λ process. parts_in number (part ∷ parts) bytes process) found
 one_more number part parts bytes true e None = refl
 one_more number part parts bytes false e None = refl
-one_more number part parts bytes true e (Some process) = ap (λ (b : Bool). Some (record process { cpu = cpu_after number parts (drop part.size bytes) (cond b (with_register_bytes part (take part.size bytes) process.cpu) process.cpu) })) (sym e)
-one_more number part parts bytes false e (Some process) = ap (λ (b : Bool). Some (record process { cpu = cpu_after number parts (drop part.size bytes) (cond b (with_register_bytes part (take part.size bytes) process.cpu) process.cpu) })) (sym e)
+one_more number part parts bytes true e (Some process) = ap (λ (b : Bool). Some (parts_in number parts (drop part.size bytes) (cond b (with_part_bytes part (take part.size bytes) process) process))) (sym e)
+one_more number part parts bytes false e (Some process) = ap (λ (b : Bool). Some (parts_in number parts (drop part.size bytes) (cond b (with_part_bytes part (take part.size bytes) process) process))) (sym e)
 
--- what is left in one process is what its own parts leave there
 pub process_after : (number : ℕ) (parts : List Part) (bytes : List ℕ) (targets : TargetsValue) →
-    process_of number (with_parts parts bytes targets).processes ≡ option_map (λ process. with_cpu_after number parts bytes process) (process_of number targets.processes)
-process_after number [] bytes targets = unchanged number bytes (process_of number targets.processes)
+    process_of number (with_parts parts bytes targets).processes ≡ option_map (λ process. parts_in number parts bytes process) (process_of number targets.processes)
+process_after number [] bytes targets = unchanged (process_of number targets.processes)
 process_after number (part ∷ parts) bytes targets =
-    let change : ProcessValue → ProcessValue = with_bytes part (take part.size bytes) in
+    let change : ProcessValue → ProcessValue = with_part_bytes part (take part.size bytes) in
     let n : ℕ = part.register.process in
     process_after number parts (drop part.size bytes) (with_change change n targets)
-    ∙ ap (λ (found : Option ProcessValue). option_map (λ process. with_cpu_after number parts (drop part.size bytes) process) found) (changed_process change n number targets)
+    ∙ ap (λ (found : Option ProcessValue). option_map (λ process. parts_in number parts (drop part.size bytes) process) found) (changed_process change n number targets)
     ∙ one_more number part parts bytes (nat_eq n number) refl (process_of number targets.processes)
+
+-- ---- only registers are others
+
+same_registers : (process : ProcessValue) → ButRegisters process process
+same_registers process = record { name = refl; attached = refl; states = refl; memory = refl }
+
+then_registers : (one two three : ProcessValue) → ButRegisters one two → ButRegisters two three → ButRegisters one three
+then_registers one two three first second = record {
+  name = second.name ∙ first.name;
+  attached = second.attached ∙ first.attached;
+  states = second.states ∙ first.states;
+  memory = second.memory ∙ first.memory;
+}
+
+part_registers : (part : Part) (bytes : List ℕ) (process : ProcessValue) (here : Bool) → ButRegisters process (cond here (with_part_bytes part bytes process) process)
+part_registers part bytes process true = record {
+  name = refl;
+  attached = refl;
+  states = kept_states (with_bytes part bytes) part.register.thread process (λ thread. refl);
+  memory = refl;
+}
+part_registers part bytes process false = same_registers process
+
+pub but_registers : (number : ℕ) (parts : List Part) (bytes : List ℕ) (process : ProcessValue) → ButRegisters process (parts_in number parts bytes process)
+but_registers number [] bytes process = same_registers process
+but_registers number (part ∷ parts) bytes process =
+    let middle = cond (nat_eq part.register.process number) (with_part_bytes part (take part.size bytes) process) process in
+    then_registers process middle (parts_in number parts (drop part.size bytes) middle)
+    (part_registers part (take part.size bytes) process (nat_eq part.register.process number)) (but_registers number parts (drop part.size bytes) middle)
+
+-- ---- the numbers and the order of the processes
 
 next_by : (change : ProcessValue → ProcessValue) (n : ℕ) (targets : TargetsValue) (found : Option ProcessValue) → (with_change_at change n found targets).next ≡ targets.next
 next_by change n targets None = refl
@@ -63,21 +99,21 @@ next_by change n targets (Some process) = refl
 next_after : (parts : List Part) (bytes : List ℕ) (targets : TargetsValue) → (with_parts parts bytes targets).next ≡ targets.next
 next_after [] bytes targets = refl
 next_after (part ∷ parts) bytes targets =
-    let change : ProcessValue → ProcessValue = with_bytes part (take part.size bytes) in
+    let change : ProcessValue → ProcessValue = with_part_bytes part (take part.size bytes) in
     let n : ℕ = part.register.process in
     next_after parts (drop part.size bytes) (with_change change n targets) ∙ next_by change n targets (process_of n targets.processes)
 
 pub numbers_after : (parts : List Part) (bytes : List ℕ) (targets : TargetsValue) → numbers_of (with_parts parts bytes targets).processes ≡ numbers_of targets.processes
 numbers_after [] bytes targets = refl
 numbers_after (part ∷ parts) bytes targets =
-    let change : ProcessValue → ProcessValue = with_bytes part (take part.size bytes) in
+    let change : ProcessValue → ProcessValue = with_part_bytes part (take part.size bytes) in
     numbers_after parts (drop part.size bytes) (with_change change part.register.process targets) ∙ same_numbers change part.register.process targets
 
 -- where they leave the other processes as they are
 pub parts_become : (number : ℕ) (parts : List Part) (bytes : List ℕ) (targets : TargetsValue) (process : ProcessValue) → process_of number targets.processes ≡ Some process
-    → AgreeBut number targets.processes (with_parts parts bytes targets).processes → Becomes number targets (with_parts parts bytes targets) (with_cpu_after number parts bytes process)
+    → AgreeBut number targets.processes (with_parts parts bytes targets).processes → Becomes number targets (with_parts parts bytes targets) (parts_in number parts bytes process)
 parts_become number parts bytes targets process found others = record {
-  found = process_after number parts bytes targets ∙ ap (option_map (λ p. with_cpu_after number parts bytes p)) found;
+  found = process_after number parts bytes targets ∙ ap (option_map (λ p. parts_in number parts bytes p)) found;
   others = others;
   numbers = numbers_after parts bytes targets;
   next = next_after parts bytes targets;

@@ -1,25 +1,30 @@
 -- Registers that are set: the event tells the one register, or that there are several.
-use Rattle.std.proofs.Common.{◌≡◌, ◌≢◌, ℕ, ◌≤◌, nat_eq, nat_lt, unsigned_abs, Bool, true, false, cond, is_none, List, [], ◌∷◌, get_or, slice_set, take, drop, Option, Some, None, option_map, refl, sym, ◌∙◌, ap, subst, arith}
+use Rattle.std.proofs.Common.{◌≡◌, ◌≢◌, ℕ, ◌≤◌, nat_eq, nat_lt, unsigned_abs, Bool, true, false, cond, is_none, List, [], ◌∷◌, get_or, slice_set, take, drop, Option, Some, None, option_map, inl, inr, refl, sym, ◌∙◌, ap, subst, arith}
 use Rattle.std.specs.Prelude.{bytes_eq}
 use Rattle.std.specs.List.{AllByRecursion, cons_option}
-use Rattle.std.proofs.lemmas.Bool.{and_parts, cond-false, ltb-false, ne_eqb}
+use Rattle.std.proofs.lemmas.Bool.{and_parts, cases_Bool, cond-false, eqb-false, eqb-true, ltb-false, ne_eqb}
 use Rattle.std.proofs.lemmas.List.{get_or-set_other}
 use Rattle.std.proofs.lemmas.Slice.Eq.{bytes_eq-Decides}
 use Rattle.data_services.specs.Named.{holder_of}
-use Rattle.data_services.specs.Parts.{cpu_after, number_in, parts_named, with_number, with_parts, with_register_bytes}
-use Rattle.data_services.specs.RegisterRows.{name_one, register_after, with_word}
+use Rattle.data_services.specs.Parts.{number_in, parts_named, with_number, with_part_bytes, with_parts, with_register_bytes}
+use Rattle.data_services.specs.RegisterRows.{name_one, register_after, with_register_word, with_word}
 use Rattle.rv32i_core.specs.declared.registers.Cpu.{Cpu}
 use Rattle.target_contexts.specs.Changes.{with_change}
 use Rattle.target_contexts.specs.Live.{process_of}
-use Rattle.target_contexts.specs.Named.{is_attached}
+use Rattle.target_contexts.specs.Named.{is_attached, runs}
 use Rattle.target_contexts.specs.ProcessValue.{ProcessValue}
+use Rattle.target_contexts.specs.Threads.{in_thread, thread_at}
+use Rattle.target_contexts.specs.declared.threads.Thread.{Thread}
+use Rattle.target_contexts.proofs.TheLaws.{changes_one_thread}
 use Rattle.run_control.specs.TargetValue.{TargetValue}
 use Rattle.target_truth.proofs.Becoming.{change_stays, stays_attached, with_contexts}
-use Rattle.target_truth.proofs.First.{ButCpus, Leads, register_set, registers_set, without_cpu}
+use Rattle.target_truth.proofs.First.{ButCpus, ButRegisters, Leads, register_set, registers_set, without_cpus}
 use Rattle.target_truth.proofs.Holders.{IsHolder, holder_found, index_small}
-use Rattle.target_truth.proofs.RegisterParts.{Part, numbers_after, parts_become, process_after, with_cpu_after}
+use Rattle.target_truth.proofs.RegisterParts.{Part, but_registers, numbers_after, parts_become, parts_in, process_after}
+use Rattle.target_truth.proofs.Seen.{number_of}
 use Rattle.target_truth.proofs.Silent.{attached_same}
 use Rattle.target_truth.proofs.Tells.{Tell}
+use Rattle.target_truth.proofs.Threads.{kept_states, states_of}
 use Rattle.tcf_values.specs.Ids.{register_of}
 use Rattle.tcf_values.specs.declared.event.EventData.TheVariants.{RegChanged, RegsChanged}
 use Rattle.tcf_values.specs.declared.ids.RegisterId.{RegisterId}
@@ -43,20 +48,42 @@ other_number : (put index number : ℕ) (cpu : Cpu) → put ≤ 32 → index ≤
 other_number put index number cpu most few differ =
     other_by put index number cpu most few differ (nat_lt put 32) (nat_eq put 0) (nat_lt index 32) (nat_eq index 0) refl refl
 
-register_told : (id : List ℕ) (number : ℕ) (target : TargetValue) (register : RegisterId) (old : ProcessValue) → IsHolder target id register old
+-- and those of the other threads
+other_register : (change : Cpu → Cpu) (index : ℕ) (found : Option Thread) → ((cpu : Cpu) → number_in index (change cpu) ≡ number_in index cpu)
+    → number_of index (option_map (λ (t : Thread). record t { cpu = change t.cpu }) found) ≡ number_of index found
+other_register change index None same = refl
+other_register change index (Some thread) same = ap (λ n. cond (runs thread.state) None (Some n)) (same thread.cpu)
+
+other_thread : (change : Cpu → Cpu) (at m index : ℕ) (process : ProcessValue) (put : ℕ) → ((cpu : Cpu) → (index ≡ put → ⊥) → number_in index (change cpu) ≡ number_in index cpu)
+    → (m ≡ at → index ≡ put → ⊥) → number_of index (thread_at m (in_thread (λ (t : Thread). record t { cpu = change t.cpu }) at process)) ≡ number_of index (thread_at m process)
+other_thread change at m index process put same differ =
+    let new : Thread → Thread = λ (t : Thread). record t { cpu = change t.cpu } in
+    elim (cases_Bool (nat_eq m at)) [
+      | inl e ↦
+          let here : m ≡ at = eqb-true m at e in
+          ap (λ k. number_of index (thread_at k (in_thread new at process))) here
+          ∙ ap (number_of index) (changes_one_thread new at process).0
+          ∙ other_register change index (thread_at at process) (λ cpu. same cpu (differ here))
+          ∙ sym (ap (λ k. number_of index (thread_at k process)) here)
+      | inr e ↦ ap (number_of index) ((changes_one_thread new at process).1.others m (eqb-false m at e))
+    ]
+
+register_told : (id : List ℕ) (number : ℕ) (target : TargetValue) (register : RegisterId) (old : ProcessValue) (thread : Thread) → IsHolder target id register old thread
     → Leads target (with_contexts (register_after (Some register) number target.contexts) target) (RegChanged id)
-register_told id number target register old held =
-    let change = with_word register.index number in
-    register_set target (with_contexts (with_change change register.process target.contexts) target) old (change old) id register (with_number register.index number old.cpu) held.read held.first
-    (change_stays change register.process target old held.there refl refl) refl
-    (λ index few differ. other_number register.index index number old.cpu (index_small id register held.read) few differ)
+register_told id number target register old thread held =
+    let change = with_register_word register number in
+    register_set target (with_contexts (with_change change register.process target.contexts) target) old (change old) id register held.read
+    (change_stays change register.process target old held.there refl refl)
+    (record { name = refl; attached = refl; states = kept_states (with_word register.index number) register.thread old (λ t. refl); memory = refl })
+    (λ m index few differ. other_thread (with_number register.index number) register.thread m index old register.index
+    (λ cpu other. other_number register.index index number cpu (index_small id register held.read) few other) differ)
 
 pub register_of_named : (id : List ℕ) (number : ℕ) (target : TargetValue) → is_none (holder_of id target.contexts.processes) ≡ false
     → Leads target (with_contexts (register_after (register_of id) number target.contexts) target) (RegChanged id)
 register_of_named id number target some =
     let found = holder_found target id some in
-    subst (λ named. Leads target (with_contexts (register_after named number target.contexts) target) (RegChanged id)) (sym found.2.read)
-    (register_told id number target found.0 found.1 found.2)
+    subst (λ named. Leads target (with_contexts (register_after named number target.contexts) target) (RegChanged id)) (sym found.is.read)
+    (register_told id number target found.register found.process found.thread found.is)
 
 -- ---- parts of registers
 
@@ -65,19 +92,29 @@ view_stays : {A : Type 0} → (view : ProcessValue → A) (change : ProcessValue
 view_stays view change None same = refl
 view_stays view change (Some process) same = ap (λ seen. Some seen) (same process)
 
-attached_stays : (number : ℕ) (parts : List Part) (bytes : List ℕ) (found : Option ProcessValue) → is_attached (option_map (λ process. with_cpu_after number parts bytes process) found) ≡ is_attached found
-attached_stays number parts bytes None = refl
-attached_stays number parts bytes (Some process) = refl
+attached_stays : (change : ProcessValue → ProcessValue) (found : Option ProcessValue) → ((process : ProcessValue) → (change process).attached ≡ process.attached)
+    → is_attached (option_map change found) ≡ is_attached found
+attached_stays change None same = refl
+attached_stays change (Some process) same = same process
+
+without_same : (old new : ProcessValue) → ButRegisters old new → without_cpus new ≡ without_cpus old
+without_same old new but =
+    ap (λ name. (name, (states_of new, new.memory))) but.name
+    ∙ ap (λ states. (old.name, (states, new.memory))) but.states ∙ ap (λ memory. (old.name, (states_of old, memory))) but.memory
 
 but_cpus : (parts : List Part) (bytes : List ℕ) (target : TargetValue) → ButCpus target (with_contexts (with_parts parts bytes target.contexts) target)
 but_cpus parts bytes target =
     let rows = target.contexts.processes in
     let left = with_parts parts bytes target.contexts in
+    let after : ℕ → ProcessValue → ProcessValue = λ number process. parts_in number parts bytes process in
+    let same : (number : ℕ) (process : ProcessValue) → ButRegisters process (after number process) = λ number process. but_registers number parts bytes process in
     record {
-      processes = λ number. ap (option_map without_cpu) (process_after number parts bytes target.contexts) ∙ view_stays without_cpu (λ process. with_cpu_after number parts bytes process) (process_of number rows) (λ process. refl);
-      attached = λ number. ap (option_map (λ (p : ProcessValue). p.attached)) (process_after number parts bytes target.contexts) ∙ view_stays (λ (p : ProcessValue). p.attached) (λ process. with_cpu_after number parts bytes process) (process_of number rows) (λ process. refl);
+      processes = λ number. ap (option_map without_cpus) (process_after number parts bytes target.contexts)
+          ∙ view_stays without_cpus (after number) (process_of number rows) (λ process. without_same process (after number process) (same number process));
+      attached = λ number. ap (option_map (λ (p : ProcessValue). p.attached)) (process_after number parts bytes target.contexts)
+          ∙ view_stays (λ (p : ProcessValue). p.attached) (after number) (process_of number rows) (λ process. (same number process).attached);
       all = attached_same rows left.processes (numbers_after parts bytes target.contexts)
-          (λ number. ap is_attached (process_after number parts bytes target.contexts) ∙ attached_stays number parts bytes (process_of number rows));
+          (λ number. ap is_attached (process_after number parts bytes target.contexts) ∙ attached_stays (after number) (process_of number rows) (λ process. (same number process).attached));
       breakpoints = refl;
     }
 
@@ -98,47 +135,52 @@ all_of id register (location ∷ list) read one =
     let same : location.register ≡ id = (bytes_eq-Decides location.register id).0 parts.0 in
     of_by register location list (register_of location.register) (ap register_of same ∙ read) (all_of id register list read parts.1)
 
--- they leave the registers of the other processes, and the other registers of the one
-passed_over : (number : ℕ) (register : RegisterId) (parts : List Part) (bytes : List ℕ) (cpu : Cpu) → AreOf register parts → number ≢ register.process → cpu_after number parts bytes cpu ≡ cpu
-passed_over number register [] bytes cpu all differ = refl
-passed_over number register (part ∷ parts) bytes cpu all differ =
+-- they leave the other processes, and the other registers of the one
+passed_over : (number : ℕ) (register : RegisterId) (parts : List Part) (bytes : List ℕ) (process : ProcessValue) → AreOf register parts → number ≢ register.process → parts_in number parts bytes process ≡ process
+passed_over number register [] bytes process all differ = refl
+passed_over number register (part ∷ parts) bytes process all differ =
     let other : nat_eq part.register.process number ≡ false = ne_eqb part.register.process number (λ same. differ (sym same ∙ ap (λ (r : RegisterId). r.process) all.0)) in
-    ap (cpu_after number parts (drop part.size bytes)) (cond-false (nat_eq part.register.process number) (with_register_bytes part (take part.size bytes) cpu) cpu other)
-    ∙ passed_over number register parts (drop part.size bytes) cpu all.1 differ
+    ap (λ p. parts_in number parts (drop part.size bytes) p) (cond-false (nat_eq part.register.process number) (with_part_bytes part (take part.size bytes) process) process other)
+    ∙ passed_over number register parts (drop part.size bytes) process all.1 differ
 
 nothing_over : (number : ℕ) (register : RegisterId) (parts : List Part) (bytes : List ℕ) (found : Option ProcessValue) → AreOf register parts → number ≢ register.process
-    → option_map (λ process. with_cpu_after number parts bytes process) found ≡ found
+    → option_map (λ process. parts_in number parts bytes process) found ≡ found
 nothing_over number register parts bytes None all differ = refl
-nothing_over number register parts bytes (Some process) all differ = ap (λ (cpu : Cpu). Some (record process { cpu = cpu })) (passed_over number register parts bytes process.cpu all differ)
+nothing_over number register parts bytes (Some process) all differ = ap (λ (p : ProcessValue). Some p) (passed_over number register parts bytes process all differ)
 
-beside_by : (register index put word : ℕ) (cpu : Cpu) (here : Bool) → put ≡ register → register ≤ 32 → index ≤ 32 → index ≢ register → number_in index (cond here (with_number put word cpu) cpu) ≡ number_in index cpu
-beside_by register index put word cpu true same most few differ =
-    other_number put index word cpu (subst (λ (n : ℕ). n ≤ 32) (sym same) most) few (λ is. differ (is ∙ same))
-beside_by register index put word cpu false same most few differ = refl
+beside_by : (part : Part) (bytes : List ℕ) (m index : ℕ) (process : ProcessValue) (here : Bool) → part.register.index ≤ 32 → index ≤ 32 → (m ≡ part.register.thread → index ≡ part.register.index → ⊥)
+    → number_of index (thread_at m (cond here (with_part_bytes part bytes process) process)) ≡ number_of index (thread_at m process)
+beside_by part bytes m index process true most few differ =
+    other_thread (with_register_bytes part bytes) part.register.thread m index process part.register.index
+    (λ cpu other. other_number part.register.index index _ cpu most few other) differ
+beside_by part bytes m index process false most few differ = refl
 
-beside : (index process : ℕ) (register : RegisterId) (parts : List Part) (bytes : List ℕ) (cpu : Cpu) → AreOf register parts → register.index ≤ 32 → index ≤ 32 → index ≢ register.index
-    → number_in index (cpu_after process parts bytes cpu) ≡ number_in index cpu
-beside index process register [] bytes cpu all most few differ = refl
-beside index process register (part ∷ parts) bytes cpu all most few differ =
-    beside index process register parts (drop part.size bytes)
-    (cond (nat_eq part.register.process process) (with_register_bytes part (take part.size bytes) cpu) cpu) all.1 most few differ
-    ∙ beside_by register.index index part.register.index _ cpu (nat_eq part.register.process process) (ap (λ (r : RegisterId). r.index) all.0) most few differ
+beside : (number m index : ℕ) (register : RegisterId) (parts : List Part) (bytes : List ℕ) (process : ProcessValue) → AreOf register parts → register.index ≤ 32 → index ≤ 32
+    → (m ≡ register.thread → index ≡ register.index → ⊥) → number_of index (thread_at m (parts_in number parts bytes process)) ≡ number_of index (thread_at m process)
+beside number m index register [] bytes process all most few differ = refl
+beside number m index register (part ∷ parts) bytes process all most few differ =
+    let here = nat_eq part.register.process number in
+    beside number m index register parts (drop part.size bytes) (cond here (with_part_bytes part (take part.size bytes) process) process) all.1 most few differ
+    ∙ beside_by part (take part.size bytes) m index process here (subst (λ (r : RegisterId). r.index ≤ 32) (sym all.0) most) few
+    (subst (λ (r : RegisterId). m ≡ r.thread → index ≡ r.index → ⊥) (sym all.0) differ)
 
-one_told : (id : List ℕ) (parts : List Part) (bytes : List ℕ) (target : TargetValue) (register : RegisterId) (old : ProcessValue) → ((r : RegisterId) → register_of id ≡ Some r → AreOf r parts) → IsHolder target id register old
+one_told : (id : List ℕ) (parts : List Part) (bytes : List ℕ) (target : TargetValue) (register : RegisterId) (old : ProcessValue) (thread : Thread)
+    → ((r : RegisterId) → register_of id ≡ Some r → AreOf r parts) → IsHolder target id register old thread
     → Leads target (with_contexts (with_parts parts bytes target.contexts) target) (RegChanged id)
-one_told id parts bytes target register old all held =
+one_told id parts bytes target register old thread all held =
     let rows = target.contexts.processes in
     let left = with_parts parts bytes target.contexts in
     let number = register.process in
-    let new = with_cpu_after number parts bytes old in
+    let new = parts_in number parts bytes old in
     let of = all register held.read in
-    register_set target (with_contexts left target) old new id register (cpu_after number parts bytes old.cpu) held.read held.first
+    let but : ButRegisters old new = but_registers number parts bytes old in
+    register_set target (with_contexts left target) old new id register held.read
     (stays_attached number target left old new held.there
     (parts_become number parts bytes target.contexts old held.there
     (λ other differ. process_after other parts bytes target.contexts ∙ nothing_over other register parts bytes (process_of other rows) of differ))
-    refl refl)
-    refl
-    (λ index few differ. beside index number register parts bytes old.cpu of (index_small id register held.read) few differ)
+    but.name but.attached)
+    but
+    (λ m index few differ. beside number m index register parts bytes old of (index_small id register held.read) few differ)
 
 pub registers_told : (first : Location) (list : List Location) (bytes : List ℕ) (target : TargetValue) → is_none (holder_of first.register target.contexts.processes) ≡ false
     → (one : Bool) → name_one first.register (first ∷ list) ≡ one
@@ -148,7 +190,7 @@ registers_told first list bytes target some true one =
     let now = with_contexts (with_parts parts bytes target.contexts) target in
     let found = holder_found target first.register some in
     let told : Leads target now (RegChanged first.register) =
-    one_told first.register parts bytes target found.0 found.1 (λ r read. all_of first.register r (first ∷ list) read one) found.2 in
+    one_told first.register parts bytes target found.register found.process found.thread (λ r read. all_of first.register r (first ∷ list) read one) found.is in
     (record { limits = tt; typed = tt; leads = told }, tt)
 registers_told first list bytes target some false one =
     let parts = parts_named (first ∷ list) in

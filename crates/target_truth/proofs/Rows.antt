@@ -13,7 +13,7 @@ use Rattle.run_control.specs.TargetValue.{TargetValue}
 use Rattle.target_truth.proofs.Answering.{unheard}
 use Rattle.target_truth.proofs.Becoming.{with_contexts}
 use Rattle.target_truth.proofs.Changes.{Moves}
-use Rattle.target_truth.proofs.RowsAsk.{get_context, get_memory, get_properties, get_register, get_registers, get_state, get_status, reply}
+use Rattle.target_truth.proofs.RowsAsk.{get_children, get_context, get_memory, get_properties, get_register, get_registers, get_state, get_status, reply}
 use Rattle.target_truth.proofs.RowsBreakpoints.{add, change, disable, enable, remove, set}
 use Rattle.target_truth.proofs.RowsData.{set_memory, set_register, set_registers}
 use Rattle.target_truth.proofs.RowsRun.{Tells, attach, detach, resume, start, suspend, terminate, terminate_process}
@@ -85,6 +85,7 @@ pub answers_so : (channel : ℕ) (command : Command) (target : TargetValue) → 
     → Moves (exec_after channel command target) (exec_after channel command target) (reply channel command target)
 unfolding exec_after
 answers_so channel (GetContext id) target good readable = asked (run_fault (GetContext id) target.contexts) target _ (get_context channel id target good)
+answers_so channel (GetChildren id) target good readable = asked (run_fault (GetChildren id) target.contexts) target _ (get_children channel id target good)
 answers_so channel (GetState id) target good readable = asked (run_fault (GetState id) target.contexts) target _ (get_state channel id target good)
 answers_so channel (BpProperties id) target good readable = get_properties channel id target good
 answers_so channel (BpGetStatus id) target good readable = get_status channel id target good

@@ -1,8 +1,9 @@
 -- The commands that ask: what they answer is so.
-use Rattle.std.proofs.Common.{◌≡◌, ◌<◌, ◌^◌, ℕ, ℤ, ◌==◌, Bool, true, false, cond, List, [], ◌∷◌, bytes_eq, Option, Some, None, option_map, option_and_then, IfSome, refl, sym, ◌∙◌, ap, subst}
+use Rattle.std.proofs.Common.{◌≡◌, ◌<◌, ◌^◌, ℕ, ℤ, ◌&&◌, Bool, true, false, not, cond, List, [], ◌∷◌, map, bytes_eq, Option, Some, None, option_map, option_and_then, IfSome, refl, sym, ◌∙◌, ap, subst, arith}
 use Rattle.std.specs.Prelude.{is_none, unsigned_abs}
-use Rattle.std.specs.List.{AllByRecursion, find}
-use Rattle.std.proofs.lemmas.Bool.{and_from, cond-true, cond_both}
+use Rattle.std.specs.List.{AllByRecursion, find, list_all}
+use Rattle.std.proofs.lemmas.Bool.{cond-false, cond_both}
+use Rattle.list_laws.proofs.AllLists.{all_if}
 use Rattle.breakpoints.specs.Rows.{props_of}
 use Rattle.breakpoints.specs.Status.{instances_of}
 use Rattle.command_tables.specs.Canonical.{IsReadable}
@@ -14,13 +15,17 @@ use Rattle.data_services.specs.RegisterRows.{register_bytes, register_get_fault,
 use Rattle.json_values.specs.Contexts.{IsContext}
 use Rattle.json_values.specs.Props.{is_bp}
 use Rattle.knowledge.specs.Learning.{Message}
-use Rattle.knowledge.specs.Rows.{memory_read, process_for, range_read, state_changes, state_of_thread, whole_read}
+use Rattle.knowledge.specs.Changes.{threads_told}
+use Rattle.knowledge.specs.Rows.{is_thread_of, memory_read, process_for, range_read, state_changes, state_of_thread, threads_listed, whole_read}
 use Rattle.reply_tables.specs.Written.{IsTypedState, answer_data}
-use Rattle.run_control.specs.Asking.{context_answer, context_fault, run_state, state_answer, state_fault}
+use Rattle.run_control.specs.Asking.{children_fault, children_of, context_answer, context_fault, run_state, state_answer, state_fault}
+use Rattle.run_control.specs.Naming.{is_empty, process_id, thread_ids}
 use Rattle.target_contexts.specs.Contexts.{context_of as data_of, process_data, thread_data}
-use Rattle.target_contexts.specs.Live.{process_of}
-use Rattle.target_contexts.specs.Named.{attached_in, number_for, process_at_number, runs, thread_for}
+use Rattle.target_contexts.specs.Live.{numbers_of, process_of}
+use Rattle.target_contexts.specs.Named.{attached_in, holder_for, runs, thread_at_pair, thread_for}
 use Rattle.target_contexts.specs.ProcessValue.{ProcessValue}
+use Rattle.target_contexts.specs.Threads.{count_in, has_thread, holding, thread_at, thread_count}
+use Rattle.target_contexts.specs.declared.threads.Thread.{Thread}
 use Rattle.target_contexts.specs.declared.process.ThreadState.{ThreadState}
 use Rattle.target_contexts.specs.declared.process.ThreadState.TheVariants.{Running, Suspended}
 use Rattle.target_hub.specs.BreakpointsRows.{ask_fault, props_answer, status_answer}
@@ -32,12 +37,15 @@ use Rattle.target_truth.specs.Taught.{answer_message}
 use Rattle.target_truth.proofs.Answering.{IsTrueAnswer, answer_by_fault, answered}
 use Rattle.target_truth.proofs.Changes.{IsSo, Moves}
 use Rattle.target_truth.proofs.Decoding.{blob_typed}
+use Rattle.target_truth.proofs.FitRun.{cpu_found}
 use Rattle.target_truth.proofs.Holders.{held_found}
+use Rattle.target_truth.proofs.Live.{few_found, number_found}
 use Rattle.target_truth.proofs.AnswerBytes.{part_bytes, parts_typed, word_typed}
 use Rattle.target_truth.proofs.MemoryRead.{range_so}
 use Rattle.target_truth.proofs.RegisterPartsRead.{parts_so}
 use Rattle.target_truth.proofs.RegistersRead.{whole_so, word_whole}
-use Rattle.target_truth.proofs.Seen.{number_seen, state_seen}
+use Rattle.target_truth.proofs.Seen.{number_of, number_seen, own_ids, state_seen, threads_seen}
+use Rattle.target_truth.proofs.Threads.{state_told}
 use Rattle.target_truth.proofs.Faults.{check_passed}
 use Rattle.target_truth.proofs.Whole.{IsGood}
 use Rattle.target_truth.proofs.ContextLimits.{thread_fits}
@@ -71,10 +79,8 @@ of_process told (Some process) fits = fits process
 
 data_within : (rows : List (ℕ × ProcessValue)) (context : Option ContextId) → IfSome (option_and_then (λ c. data_of c rows) context) IsContext
 data_within rows None = tt
-data_within rows (Some (ids.Process number)) = of_process (process_data number) (process_of number rows) (process_fits number)
-data_within rows (Some (ids.Thread number thread)) =
-    cond_both (thread == 1) (option_map (λ process. thread_data number process) (process_of number rows)) None (λ found. IfSome found IsContext)
-    (λ is. of_process (thread_data number) (process_of number rows) (thread_fits number)) (λ isnt. tt)
+data_within rows (Some (ids.Process number)) = of_process (λ p. process_data number p) (process_of number rows) (process_fits number)
+data_within rows (Some (ids.Thread number n)) = of_process (λ p. thread_data number n p) (holding n (process_of number rows)) (thread_fits number n)
 
 context_so : (id : List ℕ) (target : TargetValue) (found : Option ContextData) → data_in id target ≡ found → IfSome found IsContext → is_none found ≡ false
     → IsTrueAnswer target (commands.GetContext id) (context_answer found)
@@ -87,43 +93,75 @@ get_context channel id target good =
     answered target (commands.GetContext id) _ (answer_by_fault target (commands.GetContext id) (context_fault id target.contexts.processes) _ (λ none.
     context_so id target (data_in id target) refl (data_within target.contexts.processes (context_of id)) (check_passed _ _ _ none).0))
 
+-- ---- the threads of a process
+
+-- a text that is read as an ID isn't empty
+not_empty : (id : List ℕ) (context : ContextId) → context_of id ≡ Some context → is_empty id ≡ false
+not_empty [] context named = absurd cc
+not_empty (letter ∷ id) context named = refl
+
+threads_by : (target : TargetValue) (number : ℕ) (found : Option ProcessValue) → IsGood target → process_in number target ≡ found → is_none (option_map (λ p. process_data number p) found) ≡ false
+    → AllByRecursion (IsSo target) (threads_listed (Some (ids.Process number)) (thread_ids number (count_in found)))
+threads_by target number None good there some = absurd cc
+threads_by target number (Some process) good there some =
+    let all = thread_ids number (thread_count process) in
+    all_if (IsSo target) (list_all (is_thread_of number) all) (threads_told number all ∷ []) (λ are.
+    ((ap (threads_seen number) there, own_ids number 1 (thread_count process) (number_found target number process good there) (omega arith) (omega (arith, few_found target number process good there))), tt))
+
+children_by : (id : List ℕ) (target : TargetValue) (context : Option ContextId) → IsGood target → context_of id ≡ context
+    → (not (is_empty id) && is_none (option_and_then (λ c. data_of c target.contexts.processes) context)) ≡ false
+    → AllByRecursion (IsSo target) (threads_listed context (cond (is_empty id) (map process_id (numbers_of target.contexts.processes)) (children_of context target.contexts.processes)))
+children_by id target None good named none = tt
+children_by id target (Some (ids.Thread number n)) good named none = tt
+children_by id target (Some (ids.Process number)) good named none =
+    let some = not_empty id (ids.Process number) named in
+    let there : is_none (option_map (λ p. process_data number p) (process_in number target)) ≡ false =
+    sym (ap (λ e. not e && is_none (option_map (λ p. process_data number p) (process_in number target))) some) ∙ none in
+    subst (λ (list : List (List ℕ)). AllByRecursion (IsSo target) (threads_listed (Some (ids.Process number)) list)) (sym (cond-false (is_empty id) (map process_id (numbers_of target.contexts.processes)) (thread_ids number (count_in (process_in number target))) some))
+    (threads_by target number (process_in number target) good refl there)
+
+pub get_children : (channel : ℕ) (id : List ℕ) (target : TargetValue) → IsGood target → Answers channel (commands.GetChildren id) target
+unfolding exec_effect
+get_children channel id target good =
+    answered target (commands.GetChildren id) _ (answer_by_fault target (commands.GetChildren id) (children_fault id target.contexts.processes) _ (λ none.
+    record { limits = refl; typed = tt; so = children_by id target (context_of id) good refl (check_passed _ _ _ none).0 }))
+
 -- ---- states
 
-thread_so : (target : TargetValue) (number thread : ℕ) (process : ProcessValue) (state : ThreadState) → process_in number target ≡ Some process → (thread == 1) ≡ true → process.state ≡ state
-    → AllByRecursion (IsSo target) (state_changes (run_state process.cpu.pc state) number thread)
-thread_so target number thread process (Running left) there one is =
-    (cond-true (thread == 1) (state_seen (process_in number target)) None one ∙ ap state_seen there ∙ ap (λ (s : ThreadState). Some (state_fact s)) is, tt)
-thread_so target number thread process (Suspended reason hits) there one is = (
-  cond-true (thread == 1) (state_seen (process_in number target)) None one ∙ ap state_seen there ∙ ap (λ (s : ThreadState). Some (state_fact s)) is,
-  (cond-true _ _ _ (and_from _ _ one refl) ∙ ap (number_seen 32) there ∙ ap (λ (s : ThreadState). cond (runs s) None (Some process.cpu.pc)) is, tt),
+thread_so : (target : TargetValue) (number n : ℕ) (process : ProcessValue) (thread : Thread) (state : ThreadState) → process_in number target ≡ Some process → thread_at n process ≡ Some thread → thread.state ≡ state
+    → AllByRecursion (IsSo target) (state_changes (run_state thread.cpu.pc state) number n)
+thread_so target number n process thread (Running left) there at is =
+    (ap (state_seen n) there ∙ ap state_told at ∙ ap (λ (s : ThreadState). Some (state_fact s)) is, tt)
+thread_so target number n process thread (Suspended reason hits) there at is = (
+  ap (state_seen n) there ∙ ap state_told at ∙ ap (λ (s : ThreadState). Some (state_fact s)) is,
+  (ap (number_seen n 32) there ∙ ap (number_of 32) at ∙ ap (λ (s : ThreadState). cond (runs s) None (Some thread.cpu.pc)) is, tt),
 )
 
 pc_typed : (pc : ℕ) (state : ThreadState) → pc < 2 ^ 32 → IsTypedState (run_state pc state)
 pc_typed pc (Running left) small = tt
 pc_typed pc (Suspended reason hits) small = small
 
-found_state : (id : List ℕ) (target : TargetValue) (number thread : ℕ) (found : Option ProcessValue) → IsGood target → context_of id ≡ Some (ids.Thread number thread) → (thread == 1) ≡ true
-    → process_in number target ≡ found → is_none found ≡ false → IsTrueAnswer target (commands.GetState id) (state_answer found)
-found_state id target number thread None good is one there some = absurd cc
-found_state id target number thread (Some process) good is one there some = record {
+found_state : (id : List ℕ) (target : TargetValue) (number n : ℕ) (process : ProcessValue) (found : Option Thread) → IsGood target → context_of id ≡ Some (ids.Thread number n)
+    → process_in number target ≡ Some process → thread_at n process ≡ found → is_none found ≡ false → IsTrueAnswer target (commands.GetState id) (state_answer found)
+found_state id target number n process None good is there at some = absurd cc
+found_state id target number n process (Some thread) good is there at some = record {
   limits = tt;
-  typed = pc_typed process.cpu.pc process.state (good.whole number process there).cpu.pc;
-  so = subst (λ (context : Option ContextId). AllByRecursion (IsSo target) (state_of_thread context (run_state process.cpu.pc process.state))) (sym is)
-      (thread_so target number thread process process.state there one refl);
+  typed = pc_typed thread.cpu.pc thread.state (cpu_found n process thread at (good.whole number process there)).pc;
+  so = subst (λ (context : Option ContextId). AllByRecursion (IsSo target) (state_of_thread context (run_state thread.cpu.pc thread.state))) (sym is)
+      (thread_so target number n process thread thread.state there at refl);
 }
 
-thread_state : (id : List ℕ) (target : TargetValue) (number thread : ℕ) (test : Bool) → IsGood target → context_of id ≡ Some (ids.Thread number thread) → (thread == 1) ≡ test
-    → is_none (process_at_number (cond test (Some number) None) target.contexts.processes) ≡ false
-    → IsTrueAnswer target (commands.GetState id) (state_answer (process_at_number (cond test (Some number) None) target.contexts.processes))
-thread_state id target number thread false good is one some = absurd cc
-thread_state id target number thread true good is one some = found_state id target number thread (process_in number target) good is one refl some
+thread_state : (id : List ℕ) (target : TargetValue) (number n : ℕ) (found : Option ProcessValue) → IsGood target → context_of id ≡ Some (ids.Thread number n) → process_in number target ≡ found
+    → is_none (option_and_then (thread_at n) found) ≡ false → IsTrueAnswer target (commands.GetState id) (state_answer (option_and_then (thread_at n) found))
+thread_state id target number n None good is there some = absurd cc
+thread_state id target number n (Some process) good is there some = found_state id target number n process (thread_at n process) good is there refl some
 
 state_so : (id : List ℕ) (target : TargetValue) (context : Option ContextId) → IsGood target → context_of id ≡ context
-    → is_none (process_at_number (option_and_then thread_for context) target.contexts.processes) ≡ false
-    → IsTrueAnswer target (commands.GetState id) (state_answer (process_at_number (option_and_then thread_for context) target.contexts.processes))
+    → is_none (thread_at_pair (option_and_then thread_for context) target.contexts.processes) ≡ false
+    → IsTrueAnswer target (commands.GetState id) (state_answer (thread_at_pair (option_and_then thread_for context) target.contexts.processes))
 state_so id target None good is some = absurd cc
 state_so id target (Some (ids.Process number)) good is some = absurd cc
-state_so id target (Some (ids.Thread number thread)) good is some = thread_state id target number thread (thread == 1) good is refl some
+state_so id target (Some (ids.Thread number n)) good is some = thread_state id target number n (process_in number target) good is refl some
 
 pub get_state : (channel : ℕ) (id : List ℕ) (target : TargetValue) → IsGood target → Answers channel (commands.GetState id) target
 unfolding exec_effect
@@ -170,32 +208,45 @@ get_status channel id target good =
 
 -- ---- memory
 
-memory_found : (id : List ℕ) (addr word size mode : ℤ) (target : TargetValue) (context : ContextId) (number : ℕ) (found : Option ProcessValue) → IsGood target → context_of id ≡ Some context
-    → process_for context ≡ number → process_in number target ≡ found → is_none found ≡ false → IsTrueAnswer target (commands.MemGet id addr word size mode) (answers.Blob (memory_bytes addr size found))
-memory_found id addr word size mode target context number None good is named there some = absurd cc
-memory_found id addr word size mode target context number (Some process) good is named there some =
+memory_found : (id : List ℕ) (addr word size mode : ℤ) (target : TargetValue) (context : ContextId) (number : ℕ) (process : ProcessValue) → IsGood target → context_of id ≡ Some context
+    → process_for context ≡ number → process_in number target ≡ Some process → IsTrueAnswer target (commands.MemGet id addr word size mode) (answers.Blob (memory_bytes addr size (Some process)))
+memory_found id addr word size mode target context number process good is named there =
     let bytes = part_of (unsigned_abs addr) (unsigned_abs size) process.memory in
     record {
       limits = refl;
       typed = blob_typed bytes (part_bytes (unsigned_abs addr) (unsigned_abs size) process.memory (good.whole number process there).memory.bytes);
       so = subst (λ (c : Option ContextId). AllByRecursion (IsSo target) (memory_read c addr size bytes)) (sym is)
-          (subst (λ n. AllByRecursion (IsSo target) (range_read n addr size bytes)) (sym named) (range_so number target process addr size there));
+          (subst (λ n. AllByRecursion (IsSo target) (range_read n addr size bytes)) (sym named)
+          (range_so number target process addr size (number_found target number process good there) (few_found target number process good there) there));
     }
 
-memory_thread : (id : List ℕ) (addr word size mode : ℤ) (target : TargetValue) (number thread : ℕ) (test : Bool) → IsGood target → context_of id ≡ Some (ids.Thread number thread)
-    → is_none (process_at_number (cond test (Some number) None) target.contexts.processes) ≡ false
-    → IsTrueAnswer target (commands.MemGet id addr word size mode) (answers.Blob (memory_bytes addr size (process_at_number (cond test (Some number) None) target.contexts.processes)))
-memory_thread id addr word size mode target number thread false good is some = absurd cc
-memory_thread id addr word size mode target number thread true good is some =
-    memory_found id addr word size mode target (ids.Thread number thread) number (process_in number target) good is refl refl some
+memory_process : (id : List ℕ) (addr word size mode : ℤ) (target : TargetValue) (number : ℕ) (found : Option ProcessValue) → IsGood target → context_of id ≡ Some (ids.Process number)
+    → process_in number target ≡ found → is_none found ≡ false → IsTrueAnswer target (commands.MemGet id addr word size mode) (answers.Blob (memory_bytes addr size found))
+memory_process id addr word size mode target number None good is there some = absurd cc
+memory_process id addr word size mode target number (Some process) good is there some =
+    memory_found id addr word size mode target (ids.Process number) number process good is refl there
+
+-- by a thread that the process has
+memory_thread : (id : List ℕ) (addr word size mode : ℤ) (target : TargetValue) (number n : ℕ) (process : ProcessValue) (has : Bool) → IsGood target → context_of id ≡ Some (ids.Thread number n)
+    → process_in number target ≡ Some process → is_none (cond has (Some process) None) ≡ false
+    → IsTrueAnswer target (commands.MemGet id addr word size mode) (answers.Blob (memory_bytes addr size (cond has (Some process) None)))
+memory_thread id addr word size mode target number n process false good is there some = absurd cc
+memory_thread id addr word size mode target number n process true good is there some =
+    memory_found id addr word size mode target (ids.Thread number n) number process good is refl there
+
+memory_holding : (id : List ℕ) (addr word size mode : ℤ) (target : TargetValue) (number n : ℕ) (found : Option ProcessValue) → IsGood target → context_of id ≡ Some (ids.Thread number n)
+    → process_in number target ≡ found → is_none (holding n found) ≡ false → IsTrueAnswer target (commands.MemGet id addr word size mode) (answers.Blob (memory_bytes addr size (holding n found)))
+memory_holding id addr word size mode target number n None good is there some = absurd cc
+memory_holding id addr word size mode target number n (Some process) good is there some =
+    memory_thread id addr word size mode target number n process (has_thread n process) good is there some
 
 memory_so : (id : List ℕ) (addr word size mode : ℤ) (target : TargetValue) (context : Option ContextId) → IsGood target → context_of id ≡ context
-    → is_none (process_at_number (option_and_then number_for context) target.contexts.processes) ≡ false
-    → IsTrueAnswer target (commands.MemGet id addr word size mode) (answers.Blob (memory_bytes addr size (process_at_number (option_and_then number_for context) target.contexts.processes)))
+    → is_none (option_and_then (λ c. holder_for c target.contexts.processes) context) ≡ false
+    → IsTrueAnswer target (commands.MemGet id addr word size mode) (answers.Blob (memory_bytes addr size (option_and_then (λ c. holder_for c target.contexts.processes) context)))
 memory_so id addr word size mode target None good is some = absurd cc
 memory_so id addr word size mode target (Some (ids.Process number)) good is some =
-    memory_found id addr word size mode target (ids.Process number) number (process_in number target) good is refl refl some
-memory_so id addr word size mode target (Some (ids.Thread number thread)) good is some = memory_thread id addr word size mode target number thread (thread == 1) good is some
+    memory_process id addr word size mode target number (process_in number target) good is refl some
+memory_so id addr word size mode target (Some (ids.Thread number n)) good is some = memory_holding id addr word size mode target number n (process_in number target) good is refl some
 
 pub get_memory : (channel : ℕ) (id : List ℕ) (addr word size mode : ℤ) (target : TargetValue) → IsGood target
     → Answers channel (commands.MemGet id addr word size mode) target
@@ -212,15 +263,14 @@ register_so : (id : List ℕ) (target : TargetValue) → IsGood target → regis
 register_so id target good none =
     let some = check_passed _ _ _ none in
     let found = held_found target id good some.0 (check_passed _ _ _ some.1).0 in
-    let register = found.0 in
-    let process = found.1 in
-    let number = number_in register.index process.cpu in
+    let register = found.register in
+    let number = number_in register.index found.thread.cpu in
     let bytes : register_bytes (register_of id) (holder_of id target.contexts.processes) ≡ word_bytes number =
-    ap (λ (o : Option RegisterId). register_bytes o (holder_of id target.contexts.processes)) found.2.holder.read ∙ ap (λ (o : Option ProcessValue). register_bytes (Some register) o) found.2.holder.holder in
+    ap (λ (o : Option RegisterId). register_bytes o (holder_of id target.contexts.processes)) found.is.holder.read ∙ ap (λ (o : Option Thread). register_bytes (Some register) o) found.is.holder.holder in
     subst (λ (xs : List ℕ). IsTrueAnswer target (commands.RegGet id) (answers.Blob xs)) (sym bytes) (record {
       limits = refl;
       typed = blob_typed (word_bytes number) (word_typed number);
-      so = subst (λ (xs : List ℕ). AllByRecursion (IsSo target) (whole_read id xs)) (word_whole number) (whole_so target id register process 0 4 found.2);
+      so = subst (λ (xs : List ℕ). AllByRecursion (IsSo target) (whole_read id xs)) (word_whole number) (whole_so target id register found.process found.thread 0 4 found.is);
     })
 
 pub get_register : (channel : ℕ) (id : List ℕ) (target : TargetValue) → IsGood target → Answers channel (commands.RegGet id) target

@@ -8,7 +8,7 @@ use Rattle.breakpoints.specs.Rows.{ids_of, is_among, is_there, named, others, ow
 use Rattle.breakpoints.specs.declared.breakpoints.BpDone.TheVariants.{Failed, Changed}
 use Rattle.command_tables.specs.Canonical.{IsReadable}
 use Rattle.json_values.specs.Props.{is_bp}
-use Rattle.knowledge.specs.Facts.{IsPart, context_is, state_is, register_is, byte_is, properties_are, status_is}
+use Rattle.knowledge.specs.Facts.{IsPart, context_is, threads_are, state_is, register_is, byte_is, properties_are, status_is}
 use Rattle.target_contexts.specs.Named.{attached_in}
 use Rattle.target_hub.specs.BreakpointsRows.{added_events, effect_of, removed_events, status_events}
 use Rattle.target_hub.specs.Execution.{exec_after, exec_effect}
@@ -40,6 +40,7 @@ attached_of target = attached_in target.contexts.processes
 -- where each breakpoint stays, all that was true is true
 all_stay : (target : TargetValue) (rows : List Row) → OthersStay [] target.breakpoints rows → IsPart (seen target) (seen (listing target rows))
 all_stay target rows stay (context_is id context) knows = knows
+all_stay target rows stay (threads_are process ids) knows = knows
 all_stay target rows stay (state_is process thread state) knows = knows
 all_stay target rows stay (register_is process thread index value) knows = knows
 all_stay target rows stay (byte_is process addr byte) knows = knows

@@ -15,6 +15,7 @@ use Rattle.target_truth.proofs.Faults.{both_passed, by_fault, check_passed}
 use Rattle.target_truth.proofs.MemoryTold.{Fits, memory_of}
 use Rattle.target_truth.proofs.RegistersTold.{register_of_named, registers_told}
 use Rattle.target_truth.proofs.RowsRun.{Tells}
+use Rattle.target_truth.proofs.Telling.{holder_is_there}
 use Rattle.target_truth.proofs.Tells.{Tell}
 use Rattle.target_truth.proofs.Whole.{IsGood}
 use Rattle.tcf_values.specs.Effects.{tells}
@@ -45,7 +46,7 @@ set_memory channel id addr word size mode bytes target good readable =
       whole_addr = readable.0;
       whole_size = readable.2;
     } in
-    memory_of addr size bytes target (number_named id) good fits found.0)
+    memory_of addr size bytes target (number_named id) good fits (holder_is_there id rows found.0))
 
 -- ---- registers
 

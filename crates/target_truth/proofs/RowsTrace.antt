@@ -1,102 +1,68 @@
 -- Instructions that are executed, one of a thread that runs and several of one that is suspended.
-use Rattle.std.proofs.Common.{◌≡◌, ℕ, zero, suc, ◌==◌, ◌<◌, ◌^◌, true, false, true≢false, List, [], ◌∷◌, length, Option, Some, None, IfSome, option_map, refl, sym, subst}
-use Rattle.std.specs.Prelude.{ℤ, is_none, unsigned_abs}
-use Rattle.std.specs.List.{AllByRecursion}
+use Rattle.std.proofs.Common.{◌≡◌, ℕ, Bool, true, false, true≢false, cond, List, [], Option, Some, None, option_map, refl, sym, ap, ◌∙◌, subst}
+use Rattle.std.specs.Prelude.{ℤ, is_none, option_and_then, unsigned_abs}
 use Rattle.std.specs.Option.{option_map_or}
 use Rattle.std.proofs.lemmas.Option.{none-some}
-use Rattle.rv32i_core.proofs.TheLaws.{ends_are_signed, steps_stay_within}
-use Rattle.rv32i_core.specs.Laws.{LeavesWhole}
-use Rattle.rv32i_core.specs.Machine.{Step, goes_on, ends, excepts, machine}
 use Rattle.run_control.specs.Commands.{left_of, trace_given}
-use Rattle.run_control.specs.Executing.{hits_at, step_text, stepped, stepped_by}
-use Rattle.run_control.specs.Naming.{is_empty}
-use Rattle.run_control.specs.Ticking.{counted, running_number, ticked as ticked_number, ticked_at, ticked_events, ticked_events_at}
-use Rattle.run_control.specs.Tracing.{last_hits, last_of, next_by, next_of, run_from, states_of, trace_after, trace_fault, traced_at, traced_events_at, trace_events, up_to_hit}
+use Rattle.run_control.specs.Executing.{step_text, stepped}
+use Rattle.run_control.specs.Ticking.{counted, counted_in, ticked as ticked_pair, ticked_at, ticked_events, ticked_events_at}
+use Rattle.run_control.specs.Tracing.{run_from, states_of, trace_after, trace_fault, trace_of, traced_at, traced_events_at, trace_events}
 use Rattle.target_contexts.specs.Changes.{with_change}
 use Rattle.target_contexts.specs.Live.{process_of}
-use Rattle.target_contexts.specs.Named.{process_at_number, runs, thread_named}
-use Rattle.target_contexts.specs.Whole.{IsWhole}
+use Rattle.target_contexts.specs.Named.{is_running, runs, thread_at_pair, thread_for, thread_named}
 use Rattle.target_contexts.specs.ProcessValue.{ProcessValue}
+use Rattle.target_contexts.specs.Threads.{thread_at, thread_of}
 use Rattle.target_contexts.specs.declared.process.ThreadState.{ThreadState}
 use Rattle.target_contexts.specs.declared.process.ThreadState.TheVariants.{Running, Suspended}
+use Rattle.target_contexts.specs.declared.threads.Thread.{Thread}
 use Rattle.target_hub.specs.Execution.{exec_after, exec_effect}
 use Rattle.target_hub.specs.Passing.{tick_told, ticked}
 use Rattle.run_control.specs.TargetValue.{TargetValue}
 use Rattle.target_truth.specs.Holds.{process_in}
 use Rattle.target_truth.proofs.Becoming.{changed, with_contexts}
+use Rattle.target_hub.proofs.Fates.{tick_keeps, trace_keeps}
+use Rattle.target_truth.proofs.Following.{Follows, all_follow, hit_follow, itself, last_follows, one_more}
+use Rattle.target_truth.proofs.Live.{few_found}
 use Rattle.target_truth.proofs.RowsRun.{Tells}
-use Rattle.target_truth.proofs.Settling.{Executes, settles, stops_settle}
+use Rattle.target_truth.proofs.Settling.{Executes, Settles, settles}
 use Rattle.target_truth.proofs.Faults.{by_fault, check_passed}
-use Rattle.target_truth.proofs.Telling.{if_there}
+use Rattle.target_truth.proofs.Telling.{if_thread}
 use Rattle.target_truth.proofs.Tells.{Tell}
 use Rattle.target_truth.proofs.Whole.{IsGood}
 use Rattle.tcf_values.specs.OptionLaws.{some_same}
 use Rattle.tcf_values.specs.declared.command.Command.TheVariants as commands
 use Rattle.tcf_values.specs.declared.event.EventData.{EventData}
 use Rattle.tcf_values.specs.declared.ids.ContextId.{ContextId}
-use Rattle.breakpoints.specs.declared.rows.Placed.{Placed}
-use Rattle.list_laws.proofs.AllLists.{all_if}
-
--- ---- the states that a process comes to
-
-record Follows (first next : ProcessValue) : Type 0 where
-  name : next.name ≡ first.name
-  attached : next.attached ≡ first.attached
-  whole : IsWhole next
-
-next_follows : (first process : ProcessValue) (step : Step) → LeavesWhole step → Follows first process → IfSome (next_by step process) (Follows first)
-next_follows first process (goes_on cpu memory) is follows = record { name = follows.name; attached = follows.attached; whole = record { cpu = is.0; memory = is.1 } }
-next_follows first process (ends code) is follows = tt
-next_follows first process excepts is follows = tt
-
-from_next : (first : ProcessValue) (count : ℕ) (next : Option ProcessValue) → IfSome next (Follows first) → ((process : ProcessValue) → Follows first process → AllByRecursion (Follows first) (run_from count process))
-    → AllByRecursion (Follows first) (option_map_or (λ process. process ∷ run_from count process) next [])
-from_next first count None follows each = tt
-from_next first count (Some process) follows each = (follows, each process follows)
-
-all_follow : (first : ProcessValue) (count : ℕ) (process : ProcessValue) → Follows first process → AllByRecursion (Follows first) (run_from count process)
-all_follow first zero process follows = tt
-all_follow first (suc count) process follows =
-    from_next first count (next_of process) (next_follows first process (machine process.cpu process.memory) (steps_stay_within process.cpu process.memory follows.whole.cpu follows.whole.memory) follows)
-    (λ next is. all_follow first count next is)
-
-hit_follow : (first : ProcessValue) (bps : List Placed) (number : ℕ) (states : List ProcessValue) → AllByRecursion (Follows first) states → AllByRecursion (Follows first) (up_to_hit bps number states)
-hit_follow first bps number [] all = tt
-hit_follow first bps number (state ∷ states) all =
-    (all.0, all_if (Follows first) (is_empty (hits_at bps number state)) (up_to_hit bps number states) (λ is. hit_follow first bps number states all.1))
-
-last_follows : (first process : ProcessValue) (states : List ProcessValue) → Follows first process → AllByRecursion (Follows first) states → Follows first (last_of process states)
-last_follows first process [] follows all = follows
-last_follows first process (state ∷ states) follows all = last_follows first state states all.0 all.1
 
 -- ---- Trace.run
 
-trace_told : (count : ℕ) (target : TargetValue) → IsGood target → (number : ℕ) (old : ProcessValue) → process_in number target ≡ Some old
-    → Tell target (with_contexts (trace_after target.breakpoints count number target.contexts) target)
-    (trace_events target.breakpoints count number target.contexts (trace_after target.breakpoints count number target.contexts))
-trace_told count target good number old there =
+trace_told : (count : ℕ) (target : TargetValue) → IsGood target → (number n : ℕ) (old : ProcessValue) (thread : Thread) → process_in number target ≡ Some old → thread_at n old ≡ Some thread
+    → Tell target (with_contexts (trace_after target.breakpoints count number n target.contexts) target)
+    (trace_events target.breakpoints count number n target.contexts (trace_after target.breakpoints count number n target.contexts))
+trace_told count target good number n old thread there at =
     let bps = target.breakpoints in
-    let states = states_of bps number count old in
-    let last = last_of old states in
-    let contexts = with_change (λ _. last) number target.contexts in
-    let first : Follows old old = record { name = refl; attached = refl; whole = good.whole number old there } in
-    let follows = last_follows old old states first (hit_follow old bps number (run_from count old) (all_follow old count old first)) in
-    let executes : Executes number target contexts old last = record {
+    let states = states_of bps number n count old in
+    let trace = trace_of bps number n count old in
+    let contexts = with_change (λ _. trace.process) number target.contexts in
+    let first : Follows n old old = itself n old (good.whole number old there) (few_found target number old good there) in
+    let executes : Executes number n target contexts old trace.process = record {
       there = there;
-      becomes = changed (λ _. last) number target.contexts old there;
-      name = follows.name;
-      attached = follows.attached;
-      pc = follows.whole.cpu.pc;
+      becomes = changed (λ _. trace.process) number target.contexts old there;
+      follows = last_follows n old old states first (hit_follow n old bps number (run_from n count old) (all_follow n old count old first));
+      thread = thread;
+      at = at;
     } in
-    subst (λ (o : Option ProcessValue). Tell target (with_contexts (traced_at bps number count o target.contexts) target) (traced_events_at bps number count o (traced_at bps number count o target.contexts))) (sym there)
-    (stops_settle number target contexts old last (Suspended step_text []) old.attached (last_hits bps number old states) (length states == count) last good executes (λ on. absurd (true≢false (sym on))))
+    let plain : ThreadState = Suspended step_text [] in
+    subst (λ (o : Option ProcessValue). Tell target (with_contexts (traced_at bps number n count o target.contexts) target) (traced_events_at bps number n count o (traced_at bps number n count o target.contexts))) (sym there)
+    (trace_keeps (Settles number n target contexts old) bps number n count old (settles number n target contexts old trace.process plain good executes (λ on. absurd (true≢false (sym on)))))
 
-trace_named : (count : ℕ) (target : TargetValue) (named : Option ℕ) → IsGood target → is_none (process_at_number named target.contexts.processes) ≡ false
-    → Tell target (with_contexts (left_of (trace_after target.breakpoints count) named target.contexts) target)
-    (trace_given target.breakpoints count named target.contexts (left_of (trace_after target.breakpoints count) named target.contexts)).events
+trace_named : (count : ℕ) (target : TargetValue) (named : Option (ℕ × ℕ)) → IsGood target → is_none (thread_at_pair named target.contexts.processes) ≡ false
+    → Tell target (with_contexts (left_of (λ pair. trace_after target.breakpoints count pair.0 pair.1) named target.contexts) target)
+    (trace_given target.breakpoints count named target.contexts (left_of (λ pair. trace_after target.breakpoints count pair.0 pair.1) named target.contexts)).events
 trace_named count target None good is = absurd cc
-trace_named count target (Some number) good is =
-    if_there (trace_after target.breakpoints count) (λ n after. trace_events target.breakpoints count n target.contexts after) target (Some number) is (trace_told count target good)
+trace_named count target (Some pair) good is =
+    if_thread (λ one. trace_after target.breakpoints count one.0 one.1) (λ one after. trace_events target.breakpoints count one.0 one.1 target.contexts after) target (Some pair) is
+    (λ one process thread there at. trace_told count target good one.0 one.1 process thread there at)
 
 pub trace : (channel : ℕ) (id : List ℕ) (count : ℤ) (target : TargetValue) → IsGood target → Tells channel (commands.TraceRun id count) target
 unfolding exec_after exec_effect
@@ -110,42 +76,49 @@ counted_runs : (state : ThreadState) → runs (counted state) ≡ true → runs 
 counted_runs (Running left) on = refl
 counted_runs (Suspended reason hits) on = on
 
--- the process after one instruction
-record Steps (process next : ProcessValue) : Type 0 where
-  name : next.name ≡ process.name
-  attached : next.attached ≡ process.attached
-  pc : next.cpu.pc < 2 ^ 32
+counted_ran : (found : Option Thread) (thread : Thread) → found ≡ Some thread → runs (counted_in found) ≡ true → runs thread.state ≡ true
+counted_ran found thread there on = counted_runs thread.state (sym (ap (λ o. runs (counted_in o)) there) ∙ on)
 
-steps : (process : ProcessValue) (step : Step) → LeavesWhole step → IsWhole process → Steps process (stepped_by step process)
-steps process (goes_on cpu memory) is whole = record { name = refl; attached = refl; pc = is.0.pc }
-steps process (ends code) is whole = record { name = refl; attached = refl; pc = whole.cpu.pc }
-steps process excepts is whole = record { name = refl; attached = refl; pc = whole.cpu.pc }
-
-tick_found : (number : ℕ) (target : TargetValue) (found : Option ProcessValue) → IsGood target → process_in number target ≡ found
-    → Tell target (with_contexts (ticked_at target.breakpoints number found target.contexts) target)
-    (ticked_events_at target.breakpoints number found (ticked_at target.breakpoints number found target.contexts))
-tick_found number target None good there = λ fact knows. knows
-tick_found number target (Some old) good there =
-    let whole = good.whole number old there in
-    let step = machine old.cpu old.memory in
-    let contexts = with_change stepped number target.contexts in
-    let is = steps old step (steps_stay_within old.cpu old.memory whole.cpu whole.memory) whole in
-    let executes : Executes number target contexts old (stepped old) = record {
+tick_there : (number n : ℕ) (target : TargetValue) (old : ProcessValue) (found : Option Thread) → IsGood target → process_in number target ≡ Some old → thread_at n old ≡ found → is_running found ≡ true
+    → Tell target (with_contexts (ticked_at target.breakpoints number n (Some old) target.contexts) target)
+    (ticked_events_at target.breakpoints number n (Some old) (ticked_at target.breakpoints number n (Some old) target.contexts))
+tick_there number n target old None good there at run = absurd (true≢false (sym run))
+tick_there number n target old (Some thread) good there at run =
+    let bps = target.breakpoints in
+    let contexts = with_change (stepped n) number target.contexts in
+    let executes : Executes number n target contexts old (stepped n old) = record {
       there = there;
-      becomes = changed stepped number target.contexts old there;
-      name = is.name;
-      attached = is.attached;
-      pc = is.pc;
+      becomes = changed (stepped n) number target.contexts old there;
+      follows = one_more n old old (itself n old (good.whole number old there) (few_found target number old good there));
+      thread = thread;
+      at = at;
     } in
-    settles number target contexts old (stepped old) (counted old.state) old.attached step good executes (counted_runs old.state) (ends_are_signed old.cpu old.memory)
+    let plain : ThreadState = counted_in (thread_at n old) in
+    tick_keeps (Settles number n target contexts old) bps number n old
+    (settles number n target contexts old (stepped n old) plain good executes (counted_ran (thread_at n old) thread at))
 
-tick_by : (target : TargetValue) (number : Option ℕ) (events : List EventData) → IsGood target → option_map (λ n. ticked_events target.breakpoints n target.contexts) number ≡ Some events
-    → Tell target (with_contexts (option_map_or (λ n. ticked_number target.breakpoints n target.contexts) number target.contexts) target) events
+tick_found : (number n : ℕ) (target : TargetValue) (found : Option ProcessValue) → IsGood target → process_in number target ≡ found → is_running (option_and_then (thread_at n) found) ≡ true
+    → Tell target (with_contexts (ticked_at target.breakpoints number n found target.contexts) target)
+    (ticked_events_at target.breakpoints number n found (ticked_at target.breakpoints number n found target.contexts))
+tick_found number n target None good there run = absurd (true≢false (sym run))
+tick_found number n target (Some old) good there run = tick_there number n target old (thread_at n old) good there refl run
+
+-- the thread runs, or there is no tick
+tick_if : (target : TargetValue) (pair : ℕ × ℕ) (run : Bool) (events : List EventData) → IsGood target → is_running (thread_of pair.0 pair.1 target.contexts.processes) ≡ run
+    → option_map (λ one. ticked_events target.breakpoints one.0 one.1 target.contexts) (cond run (Some pair) None) ≡ Some events
+    → Tell target (with_contexts (option_map_or (λ one. ticked_pair target.breakpoints one.0 one.1 target.contexts) (cond run (Some pair) None) target.contexts) target) events
+tick_if target pair false events good run told = absurd (none-some events told)
+tick_if target pair true events good run told =
+    subst (λ (list : List EventData). Tell target (with_contexts (ticked_pair target.breakpoints pair.0 pair.1 target.contexts) target) list) (some_same _ _ told)
+    (tick_found pair.0 pair.1 target (process_of pair.0 target.contexts.processes) good refl run)
+
+tick_by : (target : TargetValue) (named : Option (ℕ × ℕ)) (events : List EventData) → IsGood target
+    → (let running : Option (ℕ × ℕ) = option_and_then (λ pair. cond (is_running (thread_of pair.0 pair.1 target.contexts.processes)) (Some pair) None) named in
+    option_map (λ one. ticked_events target.breakpoints one.0 one.1 target.contexts) running ≡ Some events
+    → Tell target (with_contexts (option_map_or (λ one. ticked_pair target.breakpoints one.0 one.1 target.contexts) running target.contexts) target) events)
 tick_by target None events good told = absurd (none-some events told)
-tick_by target (Some number) events good told =
-    subst (λ (list : List EventData). Tell target (with_contexts (ticked_number target.breakpoints number target.contexts) target) list) (some_same _ _ told)
-    (tick_found number target (process_of number target.contexts.processes) good refl)
+tick_by target (Some pair) events good told = tick_if target pair (is_running (thread_of pair.0 pair.1 target.contexts.processes)) events good refl told
 
 pub tick : (thread : ContextId) (target : TargetValue) (events : List EventData) → IsGood target → tick_told thread target ≡ Some events
     → Tell target (ticked thread target) events
-tick thread target events good told = tick_by target (running_number thread target.contexts.processes) events good told
+tick thread target events good told = tick_by target (thread_for thread) events good told

@@ -1,16 +1,16 @@
 -- Inputs that tell nothing: what could be known of the target stays so.
-use Rattle.std.proofs.Common.{◌≡◌, ℕ, Bool, true, cond, List, [], ◌∷◌, Some, inl, refl, sym, ap, ◌∙◌, subst}
+use Rattle.std.proofs.Common.{◌≡◌, ℕ, Bool, cond, List, [], ◌∷◌, Some, inl, refl, sym, ap, ◌∙◌, subst}
 use Rattle.std.specs.Prelude.{filter}
 use Rattle.breakpoints.specs.Rows.{props_of}
 use Rattle.breakpoints.specs.Status.{status_of}
 use Rattle.knowledge.specs.Facts.{IsPart}
 use Rattle.target_contexts.specs.Live.{numbers_of}
-use Rattle.target_contexts.specs.Named.{attached_in, is_attached, runs}
+use Rattle.target_contexts.specs.Named.{attached_in, is_attached}
 use Rattle.target_contexts.specs.Live.{process_of}
 use Rattle.target_contexts.specs.ProcessValue.{ProcessValue}
 use Rattle.run_control.specs.TargetValue.{TargetValue}
 use Rattle.target_truth.specs.Holds.{process_in}
-use Rattle.target_truth.proofs.Accounts.{running_accounts}
+use Rattle.target_truth.proofs.Accounts.{IsRunningAt, OthersStand, running_accounts}
 use Rattle.target_truth.proofs.Agree.{Accounts, led, led_at, same_accounts}
 use Rattle.target_truth.proofs.Differs.{StaysAttached, status_by, status_same}
 use Rattle.target_truth.proofs.Seen.{seen}
@@ -19,16 +19,16 @@ pub same_seen : (before now : TargetValue) → ((number : ℕ) → process_in nu
     → attached_in now.contexts.processes ≡ attached_in before.contexts.processes → ((id : List ℕ) → props_of id now.breakpoints ≡ props_of id before.breakpoints)
     → IsPart (seen before) (seen now)
 same_seen before now processes attached breakpoints =
-    led before now [] tt refl (λ p. subst (λ process. Accounts p (process_in p before) process []) (sym (processes p)) (same_accounts p (process_in p before) []))
+    led before now [] tt refl (λ p. subst (λ process. Accounts p (process_in p before) process []) (sym (processes p)) (same_accounts p (process_in p before) [] (λ list. refl)))
     (λ id x knows. inl (breakpoints id ∙ knows))
     (λ id x knows. inl (ap (λ numbers. status_of id numbers now.breakpoints) attached ∙ ap (status_by (attached_in before.contexts.processes)) (breakpoints id) ∙ knows))
 
--- a thread that ran and runs on: of its registers and bytes nothing could be known
-pub ran_on : (number : ℕ) (before now : TargetValue) (old new : ProcessValue) → StaysAttached number before now old new → runs old.state ≡ true → runs new.state ≡ true
+-- a thread that ran and runs on: of its registers, and of the bytes of its process, nothing could be known
+pub ran_on : (number n : ℕ) (before now : TargetValue) (old new : ProcessValue) → StaysAttached number before now old new → OthersStand n old new → IsRunningAt n old → IsRunningAt n new
     → IsPart (seen before) (seen now)
-ran_on number before now old new stays ran runs_on =
-    led_at number before now (Some old) (Some new) [] tt refl stays.stays.differs.others stays.stays.differs.breakpoints stays.stays.was stays.stays.is
-    (running_accounts number old new [] stays.stays.name stays.attached ran runs_on) (status_same before now [] stays.all stays.stays.differs.breakpoints)
+ran_on number n before now old new stays stand ran runs_on =
+    led_at number before now (Some old) (Some new) [] tt refl tt stays.stays.differs.others stays.stays.differs.breakpoints stays.stays.was stays.stays.is
+    (running_accounts number n old new [] stays.stays.name stays.attached stand ran runs_on (λ list. refl)) (status_same before now [] stays.all stays.stays.differs.breakpoints)
 
 filter_alike : (p q : ℕ → Bool) → ((x : ℕ) → p x ≡ q x) → (xs : List ℕ) → filter p xs ≡ filter q xs
 filter_alike p q same [] = refl

@@ -1,13 +1,13 @@
--- No answer takes back that a thread's state is known.
+-- No answer takes back that a thread's state or the threads of a process are known.
 use Rattle.std.proofs.Common.{ℕ, ℤ, ◌==◌, List, [], ◌∷◌, ◌++◌, Option, Some, None, length, take, drop}
 use Rattle.std.specs.Prelude.{unsigned_abs}
-use Rattle.std.specs.List.{AllByRecursion}
-use Rattle.knowledge.specs.Changes.{Change, bytes_read, state_gone}
-use Rattle.knowledge.specs.Rows.{answer_changes, are_of_range, context_answered, is_part, memory_answered, memory_read, parts_read, process_for, properties_answered, register_answered, registers_answered, state_answered, state_changes, state_of_thread, status_answered, whole_read, word_read}
+use Rattle.std.specs.List.{AllByRecursion, list_all}
+use Rattle.knowledge.specs.Changes.{Change, bytes_read, state_gone, thread_joined, threads_gone, threads_stale, threads_told}
+use Rattle.knowledge.specs.Rows.{answer_changes, are_of_range, children_answered, context_answered, is_thread_of, is_part, memory_answered, memory_read, parts_read, process_for, properties_answered, register_answered, registers_answered, state_answered, state_changes, state_of_thread, status_answered, threads_listed, whole_read, word_read}
 use Rattle.tcf_values.specs.Ids.{context_of, register_of}
 use Rattle.tcf_values.specs.declared.answer.Answer.{Answer}
 use Rattle.tcf_values.specs.declared.command.Command.{Command}
-use Rattle.tcf_values.specs.declared.command.Command.TheVariants.{GetContext, GetState, BpProperties, BpGetStatus, MemGet, RegGet, RegGetm}
+use Rattle.tcf_values.specs.declared.command.Command.TheVariants.{GetChildren, GetContext, GetState, BpProperties, BpGetStatus, MemGet, RegGet, RegGetm}
 use Rattle.tcf_values.specs.declared.ids.ContextId.{ContextId}
 use Rattle.tcf_values.specs.declared.ids.ContextId.TheVariants.{Process, Thread}
 use Rattle.tcf_values.specs.declared.ids.RegisterId.{RegisterId}
@@ -16,9 +16,12 @@ use Rattle.tcf_values.specs.declared.values.RunState.{RunState}
 use Rattle.tcf_values.specs.declared.values.RunState.TheVariants as run
 use Rattle.list_laws.proofs.AllLists.{all_append, all_if}
 
--- no state drops
+-- no state drops, and no list of threads is another
 abbrev pub IsSteady : Change → Type 0
 IsSteady (state_gone process thread) = ⊥
+IsSteady (thread_joined process id) = ⊥
+IsSteady (threads_gone process) = ⊥
+IsSteady (threads_stale process) = ⊥
 IsSteady _ = Unit {0}
 
 abbrev Are : List Change → Type 0
@@ -27,6 +30,12 @@ Are changes = AllByRecursion IsSteady changes
 told_steady : (state : RunState) (process thread : ℕ) → Are (state_changes state process thread)
 told_steady run.Running process thread = (tt, tt)
 told_steady (run.Suspended pc reason hits) process thread = (tt, (tt, tt))
+
+listed_steady : (context : Option ContextId) (ids : List (List ℕ)) → Are (threads_listed context ids)
+listed_steady None ids = tt
+listed_steady (Some (Process process)) ids =
+    all_if IsSteady (list_all (is_thread_of process) ids) (threads_told process ids ∷ []) (λ is. (tt, tt))
+listed_steady (Some (Thread process thread)) ids = tt
 
 thread_steady : (context : Option ContextId) (state : RunState) → Are (state_of_thread context state)
 thread_steady None state = tt
@@ -57,6 +66,10 @@ context_steady : (id : List ℕ) (answer : Answer) → Are (context_answered id 
 context_steady id (Answer.Context context) = (tt, tt)
 context_steady id _ = tt
 
+children_steady : (id : List ℕ) (answer : Answer) → Are (children_answered id answer)
+children_steady id (Answer.Ids ids) = listed_steady (context_of id) ids
+children_steady id _ = tt
+
 state_steady : (id : List ℕ) (answer : Answer) → Are (state_answered id answer)
 state_steady id (Answer.State state) = thread_steady (context_of id) state
 state_steady id _ = tt
@@ -83,6 +96,7 @@ registers_steady list _ = tt
 
 pub answer_steady : (command : Command) (answer : Answer) → AllByRecursion IsSteady (answer_changes command answer)
 answer_steady (GetContext id) answer = context_steady id answer
+answer_steady (GetChildren id) answer = children_steady id answer
 answer_steady (GetState id) answer = state_steady id answer
 answer_steady (BpProperties id) answer = properties_steady id answer
 answer_steady (BpGetStatus id) answer = status_steady id answer

@@ -4,7 +4,7 @@ use Rattle.std.specs.Prelude.{codes}
 use Rattle.std.proofs.lemmas.Bool.{cases_Bool, cond-true, cond-false}
 use Rattle.std.proofs.lemmas.List.{append_assoc}
 use Rattle.knowledge.specs.Changes.{Change, after_all}
-use Rattle.knowledge.specs.Facts.{Fact, Facts, IsGrounded, Knows, context_is, state_is, register_is, byte_is, properties_are, status_is, nothing}
+use Rattle.knowledge.specs.Facts.{Fact, Facts, IsGrounded, Knows, context_is, threads_are, state_is, register_is, byte_is, properties_are, status_is, nothing}
 use Rattle.knowledge.specs.Learning.{Message, learn_all}
 use Rattle.list_laws.proofs.Lists.{nil_cons, nothing_there}
 use Rattle.target_contexts.specs.declared.process.Image.{Image}
@@ -24,15 +24,18 @@ use Rattle.target_truth.proofs.Decoding.{hello_gone}
 use Rattle.target_truth.proofs.Fronts.{front_legal, inputs_append}
 use Rattle.target_truth.proofs.Good.{history_good}
 use Rattle.target_truth.proofs.Hearing.{all_heard, event_heard, front_leads, front_silent, heard_leads, in_parts}
+use Rattle.target_truth.proofs.Live.{numbered}
 use Rattle.target_truth.proofs.Lives.{executes_none, in_part, nowhere, was_live}
 use Rattle.target_truth.proofs.Messages.{IsSilentFirst, Lead, all_kept, input_answers, input_leads, input_silent, lead_kept}
 use Rattle.target_truth.proofs.Positions.{last_at, target_there}
+use Rattle.target_truth.proofs.Seen.{AreNumbered}
 use Rattle.target_truth.proofs.Whole.{IsGood}
 
 -- ---- nothing is known behind the Hello
 
 nothing_true : (target : TargetValue) (fact : Fact) → Knows nothing fact → IsTrueOf target fact
 nothing_true target (context_is id context) knows = absurd cc
+nothing_true target (threads_are process ids) knows = absurd cc
 nothing_true target (state_is process thread state) knows = absurd cc
 nothing_true target (register_is process thread index value) knows = absurd cc
 nothing_true target (byte_is process addr byte) knows = absurd cc
@@ -68,16 +71,30 @@ one_of_one one (other ∷ front) rest last is = absurd (nothing_there front rest
 
 -- ---- one input
 
--- what holds before an input to this target, where the channel is live
+-- the target that an input leaves
+pub left_by : (images : List Image) (before : List Input) (input : Input) → input_after input (target_after images before) ≡ target_after images (before ++ input ∷ [])
+left_by images before input = sym (inputs_append before (input ∷ []) (new_target images))
+
+-- what holds before an input to this target, where the channel is live, and behind it
 pub record Ready (k : ℕ) (before : List Input) (target : TargetValue) (input : Input) (known : Facts) : Type 0 where
   pub good : IsGood target
+  pub left : IsGood (input_after input target)
   pub allowed : IsAllowed before target input
   pub holds : is_live k before ≡ true → Holds known target
+
+-- the target behind it is good too
+pub left_good : (images : List Image) (before inputs : List Input) (input : Input) → IsLegal images (before ++ input ∷ inputs) → AreTyped images
+    → IsGood (input_after input (target_after images before))
+left_good images before inputs input legal typed =
+    let some = before ++ input ∷ [] in
+    subst IsGood (sym (left_by images before input))
+    (history_good images some (front_legal images some inputs (subst (IsLegal images) (sym (append_assoc before (input ∷ []) inputs)) legal)) typed)
 
 ready_for : (images : List Image) (k : ℕ) (before inputs : List Input) (input : Input) (known : Facts) → IsLegal images (before ++ input ∷ inputs) → AreTyped images
     → (is_live k before ≡ true → Holds known (target_after images before)) → Ready k before (target_after images before) input known
 ready_for images k before inputs input known legal typed holds = record {
   good = history_good images before (front_legal images before (input ∷ inputs) legal) typed;
+  left = left_good images before inputs input legal typed;
   allowed = legal before input inputs refl;
   holds = holds;
 }
@@ -121,7 +138,7 @@ each_holds k before target input known commands front rest last messages ready l
           (event_heard _ (hello_at (length before + 1) agent_services) messages refl
           (subst (λ (told : List Told). Hears (executed_by k input ++ commands) told messages) only heard))
       | inr other ↦
-          all_kept target (input_after input target) messages known (front_heard k before target input known commands front rest last messages ready other told heard)
+          all_kept target (input_after input target) messages known (numbered target ready.good) (numbered (input_after input target) ready.left) (front_heard k before target input known commands front rest last messages ready other told heard)
           (ready.holds (was_live k before input other live))
     ]
 
@@ -135,7 +152,7 @@ all_hold k before target input known commands messages ready live told =
     elim (cases_Bool (opens k input)) [
       | inl own ↦ hello_holds (input_after input target) known messages (hello_heard k (length before + 1) target input _ messages own heard)
       | inr other ↦
-          all_kept target (input_after input target) messages known (leads k before target input known commands messages ready other heard)
+          all_kept target (input_after input target) messages known (numbered target ready.good) (numbered (input_after input target) ready.left) (leads k before target input known commands messages ready other heard)
           (ready.holds (was_live k before input other live))
     ]
 
@@ -147,10 +164,10 @@ hello_stays known messages target is = record {
   unheard = λ none. absurd (nil_cons hello [] (sym none ∙ is));
 }
 
-lead_stays : (before now : TargetValue) (known : Facts) (messages : List Message) → Lead before now messages → Holds known before → StaysTrue known messages now
-lead_stays before now known messages lead holds = record {
-  each = λ front rest last split. lead_kept before now front rest last known (subst (Lead before now) split lead) holds;
-  unheard = λ none. all_kept before now [] known (subst (Lead before now) none lead) holds;
+lead_stays : (before now : TargetValue) (known : Facts) (messages : List Message) → AreNumbered before → AreNumbered now → Lead before now messages → Holds known before → StaysTrue known messages now
+lead_stays before now known messages was is lead holds = record {
+  each = λ front rest last split. lead_kept before now front rest last known was is (subst (Lead before now) split lead) holds;
+  unheard = λ none. all_kept before now [] known was is (subst (Lead before now) none lead) holds;
 }
 
 input_true : (k : ℕ) (before : List Input) (target : TargetValue) (input : Input) (known : Facts) (messages : List Message) → Ready k before target input known
@@ -159,15 +176,11 @@ input_true k before target input known messages ready live heard =
     elim (cases_Bool (opens k input)) [
       | inl own ↦ hello_stays known messages (input_after input target) (hello_heard k (length before + 1) target input (executed_by k input) messages own heard)
       | inr other ↦
-          lead_stays target (input_after input target) known messages
+          lead_stays target (input_after input target) known messages (numbered target ready.good) (numbered (input_after input target) ready.left)
           (leads k before target input known [] messages ready other
           (subst (λ (commands : List ReadCommand). Hears commands (told_by k (length before + 1) target input) messages) (sym (append-nil (executed_by k input))) heard))
           (ready.holds (was_live k before input other live))
     ]
-
--- the target that an input leaves
-pub left_by : (images : List Image) (before : List Input) (input : Input) → input_after input (target_after images before) ≡ target_after images (before ++ input ∷ [])
-left_by images before input = sym (inputs_append before (input ∷ []) (new_target images))
 
 pub each_input : EachInputKeepsTruth
 each_input images before input legal typed k live known holds messages heard =

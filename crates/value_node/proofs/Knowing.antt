@@ -35,6 +35,7 @@ use Rattle.knowledge.proofs.Replies.{any_moved}
 same_then : (known other last : Facts) → AreSame known other → AreSame other last → AreSame known last
 same_then known other last one two = record {
   contexts = λ id. one.contexts id ∙ two.contexts id;
+  threads = λ process. one.threads process ∙ two.threads process;
   states = λ process thread. one.states process thread ∙ two.states process thread;
   registers = λ process thread index. one.registers process thread index ∙ two.registers process thread index;
   properties = λ id. one.properties id ∙ two.properties id;
@@ -81,6 +82,7 @@ knows_nothing = record {
   known = record {
     facts = record {
       contexts = λ id. finite.get-empty (slice_cmp nat_cmp) id;
+      threads = λ process. finite.get-empty (slice_cmp nat_cmp) (process ∷ []);
       states = λ process thread. finite.get-empty (slice_cmp nat_cmp) (process ∷ thread ∷ []);
       registers = λ process thread index. finite.get-empty (slice_cmp nat_cmp) (process ∷ thread ∷ index ∷ []);
       properties = λ id. finite.get-empty (slice_cmp nat_cmp) id;

@@ -6,9 +6,9 @@ use Rattle.std.specs.List.{flat_map, range_with_len}
 use Rattle.std.proofs.lemmas.Bool.{and_parts, eqb-true}
 use Rattle.std.proofs.lemmas.Slice.Eq.{bytes_eq-Decides}
 use Rattle.knowledge.specs.Facts.{AreSame}
-use Rattle.knowledge.specs.Keyed.{at_index, of_thread, register_in, under}
+use Rattle.knowledge.specs.Keyed.{at_index, of_number, of_thread, register_in, under}
 use Rattle.knowledge.specs.KnowledgeValue.{KnowledgeValue, facts_of}
-use Rattle.value_store.specs.Rows.{facts_in, keys_of, register_keys, register_under, rows_of, state_under, thread_key}
+use Rattle.value_store.specs.Rows.{facts_in, index_keys, keys_of, register_keys, register_under, rows_of, state_keys, state_under, threads_under}
 use Rattle.value_store.proofs.Keyed.{get_at, is_among, not_first, not_left, not_rest, not_right}
 
 -- ---- what stands under no key of a list
@@ -23,16 +23,39 @@ under_none q (row ∷ rows) none =
     step (bytes_eq q row.0) (Some row.1) (under q rows) (λ e. not_first q row.0 (map (λ r. r.0) rows) none ((bytes_eq-Decides q row.0).0 e))
     (under_none q rows (not_rest q row.0 (map (λ r. r.0) rows) none))
 
-thread_is : (process thread : ℕ) (key : ℕ × ℕ) → ((process == key.0) && (thread == key.1)) ≡ true → process ∷ thread ∷ [] ≡ thread_key key
-thread_is process thread key e = let both = and_parts (process == key.0) (thread == key.1) e in ap₂ (λ p t. p ∷ t ∷ []) (eqb-true process key.0 both.0) (eqb-true thread key.1 both.1)
+number_none : {A : Type 0} (number : ℕ) (rows : List (ℕ × A)) → is_among (number ∷ []) (map (λ row. row.0 ∷ []) rows) ≡ false → of_number number rows ≡ None
+number_none number [] none = refl
+number_none number (row ∷ rows) none =
+    step (number == row.0) (Some row.1) (of_number number rows)
+    (λ e. not_first (number ∷ []) (row.0 ∷ []) (map (λ r. r.0 ∷ []) rows) none (ap (λ n. n ∷ []) (eqb-true number row.0 e)))
+    (number_none number rows (not_rest (number ∷ []) (row.0 ∷ []) (map (λ r. r.0 ∷ []) rows) none))
 
-thread_none : {A : Type 0} (process thread : ℕ) (rows : List ((ℕ × ℕ) × A)) → is_among (process ∷ thread ∷ []) (map (λ row. thread_key row.0) rows) ≡ false
+-- a thread that isn't among those of a process
+row_none : {A : Type 0} (process thread : ℕ) (row : ℕ × List (ℕ × A)) → process ≡ row.0 → is_among (process ∷ thread ∷ []) (state_keys row) ≡ false
+    → of_number thread row.1 ≡ None
+row_none {A} process thread row same = by row.1
+  where
+    by : (threads : List (ℕ × A)) → is_among (process ∷ thread ∷ []) (map (λ t. row.0 ∷ t.0 ∷ []) threads) ≡ false → of_number thread threads ≡ None
+    by [] none = refl
+    by (t ∷ threads) none =
+        step (thread == t.0) (Some t.1) (of_number thread threads)
+        (λ e. not_first (process ∷ thread ∷ []) (row.0 ∷ t.0 ∷ []) (map (λ u. row.0 ∷ u.0 ∷ []) threads) none
+        (ap₂ (λ p u. p ∷ u ∷ []) same (eqb-true thread t.0 e)))
+        (by threads (not_rest (process ∷ thread ∷ []) (row.0 ∷ t.0 ∷ []) (map (λ u. row.0 ∷ u.0 ∷ []) threads) none))
+
+-- what is found among the rows of the first process of a number is nothing
+first_none : {X Y : Type 0} (find : X → Option Y) (here : Bool) (one : X) (rest : Option X) → (here ≡ true → find one ≡ None) → option_and_then find rest ≡ None
+    → option_and_then find (cond here (Some one) rest) ≡ None
+first_none find true one rest own none = own refl
+first_none find false one rest own none = none
+
+thread_none : {A : Type 0} (process thread : ℕ) (rows : List (ℕ × List (ℕ × A))) → is_among (process ∷ thread ∷ []) (flat_map state_keys rows) ≡ false
     → of_thread process thread rows ≡ None
 thread_none process thread [] none = refl
 thread_none process thread (row ∷ rows) none =
-    step ((process == row.0.0) && (thread == row.0.1)) (Some row.1) (of_thread process thread rows)
-    (λ e. not_first (process ∷ thread ∷ []) (thread_key row.0) (map (λ r. thread_key r.0) rows) none (thread_is process thread row.0 e))
-    (thread_none process thread rows (not_rest (process ∷ thread ∷ []) (thread_key row.0) (map (λ r. thread_key r.0) rows) none))
+    first_none (of_number thread) (process == row.0) row.1 (of_number process rows)
+    (λ e. row_none process thread row (eqb-true process row.0 e) (not_left (process ∷ thread ∷ []) (state_keys row) (flat_map state_keys rows) none))
+    (thread_none process thread rows (not_right (process ∷ thread ∷ []) (state_keys row) (flat_map state_keys rows) none))
 
 -- an index that isn't among those of a list of values
 beyond : (low count process thread index : ℕ) → is_among (process ∷ thread ∷ index ∷ []) (map (λ i. process ∷ thread ∷ i ∷ []) (range_with_len low count)) ≡ false
@@ -50,27 +73,54 @@ past_end [] index long = refl
 past_end (v ∷ values) zero long = absurd (omega (arith, long))
 past_end (v ∷ values) (suc index) long = past_end values index (omega (arith, long))
 
-register_step : (process thread index : ℕ) (row : (ℕ × ℕ) × List (Option ℕ)) (rest : Option (List (Option ℕ))) (here : Bool) → ((process == row.0.0) && (thread == row.0.1)) ≡ here
-    → is_among (process ∷ thread ∷ index ∷ []) (register_keys row) ≡ false → option_and_then (at_index index) rest ≡ None
-    → option_and_then (at_index index) (cond here (Some row.1) rest) ≡ None
-register_step process thread index row rest true e own none =
-    let both = and_parts (process == row.0.0) (thread == row.0.1) e in
-    let same : register_keys row ≡ map (λ i. process ∷ thread ∷ i ∷ []) (range_with_len 0 (length row.1)) =
-    ap₂ (λ p t. map (λ i. p ∷ t ∷ i ∷ []) (range_with_len 0 (length row.1))) (sym (eqb-true process row.0.0 both.0)) (sym (eqb-true thread row.0.1 both.1)) in
-    let long : 0 + length row.1 ≤ index = beyond 0 (length row.1) process thread index (sym (ap (is_among (process ∷ thread ∷ index ∷ [])) same) ∙ own) (omega arith) in
+-- a register of a thread
+index_none : (process thread index : ℕ) (row : ℕ × List (Option ℕ)) → thread ≡ row.0 → is_among (process ∷ thread ∷ index ∷ []) (index_keys process row) ≡ false
+    → at_index index row.1 ≡ None
+index_none process thread index row same none =
+    let keys : index_keys process row ≡ map (λ i. process ∷ thread ∷ i ∷ []) (range_with_len 0 (length row.1)) =
+    ap (λ t. map (λ i. process ∷ t ∷ i ∷ []) (range_with_len 0 (length row.1))) (sym same) in
+    let long : 0 + length row.1 ≤ index = beyond 0 (length row.1) process thread index (sym (ap (is_among (process ∷ thread ∷ index ∷ [])) keys) ∙ none) (omega arith) in
     ap (λ value. option_and_then (λ v. v) value) (past_end row.1 index (omega (arith, long)))
-register_step process thread index row rest false e own none = none
 
-register_in_none : (process thread index : ℕ) (rows : List ((ℕ × ℕ) × List (Option ℕ))) → is_among (process ∷ thread ∷ index ∷ []) (flat_map register_keys rows) ≡ false
+-- of the threads of a process
+registers_none : (process thread index : ℕ) (rows : List (ℕ × List (Option ℕ))) → is_among (process ∷ thread ∷ index ∷ []) (flat_map (index_keys process) rows) ≡ false
+    → option_and_then (at_index index) (of_number thread rows) ≡ None
+registers_none process thread index [] none = refl
+registers_none process thread index (row ∷ rows) none =
+    let q : List ℕ = process ∷ thread ∷ index ∷ [] in
+    first_none (at_index index) (thread == row.0) row.1 (of_number thread rows)
+    (λ e. index_none process thread index row (eqb-true thread row.0 e) (not_left q (index_keys process row) (flat_map (index_keys process) rows) none))
+    (registers_none process thread index rows (not_right q (index_keys process row) (flat_map (index_keys process) rows) none))
+
+row_registers : (process thread index : ℕ) (row : ℕ × List (ℕ × List (Option ℕ))) → process ≡ row.0 → is_among (process ∷ thread ∷ index ∷ []) (register_keys row) ≡ false
+    → option_and_then (at_index index) (of_number thread row.1) ≡ None
+row_registers process thread index row same none =
+    registers_none process thread index row.1 (ap (λ p. is_among (process ∷ thread ∷ index ∷ []) (flat_map (index_keys p) row.1)) same ∙ none)
+
+either_row : (index : ℕ) (here : Bool) (find : List (ℕ × List (Option ℕ)) → Option (List (Option ℕ))) (one : List (ℕ × List (Option ℕ))) (rest : Option (List (ℕ × List (Option ℕ))))
+    → (here ≡ true → option_and_then (at_index index) (find one) ≡ None) → option_and_then (at_index index) (option_and_then find rest) ≡ None
+    → option_and_then (at_index index) (option_and_then find (cond here (Some one) rest)) ≡ None
+either_row index true find one rest own none = own refl
+either_row index false find one rest own none = none
+
+register_in_none : (process thread index : ℕ) (rows : List (ℕ × List (ℕ × List (Option ℕ)))) → is_among (process ∷ thread ∷ index ∷ []) (flat_map register_keys rows) ≡ false
     → register_in process thread index rows ≡ None
 register_in_none process thread index [] none = refl
 register_in_none process thread index (row ∷ rows) none =
     let q : List ℕ = process ∷ thread ∷ index ∷ [] in
-    register_step process thread index row (of_thread process thread rows) ((process == row.0.0) && (thread == row.0.1)) refl
-    (not_left q (register_keys row) (flat_map register_keys rows) none)
+    either_row index (process == row.0) (of_number thread) row.1 (of_number process rows)
+    (λ e. row_registers process thread index row (eqb-true process row.0 e) (not_left q (register_keys row) (flat_map register_keys rows) none))
     (register_in_none process thread index rows (not_right q (register_keys row) (flat_map register_keys rows) none))
 
 -- ---- the maps
+
+pub threads_at : (value : KnowledgeValue) (q : List ℕ) → finite.get (rows_of value).threads q ≡ threads_under (facts_of value) q
+threads_at value q = get_at (threads_under (facts_of value)) (keys_of value).threads q (none q)
+  where
+    none : (k : List ℕ) → is_among k (keys_of value).threads ≡ false → threads_under (facts_of value) k ≡ None
+    none [] e = refl
+    none (p ∷ []) e = number_none p value.threads e
+    none (p ∷ t ∷ k) e = refl
 
 pub state_at : (value : KnowledgeValue) (q : List ℕ) → finite.get (rows_of value).states q ≡ state_under (facts_of value) q
 state_at value q = get_at (state_under (facts_of value)) (keys_of value).states q (none q)
@@ -104,6 +154,7 @@ status_at value q = get_at (facts_of value).statuses (keys_of value).statuses q 
 pub cache_same : (value : KnowledgeValue) → AreSame (facts_of value) (facts_in (rows_of value))
 cache_same value = record {
   contexts = λ id. sym (context_at value id);
+  threads = λ process. sym (threads_at value (process ∷ []));
   states = λ process thread. sym (state_at value (process ∷ thread ∷ []));
   registers = λ process thread index. sym (register_at value (process ∷ thread ∷ index ∷ []));
   properties = λ id. sym (properties_at value id);

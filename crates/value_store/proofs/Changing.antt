@@ -1,12 +1,12 @@
 -- After a change nothing is known but what was known before, or is told.
-use Rattle.std.proofs.Common.{◌≡◌, ℕ, Bool, true, false, cond, ◌&&◌, ◌==◌, List, [], ◌∷◌, Option, Some, None, refl, sym, ap₂}
+use Rattle.std.proofs.Common.{◌≡◌, ℕ, Bool, true, false, cond, ◌&&◌, ◌==◌, List, [], ◌∷◌, Option, Some, None, option_map, refl, sym, ap, ap₂}
 use Rattle.std.specs.Prelude.{bytes_eq}
 use Rattle.std.specs.List.{flat_map}
 use Rattle.std.proofs.lemmas.Bool.{and_parts, eqb-true}
 use Rattle.std.proofs.lemmas.Slice.Eq.{bytes_eq-Decides}
-use Rattle.knowledge.specs.Changes.{Change, all_gone, context_told, context_gone, state_told, state_gone, register_read, register_gone, thread_registers_gone, registers_gone, bytes_read, bytes_gone, range_gone, properties_told, properties_gone, status_told, status_gone, statuses_gone, after, after_all, at_register, at_text, at_thread}
+use Rattle.knowledge.specs.Changes.{Change, all_gone, context_told, context_gone, threads_told, thread_joined, threads_gone, threads_stale, state_told, state_gone, register_read, register_gone, thread_registers_gone, registers_gone, bytes_read, bytes_gone, range_gone, properties_told, properties_gone, status_told, status_gone, statuses_gone, after, after_all, at_number, at_register, at_text, at_thread, with_id}
 use Rattle.knowledge.specs.Facts.{Facts, is_suspended}
-use Rattle.value_store.specs.Rows.{context_key, properties_key, register_key, state_key, status_key}
+use Rattle.value_store.specs.Rows.{context_key, properties_key, register_key, state_key, status_key, threads_key}
 use Rattle.value_store.proofs.Keyed.{is_among, not_first, not_left, not_right}
 
 -- ---- one place written
@@ -24,6 +24,18 @@ text_gone id q known is = by (bytes_eq id q)
     by : (here : Bool) → cond here None (known q) ≡ None
     by true = refl
     by false = is
+
+number_told : {A : Type 0} (number n : ℕ) (value : Option A) (known : ℕ → Option A) → is_among (n ∷ []) ((number ∷ []) ∷ []) ≡ false → known n ≡ None
+    → at_number number value known n ≡ None
+number_told number n value known none is = by (number == n) refl
+  where
+    by : (here : Bool) → (number == n) ≡ here → cond here value (known n) ≡ None
+    by true e = absurd (not_first (n ∷ []) (number ∷ []) [] none (ap (λ m. m ∷ []) (sym (eqb-true number n e))))
+    by false e = is
+
+gone_if : {A : Type 0} (here : Bool) (before : Option A) → before ≡ None → cond here None before ≡ None
+gone_if true before is = refl
+gone_if false before is = is
 
 thread_told : {A : Type 0} (process thread p t : ℕ) (value : A) (known : ℕ → ℕ → Option A) → is_among (p ∷ t ∷ []) ((process ∷ thread ∷ []) ∷ []) ≡ false → known p t ≡ None
     → at_thread process thread (Some value) known p t ≡ None
@@ -78,6 +90,10 @@ context_none : (change : Change) (known : Facts) (q : List ℕ) → is_among q (
 context_none all_gone known q none is = refl
 context_none (context_told id context) known q none is = text_told id q context known.contexts none is
 context_none (context_gone id) known q none is = text_gone id q known.contexts is
+context_none (threads_told process ids) known q none is = is
+context_none (thread_joined process id) known q none is = is
+context_none (threads_gone process) known q none is = is
+context_none (threads_stale process) known q none is = is
 context_none (state_told process thread state) known q none is = is
 context_none (state_gone process thread) known q none is = is
 context_none (register_read process thread index value) known q none is = is
@@ -93,10 +109,37 @@ context_none (status_told id status) known q none is = is
 context_none (status_gone id) known q none is = is
 context_none statuses_gone known q none is = is
 
+thread_none : (change : Change) (known : Facts) (p : ℕ) → is_among (p ∷ []) (threads_key change) ≡ false → known.threads p ≡ None → (after change known).threads p ≡ None
+thread_none all_gone known p none is = refl
+thread_none (context_told id context) known p none is = is
+thread_none (context_gone id) known p none is = is
+thread_none (threads_told process ids) known p none is = number_told process p (Some ids) known.threads none is
+thread_none (thread_joined process id) known p none is = number_told process p (option_map (with_id id) (known.threads process)) known.threads none is
+thread_none (threads_gone process) known p none is = gone_if (process == p) (known.threads p) is
+thread_none (threads_stale process) known p none is = is
+thread_none (state_told process thread state) known p none is = is
+thread_none (state_gone process thread) known p none is = is
+thread_none (register_read process thread index value) known p none is = is
+thread_none (register_gone process thread index) known p none is = is
+thread_none (thread_registers_gone process thread) known p none is = is
+thread_none registers_gone known p none is = is
+thread_none (bytes_read process addr bytes) known p none is = is
+thread_none (bytes_gone process) known p none is = is
+thread_none (range_gone process addr size) known p none is = is
+thread_none (properties_told id properties) known p none is = is
+thread_none (properties_gone id) known p none is = is
+thread_none (status_told id status) known p none is = is
+thread_none (status_gone id) known p none is = is
+thread_none statuses_gone known p none is = is
+
 state_none : (change : Change) (known : Facts) (p t : ℕ) → is_among (p ∷ t ∷ []) (state_key change) ≡ false → known.states p t ≡ None → (after change known).states p t ≡ None
 state_none all_gone known p t none is = refl
 state_none (context_told id context) known p t none is = is
 state_none (context_gone id) known p t none is = is
+state_none (threads_told process ids) known p t none is = is
+state_none (thread_joined process id) known p t none is = is
+state_none (threads_gone process) known p t none is = is
+state_none (threads_stale process) known p t none is = gone_if (process == p) (known.states p t) is
 state_none (state_told process thread state) known p t none is = thread_told process thread p t state known.states none is
 state_none (state_gone process thread) known p t none is = thread_gone process thread p t None known.states refl is
 state_none (register_read process thread index value) known p t none is = is
@@ -116,6 +159,10 @@ register_none : (change : Change) (known : Facts) (p t i : ℕ) → is_among (p 
 register_none all_gone known p t i none is = refl
 register_none (context_told id context) known p t i none is = is
 register_none (context_gone id) known p t i none is = is
+register_none (threads_told process ids) known p t i none is = is
+register_none (thread_joined process id) known p t i none is = is
+register_none (threads_gone process) known p t i none is = is
+register_none (threads_stale process) known p t i none is = gone_if (process == p) (known.registers p t i) is
 register_none (state_told process thread state) known p t i none is = is
 register_none (state_gone process thread) known p t i none is = is
 register_none (register_read process thread index value) known p t i none is =
@@ -137,6 +184,10 @@ properties_none : (change : Change) (known : Facts) (q : List ℕ) → is_among 
 properties_none all_gone known q none is = refl
 properties_none (context_told id context) known q none is = is
 properties_none (context_gone id) known q none is = is
+properties_none (threads_told process ids) known q none is = is
+properties_none (thread_joined process id) known q none is = is
+properties_none (threads_gone process) known q none is = is
+properties_none (threads_stale process) known q none is = is
 properties_none (state_told process thread state) known q none is = is
 properties_none (state_gone process thread) known q none is = is
 properties_none (register_read process thread index value) known q none is = is
@@ -156,6 +207,10 @@ status_none : (change : Change) (known : Facts) (q : List ℕ) → is_among q (s
 status_none all_gone known q none is = refl
 status_none (context_told id context) known q none is = is
 status_none (context_gone id) known q none is = is
+status_none (threads_told process ids) known q none is = is
+status_none (thread_joined process id) known q none is = is
+status_none (threads_gone process) known q none is = is
+status_none (threads_stale process) known q none is = is
 status_none (state_told process thread state) known q none is = is
 status_none (state_gone process thread) known q none is = is
 status_none (register_read process thread index value) known q none is = is
@@ -178,6 +233,12 @@ contexts_none [] known q none is = is
 contexts_none (change ∷ changes) known q none is =
     contexts_none changes (after change known) q (not_right q (context_key change) (flat_map context_key changes) none)
     (context_none change known q (not_left q (context_key change) (flat_map context_key changes) none) is)
+
+pub threads_none : (changes : List Change) (known : Facts) (p : ℕ) → is_among (p ∷ []) (flat_map threads_key changes) ≡ false → known.threads p ≡ None → (after_all changes known).threads p ≡ None
+threads_none [] known p none is = is
+threads_none (change ∷ changes) known p none is =
+    threads_none changes (after change known) p (not_right (p ∷ []) (threads_key change) (flat_map threads_key changes) none)
+    (thread_none change known p (not_left (p ∷ []) (threads_key change) (flat_map threads_key changes) none) is)
 
 pub states_none : (changes : List Change) (known : Facts) (p t : ℕ) → is_among (p ∷ t ∷ []) (flat_map state_key changes) ≡ false → known.states p t ≡ None → (after_all changes known).states p t ≡ None
 states_none [] known p t none is = is

@@ -9,11 +9,11 @@ use Rattle.knowledge.specs.Facts.{AreSame, Facts}
 use Rattle.knowledge.specs.KnowledgeValue.{KnowledgeValue, facts_of}
 use Rattle.knowledge.specs.Learning.{Message, changes_of, learn, other_taken}
 use Rattle.value_store.specs.Learning.{taught}
-use Rattle.value_store.specs.Rows.{Rows, context_key, facts_in, keys_after, learned_rows, properties_key, register_key, register_under, rows_of, state_key, state_under, status_key}
+use Rattle.value_store.specs.Rows.{Rows, context_key, facts_in, keys_after, learned_rows, properties_key, register_key, register_under, rows_of, state_key, state_under, status_key, threads_key, threads_under}
 use Rattle.value_store.specs.StoreValue.{StoreValue}
 use Rattle.knowledge.proofs.TheLaws.{blocks_stay_same, facts_stay_same}
-use Rattle.value_store.proofs.Cached.{cache_same, context_at, properties_at, register_at, state_at, status_at}
-use Rattle.value_store.proofs.Changing.{all_properties_none, contexts_none, registers_none, states_none, statuses_none}
+use Rattle.value_store.proofs.Cached.{cache_same, context_at, properties_at, register_at, state_at, status_at, threads_at}
+use Rattle.value_store.proofs.Changing.{all_properties_none, contexts_none, registers_none, states_none, statuses_none, threads_none}
 use Rattle.value_store.proofs.Keyed.{get_at, is_among, not_left, not_right, nothing_under, same_keyed}
 use Rattle.knowledge.proofs.Same.{same_then}
 
@@ -37,6 +37,16 @@ module _ (message : Message) (rows : Rows) where
   status_after q = get_at (learn message (facts_in rows)).statuses (keys_after (changes_of message) rows).statuses q (λ none.
       statuses_none (changes_of message) (facts_in rows) q (not_right q (finite.keys rows.statuses) (flat_map status_key (changes_of message)) none)
       (nothing_under rows.statuses q (not_left q (finite.keys rows.statuses) (flat_map status_key (changes_of message)) none)))
+
+  threads_after : (q : List ℕ) → finite.get (learned_rows message rows).threads q ≡ threads_under (learn message (facts_in rows)) q
+  threads_after q = get_at (threads_under (learn message (facts_in rows))) (keys_after (changes_of message) rows).threads q (none q)
+    where
+      none : (k : List ℕ) → is_among k (keys_after (changes_of message) rows).threads ≡ false → threads_under (learn message (facts_in rows)) k ≡ None
+      none [] e = refl
+      none (p ∷ []) e =
+          threads_none (changes_of message) (facts_in rows) p (not_right (p ∷ []) (finite.keys rows.threads) (flat_map threads_key (changes_of message)) e)
+          (nothing_under rows.threads (p ∷ []) (not_left (p ∷ []) (finite.keys rows.threads) (flat_map threads_key (changes_of message)) e))
+      none (p ∷ t ∷ k) e = refl
 
   state_after : (q : List ℕ) → finite.get (learned_rows message rows).states q ≡ state_under (learn message (facts_in rows)) q
   state_after q = get_at (state_under (learn message (facts_in rows))) (keys_after (changes_of message) rows).states q (none q)
@@ -65,6 +75,7 @@ module _ (message : Message) (rows : Rows) where
 pub rows_learned : (message : Message) (rows : Rows) → AreSame (facts_in (learned_rows message rows)) (learn message (facts_in rows))
 rows_learned message rows = record {
   contexts = λ id. context_after message rows id;
+  threads = λ process. threads_after message rows (process ∷ []);
   states = λ process thread. state_after message rows (process ∷ thread ∷ []);
   registers = λ process thread index. register_after message rows (process ∷ thread ∷ index ∷ []);
   properties = λ id. properties_after message rows id;
@@ -72,6 +83,11 @@ rows_learned message rows = record {
 }
 
 -- ---- a cache that has learned it
+
+threads_alike : {known other : Facts} → AreSame known other → (q : List ℕ) → threads_under known q ≡ threads_under other q
+threads_alike same [] = refl
+threads_alike same (p ∷ []) = same.threads p
+threads_alike same (p ∷ t ∷ q) = refl
 
 states_alike : {known other : Facts} → AreSame known other → (q : List ℕ) → state_under known q ≡ state_under other q
 states_alike same [] = refl
@@ -86,14 +102,15 @@ registers_alike same (p ∷ t ∷ []) = refl
 registers_alike same (p ∷ t ∷ i ∷ []) = same.registers p t i
 registers_alike same (p ∷ t ∷ i ∷ j ∷ q) = refl
 
-one_rows : (some more : Rows) → some.contexts ≡ more.contexts → some.states ≡ more.states → some.registers ≡ more.registers → some.properties ≡ more.properties → some.statuses ≡ more.statuses → some ≡ more
-one_rows some more contexts states registers properties statuses =
-    λ i. record { contexts = contexts i; states = states i; registers = registers i; properties = properties i; statuses = statuses i }
+one_rows : (some more : Rows) → some.contexts ≡ more.contexts → some.threads ≡ more.threads → some.states ≡ more.states → some.registers ≡ more.registers → some.properties ≡ more.properties → some.statuses ≡ more.statuses → some ≡ more
+one_rows some more contexts threads states registers properties statuses =
+    λ i. record { contexts = contexts i; threads = threads i; states = states i; registers = registers i; properties = properties i; statuses = statuses i }
 
 rows_same : (message : Message) (rows : Rows) (now : KnowledgeValue) → AreSame (facts_of now) (learn message (facts_in rows)) → rows_of now ≡ learned_rows message rows
 rows_same message rows now same =
     one_rows (rows_of now) (learned_rows message rows)
     (same_keyed _ _ (λ q. context_at now q ∙ same.contexts q ∙ sym (context_after message rows q)))
+    (same_keyed _ _ (λ q. threads_at now q ∙ threads_alike same q ∙ sym (threads_after message rows q)))
     (same_keyed _ _ (λ q. state_at now q ∙ states_alike same q ∙ sym (state_after message rows q)))
     (same_keyed _ _ (λ q. register_at now q ∙ registers_alike same q ∙ sym (register_after message rows q)))
     (same_keyed _ _ (λ q. properties_at now q ∙ same.properties q ∙ sym (properties_after message rows q)))

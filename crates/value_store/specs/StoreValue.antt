@@ -23,10 +23,10 @@ keyed_code code = finite.code (coded_list coded_ℕ) code
 
 abbrev rows_code : Coded ContextData → Coded StateFact → Coded BpProps → Coded BpStatus → Coded Rows
 rows_code context state properties status =
-    code_by (Keyed ContextData × (Keyed StateFact × (Keyed ℕ × (Keyed BpProps × Keyed BpStatus))))
-    (coded× (keyed_code context) (coded× (keyed_code state) (coded× (keyed_code coded_ℕ) (coded× (keyed_code properties) (keyed_code status)))))
-    (λ rows. (rows.contexts, (rows.states, (rows.registers, (rows.properties, rows.statuses)))))
-    (λ p. record { contexts = p.0; states = p.1.0; registers = p.1.1.0; properties = p.1.1.1.0; statuses = p.1.1.1.1 })
+    code_by (Keyed ContextData × (Keyed (List (List ℕ)) × (Keyed StateFact × (Keyed ℕ × (Keyed BpProps × Keyed BpStatus)))))
+    (coded× (keyed_code context) (coded× (keyed_code (coded_list (coded_list coded_ℕ))) (coded× (keyed_code state) (coded× (keyed_code coded_ℕ) (coded× (keyed_code properties) (keyed_code status))))))
+    (λ rows. (rows.contexts, (rows.threads, (rows.states, (rows.registers, (rows.properties, rows.statuses))))))
+    (λ p. record { contexts = p.0; threads = p.1.0; states = p.1.1.0; registers = p.1.1.1.0; properties = p.1.1.1.1.0; statuses = p.1.1.1.1.1 })
     (λ _. refl)
 
 abbrev pub store_code : Coded ContextData → Coded StateFact → Coded BpProps → Coded BpStatus → Coded Block → Coded StoreValue

@@ -1,14 +1,17 @@
 //! What each answer makes of what is known.
 ghost use Rattle.std.specs.Prelude.{◌≡◌, false, take, drop, IsOk, OnOk};
+ghost use Rattle.std.specs.List.{list_all};
 ghost use Rattle.tcf_values.specs.Ids.{context_of};
-ghost use Rattle.tcf_values.specs.Storable.{stores};
 ghost use Rattle.knowledge.specs.KnowledgeValue.{IsAfter};
-ghost use Rattle.knowledge.specs.Rows.{answer_changes, context_answered, memory_answered, memory_read, parts_read, properties_answered, range_read, register_answered, registers_answered, state_answered, status_answered, whole_read};
+ghost use Rattle.knowledge.specs.Learning.{teaches};
+ghost use Rattle.knowledge.specs.Rows.{answer_changes, children_answered, context_answered, is_thread_of, memory_answered, memory_read, parts_read, properties_answered, range_read, register_answered, registers_answered, state_answered, status_answered, threads_listed, threads_read, whole_read};
 
 use crate::knowledge::Knowledge;
 use crate::span::{first_of, part_size};
 use std::alloc::AllocError;
-use tcf_values::{Answer, Bytes, Command, ContextId, Location, context_id, register_id};
+use tcf_values::{
+    Answer, Bytes, Command, ContextId, Duplicate, Location, Text, Texts, context_id, register_id,
+};
 
 /// The bytes behind the first so many.
 fn behind(bytes: &[u8], count: usize) -> &[u8]
@@ -32,12 +35,58 @@ fn front(bytes: &[u8], count: usize) -> &[u8]
     }
 }
 
+/// Whether the text is the ID of a thread of the process.
+fn is_thread_of(process: u32, id: &[u8]) -> bool
+    ensures { result ≡ is_thread_of process id.now }
+{
+    match context_id(id) {
+        Some(ContextId::Thread(number, _)) => process == number,
+        Some(ContextId::Process(_)) => false,
+        None => false,
+    }
+}
+
+fn are_threads_of(process: u32, ids: &[Text]) -> bool
+    ensures { result ≡ list_all (is_thread_of process) ids.now }
+{
+    ids.iter().all(|id| is_thread_of(process, id.as_bytes()))
+}
+
 impl Knowledge {
     fn answer_context(&mut self, id: &[u8], answer: &Answer) -> Result<(), AllocError>
         ensures { OnOk result (IsAfter (context_answered id.now answer.now) self.old self.new) }
     {
         match answer {
             Answer::Context(context) => self.tell_context(id, context),
+            _ => Ok(()),
+        }
+    }
+
+    /// Tells the threads of a process, where these are IDs of its threads.
+    fn read_threads(&mut self, process: u32, ids: &Texts) -> Result<(), AllocError>
+        ensures { OnOk result (IsAfter (threads_read process ids.now) self.old self.new) }
+    {
+        if are_threads_of(process, ids.as_slice()) {
+            self.tell_threads(process, ids.copy()?)
+        } else {
+            Ok(())
+        }
+    }
+
+    fn list_threads(&mut self, id: &[u8], ids: &Texts) -> Result<(), AllocError>
+        ensures { OnOk result (IsAfter (threads_listed (context_of id.now) ids.now) self.old self.new) }
+    {
+        match context_id(id) {
+            Some(ContextId::Process(process)) => self.read_threads(process, ids),
+            Some(ContextId::Thread(_, _)) | None => Ok(()),
+        }
+    }
+
+    fn answer_children(&mut self, id: &[u8], answer: &Answer) -> Result<(), AllocError>
+        ensures { OnOk result (IsAfter (children_answered id.now answer.now) self.old self.new) }
+    {
+        match answer {
+            Answer::Ids(ids) => self.list_threads(id, ids),
             _ => Ok(()),
         }
     }
@@ -179,10 +228,11 @@ impl Knowledge {
         answer: &Answer,
     ) -> Result<(), AllocError>
         ensures after { OnOk result (IsAfter (answer_changes command.now answer.now) self.old self.new) }
-        ensures at_once { stores command.now ≡ false → IsOk result }
+        ensures at_once { teaches command.now ≡ false → IsOk result }
     {
         match command {
             Command::GetContext { id } => self.answer_context(id.as_bytes(), answer),
+            Command::GetChildren { id } => self.answer_children(id.as_bytes(), answer),
             Command::GetState { id } => self.answer_state(id.as_bytes(), answer),
             Command::BpProperties { id } => self.answer_properties(id.as_bytes(), answer),
             Command::BpGetStatus { id } => self.answer_status(id.as_bytes(), answer),

@@ -5,7 +5,7 @@ ghost use Rattle.tcf_values.specs.declared.values.RunState.{RunState};
 ghost use Rattle.knowledge.specs.Changes.{of_each, statuses_gone};
 ghost use Rattle.knowledge.specs.KnowledgeValue.{IsAfter};
 ghost use Rattle.knowledge.specs.Learning.{only_drops};
-ghost use Rattle.knowledge.specs.Rows.{added_context, changed_context, changed_range, changed_register, event_changes, memory_changes, moved_for, removed_context, removed_properties, stale, state_changes, told_properties};
+ghost use Rattle.knowledge.specs.Rows.{added_context, added_contexts, begun, begun_for, changed_context, changed_range, changed_register, event_changes, joined, joined_for, memory_changes, moved_for, removed_context, removed_properties, stale, state_changes, told_properties, unlisted_for, unsettled, unsettled_for};
 
 use crate::knowledge::Knowledge;
 use crate::span::span_of;
@@ -41,11 +41,57 @@ impl Knowledge {
         Ok(())
     }
 
+    /// Forgets which threads the process of a context has.
+    fn drop_list(&mut self, id: &[u8])
+        ensures { IsAfter (unlisted_for (context_of id.now)) self.old self.new }
+    {
+        match context_id(id) {
+            Some(ContextId::Process(process) | ContextId::Thread(process, _)) => {
+                self.drop_threads(process);
+            }
+            None => {}
+        }
+    }
+
     fn remove_context(&mut self, id: &[u8])
         ensures { IsAfter (removed_context id.now) self.old self.new }
     {
         self.drop_context(id);
         self.go_stale(id);
+        self.drop_list(id);
+    }
+
+    /// Drops the states and the registers of all threads of a context's process, and its memory.
+    fn unsettle(&mut self, id: &[u8])
+        ensures { IsAfter (unsettled_for (context_of id.now)) self.old self.new }
+    {
+        match context_id(id) {
+            Some(ContextId::Process(process) | ContextId::Thread(process, _)) => {
+                self.drop_states_of(process);
+                self.drop_bytes(process);
+            }
+            None => {}
+        }
+    }
+
+    /// Tells that a process has no threads yet, where the context is one.
+    fn begin_list(&mut self, id: &[u8]) -> Result<(), AllocError>
+        ensures { OnOk result (IsAfter (begun_for (context_of id.now)) self.old self.new) }
+    {
+        match context_id(id) {
+            Some(ContextId::Process(process)) => self.tell_threads(process, Texts::new(self.alloc)),
+            Some(ContextId::Thread(_, _)) | None => Ok(()),
+        }
+    }
+
+    /// Tells that a thread is one of its process, where the context is one.
+    fn join(&mut self, id: &Text) -> Result<(), AllocError>
+        ensures { OnOk result (IsAfter (joined_for id.now (context_of id.now)) self.old self.new) }
+    {
+        match context_id(id.as_bytes()) {
+            Some(ContextId::Thread(process, _)) => self.join_thread(process, id),
+            Some(ContextId::Process(_)) | None => Ok(()),
+        }
     }
 
     fn add_contexts(&mut self, list: &[ContextData]) -> Result<(), AllocError>
@@ -53,6 +99,32 @@ impl Knowledge {
     {
         for context in list {
             self.tell_context(context.id.as_bytes(), context)?;
+        }
+        Ok(())
+    }
+
+    fn unsettle_contexts(&mut self, list: &[ContextData])
+        ensures { IsAfter (of_each unsettled list.now) self.old self.new }
+    {
+        for context in list {
+            self.unsettle(context.id.as_bytes());
+        }
+    }
+
+    fn begin_lists(&mut self, list: &[ContextData]) -> Result<(), AllocError>
+        ensures { OnOk result (IsAfter (of_each begun list.now) self.old self.new) }
+    {
+        for context in list {
+            self.begin_list(context.id.as_bytes())?;
+        }
+        Ok(())
+    }
+
+    fn join_contexts(&mut self, list: &[ContextData]) -> Result<(), AllocError>
+        ensures { OnOk result (IsAfter (of_each joined list.now) self.old self.new) }
+    {
+        for context in list {
+            self.join(&context.id)?;
         }
         Ok(())
     }
@@ -254,9 +326,12 @@ impl Knowledge {
     }
 
     fn contexts_added(&mut self, list: &[ContextData]) -> Result<(), AllocError>
-        ensures { OnOk result (IsAfter (of_each added_context list.now ++ statuses_gone ∷ []) self.old self.new) }
+        ensures { OnOk result (IsAfter (added_contexts list.now) self.old self.new) }
     {
         self.add_contexts(list)?;
+        self.unsettle_contexts(list);
+        self.begin_lists(list)?;
+        self.join_contexts(list)?;
         self.drop_statuses();
         Ok(())
     }

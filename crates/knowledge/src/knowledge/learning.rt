@@ -1,9 +1,8 @@
 //! The calls by which a peer learns and forgets.
 ghost use Rattle.std.specs.Prelude.{◌≡◌, false, [], ◌∷◌, ◌++◌, List, IsTrue, IsOk, OnOk, OnErr};
-ghost use Rattle.tcf_values.specs.Storable.{stores};
 ghost use Rattle.knowledge.specs.Facts.{AreSame};
 ghost use Rattle.knowledge.specs.KnowledgeValue.{IsCacheOf, blocks_learned, empty, facts_of};
-ghost use Rattle.knowledge.specs.Learning.{Message, answer_taken, bad_event_taken, event_taken, learn, only_drops};
+ghost use Rattle.knowledge.specs.Learning.{Message, answer_taken, bad_event_taken, event_taken, learn, only_drops, teaches};
 
 use crate::knowledge::Knowledge;
 use std::alloc::AllocError;
@@ -42,7 +41,7 @@ impl Knowledge {
         ensures blocks { OnOk result (self.new.blocks ≡ blocks_learned (answer_taken command.now answer.now) self.old) }
         ensures cache { OnOk result ((messages : List Message) → IsCacheOf messages self.old
             → IsCacheOf (messages ++ answer_taken command.now answer.now ∷ []) self.new) }
-        ensures at_once { stores command.now ≡ false → IsOk result }
+        ensures at_once { teaches command.now ≡ false → IsOk result }
         ensures empty { OnErr result (self.new ≡ empty) }
     {
         match self.take_answer(command, answer) {

@@ -4,7 +4,7 @@ use Rattle.std.specs.Prelude.{nat_le, option_and_then}
 use Rattle.std.specs.List.{AllByRecursion, flat_map}
 use Rattle.std.specs.Str.{is_utf8}
 use Rattle.channel_core.specs.Arrivals.{Spoken}
-use Rattle.knowledge.specs.Changes.{Change, bytes_read, context_told, properties_told, register_read, state_told, status_told}
+use Rattle.knowledge.specs.Changes.{Change, bytes_read, context_told, properties_told, register_read, state_told, status_told, threads_told}
 use Rattle.knowledge.specs.Facts.{Facts, Knows, nothing}
 use Rattle.knowledge.specs.Learning.{Message, learned}
 use Rattle.knowledge.specs.Reply.{answer_known}
@@ -47,6 +47,7 @@ bytes_told known process addr (b ∷ bytes) each =
 
 facts_one : (known : Facts) (change : Change) → Tells known change → AllByRecursion (Knows known) (facts_of change)
 facts_one known (context_told id context) told = (told, tt)
+facts_one known (threads_told process ids) told = (told, tt)
 facts_one known (state_told process thread state) told = (told, tt)
 facts_one known (register_read process thread index value) told = (told, tt)
 facts_one known (bytes_read process addr bytes) told = bytes_told known process addr bytes told

@@ -10,15 +10,14 @@ use Rattle.knowledge.specs.declared.state.StateFact.{StateFact}
 use Rattle.knowledge.specs.declared.state.StateFact.TheVariants as told
 use Rattle.run_control.specs.Asking.{context_answer, run_state, state_answer}
 use Rattle.target_truth.proofs.Stored.Found.{mapped}
-use Rattle.target_contexts.specs.Live.{process_of}
-use Rattle.target_contexts.specs.Named.{attached_in, process_at_number, thread_for}
-use Rattle.target_contexts.specs.ProcessValue.{ProcessValue}
+use Rattle.target_contexts.specs.Named.{attached_in, thread_at_pair, thread_for}
+use Rattle.target_contexts.specs.declared.threads.Thread.{Thread}
 use Rattle.target_contexts.specs.declared.process.ThreadState.{ThreadState}
 use Rattle.target_contexts.specs.declared.process.ThreadState.TheVariants.{Running, Suspended}
 use Rattle.target_hub.specs.BreakpointsRows.{props_answer, status_answer}
 use Rattle.target_hub.specs.Execution.{exec_effect}
 use Rattle.run_control.specs.TargetValue.{TargetValue}
-use Rattle.target_truth.specs.Holds.{Holds, data_in, process_in, state_fact}
+use Rattle.target_truth.specs.Holds.{Holds, data_in, state_fact, thread_in}
 use Rattle.tcf_values.specs.Effects.{effect_by, gives}
 use Rattle.tcf_values.specs.Faults.{first_fault}
 use Rattle.tcf_values.specs.Ids.{context_of}
@@ -58,42 +57,35 @@ suspended : (pc value : ℕ) (state : ThreadState) (reason : List ℕ) (hits : L
 suspended pc value (Running left) reason hits is same = cc
 suspended pc value (Suspended r h) reason hits is same = cc
 
-running_found : (found : Option ProcessValue) → option_map (λ p. state_fact p.state) found ≡ Some told.Running
+running_found : (found : Option Thread) → option_map (λ t. state_fact t.state) found ≡ Some told.Running
     → answers.State run.Running ≡ checked faults.BadContext state_answer found
 running_found None is = absurd (none-some told.Running is)
-running_found (Some process) is = ap answers.State (sym (running process.cpu.pc process.state (same_Some _ _ is)))
+running_found (Some thread) is = ap answers.State (sym (running thread.cpu.pc thread.state (same_Some _ _ is)))
 
-suspended_found : (found : Option ProcessValue) (value : ℕ) (reason : List ℕ) (hits : List (List ℕ)) → option_map (λ p. state_fact p.state) found ≡ Some (told.Suspended reason hits)
-    → option_map (λ p. number_in 32 p.cpu) found ≡ Some value → answers.State (run.Suspended value reason hits) ≡ checked faults.BadContext state_answer found
+suspended_found : (found : Option Thread) (value : ℕ) (reason : List ℕ) (hits : List (List ℕ)) → option_map (λ t. state_fact t.state) found ≡ Some (told.Suspended reason hits)
+    → option_map (λ t. number_in 32 t.cpu) found ≡ Some value → answers.State (run.Suspended value reason hits) ≡ checked faults.BadContext state_answer found
 suspended_found None value reason hits is number = absurd (none-some value number)
-suspended_found (Some process) value reason hits is number =
-    ap answers.State (sym (suspended process.cpu.pc value process.state reason hits (same_Some _ _ is) (same_Some _ _ number)))
+suspended_found (Some thread) value reason hits is number =
+    ap answers.State (sym (suspended thread.cpu.pc value thread.state reason hits (same_Some _ _ is) (same_Some _ _ number)))
 
--- the process of a thread whose number is 1
-named_first : (rows : List (ℕ × ProcessValue)) (number thread : ℕ) → thread ≡ 1 → process_at_number (thread_for (ids.Thread number thread)) rows ≡ process_of number rows
-named_first rows number thread first = ap (λ n. process_at_number (thread_for (ids.Thread number n)) rows) first
-
-thread_by : (target : TargetValue) (known : Facts) (number thread : ℕ) (answer : Answer) → Holds known target → (state : Option StateFact) (pc : Option ℕ)
-    → known.states number thread ≡ state → known.registers number thread 32 ≡ pc → thread_reply state pc ≡ Some answer
-    → answer ≡ checked faults.BadContext state_answer (process_at_number (thread_for (ids.Thread number thread)) target.contexts.processes)
-thread_by target known number thread answer holds None pc knows knows_pc is = absurd (none-some answer is)
-thread_by target known number thread answer holds (Some told.Running) pc knows knows_pc is =
-    let so = holds.facts (state_is number thread told.Running) knows in
-    sym (same_Some _ answer is) ∙ running_found (process_in number target) so.1
-    ∙ ap (checked faults.BadContext state_answer) (sym (named_first target.contexts.processes number thread so.0))
-thread_by target known number thread answer holds (Some (told.Suspended reason hits)) None knows knows_pc is = absurd (none-some answer is)
-thread_by target known number thread answer holds (Some (told.Suspended reason hits)) (Some value) knows knows_pc is =
-    let so = holds.facts (state_is number thread (told.Suspended reason hits)) knows in
-    let pc = holds.facts (register_is number thread 32 value) knows_pc in
-    sym (same_Some _ answer is) ∙ suspended_found (process_in number target) value reason hits so.1 pc.2
-    ∙ ap (checked faults.BadContext state_answer) (sym (named_first target.contexts.processes number thread so.0))
+thread_by : (target : TargetValue) (known : Facts) (number n : ℕ) (answer : Answer) → Holds known target → (state : Option StateFact) (pc : Option ℕ)
+    → known.states number n ≡ state → known.registers number n 32 ≡ pc → thread_reply state pc ≡ Some answer
+    → answer ≡ checked faults.BadContext state_answer (thread_in number n target)
+thread_by target known number n answer holds None pc knows knows_pc is = absurd (none-some answer is)
+thread_by target known number n answer holds (Some told.Running) pc knows knows_pc is =
+    sym (same_Some _ answer is) ∙ running_found (thread_in number n target) (holds.facts (state_is number n told.Running) knows)
+thread_by target known number n answer holds (Some (told.Suspended reason hits)) None knows knows_pc is = absurd (none-some answer is)
+thread_by target known number n answer holds (Some (told.Suspended reason hits)) (Some value) knows knows_pc is =
+    sym (same_Some _ answer is)
+    ∙ suspended_found (thread_in number n target) value reason hits (holds.facts (state_is number n (told.Suspended reason hits)) knows)
+    (holds.facts (register_is number n 32 value) knows_pc).1
 
 state_by : (target : TargetValue) (known : Facts) (answer : Answer) → Holds known target → (context : Option ContextId) → context_state_reply known context ≡ Some answer
-    → answer ≡ checked faults.BadContext state_answer (process_at_number (option_and_then thread_for context) target.contexts.processes)
+    → answer ≡ checked faults.BadContext state_answer (thread_at_pair (option_and_then thread_for context) target.contexts.processes)
 state_by target known answer holds None is = absurd (none-some answer is)
 state_by target known answer holds (Some (ids.Process number)) is = absurd (none-some answer is)
-state_by target known answer holds (Some (ids.Thread number thread)) is =
-    thread_by target known number thread answer holds (known.states number thread) (known.registers number thread 32) refl refl is
+state_by target known answer holds (Some (ids.Thread number n)) is =
+    thread_by target known number n answer holds (known.states number n) (known.registers number n 32) refl refl is
 
 pub state_alike : (channel : ℕ) (id : List ℕ) (target : TargetValue) (known : Facts) (answer : Answer) → Holds known target → state_reply id known ≡ Some answer
     → answer ≡ (exec_effect channel (commands.GetState id) target).answer

@@ -1,7 +1,7 @@
 -- Bytes of memory: what is answered of them is what the target answers.
-use Rattle.std.proofs.Common.{◌≡◌, ℕ, zero, suc, ℤ, ◌+◌, ◌<◌, ◌≤◌, ◌==◌, Bool, true, false, not, cond, List, [], ◌∷◌, length, take, drop, find, slice_get, Option, Some, None, is_none, option_map, option_and_then, refl, sym, ◌∙◌, ap, arith, pos, negsuc}
-use Rattle.std.proofs.lemmas.Bool.{and_parts, false≢true, le-ltb, not-true, or_from, or_parts}
-use Rattle.std.proofs.lemmas.Option.{cond_some, none-some, same_Some}
+use Rattle.std.proofs.Common.{◌≡◌, ℕ, zero, suc, ℤ, ◌+◌, ◌<◌, ◌≤◌, ◌==◌, Bool, true, false, not, cond, List, [], ◌∷◌, length, take, drop, find, slice_get, Option, Some, None, is_none, is_some, option_map, option_and_then, refl, sym, ◌∙◌, ap, arith, pos, negsuc}
+use Rattle.std.proofs.lemmas.Bool.{and_parts, cond-true, false≢true, le-ltb, not-true, or_from, or_parts}
+use Rattle.std.proofs.lemmas.Option.{none-some, same_Some}
 use Rattle.std.specs.Prelude.{int_lt, unsigned_abs}
 use Rattle.block_store.specs.Blocks.{has_range, part}
 use Rattle.block_store.specs.Store.{covered}
@@ -15,11 +15,12 @@ use Rattle.knowledge.specs.Rows as learned
 use Rattle.knowledge.specs.declared.state.StateFact.{StateFact}
 use Rattle.knowledge.proofs.TheLaws.{read_is_known}
 use Rattle.target_truth.proofs.Stored.Found.{mapped, passed}
-use Rattle.target_contexts.specs.Named.{number_for, process_at_number}
+use Rattle.target_contexts.specs.Named.{holder_for}
 use Rattle.target_contexts.specs.ProcessValue.{ProcessValue}
+use Rattle.target_contexts.specs.Threads.{has_thread, holding, thread_at}
 use Rattle.target_hub.specs.Execution.{exec_effect}
 use Rattle.run_control.specs.TargetValue.{TargetValue}
-use Rattle.target_truth.specs.Holds.{Holds, byte_in, process_in}
+use Rattle.target_truth.specs.Holds.{Holds, byte_in, process_in, state_fact, thread_in}
 use Rattle.target_truth.proofs.KeptBytes.{get_drop, inside}
 use Rattle.tcf_values.specs.Effects.{effect_by, gives}
 use Rattle.tcf_values.specs.Faults.{first_fault}
@@ -63,25 +64,21 @@ held None addr (byte ∷ bytes) some so = absurd (none-some byte (so zero byte r
 held (Some process) addr bytes some so =
     (process, refl, front bytes (drop addr process.memory) (λ k byte is. get_drop addr k process.memory ∙ so k byte is))
 
--- ---- the process that is asked
+-- ---- the process of a thread that is asked has it
 
-first_by : (target : TargetValue) (known : Facts) (number thread : ℕ) → Holds known target → (fact : Option StateFact) → known.states number thread ≡ fact
-    → is_suspended fact ≡ true → thread ≡ 1
-first_by target known number thread holds None knows is = absurd (false≢true is)
-first_by target known number thread holds (Some state) knows is = (holds.facts (state_is number thread state) knows).0
+found_some : {A B : Type 0} (f : A → B) (found : Option A) (x : B) → option_map f found ≡ Some x → is_some found ≡ true
+found_some f None x is = absurd (none-some x is)
+found_some f (Some y) x is = refl
 
-named_by : (target : TargetValue) (known : Facts) (context : ContextId) (process : ℕ) → Holds known target → process_asked known context ≡ Some process
-    → number_for context ≡ Some process
-named_by target known (ids.Process number) process holds is = is
-named_by target known (ids.Thread number thread) process holds is =
-    let still = cond_some (is_suspended (known.states number thread)) number process is in
-    ap (λ n. number_for (ids.Thread number n)) (first_by target known number thread holds (known.states number thread) refl still.0)
-    ∙ ap (λ (n : ℕ). Some n) still.1
+state_there : (target : TargetValue) (known : Facts) (number n : ℕ) → Holds known target → (fact : Option StateFact) → known.states number n ≡ fact
+    → is_suspended fact ≡ true → is_some (thread_in number n target) ≡ true
+state_there target known number n holds None knows is = absurd (false≢true is)
+state_there target known number n holds (Some state) knows is =
+    found_some (λ t. state_fact t.state) (thread_in number n target) state (holds.facts (state_is number n state) knows)
 
-named : (target : TargetValue) (known : Facts) (context : Option ContextId) (process : ℕ) → Holds known target
-    → option_and_then (process_asked known) context ≡ Some process → option_and_then number_for context ≡ Some process
-named target known None process holds is = absurd (none-some process is)
-named target known (Some context) process holds is = named_by target known context process holds is
+holding_it : (n : ℕ) (found : Option ProcessValue) → is_some (option_and_then (thread_at n) found) ≡ true → holding n found ≡ found
+holding_it n None has = refl
+holding_it n (Some process) has = cond-true (has_thread n process) (Some process) None has
 
 -- ---- a range that can be read passes the checks
 
@@ -140,18 +137,26 @@ range_alike target known blocks number addr size answer holds are true can is =
     let found = mapped answers.Blob (covered number (unsigned_abs addr) (unsigned_abs size) blocks) answer is in
     sym found.2 ∙ sym (covered_alike target known blocks number addr size found.0 holds are (readable addr size can) found.1)
 
-process_alike : (target : TargetValue) (known : Facts) (blocks : List Block) (context : Option ContextId) (addr size : ℤ) (answer : Answer) → Holds known target
-    → AreKnown blocks known → (number : Option ℕ) → option_and_then (process_asked known) context ≡ number
-    → memory_reply (option_and_then (range_of addr size) number) blocks ≡ Some answer
-    → answer ≡ given addr size (process_at_number (option_and_then number_for context) target.contexts.processes)
-process_alike target known blocks context addr size answer holds are None asked is = absurd (none-some answer is)
-process_alike target known blocks context addr size answer holds are (Some number) asked is =
+thread_alike : (target : TargetValue) (known : Facts) (blocks : List Block) (number n : ℕ) (addr size : ℤ) (answer : Answer) → Holds known target → AreKnown blocks known
+    → (stopped : Bool) → is_suspended (known.states number n) ≡ stopped → memory_reply (option_and_then (range_of addr size) (cond stopped (Some number) None)) blocks ≡ Some answer
+    → answer ≡ given addr size (holding n (process_in number target))
+thread_alike target known blocks number n addr size answer holds are false stopped is = absurd (none-some answer is)
+thread_alike target known blocks number n addr size answer holds are true stopped is =
     range_alike target known blocks number addr size answer holds are (is_readable addr size) refl is
-    ∙ ap (λ n. given addr size (process_at_number n target.contexts.processes)) (sym (named target known context number holds asked))
+    ∙ ap (given addr size) (sym (holding_it n (process_in number target) (state_there target known number n holds (known.states number n) refl stopped)))
+
+process_alike : (target : TargetValue) (known : Facts) (blocks : List Block) (context : Option ContextId) (addr size : ℤ) (answer : Answer) → Holds known target
+    → AreKnown blocks known → memory_reply (option_and_then (range_of addr size) (option_and_then (process_asked known) context)) blocks ≡ Some answer
+    → answer ≡ given addr size (option_and_then (λ c. holder_for c target.contexts.processes) context)
+process_alike target known blocks None addr size answer holds are is = absurd (none-some answer is)
+process_alike target known blocks (Some (ids.Process number)) addr size answer holds are is =
+    range_alike target known blocks number addr size answer holds are (is_readable addr size) refl is
+process_alike target known blocks (Some (ids.Thread number n)) addr size answer holds are is =
+    thread_alike target known blocks number n addr size answer holds are (is_suspended (known.states number n)) refl is
 
 pub memory_alike : (channel : ℕ) (id : List ℕ) (addr word size mode : ℤ) (target : TargetValue) (known : Facts) (blocks : List Block) (answer : Answer)
     → Holds known target → AreKnown blocks known → memory_reply (range_asked id addr size known) blocks ≡ Some answer
     → answer ≡ (exec_effect channel (commands.MemGet id addr word size mode) target).answer
 unfolding exec_effect
 memory_alike channel id addr word size mode target known blocks answer holds are is =
-    process_alike target known blocks (context_of id) addr size answer holds are (option_and_then (process_asked known) (context_of id)) refl is
+    process_alike target known blocks (context_of id) addr size answer holds are is

@@ -1,16 +1,16 @@
 -- What is learned of messages that are taken is within its limits.
 use Rattle.std.proofs.Common.{◌≡◌, ℕ, zero, suc, ℤ, ◌-◌, ◌<◌, ◌==◌, nat_eq, ◌&&◌, ◌||◌, Bool, true, false, true≢false, cond, List, [], ◌∷◌, ◌++◌, length, take, drop, slice_get, Option, Some, None, sym, subst, inl, inr, arith}
 use Rattle.std.specs.Int.{w32, from_le_bytes}
-use Rattle.std.specs.List.{AllByRecursion}
+use Rattle.std.specs.List.{AllByRecursion, list_all}
 use Rattle.std.specs.Prelude.{bytes_eq, slice_index, unsigned_abs}
 use Rattle.std.proofs.lemmas.Bool.{and_parts, eqb-true, or_cases}
 use Rattle.command_tables.specs.Canonical.{AreBytes}
 use Rattle.json_values.specs.Contexts.{IsContext}
 use Rattle.json_values.specs.Statuses.{IsStatus}
-use Rattle.knowledge.specs.Changes.{Change, all_gone, context_told, context_gone, state_told, state_gone, register_read, register_gone, thread_registers_gone, registers_gone, bytes_read, bytes_gone, range_gone, properties_told, properties_gone, status_told, status_gone, statuses_gone, after, after_all, at_register, has_byte, is_byte, is_still, of_each}
+use Rattle.knowledge.specs.Changes.{Change, all_gone, context_told, context_gone, threads_told, thread_joined, threads_gone, threads_stale, state_told, state_gone, register_read, register_gone, thread_registers_gone, registers_gone, bytes_read, bytes_gone, range_gone, properties_told, properties_gone, status_told, status_gone, statuses_gone, after, after_all, at_register, has_byte, is_byte, is_still, of_each}
 use Rattle.knowledge.specs.Facts.{Facts, is_suspended, nothing}
 use Rattle.knowledge.specs.Learning.{Message, event_taken, bad_event_taken, answer_taken, other_taken, changes_of, learn, learn_all}
-use Rattle.knowledge.specs.Rows.{added_context, answer_changes, are_of_range, changed_context, changed_range, changed_register, event_changes, is_outside, is_part, memory_changes, memory_read, moved_for, parts_read, process_for, removed_context, removed_properties, stale_for, state_changes, state_of_thread, told_properties, whole_read, word_read}
+use Rattle.knowledge.specs.Rows.{added_context, answer_changes, are_of_range, begun, begun_for, changed_context, changed_range, changed_register, event_changes, is_outside, is_part, is_thread_of, joined, joined_for, memory_changes, memory_read, moved_for, parts_read, process_for, removed_context, removed_properties, stale_for, state_changes, state_of_thread, threads_listed, told_properties, unlisted_for, unsettled, unsettled_for, whole_read, word_read}
 use Rattle.knowledge.specs.declared.state.StateFact.{StateFact}
 use Rattle.value_store.specs.Taken.{AreTaken}
 use Rattle.value_store.proofs.Lessons.Messages.{IsSoundMessage, taken_so}
@@ -73,6 +73,10 @@ module _ {A : Type 0} (Fine : A → Type 0) where
 with_contexts : {known : Facts} (f : List ℕ → Option ContextData) → IsSoundOf known → ((id : List ℕ) (x : ContextData) → f id ≡ Some x → IsContext x) → IsSoundOf (record known { contexts = f })
 with_contexts f sound here = record { contexts = here; registers = sound.registers; bytes = sound.bytes; properties = sound.properties; statuses = sound.statuses }
 
+with_threads : {known : Facts} (f : ℕ → Option (List (List ℕ))) → IsSoundOf known → IsSoundOf (record known { threads = f })
+with_threads f sound =
+    record { contexts = sound.contexts; registers = sound.registers; bytes = sound.bytes; properties = sound.properties; statuses = sound.statuses }
+
 with_states : {known : Facts} (f : ℕ → ℕ → Option StateFact) → IsSoundOf known → IsSoundOf (record known { states = f })
 with_states f sound =
     record { contexts = sound.contexts; registers = sound.registers; bytes = sound.bytes; properties = sound.properties; statuses = sound.statuses }
@@ -127,6 +131,16 @@ sound_after (context_told id context) known fine sound =
     with_contexts _ sound (λ other x. told_fine IsContext (bytes_eq id other) context x (known.contexts other) fine (sound.contexts other x))
 sound_after (context_gone id) known fine sound =
     with_contexts _ sound (λ other x. gone_fine IsContext (bytes_eq id other) x (known.contexts other) (sound.contexts other x))
+sound_after (threads_told process ids) known fine sound = with_threads _ sound
+sound_after (thread_joined process id) known fine sound = with_threads _ sound
+sound_after (threads_gone process) known fine sound = with_threads _ sound
+sound_after (threads_stale process) known fine sound = record {
+  contexts = sound.contexts;
+  registers = λ p t i x. gone_fine IsWord (nat_eq process p) x (known.registers p t i) (sound.registers p t i x);
+  bytes = sound.bytes;
+  properties = sound.properties;
+  statuses = sound.statuses;
+}
 sound_after (state_told process thread state) known fine sound = with_states _ sound
 sound_after (state_gone process thread) known fine sound = with_states _ sound
 sound_after (register_read process thread index value) known fine sound =
@@ -164,6 +178,27 @@ stale_fine None = tt
 stale_fine (Some (Process process)) = (tt, tt)
 stale_fine (Some (Thread process thread)) = (tt, (tt, (tt, tt)))
 
+unlisted_fine : (context : Option ContextId) → AreFine (unlisted_for context)
+unlisted_fine None = tt
+unlisted_fine (Some context) = (tt, tt)
+
+removed_fine : (id : List ℕ) → AreFine (removed_context id)
+removed_fine id = (tt, all_append IsFine (stale_for (context_of id)) (unlisted_for (context_of id)) (stale_fine (context_of id)) (unlisted_fine (context_of id)))
+
+unsettled_fine : (context : Option ContextId) → AreFine (unsettled_for context)
+unsettled_fine None = tt
+unsettled_fine (Some context) = (tt, (tt, tt))
+
+begun_fine : (context : Option ContextId) → AreFine (begun_for context)
+begun_fine None = tt
+begun_fine (Some (Process process)) = (tt, tt)
+begun_fine (Some (Thread process thread)) = tt
+
+joined_fine : (id : List ℕ) (context : Option ContextId) → AreFine (joined_for id context)
+joined_fine id None = tt
+joined_fine id (Some (Process process)) = tt
+joined_fine id (Some (Thread process thread)) = (tt, tt)
+
 state_fine : (state : RunState) (process thread : ℕ) → IsTypedState state → AreFine (state_changes state process thread)
 state_fine run.Running process thread typed = (tt, tt)
 state_fine (run.Suspended pc reason hits) process thread typed = (tt, (typed, tt))
@@ -200,10 +235,14 @@ properties_fine (properties ∷ list) fine = (fine.0, (tt, properties_fine list 
 
 event_fine : (event : EventData) → IsSoundEvent event → AreFine (event_changes event)
 event_fine (EventData.Hello list) fine = (tt, tt)
-event_fine (EventData.CtxAdded list) fine = all_append IsFine _ _ (contexts_fine added_context list (λ context is. (is, tt)) fine) (tt, tt)
+event_fine (EventData.CtxAdded list) fine =
+    all_append IsFine (of_each added_context list) _ (contexts_fine added_context list (λ context is. (is, tt)) fine)
+    (all_append IsFine (of_each unsettled list) _ (each_fine unsettled list (λ context. unsettled_fine (context_of context.id)))
+    (all_append IsFine (of_each begun list) _ (each_fine begun list (λ context. begun_fine (context_of context.id)))
+    (all_append IsFine (of_each joined list) (statuses_gone ∷ []) (each_fine joined list (λ context. joined_fine context.id (context_of context.id))) (tt, tt))))
 event_fine (EventData.CtxChanged list) fine =
     all_append IsFine _ _ (contexts_fine changed_context list (λ context is. (is, stale_fine (context_of context.id))) fine) (tt, tt)
-event_fine (EventData.CtxRemoved list) fine = all_append IsFine _ _ (each_fine removed_context list (λ id. (tt, stale_fine (context_of id)))) (tt, tt)
+event_fine (EventData.CtxRemoved list) fine = all_append IsFine _ _ (each_fine removed_context list removed_fine) (tt, tt)
 event_fine (EventData.Suspended id pc reason hits) fine = moved_fine (context_of id) (run.Suspended pc reason hits) fine
 event_fine (EventData.Resumed id) fine = moved_fine (context_of id) run.Running tt
 event_fine (EventData.BpStatusIs id status) fine = (fine, tt)
@@ -250,8 +289,14 @@ thread_fine None state typed = tt
 thread_fine (Some (Process process)) state typed = tt
 thread_fine (Some (Thread process thread)) state typed = state_fine state process thread typed
 
+listed_fine : (context : Option ContextId) (ids : List (List ℕ)) → AreFine (threads_listed context ids)
+listed_fine None ids = tt
+listed_fine (Some (Process process)) ids = all_if IsFine (list_all (is_thread_of process) ids) (threads_told process ids ∷ []) (λ is. (tt, tt))
+listed_fine (Some (Thread process thread)) ids = tt
+
 answer_fine : (asked : Command) (answer : Answer) → IsSound answer → AreFine (answer_changes asked answer)
 answer_fine (command.GetContext id) (Answer.Context context) fine = (fine, tt)
+answer_fine (command.GetChildren id) (Answer.Ids ids) fine = listed_fine (context_of id) ids
 answer_fine (command.GetState id) (Answer.State state) fine = thread_fine (context_of id) state fine
 answer_fine (command.BpProperties id) (Answer.Bp properties) fine = (fine, tt)
 answer_fine (command.BpGetStatus id) (Answer.Status status) fine = (fine, tt)

@@ -1,12 +1,12 @@
 -- Registers are known of no thread but those of which it is known whether they run.
 use Rattle.std.proofs.Common.{◌≡◌, ℕ, ◌==◌, nat_eq, ◌&&◌, Bool, true, false, true≢false, cond, List, [], ◌∷◌, ◌++◌, Option, Some, None, is_some, refl, sym, ap, ◌∙◌, subst}
-use Rattle.std.specs.List.{AllByRecursion}
+use Rattle.std.specs.List.{AllByRecursion, list_all}
 use Rattle.std.specs.Prelude.{ℤ, unsigned_abs, length, take, drop}
 use Rattle.std.proofs.lemmas.Bool.{and_parts, eqb-true}
-use Rattle.knowledge.specs.Changes.{Change, all_gone, context_told, context_gone, state_told, state_gone, register_read, register_gone, thread_registers_gone, registers_gone, bytes_read, bytes_gone, range_gone, properties_told, properties_gone, status_told, status_gone, statuses_gone, after, after_all, at_register, of_each}
+use Rattle.knowledge.specs.Changes.{Change, all_gone, context_told, context_gone, threads_told, thread_joined, threads_gone, threads_stale, state_told, state_gone, register_read, register_gone, thread_registers_gone, registers_gone, bytes_read, bytes_gone, range_gone, properties_told, properties_gone, status_told, status_gone, statuses_gone, after, after_all, at_register, of_each}
 use Rattle.knowledge.specs.Facts.{Facts, is_suspended, nothing, register_is, state_is}
 use Rattle.knowledge.specs.Learning.{Message, event_taken, bad_event_taken, answer_taken, other_taken, learn, learn_all}
-use Rattle.knowledge.specs.Rows.{added_context, answer_changes, are_of_range, changed_context, changed_range, changed_register, event_changes, is_outside, is_part, memory_changes, memory_read, moved_for, parts_read, process_for, removed_context, removed_properties, stale_for, state_changes, state_of_thread, told_properties, whole_read, word_read}
+use Rattle.knowledge.specs.Rows.{added_context, answer_changes, are_of_range, begun, begun_for, changed_context, changed_range, changed_register, event_changes, is_outside, is_part, is_thread_of, joined, joined_for, memory_changes, memory_read, moved_for, parts_read, process_for, removed_context, removed_properties, stale_for, state_changes, state_of_thread, threads_listed, told_properties, unlisted_for, unsettled, unsettled_for, whole_read, word_read}
 use Rattle.knowledge.specs.declared.state.StateFact.{StateFact}
 use Rattle.value_store.specs.Laws.{HaveStates, LearnedHaveStates, PartsAreGrounded, StatesStay}
 use Rattle.tcf_values.specs.Ids.{context_of, register_of}
@@ -64,10 +64,20 @@ row_gone : (b : Bool) (before : ℕ → Option ℕ) (i x : ℕ) (there : Bool) �
 row_gone true before i x there has is = absurd (no_register x is)
 row_gone false before i x there has is = has is
 
+-- a thread's registers are gone with its state
+stale_keeps : (b : Bool) (states : Option StateFact) (before : Option ℕ) (x : ℕ) → (before ≡ Some x → is_some states ≡ true)
+    → cond b None before ≡ Some x → is_some (cond b None states) ≡ true
+stale_keeps true states before x has is = absurd (no_register x is)
+stale_keeps false states before x has is = has is
+
 keep_one : (change : Change) (known : Facts) → Keeps change → HaveStates known → HaveStates (after change known)
 keep_one all_gone known keeps has = λ p t i x is. absurd (no_register x is)
 keep_one (context_told id context) known keeps has = has
 keep_one (context_gone id) known keeps has = has
+keep_one (threads_told process ids) known keeps has = has
+keep_one (thread_joined process id) known keeps has = has
+keep_one (threads_gone process) known keeps has = has
+keep_one (threads_stale process) known keeps has = λ p t i x is. stale_keeps (nat_eq process p) (known.states p t) (known.registers p t i) x (has p t i x) is
 keep_one (state_told process thread state) known keeps has =
     λ p t i x is. told_state (nat_eq process p && nat_eq thread t) state (known.states p t) (has p t i x is)
 keep_one (state_gone process thread) known keeps has = absurd keeps
@@ -99,11 +109,11 @@ keep_all (change ∷ changes) keeps known has = keep_all changes keeps.1 (after 
 keep_both : (some more : List Change) → AllKeep some → AllKeep more → AllKeep (some ++ more)
 keep_both [] more one two known has = two known has
 keep_both (change ∷ some) more one two known has =
-    subst HaveStates (sym (joined (change ∷ some) more known)) (two (after_all (change ∷ some) known) (one known has))
+    subst HaveStates (sym (after_both (change ∷ some) more known)) (two (after_all (change ∷ some) known) (one known has))
   where
-    joined : (xs ys : List Change) (k : Facts) → after_all (xs ++ ys) k ≡ after_all ys (after_all xs k)
-    joined [] ys k = refl
-    joined (x ∷ xs) ys k = joined xs ys (after x k)
+    after_both : (xs ys : List Change) (k : Facts) → after_all (xs ++ ys) k ≡ after_all ys (after_all xs k)
+    after_both [] ys k = refl
+    after_both (x ∷ xs) ys k = after_both xs ys (after x k)
 
 keep_each : {A : Type 0} (changes : A → List Change) → ((item : A) → AllKeep (changes item)) → (items : List A) → AllKeep (of_each changes items)
 keep_each changes each [] known has = has
@@ -151,16 +161,42 @@ register_keeps : (register : Option RegisterId) → AllByRecursion Keeps (change
 register_keeps None = tt
 register_keeps (Some register) = (tt, tt)
 
+unlisted_keep : (context : Option ContextId) → AllKeep (unlisted_for context)
+unlisted_keep None known has = has
+unlisted_keep (Some context) known has = has
+
+removed_keep : (id : List ℕ) → AllKeep (removed_context id)
+removed_keep id known has =
+    keep_both (stale_for (context_of id)) (unlisted_for (context_of id)) (stale_keep (context_of id)) (unlisted_keep (context_of id)) (after (context_gone id) known) has
+
+unsettled_keep : (context : Option ContextId) → AllByRecursion Keeps (unsettled_for context)
+unsettled_keep None = tt
+unsettled_keep (Some context) = (tt, (tt, tt))
+
+begun_keep : (context : Option ContextId) → AllByRecursion Keeps (begun_for context)
+begun_keep None = tt
+begun_keep (Some (Process process)) = (tt, tt)
+begun_keep (Some (Thread process thread)) = tt
+
+joined_keep : (id : List ℕ) (context : Option ContextId) → AllByRecursion Keeps (joined_for id context)
+joined_keep id None = tt
+joined_keep id (Some (Process process)) = tt
+joined_keep id (Some (Thread process thread)) = (tt, tt)
+
 event_keep : (event : EventData) → AllKeep (event_changes event)
 event_keep (EventData.Hello list) = keep_all (all_gone ∷ []) (tt, tt)
 event_keep (EventData.CtxAdded list) =
-    keep_both (of_each added_context list) (statuses_gone ∷ []) (keep_each added_context (λ context known has. has) list) (keep_all (statuses_gone ∷ []) (tt, tt))
+    keep_all (event_changes (EventData.CtxAdded list))
+    (all_append Keeps (of_each added_context list) _ (each_keeps added_context (λ context. (tt, tt)) list)
+    (all_append Keeps (of_each unsettled list) _ (each_keeps unsettled (λ context. unsettled_keep (context_of context.id)) list)
+    (all_append Keeps (of_each begun list) _ (each_keeps begun (λ context. begun_keep (context_of context.id)) list)
+    (all_append Keeps (of_each joined list) (statuses_gone ∷ []) (each_keeps joined (λ context. joined_keep context.id (context_of context.id)) list) (tt, tt)))))
 event_keep (EventData.CtxChanged list) =
     keep_both (of_each changed_context list) (statuses_gone ∷ [])
     (keep_each changed_context (λ context known has. stale_keep (context_of context.id) (after (context_told context.id context) known) has) list) (keep_all (statuses_gone ∷ []) (tt, tt))
 event_keep (EventData.CtxRemoved list) =
     keep_both (of_each removed_context list) (statuses_gone ∷ [])
-    (keep_each removed_context (λ id known has. stale_keep (context_of id) (after (context_gone id) known) has) list) (keep_all (statuses_gone ∷ []) (tt, tt))
+    (keep_each removed_context removed_keep list) (keep_all (statuses_gone ∷ []) (tt, tt))
 event_keep (EventData.Suspended id pc reason hits) = keep_all (moved_for (context_of id) (run.Suspended pc reason hits)) (moved_keep (context_of id) (run.Suspended pc reason hits))
 event_keep (EventData.Resumed id) = keep_all (moved_for (context_of id) run.Running) (moved_keep (context_of id) run.Running)
 event_keep (EventData.BpStatusIs id status) = keep_all (status_told id status ∷ []) (tt, tt)
@@ -198,8 +234,14 @@ thread_keeps None state = tt
 thread_keeps (Some (Process process)) state = tt
 thread_keeps (Some (Thread process thread)) state = state_keep state process thread
 
+listed_keeps : (context : Option ContextId) (ids : List (List ℕ)) → AllByRecursion Keeps (threads_listed context ids)
+listed_keeps None ids = tt
+listed_keeps (Some (Process process)) ids = all_if Keeps (list_all (is_thread_of process) ids) (threads_told process ids ∷ []) (λ is. (tt, tt))
+listed_keeps (Some (Thread process thread)) ids = tt
+
 answer_keeps : (asked : Command) (answer : Answer) → AllByRecursion Keeps (answer_changes asked answer)
 answer_keeps (command.GetContext id) (Answer.Context context) = (tt, tt)
+answer_keeps (command.GetChildren id) (Answer.Ids ids) = listed_keeps (context_of id) ids
 answer_keeps (command.GetState id) (Answer.State state) = thread_keeps (context_of id) state
 answer_keeps (command.BpProperties id) (Answer.Bp properties) = (tt, tt)
 answer_keeps (command.BpGetStatus id) (Answer.Status status) = (tt, tt)

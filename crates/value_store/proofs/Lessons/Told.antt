@@ -1,16 +1,18 @@
 -- Whoever knows a part of what is known still does after changes that tell what is known.
-use Rattle.std.proofs.Common.{◌≡◌, ℕ, ◌+◌, ◌-◌, ◌≤◌, nat_eq, ◌&&◌, ◌||◌, Bool, true, false, true≢false, cond, List, [], ◌∷◌, slice_get, Option, Some, None, refl, sym, ap, ◌∙◌, inl, inr, arith}
+use Rattle.std.proofs.Common.{◌≡◌, ℕ, ◌+◌, ◌-◌, ◌≤◌, nat_eq, ◌&&◌, ◌||◌, Bool, true, false, true≢false, cond, List, [], ◌∷◌, slice_get, Option, Some, None, option_map, refl, sym, ap, ◌∙◌, inl, inr, arith}
 use Rattle.std.specs.List.{AllByRecursion}
 use Rattle.std.specs.Prelude.{bytes_eq, nat_le}
 use Rattle.std.proofs.lemmas.Bool.{and_parts, eqb-true, leb-true, or_cases}
 use Rattle.std.proofs.lemmas.Slice.Eq.{bytes_eq-Decides}
-use Rattle.knowledge.specs.Changes.{Change, all_gone, context_told, context_gone, state_told, state_gone, register_read, register_gone, thread_registers_gone, registers_gone, bytes_read, bytes_gone, range_gone, properties_told, properties_gone, status_told, status_gone, statuses_gone, after, after_all, at_register, has_byte, is_byte, is_still}
-use Rattle.knowledge.specs.Facts.{context_is, state_is, register_is, byte_is, properties_are, status_is, Facts, IsPart, is_suspended}
+use Rattle.knowledge.specs.Changes.{Change, all_gone, context_told, context_gone, threads_told, thread_joined, threads_gone, threads_stale, state_told, state_gone, register_read, register_gone, thread_registers_gone, registers_gone, bytes_read, bytes_gone, range_gone, properties_told, properties_gone, status_told, status_gone, statuses_gone, after, after_all, at_register, has_byte, is_byte, is_still, with_id}
+use Rattle.knowledge.specs.Facts.{context_is, threads_are, state_is, register_is, byte_is, properties_are, status_is, Facts, IsPart, is_suspended}
 use Rattle.list_laws.proofs.Lists.{no_some}
 
 -- what the change tells is known
 abbrev pub Tells : Facts → Change → Type 0
 Tells known (context_told id context) = known.contexts id ≡ Some context
+Tells known (threads_told process ids) = known.threads process ≡ Some ids
+Tells known (thread_joined process id) = option_map (with_id id) (known.threads process) ≡ known.threads process
 Tells known (state_told process thread state) = known.states process thread ≡ Some state
 Tells known (register_read process thread index value) = known.registers process thread index ≡ Some value
 Tells known (bytes_read process addr bytes) = (k byte : ℕ) → slice_get bytes k ≡ Some byte → known.bytes process (addr + k) byte ≡ true
@@ -39,6 +41,17 @@ at_thread_known known process thread p t told x before true same there part is =
     let two : thread ≡ t = eqb-true _ _ parts.1 in
     sym (ap (λ n. known n thread) one ∙ ap (λ n. known p n) two) ∙ there ∙ is
 at_thread_known known process thread p t told x before false same there part is = part is
+
+at_number_known : {A : Type 0} → (known : ℕ → Option A) (number n : ℕ) (told before : Option A) (x : A) (b : Bool) → nat_eq number n ≡ b
+    → (told ≡ Some x → known number ≡ Some x) → (before ≡ Some x → known n ≡ Some x) → cond b told before ≡ Some x → known n ≡ Some x
+at_number_known known number n told before x true same there part is = sym (ap known (eqb-true number n same)) ∙ there is
+at_number_known known number n told before x false same there part is = part is
+
+-- one thread more tells nothing where it is one of those that are known
+joined_known : (id : List ℕ) (before found : Option (List (List ℕ))) (x : List (List ℕ)) → ((y : List (List ℕ)) → before ≡ Some y → found ≡ Some y)
+    → option_map (with_id id) found ≡ found → option_map (with_id id) before ≡ Some x → found ≡ Some x
+joined_known id None found x part told is = absurd (no_some x is)
+joined_known id (Some ids) found x part told is = sym told ∙ ap (option_map (with_id id)) (part ids refl) ∙ is
 
 at_register_known : (known : ℕ → ℕ → ℕ → Option ℕ) (process thread index p t i told x : ℕ) (before : Option ℕ) (b : Bool)
     → (nat_eq process p && nat_eq thread t && nat_eq index i) ≡ b → known process thread index ≡ Some told → (before ≡ Some x → known p t i ≡ Some x)
@@ -87,6 +100,7 @@ bytes_known process addr bytes some known told p place byte part is =
 
 pub part_after : (change : Change) (some known : Facts) → Tells known change → IsPart some known → IsPart (after change some) known
 part_after all_gone some known told part (context_is id x) is = absurd (no_some x is)
+part_after all_gone some known told part (threads_are p x) is = absurd (no_some x is)
 part_after all_gone some known told part (state_is p t x) is = absurd (no_some x is)
 part_after all_gone some known told part (register_is p t i x) is = absurd (no_some x is)
 part_after all_gone some known told part (byte_is p place byte) is = absurd (true≢false (sym is))
@@ -96,6 +110,17 @@ part_after (context_told id context) some known told part (context_is other x) i
     at_text_known known.contexts id other context x (some.contexts other) (bytes_eq id other) refl told (part (context_is other x)) is
 part_after (context_gone id) some known told part (context_is other x) is =
     gone_known (known.contexts other) x (some.contexts other) (bytes_eq id other) (part (context_is other x)) is
+part_after (threads_told process ids) some known told part (threads_are p x) is =
+    at_number_known known.threads process p (Some ids) (some.threads p) x (nat_eq process p) refl (λ same. told ∙ same) (part (threads_are p x)) is
+part_after (thread_joined process id) some known told part (threads_are p x) is =
+    at_number_known known.threads process p (option_map (with_id id) (some.threads process)) (some.threads p) x (nat_eq process p) refl
+    (joined_known id (some.threads process) (known.threads process) x (λ y. part (threads_are process y)) told) (part (threads_are p x)) is
+part_after (threads_gone process) some known told part (threads_are p x) is =
+    gone_known (known.threads p) x (some.threads p) (nat_eq process p) (part (threads_are p x)) is
+part_after (threads_stale process) some known told part (state_is p t x) is =
+    gone_known (known.states p t) x (some.states p t) (nat_eq process p) (part (state_is p t x)) is
+part_after (threads_stale process) some known told part (register_is p t i x) is =
+    gone_known (known.registers p t i) x (some.registers p t i) (nat_eq process p) (part (register_is p t i x)) is
 part_after (state_told process thread state) some known told part (state_is p t x) is =
     at_thread_known known.states process thread p t state x (some.states p t) (nat_eq process p && nat_eq thread t) refl told (part (state_is p t x)) is
 part_after (state_gone process thread) some known told part (state_is p t x) is =

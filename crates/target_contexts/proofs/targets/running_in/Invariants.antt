@@ -3,6 +3,6 @@ use Rattle.target_contexts.specs.Kept.{seen_rows}
 use Rattle.target_contexts.specs.Named.{running_rows}
 use Rattle.target_contexts.proofs.targets.running_in.Given as goal
 
--- the numbers so far, and those of the rows that are left
+-- those so far, and those of the rows that are left
 abbrev pub invariant-loop-row : goal.invariant-loop-row
-invariant-loop-row l = l.numbers.items ++ running_rows (seen_rows (drop l.row-index l.live)) ≡ running_rows (seen_rows l.live)
+invariant-loop-row l = l.running.items ++ running_rows (seen_rows (drop l.row-index l.live)) ≡ running_rows (seen_rows l.live)

@@ -7,7 +7,7 @@ use Rattle.target_contexts.specs.KeptTargets.{KeptTargets}
 use Rattle.target_contexts.specs.Live.{place_of, with_process}
 use Rattle.target_contexts.specs.ProcessValue.{ProcessValue}
 use Rattle.target_contexts.proofs.Found.{live_at}
-use Rattle.target_contexts.proofs.Kept.{kinds_by, orderly_written, process_by, seen_by}
+use Rattle.target_contexts.proofs.Kept.{inside_seen, kinds_by, kinds_there, orderly_written, process_by, seen_by}
 use Rattle.target_contexts.proofs.targets.Targets.process_mut.Goals as goal
 
 -- a loan under one name, whose lender ends as two functions say that are one
@@ -37,6 +37,7 @@ returns c =
       record {
         writes_back = tt;
         value = sym (process_by c.args.process rows place row found c.in_ok-row.ensures.value);
+        kinds = sym (kinds_there rows place row (place_of c.args.process (seen_rows rows)) found (inside_seen rows place c.args.process found) c.in_ok-row.ensures.value);
         found = (λ _. live_at c.args.process (seen_rows rows) place found, λ _. refl);
       },
     )

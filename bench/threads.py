@@ -114,12 +114,17 @@ def compare(name, measures, turns):
     print(f"{name}: {first:.3f} s, {second:.3f} s, ratio {second / first:.2f}", flush=True)
 
 
-def main():
+def arguments(usage):
+    """The one or two programs that the command line names, and the number of turns, which may stand behind them."""
     words = sys.argv[1:]
     turns = int(words.pop()) if words and words[-1].isdigit() else 5
     if not 1 <= len(words) <= 2:
-        sys.exit(__doc__)
-    program, *before = [str(pathlib.Path(word).resolve()) for word in words]
+        sys.exit(usage)
+    return [str(pathlib.Path(word).resolve()) for word in words], turns
+
+
+def main():
+    (program, *before), turns = arguments(__doc__)
     print(f"63 processes of 8 threads: {memories(program)} KiB", flush=True)
     one, eight = alone(), among_eight()
     compare(f"{TICKS} ticks of a thread alone, and of the last of 8", [lambda: one(program), lambda: eight(program)], turns)

@@ -7,8 +7,9 @@ use Rattle.std.specs.Map.{values_of}
 use Rattle.breakpoints.specs.Placed.{Placed}
 use Rattle.breakpoints.specs.Keyed.{AreKeyed, IsKept}
 use Rattle.std.proofs.lemmas.Slice.Eq.{bytes_eq-Decides}
-use Rattle.breakpoints.specs.Rows.{IsOrderly, ids_of, is_there}
-use Rattle.breakpoints.proofs.Lookup.{row_of}
+use Rattle.breakpoints.specs.Counts.{AreCounts}
+use Rattle.breakpoints.specs.Rows.{IsOrderly, ids_of, is_there, row_of}
+use Rattle.list_laws.proofs.AllLists.{all_filter as all_left}
 
 -- ---- the entries that pass a test of what they hold
 
@@ -65,6 +66,7 @@ pub orderly_filter : (p : Placed → Bool) (rows : List Placed) → IsOrderly ro
 orderly_filter p rows orderly = record {
   differ = differ_filter p rows orderly.differ;
   few = omega (arith, fewer p rows, orderly.few);
+  counted = all_left (λ row. AreCounts row.counts) p rows orderly.counted;
 }
 
 pub kept_filter : (p : Placed → Bool) (es : List (Vec ℕ × Placed)) → IsKept es → IsKept (filter (λ e. p e.1) es)

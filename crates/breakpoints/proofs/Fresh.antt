@@ -11,9 +11,11 @@ use Rattle.std.proofs.lemmas.Bool.{false_from_ne_true, le-ltb, lt-ltb, ltb-false
 use Rattle.std.proofs.lemmas.Slice.Eq.{bytes_eq-Decides}
 use Rattle.tcf_values.specs.declared.values.BpProps.{BpProps}
 use Rattle.breakpoints.specs.Changes.{clashes, has_no_place, has_twice, is_overfull}
+use Rattle.breakpoints.specs.Counts.{AreCounts}
 use Rattle.breakpoints.specs.Keyed.{AreApart, AreKeyed, IsKept}
 use Rattle.breakpoints.specs.Rows.{ids_of, is_among, is_there, rows_for}
 use Rattle.breakpoints.proofs.Lookup.{key_there}
+use Rattle.list_laws.proofs.AllLists.{all_append, all_map}
 use Rattle.list_laws.proofs.Flags.{or_false, or_true, neither}
 use Rattle.breakpoints.specs.Placed.{Placed, row_for}
 
@@ -86,7 +88,7 @@ there_among id (row ∷ rows) = ap (λ b. bytes_eq id row.props.id || b) (there_
 abbrev absent : Vec ℕ → List (Vec ℕ × Placed) → Bool
 absent k es = list_any (λ e. bytes_eq k.items e.0.items) es
 
-abbrev same_key : Vec ℕ → Vec ℕ → Bool
+abbrev pub same_key : Vec ℕ → Vec ℕ → Bool
 same_key x y = bytes_eq x.items y.items
 
 pub insert_last : (k : Vec ℕ) (row : Placed) (es : List (Vec ℕ × Placed)) → absent k es ≡ false → insert_entry same_key es k row ≡ es ++ (k, row) ∷ []
@@ -215,16 +217,23 @@ a_place list rows e =
     let inner = neither (clashes list rows) (has_twice (map (λ props. props.id) list)) outer.0 in
     record { apart = inner.0; once = inner.1; room = outer.1 }
 
+-- nothing has hit new ones
+pub fresh_counts : (channel : ℕ) (list : List BpProps) → AllByRecursion (λ row. AreCounts row.counts) (rows_for channel list)
+fresh_counts channel list = all_map (λ row. AreCounts row.counts) (row_for channel) list (λ props. tt)
+
 -- the list with the new breakpoints last is kept well
 pub kept_append : (channel : ℕ) (es fresh new : List (Vec ℕ × Placed)) (list : List BpProps) (rows : List Placed) → new ≡ es ++ fresh → values_of es ≡ rows → values_of fresh ≡ rows_for channel list
-    → AreKeyed es → AreKeyed fresh → IsDistinct same_key (keys_of new) → is_overfull list rows ≡ false → IsKept new
-kept_append channel es fresh new list rows made there added keyed keyed_new unique room =
+    → AreKeyed es → AreKeyed fresh → IsDistinct same_key (keys_of new) → is_overfull list rows ≡ false → AllByRecursion (λ row. AreCounts row.counts) rows → IsKept new
+kept_append channel es fresh new list rows made there added keyed keyed_new unique room were =
     let all : AreKeyed new = subst AreKeyed (sym made) (keyed_append es fresh keyed keyed_new) in
     let values : values_of new ≡ rows ++ rows_for channel list = ap values_of made ∙ values-append es fresh ∙ ap (λ v. v ++ values_of fresh) there ∙ ap (λ v. rows ++ v) added in
     let count : length (values_of new) ≡ length rows + length list =
     ap length values ∙ length-append rows (rows_for channel list) ∙ ap (λ n. length rows + n) (length-map list (row_for channel)) in
     let few : length rows + length list ≤ 256 = ltb-false 256 (length rows + length list) room in
-    record { keyed = all; orderly = record { differ = ids_differ new all unique; few = omega arith } }
+    let counts : AllByRecursion (λ row. AreCounts row.counts) (values_of new) =
+    subst (AllByRecursion (λ row. AreCounts row.counts)) (sym values)
+    (all_append (λ row. AreCounts row.counts) rows (rows_for channel list) were (fresh_counts channel list)) in
+    record { keyed = all; orderly = record { differ = ids_differ new all unique; few = omega arith; counted = counts } }
 
 pub values_append : (channel : ℕ) (es fresh new : List (Vec ℕ × Placed)) (list : List BpProps) (rows : List Placed) → new ≡ es ++ fresh → values_of es ≡ rows → values_of fresh ≡ rows_for channel list
     → values_of new ≡ rows ++ rows_for channel list

@@ -1,6 +1,6 @@
 -- What a thread hits is what stands at its address and is for its process.
-use Rattle.std.proofs.Common.{◌≡◌, ℕ, Bool, true, false, cond, ◌==◌, ◌&&◌, ◌||◌, List, [], ◌∷◌, map, filter, Option, Some, None, option_map, refl, sym, ap, ◌∙◌, subst, option_and_then}
-use Rattle.std.specs.Prelude.{bytes_eq, find}
+use Rattle.std.proofs.Common.{◌≡◌, ℕ, Bool, true, false, cond, ◌&&◌, List, [], ◌∷◌, map, filter, Option, Some, None, option_map, refl, sym, ap, ◌∙◌, option_and_then}
+use Rattle.std.specs.Prelude.{bytes_eq}
 use Rattle.std.specs.List.{AllByRecursion, IsDistinct, list_any}
 use Rattle.std.specs.Option.{option_map_or}
 use Rattle.std.proofs.lemmas.Slice.Eq.{bytes_eq-Decides}
@@ -8,24 +8,25 @@ use Rattle.tcf_values.specs.declared.values.BpProps.{BpProps}
 use Rattle.breakpoints.specs.Address.{address_of}
 use Rattle.breakpoints.specs.Indexed.{ids_at, is_named_for, rows_at, says, some_of, stands_at}
 use Rattle.breakpoints.specs.Placed.{Placed}
-use Rattle.breakpoints.specs.Rows.{IsOrderly, ids_of, props_of}
+use Rattle.breakpoints.specs.Rows.{IsOrderly, ids_of, row_of}
 use Rattle.breakpoints.specs.Status.{hits_of, instance_of, is_at, is_for, is_hit, place_at, place_of}
 use Rattle.breakpoints.proofs.Fresh.{eq_sym}
-use Rattle.breakpoints.proofs.Hits.{filter_same, one_by}
+use Rattle.breakpoints.proofs.Instances.{filter_same, one_by}
+use Rattle.list_laws.proofs.AllLists.{all_filter as all_left}
 
 -- ---- a breakpoint is found by its ID
 
 abbrev pub IsFound : List Placed → Placed → Type 0
-IsFound rows row = props_of row.props.id rows ≡ Some row.props
+IsFound rows row = row_of row.props.id rows ≡ Some row
 
 -- one whose ID is another than the first one's is found behind it
 found_behind : (first row : Placed) (rows : List Placed) → bytes_eq first.props.id row.props.id ≡ false → IsFound rows row → IsFound (first ∷ rows) row
 found_behind first row rows apart found =
-    ap (λ b. option_map (λ (r : Placed). r.props) (cond b (Some first) (find (λ (r : Placed). bytes_eq row.props.id r.props.id) rows))) (eq_sym row.props.id first.props.id ∙ apart) ∙ found
+    ap (λ b. cond b (Some first) (row_of row.props.id rows)) (eq_sym row.props.id first.props.id ∙ apart) ∙ found
 
 found_here : (first : Placed) (rows : List Placed) → IsFound (first ∷ rows) first
 found_here first rows =
-    ap (λ b. option_map (λ (r : Placed). r.props) (cond b (Some first) (find (λ (r : Placed). bytes_eq first.props.id r.props.id) rows))) ((bytes_eq-Decides first.props.id first.props.id).1 refl)
+    ap (λ b. cond b (Some first) (row_of first.props.id rows)) ((bytes_eq-Decides first.props.id first.props.id).1 refl)
 
 all_behind : (first : Placed) (rows part : List Placed) → AllByRecursion (λ id. bytes_eq first.props.id id ≡ false) (ids_of part) → AllByRecursion (IsFound rows) part → AllByRecursion (IsFound (first ∷ rows)) part
 all_behind first rows [] apart found = found
@@ -36,14 +37,6 @@ unfolding IsDistinct
 all_found [] differ = tt
 all_found (row ∷ rows) differ = (found_here row rows, all_behind row rows rows differ.0 (all_found rows differ.1))
 
-all_left_by : (q : Placed → Type 0) (row : Placed) (rows : List Placed) (b : Bool) → q row → AllByRecursion q rows → AllByRecursion q (cond b (row ∷ rows) rows)
-all_left_by q row rows true here rest = (here, rest)
-all_left_by q row rows false here rest = rest
-
-all_left : (q : Placed → Type 0) (p : Placed → Bool) (rows : List Placed) → AllByRecursion q rows → AllByRecursion q (filter p rows)
-all_left q p [] all = all
-all_left q p (row ∷ rows) all = all_left_by q row (filter p rows) (p row) all.0 (all_left q p rows all.1)
-
 -- ---- the IDs that pass are those of the breakpoints that pass
 
 passing_by : (row : Placed) (b : Bool) (ids : List (List ℕ)) (rows : List Placed) → ids ≡ ids_of rows → cond b (row.props.id ∷ ids) ids ≡ ids_of (cond b (row ∷ rows) rows)
@@ -53,7 +46,7 @@ passing_by row false ids rows e = e
 passing_ids : (process : ℕ) (rows part : List Placed) → AllByRecursion (IsFound rows) part → filter (is_named_for process rows) (ids_of part) ≡ ids_of (filter (λ row. is_for row.props.contexts process) part)
 passing_ids process rows [] found = refl
 passing_ids process rows (row ∷ part) found =
-    ap (λ o. cond (option_map_or (λ (props : BpProps). is_for props.contexts process) o false) (row.props.id ∷ filter (is_named_for process rows) (ids_of part)) (filter (is_named_for process rows) (ids_of part))) found.0
+    ap (λ o. cond (option_map_or (λ (props : BpProps). is_for props.contexts process) (option_map (λ (r : Placed). r.props) o) false) (row.props.id ∷ filter (is_named_for process rows) (ids_of part)) (filter (is_named_for process rows) (ids_of part))) found.0
     ∙ passing_by row (is_for row.props.contexts process) (filter (is_named_for process rows) (ids_of part)) (filter (λ row. is_for row.props.contexts process) part) (passing_ids process rows part found.1)
 
 -- ---- a hit stands at the address
@@ -71,10 +64,10 @@ both_tests false for_it at_it = refl
 
 hit_by : (process pc : ℕ) (props : BpProps) (enabled : Bool) → props.enabled ≡ enabled → is_hit process pc props ≡ cond enabled (is_for props.contexts process && is_at pc (place_of props.location)) false
 hit_by process pc props true on =
-    ap (λ b. list_any (λ instance. is_at pc instance.place) (cond b (map (instance_of props) (filter (is_for props.contexts) (process ∷ []))) [])) on
-    ∙ one_by props process pc (is_for props.contexts process)
+    ap (λ b. list_any (λ instance. is_at pc instance.place) (cond b (map (instance_of props []) (filter (is_for props.contexts) (process ∷ []))) [])) on
+    ∙ one_by props [] process pc (is_for props.contexts process)
 hit_by process pc props false off =
-    ap (λ b. list_any (λ instance. is_at pc instance.place) (cond b (map (instance_of props) (filter (is_for props.contexts) (process ∷ []))) [])) off
+    ap (λ b. list_any (λ instance. is_at pc instance.place) (cond b (map (instance_of props []) (filter (is_for props.contexts) (process ∷ []))) [])) off
 
 hit_there : (process pc : ℕ) (props : BpProps) → is_hit process pc props ≡ (stands_at pc props && is_for props.contexts process)
 hit_there process pc props =

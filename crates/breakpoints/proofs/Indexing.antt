@@ -1,5 +1,5 @@
 -- How an index grows by breakpoints behind those that it is of.
-use Rattle.std.proofs.Common.{◌≡◌, ℕ, ◌+◌, ◌<◌, length, take, get_or, subst, List, [], ◌∷◌, ◌++◌, Option, Some, None, Bool, true, false, cond, ◌==◌, ◌&&◌, not, map, filter, refl, sym, ap, ◌∙◌, append_assoc, append-nil, option_and_then}
+use Rattle.std.proofs.Common.{◌≡◌, ℕ, ◌+◌, ◌<◌, length, take, get_or, subst, List, [], ◌∷◌, ◌++◌, Option, Some, None, Bool, true, false, cond, ◌==◌, ◌&&◌, not, map, refl, sym, ap, ◌∙◌, append_assoc, append-nil, option_and_then}
 use Rattle.std.proofs.lemmas.Bool.{eqb-true}
 use Rattle.std.proofs.lemmas.List.{map-append, take_more}
 use Rattle.std.specs.BTreeMap.{get}
@@ -9,15 +9,13 @@ use Rattle.std.specs.Ordering.{nat_cmp}
 use Rattle.tcf_values.specs.declared.values.BpProps.{BpProps}
 use Rattle.breakpoints.specs.Address.{address_of}
 use Rattle.std.specs.Prelude.{bytes_eq}
-use Rattle.breakpoints.specs.Changes.{row_with_flag, row_with_props, with_flag, with_flags, with_props}
-use Rattle.breakpoints.specs.Indexed.{AddsId, AddsRows, Index, Indexes, IsIndexed, ids_at, or_empty, rows_at, says, some_of, stands_at}
-use Rattle.breakpoints.specs.Keyed.{IsKept, with_values}
+use Rattle.breakpoints.specs.Changes.{is_switched, row_with_flag, row_with_props, with_flag, with_flags, with_props}
+use Rattle.breakpoints.specs.Indexed.{AddsId, AddsProps, AddsRows, Index, Indexes, IsIndexed, or_empty, rows_at, says, some_of, stands_at}
+use Rattle.breakpoints.specs.Keyed.{IsKept}
 use Rattle.breakpoints.specs.Placed.{Placed, row_for}
-use Rattle.breakpoints.specs.Rows.{ids_of, is_among, rows_for}
+use Rattle.breakpoints.specs.Rows.{ids_of, rows_for}
 use Rattle.breakpoints.specs.Selecting.{selects, unselected}
 use Rattle.breakpoints.specs.declared.selection.Selection.{Selection}
-use Rattle.breakpoints.proofs.Filtered.{values-filter}
-use Rattle.breakpoints.proofs.Written.{values-with_values}
 
 -- ---- one breakpoint more
 
@@ -45,22 +43,22 @@ added_by old new address at id ids false e adds was =
     adds.elsewhere address e ∙ was ∙ ap some_of (sym (append-nil ids))
 
 -- an enabled one, at the address that its location says
-pub added : (old new : Index) (props : BpProps) (enabled : Bool) (at : ℕ) → enabled ≡ true → Some at ≡ option_and_then address_of props.location → AddsId old new at props.id → (channel : ℕ) → AddsRows old new (row_for channel (with_flag enabled props) ∷ [])
-added old new props enabled at on said adds channel rows indexes address =
+pub added : (old new : Index) (props : BpProps) (enabled : Bool) (at : ℕ) → enabled ≡ true → Some at ≡ option_and_then address_of props.location → AddsId old new at props.id → AddsProps old new (with_flag enabled props)
+added old new props enabled at on said adds channel counts rows indexes address =
     let here : stands_at address (with_flag enabled props) ≡ (at == address) =
     ap (λ b. b && says address (option_and_then address_of props.location)) on ∙ ap (says address) (sym said) in
     added_by old new address at props.id (ids_of (rows_at address rows)) (at == address) refl adds (indexes address)
     ∙ ap (λ b. some_of (ids_of (rows_at address rows) ++ cond b (props.id ∷ []) [])) (sym here)
-    ∙ ap some_of (sym (ids_push address rows (row_for channel (with_flag enabled props))))
+    ∙ ap some_of (sym (ids_push address rows (record { channel = channel; props = with_flag enabled props; counts = counts })))
 
-skipped_by : (index : Index) (props : BpProps) → ((address : ℕ) → stands_at address props ≡ false) → (channel : ℕ) → AddsRows index index (row_for channel props ∷ [])
-skipped_by index props nowhere channel rows indexes address =
+skipped_by : (index : Index) (props : BpProps) → ((address : ℕ) → stands_at address props ≡ false) → AddsProps index index props
+skipped_by index props nowhere channel counts rows indexes address =
     indexes address ∙ ap some_of (sym (append-nil (ids_of (rows_at address rows))))
     ∙ ap (λ b. some_of (ids_of (rows_at address rows) ++ cond b (props.id ∷ []) [])) (sym (nowhere address))
-    ∙ ap some_of (sym (ids_push address rows (row_for channel props)))
+    ∙ ap some_of (sym (ids_push address rows (record { channel = channel; props = props; counts = counts })))
 
 -- one that is disabled, and one whose location says no address
-pub skipped_disabled : (index : Index) (props : BpProps) (enabled : Bool) → enabled ≡ false → (channel : ℕ) → AddsRows index index (row_for channel (with_flag enabled props) ∷ [])
+pub skipped_disabled : (index : Index) (props : BpProps) (enabled : Bool) → enabled ≡ false → AddsProps index index (with_flag enabled props)
 skipped_disabled index props enabled off =
     skipped_by index (with_flag enabled props) (λ address. ap (λ b. b && says address (option_and_then address_of props.location)) off)
 
@@ -68,7 +66,7 @@ no_address_by : (enabled : Bool) → (enabled && false) ≡ false
 no_address_by true = refl
 no_address_by false = refl
 
-pub skipped_nowhere : (index : Index) (props : BpProps) (enabled : Bool) → None ≡ option_and_then address_of props.location → (channel : ℕ) → AddsRows index index (row_for channel (with_flag enabled props) ∷ [])
+pub skipped_nowhere : (index : Index) (props : BpProps) (enabled : Bool) → None ≡ option_and_then address_of props.location → AddsProps index index (with_flag enabled props)
 skipped_nowhere index props enabled none =
     skipped_by index (with_flag enabled props) (λ address. ap (λ o. enabled && says address o) (sym none) ∙ no_address_by enabled)
 
@@ -91,29 +89,29 @@ list_added old middle new channel list i props below is so_far one =
 
 -- ---- what becomes of one breakpoint
 
-pub staying_row : (leaving : Selection) (old new : Index) (row : Placed) → selects leaving row ≡ false → ((channel : ℕ) → AddsRows old new (row_for channel (with_flag row.props.enabled row.props) ∷ [])) → AddsRows old new (unselected leaving (row ∷ []))
+pub staying_row : (leaving : Selection) (old new : Index) (row : Placed) → selects leaving row ≡ false → AddsProps old new (with_flag row.props.enabled row.props) → AddsRows old new (unselected leaving (row ∷ []))
 staying_row leaving old new row stays adds =
-    subst (AddsRows old new) (sym (ap (λ b. cond (not b) (row ∷ []) []) stays)) (adds row.channel)
+    subst (AddsRows old new) (sym (ap (λ b. cond (not b) (row ∷ []) []) stays)) (adds row.channel row.counts)
 
 pub leaving_row : (leaving : Selection) (index : Index) (row : Placed) → selects leaving row ≡ true → AddsRows index index (unselected leaving (row ∷ []))
 leaving_row leaving index row leaves =
     subst (AddsRows index index) (sym (ap (λ b. cond (not b) (row ∷ []) []) leaves)) (none_added index)
 
-pub changed_row : (props : BpProps) (old new : Index) (row : Placed) → bytes_eq props.id row.props.id ≡ true → ((channel : ℕ) → AddsRows old new (row_for channel (with_flag props.enabled props) ∷ [])) → AddsRows old new (with_props props (row ∷ []))
+pub changed_row : (props : BpProps) (old new : Index) (row : Placed) → bytes_eq props.id row.props.id ≡ true → AddsProps old new (with_flag props.enabled props) → AddsRows old new (with_props props (row ∷ []))
 changed_row props old new row same adds =
-    subst (AddsRows old new) (sym (ap (λ b. cond b (record row { props = props }) row ∷ []) same)) (adds row.channel)
+    subst (AddsRows old new) (sym (ap (λ b. cond b (record row { props = props; counts = [] }) row ∷ []) same)) (adds row.channel [])
 
-pub unchanged_row : (props : BpProps) (old new : Index) (row : Placed) → bytes_eq props.id row.props.id ≡ false → ((channel : ℕ) → AddsRows old new (row_for channel (with_flag row.props.enabled row.props) ∷ [])) → AddsRows old new (with_props props (row ∷ []))
+pub unchanged_row : (props : BpProps) (old new : Index) (row : Placed) → bytes_eq props.id row.props.id ≡ false → AddsProps old new (with_flag row.props.enabled row.props) → AddsRows old new (with_props props (row ∷ []))
 unchanged_row props old new row other adds =
-    subst (AddsRows old new) (sym (ap (λ b. cond b (record row { props = props }) row ∷ []) other)) (adds row.channel)
+    subst (AddsRows old new) (sym (ap (λ b. cond b (record row { props = props; counts = [] }) row ∷ []) other)) (adds row.channel row.counts)
 
-pub switched_row : (enabled : Bool) (ids : List (List ℕ)) (old new : Index) (row : Placed) → is_among ids row.props.id ≡ true → ((channel : ℕ) → AddsRows old new (row_for channel (with_flag enabled row.props) ∷ [])) → AddsRows old new (with_flags enabled ids (row ∷ []))
-switched_row enabled ids old new row named adds =
-    subst (AddsRows old new) (sym (ap (λ b. cond b (record row { props = with_flag enabled row.props }) row ∷ []) named)) (adds row.channel)
+pub switched_row : (enabled : Bool) (ids : List (List ℕ)) (old new : Index) (row : Placed) → is_switched enabled ids row ≡ true → AddsProps old new (with_flag enabled row.props) → AddsRows old new (with_flags enabled ids (row ∷ []))
+switched_row enabled ids old new row switched adds =
+    subst (AddsRows old new) (sym (ap (λ b. cond b (record row { props = with_flag enabled row.props; counts = [] }) row ∷ []) switched)) (adds row.channel [])
 
-pub unswitched_row : (enabled : Bool) (ids : List (List ℕ)) (old new : Index) (row : Placed) → is_among ids row.props.id ≡ false → ((channel : ℕ) → AddsRows old new (row_for channel (with_flag row.props.enabled row.props) ∷ [])) → AddsRows old new (with_flags enabled ids (row ∷ []))
-unswitched_row enabled ids old new row unnamed adds =
-    subst (AddsRows old new) (sym (ap (λ b. cond b (record row { props = with_flag enabled row.props }) row ∷ []) unnamed)) (adds row.channel)
+pub unswitched_row : (enabled : Bool) (ids : List (List ℕ)) (old new : Index) (row : Placed) → is_switched enabled ids row ≡ false → AddsProps old new (with_flag row.props.enabled row.props) → AddsRows old new (with_flags enabled ids (row ∷ []))
+unswitched_row enabled ids old new row unswitched adds =
+    subst (AddsRows old new) (sym (ap (λ b. cond b (record row { props = with_flag enabled row.props; counts = [] }) row ∷ []) unswitched)) (adds row.channel row.counts)
 
 -- ---- the index of a list that is gone over
 
@@ -155,6 +153,26 @@ covers_props props = covers_changed (row_with_props props)
 
 pub covers_flags : (enabled : Bool) (ids : List (List ℕ)) (old new : Index) (row : Placed) (iterator rest all : List Placed) → iterator ≡ row ∷ rest → Covers old (with_flags enabled ids iterator) all → AddsRows old new (with_flags enabled ids (row ∷ [])) → Covers new (with_flags enabled ids rest) all
 covers_flags enabled ids = covers_changed (row_with_flag enabled ids)
+
+-- ---- the index of a list whose counts change
+
+ids_kept_by : (new old : Placed) (b : Bool) (rest others : List Placed) → new.props ≡ old.props → ids_of rest ≡ ids_of others → ids_of (cond b (new ∷ rest) rest) ≡ ids_of (cond b (old ∷ others) others)
+ids_kept_by new old true rest others same e = ap (λ (p : BpProps). p.id ∷ ids_of rest) same ∙ ap (λ (ids : List (List ℕ)). old.props.id ∷ ids) e
+ids_kept_by new old false rest others same e = e
+
+-- the change leaves properties as they are
+abbrev pub KeepsProps : (Placed → Placed) → Type 0
+KeepsProps change = (row : Placed) → (change row).props ≡ row.props
+
+pub ids_kept : (change : Placed → Placed) → KeepsProps change → (address : ℕ) (rows : List Placed) → ids_of (rows_at address (map change rows)) ≡ ids_of (rows_at address rows)
+ids_kept change keeps address [] = refl
+ids_kept change keeps address (row ∷ rows) =
+    let rest : List Placed = rows_at address (map change rows) in
+    ap (λ (p : BpProps). ids_of (cond (stands_at address p) (change row ∷ rest) rest)) (keeps row)
+    ∙ ids_kept_by (change row) row (stands_at address row.props) rest (rows_at address rows) (keeps row) (ids_kept change keeps address rows)
+
+pub indexes_kept : (change : Placed → Placed) → KeepsProps change → (index : Index) (rows : List Placed) → Indexes index rows → Indexes index (map change rows)
+indexes_kept change keeps index rows indexes address = indexes address ∙ ap some_of (sym (ids_kept change keeps address rows))
 
 -- ---- the map and its index
 

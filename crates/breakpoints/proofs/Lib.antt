@@ -4,7 +4,10 @@ pub mod Filtered
 pub mod Written
 pub mod Fresh
 pub mod Runs
-pub mod Hits
+pub mod Instances
 pub mod TheLaws
 pub mod Indexing
 pub mod Hitting
+pub mod Raising
+pub mod Counting
+pub mod Tests

@@ -1,15 +1,11 @@
 -- The look-up in the map is the look-up in the list.
 use Rattle.std.proofs.Common.{◌≡◌, ℕ, Bool, true, false, cond, ◌||◌, List, [], ◌∷◌, Option, Some, None, option_map, is_some, refl, sym, ◌∙◌, ap}
-use Rattle.std.specs.Prelude.{bytes_eq, find}
+use Rattle.std.specs.Prelude.{bytes_eq}
 use Rattle.std.specs.Global.{Vec}
 use Rattle.std.specs.Map.{lookup, values_of}
 use Rattle.breakpoints.specs.Placed.{Placed}
 use Rattle.breakpoints.specs.Keyed.{AreKeyed}
-use Rattle.breakpoints.specs.Rows.{is_there, props_of}
-
--- the first breakpoint of this ID
-abbrev pub row_of : List ℕ → List Placed → Option Placed
-row_of id rows = find (λ row. bytes_eq id row.props.id) rows
+use Rattle.breakpoints.specs.Rows.{is_there, row_of}
 
 pub lookup_row : (id : List ℕ) (entries : List (Vec ℕ × Placed)) → AreKeyed entries
     → lookup (λ k. bytes_eq id k.items) entries ≡ row_of id (values_of entries)
@@ -32,10 +28,20 @@ pub key_there : (id : List ℕ) (entries : List (Vec ℕ × Placed)) → AreKeye
     → is_some (lookup (λ k. bytes_eq id k.items) entries) ≡ is_there id (values_of entries)
 key_there id entries keyed = ap is_some (lookup_row id entries keyed) ∙ found_there id (values_of entries)
 
--- what the map has under an ID are the properties of that breakpoint
-pub lookup_props : (id : List ℕ) (entries : List (Vec ℕ × Placed)) (o : Option Placed) → AreKeyed entries
-    → o ≡ lookup (λ k. bytes_eq id k.items) entries → props_of id (values_of entries) ≡ option_map (λ row. row.props) o
-lookup_props id entries o keyed is = ap (option_map (λ (row : Placed). row.props)) (sym (is ∙ lookup_row id entries keyed))
+pub some_mapped : {A B : Type 0} (f : A → B) (o : Option A) → is_some o ≡ is_some (option_map f o)
+some_mapped f None = refl
+some_mapped f (Some x) = refl
+
+-- the breakpoint of an ID in the list
+pub record IsLookedUp (id : List ℕ) (rows : List Placed) (found : Option Placed) : Type 0 where
+  pub value : found ≡ row_of id rows
+  pub there : is_some found ≡ is_there id rows
+
+pub looked_up : (id : List ℕ) (entries : List (Vec ℕ × Placed)) (rows : List Placed) (found : Option Placed) → AreKeyed entries → values_of entries ≡ rows
+    → found ≡ lookup (λ k. bytes_eq id k.items) entries → IsLookedUp id rows found
+looked_up id entries rows found keyed values is =
+    let value : found ≡ row_of id rows = is ∙ lookup_row id entries keyed ∙ ap (row_of id) values in
+    record { value = value; there = ap is_some value ∙ found_there id rows }
 
 pub none_found : (id : List ℕ) (entries : List (Vec ℕ × Placed)) → AreKeyed entries → None ≡ lookup (λ k. bytes_eq id k.items) entries → is_there id (values_of entries) ≡ false
 none_found id entries keyed none = sym (key_there id entries keyed) ∙ ap is_some (sym none)

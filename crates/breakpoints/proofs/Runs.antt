@@ -7,11 +7,15 @@ use Rattle.std.proofs.lemmas.List.{length-map, map-append}
 use Rattle.tcf_values.specs.declared.command.Command.{Command}
 use Rattle.tcf_values.specs.declared.command.Command.TheVariants.{BpSet, BpAdd, BpChange, BpEnable, BpDisable, BpRemove}
 use Rattle.tcf_values.specs.declared.values.BpProps.{BpProps}
-use Rattle.breakpoints.specs.Changes.{after, clashes, has_no_place, has_twice, lacks, row_with_flag, row_with_props, with_flag}
-use Rattle.breakpoints.specs.Laws.{GoneOwnsNothing, IsSilent, StaysOrderly, Step, command, going, list_after, list_after_all}
+use Rattle.breakpoints.specs.Changes.{after, clashes, has_no_place, has_twice, is_switched, lacks, row_with_flag, row_with_props, with_flag}
+use Rattle.breakpoints.specs.Counting.{counted, forgotten, row_tested, row_without}
+use Rattle.breakpoints.specs.Counts.{AreCounts, raised}
+use Rattle.breakpoints.specs.Laws.{GoneOwnsNothing, IsSilent, StaysOrderly, Step, command, forgetting, going, list_after, list_after_all, testing}
 use Rattle.breakpoints.specs.Rows.{IsOrderly, ids_of, is_among, others, owned_by, rows_for, unnamed}
+use Rattle.breakpoints.specs.Status.{is_hit}
+use Rattle.breakpoints.proofs.Counting.{orderly_counted, without_keeps}
 use Rattle.breakpoints.proofs.Filtered.{orderly_filter}
-use Rattle.breakpoints.proofs.Fresh.{eq_sym, ids-rows_for, there_among}
+use Rattle.breakpoints.proofs.Fresh.{eq_sym, fresh_counts, ids-rows_for, there_among}
 use Rattle.breakpoints.proofs.Written.{flag_keeps, orderly_map, props_keeps}
 use Rattle.list_laws.proofs.AllLists.{all_append}
 use Rattle.list_laws.proofs.Flags.{not_true, neither as or_parts}
@@ -65,6 +69,7 @@ orderly_append channel list rows orderly place =
     record {
       differ = subst (IsDistinct bytes_eq) (sym ids) (differ_append (ids_of rows) (map (λ (p : BpProps). p.id) list) orderly.differ (once_differ _ parts.1) (none_clashes list rows parts.0));
       few = omega (arith, length-append rows (rows_for channel list));
+      counted = all_append (λ row. AreCounts row.counts) rows (rows_for channel list) orderly.counted (fresh_counts channel list);
     }
 
 -- ---- a command, and a run
@@ -88,9 +93,11 @@ orderly_after channel (BpRemove ids) rows orderly =
     by_test IsOrderly (lacks ids rows) rows (unnamed ids rows) orderly (λ _. orderly_filter (λ row. not (is_among ids row.props.id)) rows orderly)
 orderly_after channel _ rows orderly = orderly
 
-orderly_step : (step : Step) (rows : List Placed) → IsOrderly rows → IsOrderly (list_after step rows)
+pub orderly_step : (step : Step) (rows : List Placed) → IsOrderly rows → IsOrderly (list_after step rows)
 orderly_step (command channel c) rows orderly = orderly_after channel c rows orderly
 orderly_step (going channel) rows orderly = orderly_filter _ rows orderly
+orderly_step (testing process attached pc) rows orderly = orderly_counted process attached pc rows orderly
+orderly_step (forgetting process) rows orderly = orderly_map (row_without process) (without_keeps process) rows orderly
 
 orderly_run : (steps : List Step) (rows : List Placed) → IsOrderly rows → IsOrderly (list_after_all steps rows)
 orderly_run [] rows orderly = orderly
@@ -98,7 +105,7 @@ orderly_run (step ∷ steps) rows orderly = orderly_run steps (list_after step r
 
 orderly_none : IsOrderly []
 unfolding IsDistinct
-orderly_none = record { differ = tt; few = omega arith }
+orderly_none = record { differ = tt; few = omega arith; counted = tt }
 
 pub stays_orderly : StaysOrderly
 stays_orderly steps = orderly_run steps [] orderly_none
@@ -141,9 +148,9 @@ none_map : (channel : ℕ) (change : Placed → Placed) → KeepsOwners change �
 none_map channel change keeps [] none = tt
 none_map channel change keeps (row ∷ rows) none = (ap (λ owner. nat_eq owner channel) (keeps row) ∙ none.0, none_map channel change keeps rows none.1)
 
-owner_by : (b : Bool) (row : Placed) (props : BpProps) → (cond b (record row { props = props }) row).channel ≡ row.channel
-owner_by true row props = refl
-owner_by false row props = refl
+owner_by : (b : Bool) (row : Placed) (props : BpProps) (counts : List (ℕ × ℕ)) → (cond b (record row { props = props; counts = counts }) row).channel ≡ row.channel
+owner_by true row props counts = refl
+owner_by false row props counts = refl
 
 none_after : (channel other : ℕ) (c : Command) (rows : List Placed) → other ≢ channel → OwnsNone channel rows → OwnsNone channel (after other c rows)
 none_after channel other (BpSet list) rows differ none =
@@ -151,19 +158,28 @@ none_after channel other (BpSet list) rows differ none =
 none_after channel other (BpAdd props) rows differ none =
     by_test (OwnsNone channel) _ rows _ none (λ _. none_append channel rows (row_for other props ∷ []) none (none_for channel other (props ∷ []) differ))
 none_after channel other (BpChange props) rows differ none =
-    by_test (OwnsNone channel) _ rows _ none (λ _. none_map channel (row_with_props props) (λ row. owner_by (bytes_eq props.id row.props.id) row props) rows none)
+    by_test (OwnsNone channel) _ rows _ none (λ _. none_map channel (row_with_props props) (λ row. owner_by (bytes_eq props.id row.props.id) row props []) rows none)
 none_after channel other (BpEnable ids) rows differ none =
-    by_test (OwnsNone channel) _ rows _ none (λ _. none_map channel (row_with_flag true ids) (λ row. owner_by (is_among ids row.props.id) row (with_flag true row.props)) rows none)
+    by_test (OwnsNone channel) _ rows _ none (λ _. none_map channel (row_with_flag true ids) (λ row. owner_by (is_switched true ids row) row (with_flag true row.props) []) rows none)
 none_after channel other (BpDisable ids) rows differ none =
-    by_test (OwnsNone channel) _ rows _ none (λ _. none_map channel (row_with_flag false ids) (λ row. owner_by (is_among ids row.props.id) row (with_flag false row.props)) rows none)
+    by_test (OwnsNone channel) _ rows _ none (λ _. none_map channel (row_with_flag false ids) (λ row. owner_by (is_switched false ids row) row (with_flag false row.props) []) rows none)
 none_after channel other (BpRemove ids) rows differ none =
     by_test (OwnsNone channel) (lacks ids rows) rows (unnamed ids rows) none (λ _. none_filter channel (λ row. not (is_among ids row.props.id)) rows none)
 none_after channel other _ rows differ none = none
+
+none_counted : (channel process : ℕ) (attached : Bool) (pc : ℕ) (rows : List Placed) → OwnsNone channel rows → OwnsNone channel (counted process attached pc rows)
+none_counted channel process true pc rows none =
+    none_map channel (row_tested process pc) (λ row. owner_by (is_hit process pc row.props) row row.props (raised process row.counts)) rows none
+none_counted channel process false pc rows none = none
 
 none_run : (channel : ℕ) (steps : List Step) (rows : List Placed) → IsSilent channel steps → OwnsNone channel rows → OwnsNone channel (list_after_all steps rows)
 none_run channel [] rows silent none = none
 none_run channel (command other c ∷ steps) rows silent none = none_run channel steps (after other c rows) silent.1 (none_after channel other c rows silent.0 none)
 none_run channel (going other ∷ steps) rows silent none = none_run channel steps (others other rows) silent (none_filter channel _ rows none)
+none_run channel (testing process attached pc ∷ steps) rows silent none =
+    none_run channel steps (counted process attached pc rows) silent (none_counted channel process attached pc rows none)
+none_run channel (forgetting process ∷ steps) rows silent none =
+    none_run channel steps (forgotten process rows) silent (none_map channel (row_without process) (λ row. refl) rows none)
 
 pub gone_owns_nothing : GoneOwnsNothing
 gone_owns_nothing channel rows steps silent =

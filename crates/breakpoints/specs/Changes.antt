@@ -54,19 +54,24 @@ is_refused channel _ rows = false
 
 -- ---- what a command that isn't refused makes of the list
 
--- these properties in place of those of the same ID; the owner stays
+-- these properties in place of those of the same ID; the owner stays, and the counts are dropped
 abbrev pub row_with_props : BpProps → Placed → Placed
-row_with_props props row = if bytes_eq props.id row.props.id then (record row { props = props }) else row
+row_with_props props row = if bytes_eq props.id row.props.id then (record row { props = props; counts = [] }) else row
 
 abbrev pub with_props : BpProps → List Placed → List Placed
 with_props props rows = map (row_with_props props) rows
 
--- the named ones enabled or disabled
 abbrev pub with_flag : Bool → BpProps → BpProps
 with_flag enabled props = record props { enabled = enabled }
 
+-- one that is named and has another flag
+abbrev pub is_switched : Bool → List (List ℕ) → Placed → Bool
+is_switched enabled ids row = is_among ids row.props.id && not (beq row.props.enabled enabled)
+
+-- the named ones enabled or disabled; where this changes one, its counts are dropped
 abbrev pub row_with_flag : Bool → List (List ℕ) → Placed → Placed
-row_with_flag enabled ids row = if is_among ids row.props.id then (record row { props = with_flag enabled row.props }) else row
+row_with_flag enabled ids row =
+    if is_switched enabled ids row then (record row { props = with_flag enabled row.props; counts = [] }) else row
 
 abbrev pub with_flags : Bool → List (List ℕ) → List Placed → List Placed
 with_flags enabled ids rows = map (row_with_flag enabled ids) rows
@@ -87,9 +92,6 @@ after channel command rows = if is_refused channel command rows then rows else r
 -- ---- what it tells
 
 -- the named ones whose flag is another, with this flag
-abbrev pub is_switched : Bool → List (List ℕ) → Placed → Bool
-is_switched enabled ids row = is_among ids row.props.id && not (beq row.props.enabled enabled)
-
 abbrev pub switched : Bool → List (List ℕ) → List Placed → List BpProps
 switched enabled ids rows = map (λ row. with_flag enabled row.props) (filter (is_switched enabled ids) rows)
 

@@ -53,6 +53,11 @@ pub record AddsId (old new : Index) (address : ℕ) (id : List ℕ) : Type 0 whe
 abbrev pub AddsRows : Index → Index → List Placed → Type 0
 AddsRows old new more = (rows : List Placed) → Indexes old rows → Indexes new (rows ++ more)
 
+-- and so with a breakpoint of these properties behind it, whoever owns it and however often it was hit
+abbrev pub AddsProps : Index → Index → BpProps → Type 0
+AddsProps old new props =
+    (channel : ℕ) (counts : List (ℕ × ℕ)) → AddsRows old new (record { channel = channel; props = props; counts = counts } ∷ [])
+
 -- what always holds of a map and its index
 pub record IsIndexed (entries : List (Vec ℕ × Placed)) (index : Index) : Type 0 where
   pub keyed : AreKeyed entries

@@ -1,8 +1,10 @@
+pub mod Counts
 pub mod Placed
 pub mod Rows
 pub mod Changes
 pub mod Address
 pub mod Status
+pub mod Counting
 pub mod Statuses
 pub mod Keyed
 pub mod Selecting

@@ -12,7 +12,8 @@ use Rattle.tcf_values.specs.declared.values.Instance.{Instance}
 use Rattle.tcf_values.specs.declared.values.Place.{Place}
 use Rattle.tcf_values.specs.declared.values.Place.TheVariants.{Address, Error}
 use Rattle.breakpoints.specs.Address.{address_of}
-use Rattle.breakpoints.specs.Rows.{ids_of, props_of}
+use Rattle.breakpoints.specs.Counts.{count_of}
+use Rattle.breakpoints.specs.Rows.{ids_of, row_of}
 use Rattle.breakpoints.specs.Placed.{Placed}
 
 -- ---- the processes that a breakpoint is for
@@ -46,17 +47,27 @@ place_at None = Error bad_location
 abbrev pub place_of : Option (List ℕ) → Place
 place_of location = place_at (option_and_then address_of location)
 
-abbrev pub instance_of : BpProps → ℕ → Instance
-instance_of props number = record { context = context_spelling (contexts.Process number); place = place_of props.location }
+-- where there is no address, nothing is hit
+abbrev pub count_at : Place → ℕ → ℕ
+count_at (Address address) count = count
+count_at (Error error) count = 0
+
+abbrev pub instance_of : BpProps → List (ℕ × ℕ) → ℕ → Instance
+instance_of props counts number = record {
+  context = context_spelling (contexts.Process number);
+  place = place_of props.location;
+  count = count_at (place_of props.location) (count_of number counts);
+}
 
 -- an enabled breakpoint has one instance in each attached process that it is for, in order; a disabled one has none
-abbrev pub instances_of : BpProps → List ℕ → List Instance
-instances_of props attached =
-    if props.enabled then map (instance_of props) (filter (is_for props.contexts) attached) else []
+abbrev pub instances_of : BpProps → List (ℕ × ℕ) → List ℕ → List Instance
+instances_of props counts attached =
+    if props.enabled then map (instance_of props counts) (filter (is_for props.contexts) attached) else []
 
 -- the status of the breakpoint of this ID, where it is there
 abbrev pub status_of : List ℕ → List ℕ → List Placed → Option BpStatus
-status_of id attached rows = option_map (λ props. record { instances = instances_of props attached }) (props_of id rows)
+status_of id attached rows =
+    option_map (λ row. record { instances = instances_of row.props row.counts attached }) (row_of id rows)
 
 -- ---- hits
 
@@ -64,9 +75,9 @@ abbrev pub is_at : ℕ → Place → Bool
 is_at pc (Address address) = address == pc
 is_at pc (Error error) = false
 
--- an instance in this process has pc as its address
+-- an instance in this process has pc as its address, whatever its count
 abbrev pub is_hit : ℕ → ℕ → BpProps → Bool
-is_hit process pc props = list_any (λ instance. is_at pc instance.place) (instances_of props (process ∷ []))
+is_hit process pc props = list_any (λ instance. is_at pc instance.place) (instances_of props [] (process ∷ []))
 
 -- the IDs of the breakpoints that a thread of this process hits at pc, in the order of the list; none where the
 -- process isn't attached

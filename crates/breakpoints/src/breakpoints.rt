@@ -1,11 +1,12 @@
 //! The list of breakpoints, each under its ID.
 ghost use Rattle.std.specs.Prelude.{◌≡◌, ◌++◌, ◌∷◌, [], ◌||◌, filter, length, not, None, IfNone, IfOk, OnOk, OnErr, IsTrue, option_copied, is_some, if◌then◌else◌};
-ghost use Rattle.breakpoints.specs.Changes.{after, changes_list, clashes, done, has_no_place, is_overfull, is_refused, is_switched, lacks, switched, with_flag, with_flags};
+ghost use Rattle.breakpoints.specs.Changes.{after, changes_list, clashes, done, has_no_place, is_overfull, is_refused, lacks, switched, with_flag, with_flags};
 ghost use Rattle.breakpoints.specs.Indexed.{ids_at, is_named_for};
-ghost use Rattle.breakpoints.specs.Rows.{IsOrderly, ids_of, is_there, others, owned_by, props_of, rows_for};
+ghost use Rattle.breakpoints.specs.Rows.{IsOrderly, ids_of, is_there, others, owned_by, props_of, row_of, rows_for};
 ghost use Rattle.breakpoints.specs.Selecting.{selected, selects, unselected};
 ghost use Rattle.breakpoints.specs.Status.{hits_of, status_of};
 
+mod counting;
 mod indexing;
 mod order;
 mod statuses;
@@ -13,9 +14,10 @@ mod statuses;
 use crate::index::{Index, add_list, empty_index};
 use crate::instance::{instances_of, is_for};
 use crate::rows::{
-    Placed, Rows, copies, has_twice, keyed, replace, set_flags, set_props, take_out,
+    Placed, Rows, copies, has_twice, is_switched, keyed, replace, set_flags, set_props, take_out,
 };
-use crate::selection::{Selection, is_among, selects};
+use crate::selection::{Selection, selects};
+pub use counting::Hits;
 use indexmap::IndexMap;
 pub use statuses::status_event;
 use std::alloc::{AllocError, Global};
@@ -45,7 +47,8 @@ pub enum BpDone {
     },
 }
 
-/// The breakpoints of all channels. Contracts see the list of them, each beside the channel that owns it, in order.
+/// The breakpoints of all channels. Contracts see the list of them, each beside the channel that owns it and its counts of
+/// hits, in order.
 #[derive(Drop)]
 pub struct Breakpoints {
     map: Rows,
@@ -114,14 +117,22 @@ impl Breakpoints {
     }
 
     /// The properties of the breakpoint of this ID; `None` exactly where it isn't there.
-    #[tactic(auto, using(crate::proofs::Lookup::lookup_props))]
     pub fn props(&self, id: &[u8]) -> Option<&BpProps>
         ensures value { option_copied result ≡ props_of id.now self.now }
         ensures found { is_some result ≡ is_there id.now self.now }
         ensures orderly { IsOrderly self.now }
     {
-        let row = self.map.get(id)?;
+        let row = self.row(id)?;
         Some(&row.props)
+    }
+
+    /// The breakpoint of this ID; `None` exactly where it isn't there.
+    fn row(&self, id: &[u8]) -> Option<&Placed>
+        ensures value { option_copied result ≡ row_of id.now self.now }
+        ensures found { is_some result ≡ is_there id.now self.now }
+        ensures orderly { IsOrderly self.now }
+    {
+        self.map.get(id)
     }
 
     /// The IDs of all breakpoints, in the order of the list.
@@ -139,9 +150,9 @@ impl Breakpoints {
         ensures found { IfOk result (λ status. is_some status ≡ is_there id.now self.now) }
         ensures missing { IfNone (status_of id.now attached.now self.now) (result ≡ Ok None) }
     {
-        match self.props(id) {
-            Some(props) => Ok(Some(BpStatus {
-                instances: instances_of(*self.map.allocator(), props, attached)?,
+        match self.row(id) {
+            Some(row) => Ok(Some(BpStatus {
+                instances: instances_of(*self.map.allocator(), &row.props, &row.counts, attached)?,
             })),
             None => Ok(None),
         }
@@ -227,7 +238,7 @@ impl Breakpoints {
     }
 
     /// How many are chosen.
-    fn count(&self, selection: Selection<'_>) -> usize
+    fn number_of(&self, selection: Selection<'_>) -> usize
         ensures { result ≡ length (selected selection.entry self.now) }
     {
         self.map
@@ -251,7 +262,7 @@ impl Breakpoints {
     fn has_no_place(&self, leaving: Selection<'_>, list: &[BpProps]) -> bool
         ensures { result ≡ has_no_place list.now (unselected leaving.entry self.now) }
     {
-        self.is_crowded(leaving, self.count(leaving), list) || has_twice(list)
+        self.is_crowded(leaving, self.number_of(leaving), list) || has_twice(list)
     }
 
     /// The IDs of the chosen, in the order of the list.
@@ -388,13 +399,6 @@ impl Breakpoints {
             changed: Props::new(alloc),
         })
     }
-}
-
-/// Whether the breakpoint is named and has another flag.
-fn is_switched(row: &Placed, ids: &[Text], enabled: bool) -> bool
-    ensures { result ≡ is_switched enabled ids.now row.now }
-{
-    is_among(ids, row.props.id.as_bytes()) && row.props.enabled != enabled
 }
 
 /// These properties with another flag.

@@ -2,14 +2,13 @@
 ghost use Rattle.std.specs.Prelude.{◌≡◌, ◌∷◌, [], ℕ, option_and_then, OnOk};
 ghost use Rattle.breakpoints.specs.Address.{address_of};
 ghost use Rattle.breakpoints.specs.Changes.{with_flag, with_flags, with_props};
-ghost use Rattle.breakpoints.specs.Indexed.{AddsId, AddsRows, Indexes};
-ghost use Rattle.breakpoints.specs.Placed.{row_for};
+ghost use Rattle.breakpoints.specs.Indexed.{AddsId, AddsProps, AddsRows, Indexes};
 ghost use Rattle.breakpoints.specs.Rows.{rows_for};
 ghost use Rattle.breakpoints.specs.Selecting.{unselected};
 
 use crate::instance::address_of;
-use crate::rows::Placed;
-use crate::selection::{Selection, is_among, selects};
+use crate::rows::{Placed, is_switched};
+use crate::selection::{Selection, selects};
 use std::alloc::{AllocError, Global};
 use std::collections::BTreeMap;
 use tcf_values::{BpProps, Duplicate, Text, Texts};
@@ -56,7 +55,7 @@ fn add_row(
     props: &BpProps,
     enabled: bool,
 ) -> Result<(), AllocError>
-    ensures { OnOk result ((channel : ℕ) → AddsRows index.old index.new (row_for channel (with_flag enabled props.now) ∷ [])) }
+    ensures { OnOk result (AddsProps index.old index.new (with_flag enabled props.now)) }
 {
     if !enabled {
         return Ok(());
@@ -112,7 +111,7 @@ pub(crate) fn add_changed(
     }
 }
 
-/// Adds a breakpoint, with this flag where it is named.
+/// Adds a breakpoint, with this flag where it is named and has another.
 #[tactic(auto, using(crate::proofs::Indexing::switched_row, crate::proofs::Indexing::unswitched_row))]
 pub(crate) fn add_switched(
     alloc: Global,
@@ -123,7 +122,7 @@ pub(crate) fn add_switched(
 ) -> Result<(), AllocError>
     ensures { OnOk result (AddsRows index.old index.new (with_flags enabled ids.now (row.now ∷ []))) }
 {
-    if is_among(ids, row.props.id.as_bytes()) {
+    if is_switched(row, ids, enabled) {
         add_row(alloc, index, &row.props, enabled)
     } else {
         add_row(alloc, index, &row.props, row.props.enabled)

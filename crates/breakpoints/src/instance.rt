@@ -1,8 +1,9 @@
 //! Where a breakpoint stands: its address, the processes that it is for, and its instances in them.
 ghost use Rattle.std.specs.Prelude.{◌≡◌, ◌==◌, ◌≤◌, ◌<◌, slice_index, IfOk};
 ghost use Rattle.breakpoints.specs.Address.{address_in, address_of};
-ghost use Rattle.breakpoints.specs.Status.{bad_location, instance_of, instances_of, is_for, is_named, is_of, place_of, text_names};
+ghost use Rattle.breakpoints.specs.Status.{bad_location, count_at, instance_of, instances_of, is_for, is_named, is_of, place_of, text_names};
 
+use crate::counts::Counts;
 use std::alloc::{AllocError, Global};
 use std::str;
 use tcf_values::{
@@ -106,13 +107,43 @@ pub(crate) fn is_for(contexts: &Option<Texts>, number: u32) -> bool
     number > 0 && named
 }
 
+/// The count of an instance that stands there.
+fn count_at(place: &Place, count: u32) -> u32
+    ensures { result ≡ count_at place.now count }
+{
+    match place {
+        Place::Address(_) => count,
+        Place::Error(_) => 0,
+    }
+}
+
+/// The instance of a breakpoint in a process.
+fn instance_of(
+    alloc: Global,
+    props: &BpProps,
+    counts: &Counts,
+    number: u32,
+) -> Result<Instance, AllocError>
+    requires { 0 < number }
+    ensures { IfOk result (λ instance. instance ≡ instance_of props.now counts.now number) }
+{
+    let place = place_of(alloc, &props.location)?;
+    let count = count_at(&place, counts.of_process(number));
+    Ok(Instance {
+        context: context_text(alloc, ContextId::Process(number))?,
+        place,
+        count,
+    })
+}
+
 /// The instances of a breakpoint in the attached processes.
 pub(crate) fn instances_of(
     alloc: Global,
     props: &BpProps,
+    counts: &Counts,
     attached: &[u32],
 ) -> Result<Instances, AllocError>
-    ensures { IfOk result (λ instances. instances ≡ instances_of props.now attached.now) }
+    ensures { IfOk result (λ instances. instances ≡ instances_of props.now counts.now attached.now) }
 {
     let mut instances = Instances::new(alloc);
     if !props.enabled {
@@ -120,10 +151,7 @@ pub(crate) fn instances_of(
     }
     for number in attached {
         if is_for(&props.contexts, *number) {
-            instances.push(Instance {
-                context: context_text(alloc, ContextId::Process(*number))?,
-                place: place_of(alloc, &props.location)?,
-            })?;
+            instances.push(instance_of(alloc, props, counts, *number)?)?;
         }
     }
     Ok(instances)

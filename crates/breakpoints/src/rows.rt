@@ -1,22 +1,24 @@
 //! The map that keeps the breakpoints, each under its ID, in the order of the list.
-ghost use Rattle.std.specs.Prelude.{◌≡◌, ◌≤◌, ◌++◌, not, bytes_eq, filter, map, IfOk, OnOk, OnErr, false};
+ghost use Rattle.std.specs.Prelude.{◌≡◌, ◌≤◌, ◌++◌, not, bytes_eq, filter, map, option_copied, IfOk, OnOk, OnErr, false};
 ghost use Rattle.std.specs.List.{IsDistinct, list_any};
 ghost use Rattle.indexmap.specs.IndexMap.{keys, spare, values};
-ghost use Rattle.breakpoints.specs.Changes.{has_twice, row_with_flag, row_with_props};
+ghost use Rattle.breakpoints.specs.Changes.{has_twice, is_switched, row_with_flag, row_with_props};
 ghost use Rattle.breakpoints.specs.Keyed.{AreApart, AreKeyed, IsKept, with_values};
-ghost use Rattle.breakpoints.specs.Rows.{rows_for};
+ghost use Rattle.breakpoints.specs.Rows.{row_of, rows_for};
 ghost use Rattle.breakpoints.specs.Selecting.{selects};
 
+use crate::counts::Counts;
 use crate::selection::{Selection, is_among, selects};
 use indexmap::IndexMap;
 use std::alloc::{AllocError, Global};
 use tcf_values::{BpProps, Duplicate, Props, Text};
 
-/// A breakpoint beside the channel that owns it.
+/// A breakpoint beside the channel that owns it and its counts of hits.
 #[derive(Drop)]
 pub struct Placed {
     pub channel: u64,
     pub props: BpProps,
+    pub counts: Counts,
 }
 
 /// The breakpoints, each under its ID.
@@ -68,6 +70,7 @@ pub(crate) fn keyed(alloc: Global, channel: u64, list: &[BpProps]) -> Result<Row
             Placed {
                 channel,
                 props: props.copy()?,
+                counts: Counts::new(alloc),
             },
         )?;
     }
@@ -103,23 +106,41 @@ pub(crate) fn replace(
     Ok(())
 }
 
-/// Puts the properties in the place of those of the same ID, where there are some.
+/// The breakpoint of this ID.
+pub(crate) fn row_of<'a>(rows: &'a Rows, id: &[u8]) -> Option<&'a Placed>
+    requires { IsKept rows.now.entries }
+    ensures { option_copied result ≡ row_of id.now (values rows.now) }
+{
+    rows.get(id)
+}
+
+/// Puts the properties in the place of those of the same ID, where there are some, and drops the counts.
 pub(crate) fn set_props(rows: &mut Rows, props: BpProps)
     requires { IsKept rows.old.entries }
     ensures { rows.new.entries ≡ with_values (row_with_props props) rows.old.entries }
 {
     if let Some(row) = rows.get_mut(props.id.as_bytes()) {
         row.props = props;
+        row.counts.clear();
     }
 }
 
-/// Enables or disables a breakpoint, where it is named.
+/// Whether a breakpoint is named and has another flag.
+pub(crate) fn is_switched(row: &Placed, ids: &[Text], enabled: bool) -> bool
+    ensures { result ≡ is_switched enabled ids.now row.now }
+{
+    is_among(ids, row.props.id.as_bytes()) && row.props.enabled != enabled
+}
+
+/// Enables or disables a breakpoint, where it is named. Where this changes it, its counts are dropped.
 fn set_flag(row: &mut Placed, ids: &[Text], enabled: bool)
     ensures { row.new ≡ row_with_flag enabled ids.now row.old }
 {
-    if is_among(ids, row.props.id.as_bytes()) {
-        row.props.enabled = enabled;
+    if !is_switched(row, ids, enabled) {
+        return;
     }
+    row.props.enabled = enabled;
+    row.counts.clear();
 }
 
 /// Enables or disables the named ones.

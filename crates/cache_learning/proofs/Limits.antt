@@ -10,7 +10,7 @@ use Rattle.knowledge.specs.Changes.{Change, all_gone, context_told, context_gone
 use Rattle.knowledge.specs.Facts.{AreSame, Facts, nothing}
 use Rattle.knowledge.specs.KnowledgeValue.{KnowledgeValue, empty, facts_of}
 use Rattle.knowledge.specs.Learning.{Message, answer_taken, event_taken, bad_event_taken, other_taken, changes_of, learn}
-use Rattle.knowledge.specs.Rows.{added_context, answer_changes, are_of_range, begun, begun_for, changed_context, changed_range, changed_register, event_changes, is_outside, is_part, is_thread_of, joined, joined_for, memory_changes, memory_read, moved_for, parts_read, process_for, range_read, removed_context, removed_properties, stale_for, state_changes, state_of_thread, threads_listed, told_properties, unlisted_for, unsettled, unsettled_for, whole_read, word_read}
+use Rattle.knowledge.specs.Rows.{added_context, answer_changes, are_of_range, begun, begun_for, changed_context, changed_range, changed_register, event_changes, hit_breakpoint, is_outside, is_part, is_thread_of, joined, joined_for, memory_changes, memory_read, moved_for, parts_read, process_for, range_read, removed_context, removed_properties, stale_for, state_changes, state_of_thread, threads_listed, told_properties, unlisted_for, unsettled, unsettled_for, whole_read, word_read}
 use Rattle.reply_tables.specs.Answers.{IfKnown as IfKnownAnswer}
 use Rattle.reply_tables.specs.Events.{IfKnown as IfKnownEvent, IsEvent}
 use Rattle.reply_tables.specs.Limits.{IsAnswerTo}
@@ -209,7 +209,8 @@ event_fine (EventData.CtxAdded list) fine =
     (both_fine (of_each joined list) (statuses_gone ∷ []) (each_fine joined list (λ context. joined_fine context.id (context_of context.id))) (tt, tt))))
 event_fine (EventData.CtxChanged list) fine = both_fine _ _ (contexts_fine changed_context list (λ context is. (is, stale_fine (context_of context.id))) fine) (tt, tt)
 event_fine (EventData.CtxRemoved list) fine = both_fine _ _ (each_fine removed_context list removed_fine) (tt, tt)
-event_fine (EventData.Suspended id pc reason hits) fine = moved_fine (context_of id) (run.Suspended pc reason hits)
+event_fine (EventData.Suspended id pc reason hits) fine =
+    both_fine _ _ (each_fine hit_breakpoint hits (λ hit. (tt, tt))) (moved_fine (context_of id) (run.Suspended pc reason hits))
 event_fine (EventData.Resumed id) fine = moved_fine (context_of id) run.Running
 event_fine (EventData.BpStatusIs id status) fine = (fine, tt)
 event_fine (EventData.BpAdded list) fine = props_fine list fine

@@ -19,6 +19,7 @@ use Rattle.json_values.specs.Lists.{items_in, list_in}
 use Rattle.json_values.specs.Locations.{IsLocation, location_from, location_in, location_of}
 use Rattle.json_values.specs.Members.{member_of, optional, or_else}
 use Rattle.json_values.specs.Props.{bp_from, bp_in, is_bp, within_limits}
+use Rattle.json_values.specs.Words.{word_in}
 use Rattle.tcf_values.specs.declared.values.BpProps.{BpProps}
 
 -- ---- What may be there
@@ -161,20 +162,23 @@ limits_within props = by_flag (is_bp props) refl
     by_flag true is = is
     by_flag false is = tt
 
-from_fits : (id : List ℕ) (enabled : Option Bool) (location : Option (Option (List ℕ))) (contexts : Option (Option (List (List ℕ)))) → IfSome (bp_from id enabled location contexts) (λ p. is_bp p ≡ true)
-from_fits id None location contexts = tt
-from_fits id (Some e) None contexts = tt
-from_fits id (Some e) (Some l) None = tt
-from_fits id (Some e) (Some l) (Some c) = limits_within (record { id = id; enabled = e; location = l; contexts = c })
+from_fits : (id : List ℕ) (enabled : Option Bool) (location : Option (Option (List ℕ))) (contexts : Option (Option (List (List ℕ)))) (ignore : Option (Option ℕ))
+    → IfSome (bp_from id enabled location contexts ignore) (λ p. is_bp p ≡ true)
+from_fits id None location contexts ignore = tt
+from_fits id (Some e) None contexts ignore = tt
+from_fits id (Some e) (Some l) None ignore = tt
+from_fits id (Some e) (Some l) (Some c) None = tt
+from_fits id (Some e) (Some l) (Some c) (Some i) = limits_within (record { id = id; enabled = e; location = l; contexts = c; ignore = i })
 
-named_fits : (enabled : Option Bool) (location : Option (Option (List ℕ))) (contexts : Option (Option (List (List ℕ)))) (id : Option (List ℕ)) → IfSome (option_and_then (λ i. bp_from i enabled location contexts) id) (λ p. is_bp p ≡ true)
-named_fits enabled location contexts None = tt
-named_fits enabled location contexts (Some id) = from_fits id enabled location contexts
+named_fits : (enabled : Option Bool) (location : Option (Option (List ℕ))) (contexts : Option (Option (List (List ℕ)))) (ignore : Option (Option ℕ)) (id : Option (List ℕ))
+    → IfSome (option_and_then (λ i. bp_from i enabled location contexts ignore) id) (λ p. is_bp p ≡ true)
+named_fits enabled location contexts ignore None = tt
+named_fits enabled location contexts ignore (Some id) = from_fits id enabled location contexts ignore
 
 pub bp_within : (d : Data) → IsWithin d → IfSome (bp_in d) (λ p. is_bp p ≡ true)
 bp_within d is =
     named_fits (or_else false as_bool (member_of (codes "Enabled") d)) (optional as_str (member_of (codes "Location") d)) (optional (list_in as_str) (member_of (codes "ContextIds") d))
-    (option_and_then as_str (member_of (codes "ID") d))
+    (optional word_in (member_of (codes "IgnoreCount") d)) (option_and_then as_str (member_of (codes "ID") d))
 
 from_within : (register offset size : Data) → IsWithin offset → IsWithin size → IfSome (location_from register offset size) IsLocation
 from_within register offset size first second =

@@ -1,5 +1,5 @@
 -- What is written of a process, a report, a range, an instance and a status is read as it.
-use Rattle.std.proofs.Common.{◌≡◌, ℕ, ◌≤◌, List, rules, arith}
+use Rattle.std.proofs.Common.{◌≡◌, ℕ, ◌≤◌, List, rules, arith, ap, sym}
 use Rattle.std.specs.Prelude.{false, Some}
 use Rattle.serde_json.specs.Data.{depth}
 use Rattle.serde_json.specs.Written.{has_float}
@@ -8,7 +8,8 @@ use Rattle.json_values.specs.PlainLaws.{whole_back, whole_plain}
 use Rattle.json_values.specs.Processes.{process_json, process_in}
 use Rattle.json_values.specs.Ranges.{range_json, range_in}
 use Rattle.json_values.specs.Reports.{report_json, report_in}
-use Rattle.json_values.specs.Statuses.{IsInstance, IsStatus, instance_json, instance_in, status_json, status_in}
+use Rattle.json_values.specs.Statuses.{IsCount, IsInstance, IsPlace, IsStatus, instance_json, instance_in, status_json, status_in}
+use Rattle.json_values.specs.WordLaws.{word_back}
 use Rattle.tcf_values.specs.declared.errors.ErrorReport.{ErrorReport}
 use Rattle.tcf_values.specs.declared.values.BpStatus.{BpStatus}
 use Rattle.tcf_values.specs.declared.values.Instance.{Instance}
@@ -44,26 +45,27 @@ range_plain range = rw (whole_plain range.addr, whole_plain range.size)
 pub range_shallow : (range : Range) → depth (range_json range) ≤ 1
 range_shallow range = search rules
 
-place_back : (place : Place) (context : List ℕ) → IsInstance (record { context = context; place = place }) → instance_in (instance_json (record { context = context; place = place })) ≡ Some (record { context = context; place = place })
-place_back (Address address) context is = search rules
-place_back (Error error) context is = search rules
+place_back : (place : Place) (count : ℕ) (context : List ℕ) → IsPlace place → IsCount place count
+    → instance_in (instance_json (record { context = context; place = place; count = count })) ≡ Some (record { context = context; place = place; count = count })
+place_back (Address address) count context small few = rw (word_back address small, word_back count few)
+place_back (Error error) count context small none = ap (λ n. Some (record { context = context; place = Error error; count = n })) (sym none)
 
 pub instance_back : (instance : Instance) → IsInstance instance → instance_in (instance_json instance) ≡ Some instance
-instance_back instance is = place_back instance.place instance.context is
+instance_back instance is = place_back instance.place instance.count instance.context is.0 is.1
 
-place_plain : (place : Place) (context : List ℕ) → has_float (instance_json (record { context = context; place = place })) ≡ false
-place_plain (Address address) context = search rules
-place_plain (Error error) context = search rules
+place_plain : (place : Place) (count : ℕ) (context : List ℕ) → has_float (instance_json (record { context = context; place = place; count = count })) ≡ false
+place_plain (Address address) count context = search rules
+place_plain (Error error) count context = search rules
 
 pub instance_plain : (instance : Instance) → has_float (instance_json instance) ≡ false
-instance_plain instance = place_plain instance.place instance.context
+instance_plain instance = place_plain instance.place instance.count instance.context
 
-place_shallow : (place : Place) (context : List ℕ) → depth (instance_json (record { context = context; place = place })) ≤ 1
-place_shallow (Address address) context = search rules
-place_shallow (Error error) context = search rules
+place_shallow : (place : Place) (count : ℕ) (context : List ℕ) → depth (instance_json (record { context = context; place = place; count = count })) ≤ 1
+place_shallow (Address address) count context = search rules
+place_shallow (Error error) count context = search rules
 
 pub instance_shallow : (instance : Instance) → depth (instance_json instance) ≤ 1
-instance_shallow instance = place_shallow instance.place instance.context
+instance_shallow instance = place_shallow instance.place instance.count instance.context
 
 instances_back : (instances : List Instance) → IsStatus (record { instances = instances }) → status_in (status_json (record { instances = instances })) ≡ Some (record { instances = instances })
 instances_back instances is = rw (list_back instance_json instance_in IsInstance instance_back instances is)

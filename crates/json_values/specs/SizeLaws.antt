@@ -20,7 +20,7 @@ use Rattle.json_values.specs.Members.{member_if}
 use Rattle.json_values.specs.Peers.{peer_json, peers_json}
 use Rattle.json_values.specs.Plain.{blob_json, text_json, texts_json, whole_json}
 use Rattle.json_values.specs.Processes.{process_json}
-use Rattle.json_values.specs.Props.{are_contexts, bp_json, is_bp, is_location, is_short}
+use Rattle.json_values.specs.Props.{are_contexts, bp_json, is_bp, is_ignore_count, is_location, is_short}
 use Rattle.json_values.specs.Ranges.{range_json}
 use Rattle.json_values.specs.Reports.{report_json}
 use Rattle.json_values.specs.Sizes.{AreSmallContexts, AreWords, IsName, IsSmallContext, IsSmallInstance, IsSmallPlace, IsSmallProcess, IsSmallReport, IsSmallStatus, IsWord, has_name, size_of}
@@ -256,9 +256,13 @@ if_one most rest k (Some d) ms short fits within = one_more most rest k d ms sho
 object_size : (most : ℕ) (ms : Members) → Within most ms → size_of (object ms) ≤ most + 1
 object_size most ms within = omega (arith, within.size false)
 
--- an object of two flags
-pub flags_size : (k l : List ℕ) (a b : Bool) → length k ≤ 16 → length l ≤ 16 → size_of (object (member k (boolean a) (member l (boolean b) no_members))) ≤ 212
-flags_size k l a b short brief = object_size 211 _ (one_more 5 106 k _ _ short (flag_fits a) (one_more 5 1 l _ _ brief (flag_fits b) no_more))
+-- an object of three flags
+pub flags_size : (k l m : List ℕ) (a b c : Bool) → length k ≤ 16 → length l ≤ 16 → length m ≤ 16
+    → size_of (object (member k (boolean a) (member l (boolean b) (member m (boolean c) no_members)))) ≤ 317
+flags_size k l m a b c short brief small =
+    object_size 316 _ (one_more 5 211 k _ _ short (flag_fits a)
+    (one_more 5 106 l _ _ brief (flag_fits b)
+    (one_more 5 1 m _ _ small (flag_fits c) no_more)))
 
 -- ---- the values of the services
 
@@ -326,30 +330,37 @@ if_location : (found : Option (List ℕ)) → is_location found ≡ true → IfF
 if_location None within = tt
 if_location (Some text) within = record { size = plain_size 255 text within }
 
-pub bp_size : (props : BpProps) → is_bp props ≡ true → size_of (bp_json props) ≤ 3529
+if_word : (found : Option ℕ) → IfFits 64 (option_map word_json found)
+if_word None = tt
+if_word (Some n) = word_fits n
+
+pub bp_size : (props : BpProps) → is_bp props ≡ true → size_of (bp_json props) ≤ 3693
 bp_size props within =
     let named = nat_le 1 (length props.id) && is_short 255 props.id in
-    let last = and_parts (named && is_location props.location) (are_contexts props.contexts) within in
+    let texts = and_parts (named && is_location props.location && are_contexts props.contexts) (is_ignore_count props.ignore) within in
+    let last = and_parts (named && is_location props.location) (are_contexts props.contexts) texts.0 in
     let front = and_parts named (is_location props.location) last.0 in
     let id = and_parts (nat_le 1 (length props.id)) (is_short 255 props.id) front.0 in
     let id_fits : Fits 512 (string props.id) = record { size = plain_size 255 props.id id.1 } in
-    object_size 3528 _ (if_one 2098 1330 (codes "ContextIds") (option_map texts_json props.contexts) _ (lit≤ tt) (if_contexts props.contexts last.1)
-    (one_more 5 1225 (codes "Enabled") _ _ (lit≤ tt) (flag_fits props.enabled)
-    (one_more 512 613 (codes "ID") _ _ (lit≤ tt) id_fits
-    (if_one 512 1 (codes "Location") (option_map string props.location) _ (lit≤ tt) (if_location props.location front.1) no_more))))
+    object_size 3692 _ (if_one 2098 1494 (codes "ContextIds") (option_map texts_json props.contexts) _ (lit≤ tt) (if_contexts props.contexts last.1)
+    (one_more 5 1389 (codes "Enabled") _ _ (lit≤ tt) (flag_fits props.enabled)
+    (one_more 512 777 (codes "ID") _ _ (lit≤ tt) id_fits
+    (if_one 64 613 (codes "IgnoreCount") (option_map word_json props.ignore) _ (lit≤ tt) (if_word props.ignore)
+    (if_one 512 1 (codes "Location") (option_map string props.location) _ (lit≤ tt) (if_location props.location front.1) no_more)))))
 
-place_size : (place : Place) (context : List ℕ) → IsWord context → IsSmallPlace place → size_of (instance_at place context) ≤ 3266
-place_size (Address address) context word small =
-    let few : size_of (instance_at (Address address) context) ≤ 1798 =
-    object_size 1797 _ (one_more 64 1633 (codes "Address") _ _ (lit≤ tt) (word_fits address)
-    (one_more 1532 1 (codes "LocationContext") _ _ (lit≤ tt) (text_fits context word) no_more)) in
+place_size : (place : Place) (count : ℕ) (context : List ℕ) → IsWord context → IsSmallPlace place → size_of (instance_at place count context) ≤ 3266
+place_size (Address address) count context word small =
+    let few : size_of (instance_at (Address address) count context) ≤ 1962 =
+    object_size 1961 _ (one_more 64 1797 (codes "Address") _ _ (lit≤ tt) (word_fits address)
+    (one_more 64 1633 (codes "HitCount") _ _ (lit≤ tt) (word_fits count)
+    (one_more 1532 1 (codes "LocationContext") _ _ (lit≤ tt) (text_fits context word) no_more))) in
     omega arith
-place_size (Error error) context word small =
+place_size (Error error) count context word small =
     object_size 3265 _ (one_more 1532 1633 (codes "Error") _ _ (lit≤ tt) (text_fits error small)
     (one_more 1532 1 (codes "LocationContext") _ _ (lit≤ tt) (text_fits context word) no_more))
 
 instance_size : (instance : Instance) → IsSmallInstance instance → size_of (instance_json instance) ≤ 3266
-instance_size instance small = place_size instance.place instance.context small.0 small.1
+instance_size instance small = place_size instance.place instance.count instance.context small.0 small.1
 
 pub status_size : (status : BpStatus) → IsSmallStatus status → size_of (status_json status) ≤ 209192
 status_size status small =
@@ -380,9 +391,9 @@ contexts_size list are =
     let all = all_follow IsSmallContext (λ (c : ContextData). size_of (context_json c) ≤ 5646 + cond (has_name c) 393318 0) list (λ c. context_room (has_name c) c refl) are.small in
     omega (arith, are.few, are.named, longer_size context_json has_name 5646 393318 list all)
 
-pub bps_size : (list : List BpProps) → length list ≤ 256 → AllByRecursion (λ props. is_bp props ≡ true) list → size_of (list_json bp_json list) ≤ 903682
+pub bps_size : (list : List BpProps) → length list ≤ 256 → AllByRecursion (λ props. is_bp props ≡ true) list → size_of (list_json bp_json list) ≤ 945666
 bps_size list few all =
-    omega (arith, few, list_size bp_json 3529 list (all_follow (λ (props : BpProps). is_bp props ≡ true) (λ (props : BpProps). size_of (bp_json props) ≤ 3529) list bp_size all))
+    omega (arith, few, list_size bp_json 3693 list (all_follow (λ (props : BpProps). is_bp props ≡ true) (λ (props : BpProps). size_of (bp_json props) ≤ 3693) list bp_size all))
 
 ranges_all : (list : List Range) → AllByRecursion (λ range. size_of (range_json range) ≤ 332) list
 ranges_all [] = tt

@@ -1,10 +1,12 @@
 //! The properties of breakpoints, and their limits.
-ghost use Rattle.std.specs.Prelude.{◌≡◌, true, false, option_map, option_and_then, unwrap_or, nat_le, IfOk, IfSome};
+ghost use Rattle.std.specs.Prelude.{◌≡◌, true, false, codes, option_map, option_and_then, unwrap_or, nat_le, IfOk, IfSome, OnOk};
 ghost use Rattle.std.specs.List.{list_all};
-ghost use Rattle.serde_json.specs.View.{view};
+ghost use Rattle.serde_json.specs.View.{view, members_view};
 ghost use Rattle.serde_json.specs.Written.{has_float};
-ghost use Rattle.json_values.specs.Props.{BpRoundTrip, bp_json, bp_in, is_bp, is_short, is_location, are_contexts, bp_from};
+ghost use Rattle.json_values.specs.Props.{BpRoundTrip, bp_json, bp_in, is_bp, is_short, is_location, are_contexts, is_ignore_count, bp_from};
 ghost use Rattle.json_values.specs.PropsLaws.{bp_back, bp_plain, bp_shallow};
+ghost use Rattle.json_values.specs.Members.{put_if};
+ghost use Rattle.json_values.specs.Words.{word_json};
 
 use crate::canonical::Json;
 use crate::members::{optional_member, put_member, put_some, required_member};
@@ -53,8 +55,18 @@ fn has_contexts(contexts: &Option<Texts>) -> bool
     }
 }
 
+/// Whether at most a million hits pass.
+fn has_ignore_count(ignore: Option<u32>) -> bool
+    ensures { result ≡ is_ignore_count ignore }
+{
+    match ignore {
+        Some(count) => count <= 1_000_000,
+        None => true,
+    }
+}
+
 /// Whether the properties are within their limits: an ID of 1 to 255 bytes, a location of at most 255, at most 16
-/// contexts of at most 64 each, and no byte below 32.
+/// contexts of at most 64 each, no byte below 32, and at most a million hits that pass.
 pub fn is_within_limits(props: &BpProps) -> bool
     ensures { result ≡ is_bp props.now }
 {
@@ -62,6 +74,7 @@ pub fn is_within_limits(props: &BpProps) -> bool
         && is_short_text(255, &props.id)
         && has_location(&props.location)
         && has_contexts(&props.contexts)
+        && has_ignore_count(props.ignore)
 }
 
 /// The properties that are found; none where one is of another kind, or they aren't within their limits.
@@ -70,8 +83,9 @@ fn props_of(
     enabled: Option<Option<bool>>,
     location: Option<Option<Text>>,
     contexts: Option<Option<Texts>>,
+    ignore: Option<Option<u32>>,
 ) -> Option<BpProps>
-    ensures value { result ≡ option_and_then (λ i. bp_from i (option_map (λ e. unwrap_or e false) enabled) location contexts) id }
+    ensures value { result ≡ option_and_then (λ i. bp_from i (option_map (λ e. unwrap_or e false) enabled) location contexts ignore) id }
     ensures within { IfSome result (λ props. is_bp props ≡ true) }
 {
     let props = BpProps {
@@ -79,11 +93,26 @@ fn props_of(
         enabled: enabled?.unwrap_or(false),
         location: location?,
         contexts: contexts?,
+        ignore: ignore?,
     };
     if is_within_limits(&props) {
         Some(props)
     } else {
         None
+    }
+}
+
+/// Puts how many hits pass, where it is there.
+fn put_ignore(
+    alloc: Global,
+    map: &mut Map<String, Value>,
+    ignore: Option<u32>,
+) -> Result<(), AllocError>
+    ensures { OnOk result (members_view map.new.entries ≡ put_if (codes "IgnoreCount") (option_map word_json ignore) (members_view map.old.entries)) }
+{
+    match ignore {
+        Some(count) => put_member(alloc, map, "IgnoreCount", &count),
+        None => Ok(()),
     }
 }
 
@@ -97,6 +126,7 @@ pub fn bp_value(alloc: Global, props: &BpProps) -> Result<Value, AllocError>
     put_some(alloc, &mut map, "ContextIds", &props.contexts)?;
     put_member(alloc, &mut map, "Enabled", &props.enabled)?;
     put_member(alloc, &mut map, "ID", &props.id)?;
+    put_ignore(alloc, &mut map, props.ignore)?;
     put_some(alloc, &mut map, "Location", &props.location)?;
     Ok(Value::Object(map))
 }
@@ -119,7 +149,8 @@ impl Json for BpProps {
         let enabled = optional_member(alloc, value, "Enabled")?;
         let location = optional_member(alloc, value, "Location")?;
         let contexts = optional_member(alloc, value, "ContextIds")?;
-        Ok(props_of(id, enabled, location, contexts))
+        let ignore = optional_member(alloc, value, "IgnoreCount")?;
+        Ok(props_of(id, enabled, location, contexts, ignore))
     }
 
     ghost reads_back = { bp_back };

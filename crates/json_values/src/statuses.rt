@@ -1,8 +1,9 @@
 //! The status of a breakpoint: its instances.
-ghost use Rattle.std.specs.Prelude.{◌≡◌, false, map, IfOk, IfSome};
+ghost use Rattle.std.specs.Prelude.{◌≡◌, codes, false, map, IfOk, IfSome};
 ghost use Rattle.serde_json.specs.View.{view};
 ghost use Rattle.serde_json.specs.Written.{has_float};
-ghost use Rattle.json_values.specs.Statuses.{instance_json, instance_in, place_in, IsPlace, IsInstance, status_json, status_in, IsStatus};
+ghost use Rattle.json_values.specs.Members.{member_of};
+ghost use Rattle.json_values.specs.Statuses.{count_by, instance_json, instance_in, place_in, IsCount, IsPlace, IsInstance, status_json, status_in, IsStatus};
 ghost use Rattle.json_values.specs.ReplyLaws.{instance_back, instance_plain, instance_shallow, status_back, status_plain, status_shallow};
 
 use crate::canonical::Json;
@@ -26,14 +27,29 @@ fn place_of(alloc: Global, value: &Value) -> Result<Option<Place>, AllocError>
     }
 }
 
-/// The object of an instance, whose address is of 32 bits.
+/// The count of the instance of an object that stands there: 0 where it isn't said, and beside an error.
+fn count_of(alloc: Global, value: &Value, place: &Place) -> Result<Option<u32>, AllocError>
+    ensures value { IfOk result (λ found. found ≡ count_by (member_of (codes "HitCount") (view value.now)) place.now) }
+    ensures within { IfOk result (λ found. IfSome found (IsCount place.now)) }
+{
+    match place {
+        Place::Address(_) => default_member(alloc, value, "HitCount", 0),
+        Place::Error(_) => Ok(Some(0)),
+    }
+}
+
+/// The object of an instance, whose address and count are of 32 bits.
 fn instance_value(alloc: Global, instance: &Instance) -> Result<Value, AllocError>
     ensures { IfOk result (λ value. view value ≡ instance_json instance.now) }
 {
     let context = instance.context.as_str();
     match &instance.place {
         Place::Address(address) => {
-            json!(in alloc; {"Address": *address, "LocationContext": context})
+            json!(in alloc; {
+                "Address": *address,
+                "HitCount": instance.count,
+                "LocationContext": context
+            })
         }
         Place::Error(error) => {
             json!(in alloc; {"Error": error.as_str(), "LocationContext": context})
@@ -52,7 +68,7 @@ fn instance_values(alloc: Global, instances: &[Instance]) -> Result<Vec<Value>, 
     Ok(values)
 }
 
-/// The object of a status. Each address in it is of 32 bits, so it is within the limits of its kind.
+/// The object of a status.
 #[tactic(auto, using(crate::specs::ReplyLaws::status_plain))]
 pub fn status_value(alloc: Global, status: &BpStatus) -> Result<Value, AllocError>
     ensures value { IfOk result (λ value. view value ≡ status_json status.now) }
@@ -79,6 +95,9 @@ impl Json for Instance {
         let Some(place) = place_of(alloc, value)? else {
             return Ok(None);
         };
+        let Some(count) = count_of(alloc, value, &place)? else {
+            return Ok(None);
+        };
         let Some(context) = default_member(
             alloc,
             value,
@@ -88,7 +107,11 @@ impl Json for Instance {
         else {
             return Ok(None);
         };
-        Ok(Some(Instance { context, place }))
+        Ok(Some(Instance {
+            context,
+            place,
+            count,
+        }))
     }
 
     ghost reads_back = { instance_back };

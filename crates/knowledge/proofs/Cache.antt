@@ -1,10 +1,9 @@
 -- A cache stays one of the messages that it has learned.
-use Rattle.std.proofs.Common.{◌≡◌, ℕ, List, [], ◌∷◌, ◌++◌, true, refl, sym, ap, ◌∙◌, subst}
+use Rattle.std.proofs.Common.{◌≡◌, List, [], ◌∷◌, ◌++◌, refl, sym, ◌∙◌, subst}
 use Rattle.std.proofs.lemmas.Bool.{both_ways}
 use Rattle.block_store.specs.declared.block.Block.{Block}
-use Rattle.knowledge.specs.Changes.{after_all}
 use Rattle.knowledge.specs.Facts.{AreSame, Facts, nothing}
-use Rattle.knowledge.specs.KnowledgeValue.{IsAfter, IsCacheOf, KnowledgeValue, blocks_after_all, empty, facts_of, has_block_byte}
+use Rattle.knowledge.specs.KnowledgeValue.{IsAfter, IsCacheOf, KnowledgeValue, blocks_after_all, empty, facts_of}
 use Rattle.knowledge.specs.Laws.{AreKnown}
 use Rattle.knowledge.specs.Learning.{Message, bad_event_taken, changes_of, learn, learn_all, learned}
 use Rattle.knowledge.proofs.Blocks.{known_after_all}

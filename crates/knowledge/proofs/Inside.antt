@@ -22,7 +22,7 @@ use Rattle.knowledge.specs.Changes.{Change, all_gone, context_told, context_gone
 use Rattle.knowledge.specs.Facts.{Facts, nothing}
 use Rattle.knowledge.specs.Laws.{CoveredIsInside}
 use Rattle.knowledge.specs.Learning.{Message, answer_taken, bad_event_taken, changes_of, event_taken, learn_all, other_taken}
-use Rattle.knowledge.specs.Rows.{answer_changes, are_of_range, changed_context, children_answered, changed_register, context_answered, event_changes, is_outside, is_part, memory_answered, memory_changes, memory_read, moved_for, parts_read, process_for, properties_answered, register_answered, registers_answered, removed_context, removed_properties, state_answered, state_changes, state_of_thread, status_answered, threads_listed, told_properties, whole_read, word_read}
+use Rattle.knowledge.specs.Rows.{answer_changes, are_of_range, changed_context, children_answered, changed_register, context_answered, event_changes, is_outside, is_part, memory_answered, memory_changes, memory_read, moved_for, parts_read, process_for, properties_answered, register_answered, registers_answered, removed_context, removed_properties, state_answered, state_changes, state_of_thread, status_answered, threads_listed, told_properties, whole_read, word_read, hit_breakpoint}
 use Rattle.knowledge.proofs.Blocks.{byte_there, or_cases, read_is_known}
 use Rattle.knowledge.proofs.Monotone.{IsPlain, added_plain, listed_plain, memory_plain, plain-append, plain_each, register_plain, removed_plain, stale_plain}
 use Rattle.list_laws.proofs.Lists.{taken}
@@ -72,7 +72,9 @@ event_fit (CtxChanged list) =
 event_fit (CtxRemoved list) =
     fit_all (event_changes (CtxRemoved list))
     (plain-append (of_each removed_context list) (statuses_gone ∷ []) (plain_each removed_context removed_plain list) (tt, tt))
-event_fit (Suspended id pc reason hits) = moved_fit (context_of id) (run.Suspended pc reason hits)
+event_fit (Suspended id pc reason hits) =
+    fit-append (of_each hit_breakpoint hits) (moved_for (context_of id) (run.Suspended pc reason hits))
+    (fit_all (of_each hit_breakpoint hits) (plain_each hit_breakpoint (λ hit. (tt, tt)) hits)) (moved_fit (context_of id) (run.Suspended pc reason hits))
 event_fit (Resumed id) = moved_fit (context_of id) run.Running
 event_fit (BpStatusIs id status) = (tt, tt)
 event_fit (BpAdded list) = fit_all (of_each told_properties list) (plain_each told_properties (λ properties. (tt, (tt, tt))) list)

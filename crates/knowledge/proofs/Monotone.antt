@@ -24,7 +24,7 @@ use Rattle.knowledge.specs.Changes.{Change, all_gone, context_told, context_gone
 use Rattle.knowledge.specs.Facts.{context_is, threads_are, state_is, register_is, byte_is, properties_are, status_is, Facts, IsGrounded, IsPart, is_suspended, state_at, state_of}
 use Rattle.knowledge.specs.Laws.{IsMonotone}
 use Rattle.knowledge.specs.Learning.{Message, event_taken, bad_event_taken, answer_taken, other_taken, changes_of}
-use Rattle.knowledge.specs.Rows.{added_context, added_contexts, answer_changes, are_of_range, begun, begun_for, changed_context, changed_range, changed_register, children_answered, context_answered, event_changes, is_outside, is_part, is_thread_of, joined, joined_for, memory_answered, memory_changes, memory_read, moved_for, parts_read, process_for, properties_answered, register_answered, registers_answered, removed_context, removed_properties, stale_for, state_answered, state_changes, state_of_thread, status_answered, threads_listed, told_properties, unlisted_for, unsettled, unsettled_for, whole_read, word_read}
+use Rattle.knowledge.specs.Rows.{added_context, added_contexts, answer_changes, are_of_range, begun, begun_for, changed_context, changed_range, changed_register, children_answered, context_answered, event_changes, hit_breakpoint, is_outside, is_part, is_thread_of, joined, joined_for, memory_answered, memory_changes, memory_read, moved_for, parts_read, process_for, properties_answered, register_answered, registers_answered, removed_context, removed_properties, stale_for, state_answered, state_changes, state_of_thread, status_answered, threads_listed, told_properties, unlisted_for, unsettled, unsettled_for, whole_read, word_read}
 use Rattle.knowledge.specs.declared.state.StateFact.{StateFact}
 use Rattle.knowledge.proofs.Same.{after_all-append}
 use Rattle.list_laws.proofs.Flags.{or_then}
@@ -488,7 +488,10 @@ event_ready (CtxChanged list) known =
 event_ready (CtxRemoved list) known =
     plain_all (event_changes (CtxRemoved list)) known
     (plain-append (of_each removed_context list) (statuses_gone ∷ []) (plain_each removed_context removed_plain list) (tt, tt))
-event_ready (Suspended id pc reason hits) known = moved_ready (run.Suspended pc reason hits) (context_of id) known
+event_ready (Suspended id pc reason hits) known =
+    ready-append (of_each hit_breakpoint hits) (moved_for (context_of id) (run.Suspended pc reason hits)) known
+    (plain_all (of_each hit_breakpoint hits) known (plain_each hit_breakpoint (λ hit. (tt, tt)) hits))
+    (moved_ready (run.Suspended pc reason hits) (context_of id) (after_all (of_each hit_breakpoint hits) known))
 event_ready (Resumed id) known = moved_ready run.Running (context_of id) known
 event_ready (BpStatusIs id status) known = (tt, tt)
 event_ready (BpAdded list) known = plain_all (of_each told_properties list) known (plain_each told_properties (λ properties. (tt, (tt, tt))) list)

@@ -181,6 +181,10 @@ told_properties properties = properties_told properties.id properties ∷ status
 abbrev pub removed_properties : List ℕ → List Change
 removed_properties id = properties_gone id ∷ status_gone id ∷ []
 
+-- what is hit has another count
+abbrev pub hit_breakpoint : List ℕ → List Change
+hit_breakpoint id = status_gone id ∷ []
+
 -- ---- the events
 
 abbrev pub event_changes : EventData → List Change
@@ -188,7 +192,7 @@ event_changes (Hello list) = all_gone ∷ []
 event_changes (CtxAdded list) = added_contexts list
 event_changes (CtxChanged list) = of_each changed_context list ++ statuses_gone ∷ []
 event_changes (CtxRemoved list) = of_each removed_context list ++ statuses_gone ∷ []
-event_changes (Suspended id pc reason hits) = moved_for (context_of id) (run.Suspended pc reason hits)
+event_changes (Suspended id pc reason hits) = of_each hit_breakpoint hits ++ moved_for (context_of id) (run.Suspended pc reason hits)
 event_changes (Resumed id) = moved_for (context_of id) run.Running
 event_changes (BpStatusIs id status) = status_told id status ∷ []
 event_changes (BpAdded list) = of_each told_properties list

@@ -88,7 +88,7 @@ answer_stands row (Answer.Ids ids) within typed = result_stands row (texts_json 
 answer_stands row (Answer.State state) within typed = (tt, state_stands state typed)
 answer_stands row (Answer.Process process) within typed =
     result_stands row (process_json process) (clean_reads (process_json process) (process_clean process) (omega (arith, process_shallow process)))
-answer_stands row (Answer.Bp props) within typed = result_stands row (bp_json props) (clean_reads (bp_json props) (bp_clean props) (omega (arith, bp_shallow props)))
+answer_stands row (Answer.Bp props) within typed = result_stands row (bp_json props) (clean_reads (bp_json props) (bp_clean props within.1) (omega (arith, bp_shallow props)))
 answer_stands row (Answer.Status status) within typed =
     result_stands row (status_json status) (clean_reads (status_json status) (status_clean status within.1) (omega (arith, status_shallow status)))
 answer_stands row Answer.Capabilities within typed = result_stands row capabilities_json (clean_reads capabilities_json capabilities_clean (lit≤ tt))
@@ -195,7 +195,7 @@ row_none row (Answer.State state) within typed other = state_none row state with
 row_none row (Answer.Process process) within typed other =
     result_none row Kind.Process (process_json process) within (clean_reads (process_json process) (process_clean process) (omega (arith, process_shallow process))) other
 row_none row (Answer.Bp props) within typed other =
-    result_none row Kind.Bp (bp_json props) within.0 (clean_reads (bp_json props) (bp_clean props) (omega (arith, bp_shallow props))) other
+    result_none row Kind.Bp (bp_json props) within.0 (clean_reads (bp_json props) (bp_clean props within.1) (omega (arith, bp_shallow props))) other
 row_none row (Answer.Status status) within typed other =
     result_none row Kind.Status (status_json status) within.0 (clean_reads (status_json status) (status_clean status within.1) (omega (arith, status_shallow status))) other
 row_none row Answer.Capabilities within typed other =

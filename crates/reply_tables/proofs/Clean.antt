@@ -1,6 +1,7 @@
 -- The values of events and answers have numbers that fit, and keys in order.
 use Rattle.std.proofs.Common.{◌≡◌, ℕ, ℤ, pos, negsuc, ◌<◌, ◌^◌, List, [], ◌∷◌, Bool, map, Option, Some, None, option_map, option_and_then, refl, ◌∙◌, ap, arith}
 use Rattle.std.specs.List.{AllByRecursion}
+use Rattle.std.specs.Prelude.{true, IfSome}
 use Rattle.json.specs.Tree as tree
 use Rattle.json.proofs.Printed.Decimals.{IsNumber-decimal, IsNumber-signed_decimal}
 use Rattle.serde_json.specs.Data.{Data, null, boolean, number, string, array, item}
@@ -14,11 +15,12 @@ use Rattle.json_values.specs.Lists.{list_json}
 use Rattle.json_values.specs.Peers.{peer_json, peers_json}
 use Rattle.json_values.specs.Plain.{text_json, texts_json, whole_json}
 use Rattle.json_values.specs.Processes.{process_json}
-use Rattle.json_values.specs.Props.{bp_json}
+use Rattle.json_values.specs.Props.{bp_json, is_bp}
+use Rattle.json_values.specs.PropsLaws.{props_word}
 use Rattle.json_values.specs.Ranges.{IsRange, range_json}
 use Rattle.json_values.specs.Reports.{IsReport, report_json}
 use Rattle.json_values.specs.States.{hits_json}
-use Rattle.json_values.specs.Statuses.{IsInstance, IsStatus, instance_json, status_json}
+use Rattle.json_values.specs.Statuses.{IsCount, IsInstance, IsPlace, IsStatus, instance_json, status_json}
 use Rattle.json_values.specs.Words.{word_json}
 use Rattle.reply_tables.specs.Written.{capabilities_json}
 use Rattle.json_args.proofs.ReadBack.{IsClean}
@@ -95,14 +97,27 @@ context_by context (Some name) (Some parent) is =
 pub context_clean : (context : ContextData) → IsContext context → IsClean (context_json context)
 context_clean context is = context_by context context.name context.parent is
 
-bp_by : (id : List ℕ) (enabled : Bool) (location : Option (List ℕ)) (contexts : Option (List (List ℕ))) → IsClean (bp_json (record { id = id; enabled = enabled; location = location; contexts = contexts }))
-bp_by id enabled None None = record { numbers = (tt, (tt, tt)); reads = refl }
-bp_by id enabled (Some text) None = record { numbers = (tt, (tt, (tt, tt))); reads = refl }
-bp_by id enabled None (Some texts) = let all = texts_clean texts in record { numbers = (all.numbers, (tt, (tt, tt))); reads = rw all.reads }
-bp_by id enabled (Some text) (Some texts) = let all = texts_clean texts in record { numbers = (all.numbers, (tt, (tt, (tt, tt)))); reads = rw all.reads }
+bp_by : (id : List ℕ) (enabled : Bool) (location : Option (List ℕ)) (contexts : Option (List (List ℕ))) (ignore : Option ℕ) → IfSome ignore (λ n. n < 2 ^ 32)
+    → IsClean (bp_json (record { id = id; enabled = enabled; location = location; contexts = contexts; ignore = ignore }))
+bp_by id enabled None None None is = record { numbers = (tt, (tt, tt)); reads = refl }
+bp_by id enabled (Some text) None None is = record { numbers = (tt, (tt, (tt, tt))); reads = refl }
+bp_by id enabled None (Some texts) None is = let all = texts_clean texts in record { numbers = (all.numbers, (tt, (tt, tt))); reads = rw all.reads }
+bp_by id enabled (Some text) (Some texts) None is = let all = texts_clean texts in record { numbers = (all.numbers, (tt, (tt, (tt, tt)))); reads = rw all.reads }
+bp_by id enabled None None (Some n) is =
+    let word = word_clean n (omega (arith, is)) in record { numbers = (tt, (tt, (word.numbers, tt))); reads = rw word.reads }
+bp_by id enabled (Some text) None (Some n) is =
+    let word = word_clean n (omega (arith, is)) in record { numbers = (tt, (tt, (word.numbers, (tt, tt)))); reads = rw word.reads }
+bp_by id enabled None (Some texts) (Some n) is =
+    let all = texts_clean texts in
+    let word = word_clean n (omega (arith, is)) in
+    record { numbers = (all.numbers, (tt, (tt, (word.numbers, tt)))); reads = rw (all.reads, word.reads) }
+bp_by id enabled (Some text) (Some texts) (Some n) is =
+    let all = texts_clean texts in
+    let word = word_clean n (omega (arith, is)) in
+    record { numbers = (all.numbers, (tt, (tt, (word.numbers, (tt, tt))))); reads = rw (all.reads, word.reads) }
 
-pub bp_clean : (props : BpProps) → IsClean (bp_json props)
-bp_clean props = bp_by props.id props.enabled props.location props.contexts
+pub bp_clean : (props : BpProps) → is_bp props ≡ true → IsClean (bp_json props)
+bp_clean props within = bp_by props.id props.enabled props.location props.contexts props.ignore (props_word props within)
 
 pub range_clean : (range : Range) → IsRange range → IsClean (range_json range)
 range_clean range is =
@@ -110,12 +125,15 @@ range_clean range is =
     let size = whole_clean range.size is.1 in
     record { numbers = (addr.numbers, (size.numbers, tt)); reads = rw (addr.reads, size.reads) }
 
-instance_by : (place : Place) (context : List ℕ) → IsInstance (record { context = context; place = place }) → IsClean (instance_json (record { context = context; place = place }))
-instance_by (Address address) context is = let word = word_clean address (omega arith) in record { numbers = (word.numbers, (tt, tt)); reads = rw word.reads }
-instance_by (Error error) context is = record { numbers = (tt, (tt, tt)); reads = refl }
+instance_by : (place : Place) (count : ℕ) (context : List ℕ) → IsPlace place → IsCount place count → IsClean (instance_json (record { context = context; place = place; count = count }))
+instance_by (Address address) count context small few =
+    let word = word_clean address (omega (arith, small)) in
+    let hits = word_clean count (omega (arith, few)) in
+    record { numbers = (word.numbers, (hits.numbers, (tt, tt))); reads = rw (word.reads, hits.reads) }
+instance_by (Error error) count context small none = record { numbers = (tt, (tt, tt)); reads = refl }
 
 pub instance_clean : (instance : Instance) → IsInstance instance → IsClean (instance_json instance)
-instance_clean instance is = instance_by instance.place instance.context is
+instance_clean instance is = instance_by instance.place instance.count instance.context is.0 is.1
 
 pub status_clean : (status : BpStatus) → IsStatus status → IsClean (status_json status)
 status_clean status is = let all = list_clean instance_json IsInstance instance_clean status.instances is in record { numbers = (all.numbers, tt); reads = rw all.reads }
@@ -137,4 +155,4 @@ pub peers_clean : (ids : List (List ℕ)) → IsClean (peers_json ids)
 peers_clean ids = list_clean peer_json (λ _. Unit {0}) peer_clean ids (any ids)
 
 pub capabilities_clean : IsClean capabilities_json
-capabilities_clean = record { numbers = (tt, (tt, tt)); reads = refl }
+capabilities_clean = record { numbers = (tt, (tt, (tt, tt))); reads = refl }

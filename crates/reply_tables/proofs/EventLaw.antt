@@ -74,9 +74,9 @@ event_stands (EventData.Resumed id) within typed = (text_stands id, tt)
 event_stands (EventData.BpStatusIs id status) within typed =
     (text_stands id, (clean_reads (status_json status) (status_clean status within) (omega (arith, status_shallow status)), tt))
 event_stands (EventData.BpAdded list) within typed =
-    (clean_reads (list_json bp_json list) (list_clean bp_json (λ props. is_bp props ≡ true) (λ props _. bp_clean props) list within) (omega (arith, list_shallow bp_json 2 bp_shallow list)), tt)
+    (clean_reads (list_json bp_json list) (list_clean bp_json (λ props. is_bp props ≡ true) bp_clean list within) (omega (arith, list_shallow bp_json 2 bp_shallow list)), tt)
 event_stands (EventData.BpChanged list) within typed =
-    (clean_reads (list_json bp_json list) (list_clean bp_json (λ props. is_bp props ≡ true) (λ props _. bp_clean props) list within) (omega (arith, list_shallow bp_json 2 bp_shallow list)), tt)
+    (clean_reads (list_json bp_json list) (list_clean bp_json (λ props. is_bp props ≡ true) bp_clean list within) (omega (arith, list_shallow bp_json 2 bp_shallow list)), tt)
 event_stands (EventData.BpRemoved list) within typed = (texts_stand list, tt)
 event_stands (EventData.MemChanged id list) within typed =
     (text_stands id, (clean_reads (list_json range_json list) (list_clean range_json IsRange range_clean list within) (omega (arith, list_shallow range_json 1 range_shallow list)), tt))

@@ -75,9 +75,9 @@ events_fit (EventData.Resumed id) small =
 events_fit (EventData.BpStatusIs id status) small =
     two_fits 209192 (codes "Breakpoints") (codes "status") (string id) (status_json status) (lit≤ tt) (lit≤ tt) (lit≤ tt) (text_size 255 id small.0) (status_size status small.1)
 events_fit (EventData.BpAdded list) small =
-    one_fits 903682 (codes "Breakpoints") (codes "contextAdded") (list_json bp_json list) (lit≤ tt) (lit≤ tt) (lit≤ tt) (bps_size list small.0 small.1)
+    one_fits 945666 (codes "Breakpoints") (codes "contextAdded") (list_json bp_json list) (lit≤ tt) (lit≤ tt) (lit≤ tt) (bps_size list small.0 small.1)
 events_fit (EventData.BpChanged list) small =
-    one_fits 903682 (codes "Breakpoints") (codes "contextChanged") (list_json bp_json list) (lit≤ tt) (lit≤ tt) (lit≤ tt) (bps_size list small.0 small.1)
+    one_fits 945666 (codes "Breakpoints") (codes "contextChanged") (list_json bp_json list) (lit≤ tt) (lit≤ tt) (lit≤ tt) (bps_size list small.0 small.1)
 events_fit (EventData.BpRemoved list) small =
     one_fits 392450 (codes "Breakpoints") (codes "contextRemoved") (texts_json list) (lit≤ tt) (lit≤ tt) (lit≤ tt) (words_size list small)
 events_fit (EventData.MemChanged id list) small =
@@ -129,9 +129,10 @@ answer_fits row (Answer.Context context) small = result_fits 398964 row (context
 answer_fits row (Answer.Ids ids) small = result_fits 392450 row (texts_json ids) (lit≤ tt) (words_size ids small)
 answer_fits row (Answer.State state) small = omega (arith, state_size state small)
 answer_fits row (Answer.Process process) small = result_fits 395162 row (process_json process) (lit≤ tt) (process_size process small)
-answer_fits row (Answer.Bp props) small = result_fits 3529 row (bp_json props) (lit≤ tt) (bp_size props small)
+answer_fits row (Answer.Bp props) small = result_fits 3693 row (bp_json props) (lit≤ tt) (bp_size props small)
 answer_fits row (Answer.Status status) small = result_fits 209192 row (status_json status) (lit≤ tt) (status_size status small)
-answer_fits row Answer.Capabilities small = result_fits 212 row capabilities_json (lit≤ tt) (flags_size (codes "ContextIds") (codes "Location") true true (lit≤ tt) (lit≤ tt))
+answer_fits row Answer.Capabilities small =
+    result_fits 317 row capabilities_json (lit≤ tt) (flags_size (codes "ContextIds") (codes "IgnoreCount") (codes "Location") true true true (lit≤ tt) (lit≤ tt) (lit≤ tt))
 answer_fits row (Answer.Blob bytes) small = omega (arith, result_size row (blob_json bytes), blob_size bytes)
 answer_fits row (Answer.Peers ids) small = result_fits 418562 row _ (lit≤ tt) (peers_size ids small)
 answer_fits row (Answer.Count count) small = result_fits 64 row (word_json count) (lit≤ tt) (word_size count)

@@ -23,7 +23,10 @@ use Rattle.tcf_values.specs.declared.values.RunState.TheVariants.{Running, Suspe
 
 -- what breakpoints can do here, one and the same everywhere
 abbrev pub capabilities_json : Data
-capabilities_json = object (member (codes "ContextIds") (boolean true) (member (codes "Location") (boolean true) no_members))
+capabilities_json =
+    object (member (codes "ContextIds") (boolean true)
+    (member (codes "IgnoreCount") (boolean true)
+    (member (codes "Location") (boolean true) no_members)))
 
 -- the flag says whether the thread is suspended
 abbrev pub state_parts : RunState → List (Option Data)

@@ -146,7 +146,7 @@ fn put_state(alloc: Global, state: &RunState, out: &mut Octets) -> Result<(), Al
 fn capabilities_value(alloc: Global) -> Result<Value, AllocError>
     ensures { IfOk result (λ value. view value ≡ capabilities_json) }
 {
-    json!(in alloc; {"ContextIds": true, "Location": true})
+    json!(in alloc; {"ContextIds": true, "IgnoreCount": true, "Location": true})
 }
 
 /// Puts the parts of what breakpoints can do last.

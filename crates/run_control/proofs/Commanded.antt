@@ -11,7 +11,7 @@ use Rattle.tcf_values.specs.declared.faults.Fault.{Fault}
 use Rattle.tcf_values.specs.declared.faults.Fault.TheVariants.{Other, AlreadyStopped, AlreadyRunning, BadContext, BadNumber, Unsupported}
 use Rattle.breakpoints.specs.declared.rows.Placed.{Placed}
 use Rattle.rv32i_core.specs.Machine.{Step, goes_on, ends, excepts, machine, spawns}
-use Rattle.target_contexts.specs.Changes.{targets_by, with_change}
+use Rattle.target_contexts.specs.Changes.{with_change}
 use Rattle.target_contexts.specs.Images.{image_of}
 use Rattle.target_contexts.specs.Live.{IsOrderly, process_of}
 use Rattle.target_contexts.specs.Named.{is_running, is_suspended, is_unattached, number_for, number_named, process_at_number, runs, thread_at_pair, thread_for, thread_named}
@@ -24,16 +24,18 @@ use Rattle.target_contexts.specs.declared.threads.Thread.{Thread}
 use Rattle.target_contexts.specs.declared.process.ThreadState.{ThreadState}
 use Rattle.target_contexts.specs.declared.process.ThreadState.TheVariants.{Running, Suspended}
 use Rattle.run_control.specs.Attaching.{attach_after, attached, detach_after, detached}
-use Rattle.run_control.specs.Commands.{left_of, run_fault, run_left}
+use Rattle.run_control.specs.Commands.{run_fault, run_left}
 use Rattle.run_control.specs.Ending.{end_after}
 use Rattle.run_control.specs.Executing.{hits_at, step_text, stepped}
 use Rattle.run_control.specs.Laws.{AreSound, CommandsKeepSound, IsSound, IsSoundThread, needs_debugger}
 use Rattle.run_control.specs.Naming.{is_empty, process_named}
 use Rattle.run_control.specs.Steering.{is_no_count, is_no_mode, left_by, most_steps, owner_there, resume_after, resume_fault, suspend_after, suspend_fault, thread_there, with_state}
+use Rattle.run_control.specs.TargetValue.{TargetValue, with_contexts}
 use Rattle.run_control.specs.Tracing.{Trace, last_of, next_at, next_by, next_of, run_from, trace_after, trace_fate, trace_fault, trace_of, traced_at, up_to_hit}
 use Rattle.target_contexts.proofs.TheLaws.{starts_one}
 use Rattle.target_contexts.proofs.ThreadLists.{found_thread_is}
 use Rattle.run_control.proofs.Changed.{changed_process, orderly_change, same_or_other}
+use Rattle.run_control.proofs.Left.{by_keeps, left_keeps}
 use Rattle.run_control.proofs.Soundness.{FateSound, attached_sound, fate_sound, sound_change, sound_end, sound_settled, stepped_attached, thread_sound}
 use Rattle.list_laws.proofs.AllLists.{all_map}
 use Rattle.list_laws.proofs.Flags.{not_false}
@@ -104,16 +106,6 @@ not_unattached : (rows : List (ℕ × ProcessValue)) (named : Option ℕ) (n : �
 not_unattached rows named n p checked is there =
     not_false p.attached (sym (ap is_unattached there) ∙ sym (ap (λ (m : Option ℕ). is_unattached (process_at_number m rows)) is) ∙ checked)
 
--- ---- a command that fails changes nothing, and one whose text names nothing neither
-
-keeps : (fault : Option Fault) (left targets : TargetsValue) → (fault ≡ None → AreSound left.processes) → AreSound targets.processes → AreSound (targets_by fault left targets).processes
-keeps None left targets given sound = given refl
-keeps (Some fault) left targets given sound = sound
-
-left_sound : {A : Type 0} → (change : A → TargetsValue → TargetsValue) (named : Option A) (targets : TargetsValue) → ((one : A) → named ≡ Some one → AreSound (change one targets).processes) → AreSound targets.processes → AreSound (left_of change named targets).processes
-left_sound change None targets given sound = sound
-left_sound change (Some n) targets given sound = given n refl
-
 -- ---- a trace
 
 next_by_attached : (step : Step) (after q : ProcessValue) → next_by step after ≡ Some q → after ≡ q
@@ -145,15 +137,18 @@ last_attached bps number n (suc count) p = last_next bps number n count p (next_
 some_same : (p q : ProcessValue) (found : Option ProcessValue) → found ≡ Some p → Some q ≡ found → p ≡ q
 some_same p q found there is = cc
 
-trace_at : (bps : List Placed) (number n count : ℕ) (targets : TargetsValue) (found : Option ProcessValue) → process_of number targets.processes ≡ found → ((p : ProcessValue) → found ≡ Some p → p.attached ≡ true) → IsOrderly targets.processes targets.next → AreSound targets.processes → AreSound (traced_at bps number n count found targets).processes
-trace_at bps number n count targets None there checked orderly sound = sound
-trace_at bps number n count targets (Some p) there checked orderly sound =
+trace_at : (number n count : ℕ) (target : TargetValue) (found : Option ProcessValue) → process_of number target.contexts.processes ≡ found → ((p : ProcessValue) → found ≡ Some p → p.attached ≡ true)
+    → IsOrderly target.contexts.processes target.contexts.next → AreSound target.contexts.processes → AreSound (traced_at number n count found target).contexts.processes
+trace_at number n count target None there checked orderly sound = sound
+trace_at number n count target (Some p) there checked orderly sound =
+    let targets : TargetsValue = target.contexts in
+    let bps : List Placed = target.breakpoints in
     let trace : Trace = trace_of bps number n count p in
     let change = λ (q : ProcessValue). trace.process in
     let after : TargetsValue = with_change change number targets in
     let mine : p.attached ≡ true = checked p refl in
     let last : trace.process.attached ≡ p.attached = last_attached bps number n count p in
-    sound_settled number n (trace_fate p trace) after (orderly_change change number targets orderly)
+    sound_settled number n (trace_fate p trace) (with_contexts (with_change change number) target) (orderly_change change number targets orderly)
     (λ q found. subst (FateSound (trace_fate p trace))
     (sym (ap (λ (r : ProcessValue). r.attached) (some_same q trace.process (process_of number after.processes) found (ap (option_map change) (sym there) ∙ sym (changed_process change number targets))) ∙ last))
     (fate_sound (Suspended step_text []) p.attached trace.stop (λ _. mine) (λ hits hit. mine)))
@@ -181,43 +176,51 @@ start_sound attach targets (Some image) orderly sound = λ other p there.
 detached_sound : (process : ProcessValue) → IsSound (detached process)
 detached_sound process = all_map (IsSoundThread false) (with_state (Running None)) process.threads (λ thread needs. absurd cc)
 
+abbrev SoundTargets : TargetsValue → Type 0
+SoundTargets targets = AreSound targets.processes
+
+abbrev SoundTarget : TargetValue → Type 0
+SoundTarget target = AreSound target.contexts.processes
+
 pub commands_sound : CommandsKeepSound
-commands_sound (Resume id mode count) bps targets orderly sound =
+commands_sound (Resume id mode count) target orderly sound =
+    let targets : TargetsValue = target.contexts in
     let rows = targets.processes in
     let state : ThreadState = Running (left_by mode count) in
-    keeps (run_fault (Resume id mode count) targets) (run_left (Resume id mode count) bps targets) targets (λ free.
-    left_sound (λ pair. resume_after (left_by mode count) pair.0 pair.1) (thread_named id) targets (λ pair is.
+    by_keeps SoundTarget (run_fault (Resume id mode count) targets) (run_left (Resume id mode count) target) target (λ free.
+    left_keeps SoundTargets (λ pair. resume_after (left_by mode count) pair.0 pair.1) (thread_named id) targets (λ pair is.
     sound_change (in_thread (with_state state) pair.1) pair.0 targets (λ p there.
     thread_sound (with_state state) pair.1 p (λ t found was needs.
     stands_attached rows (thread_named id) pair p t sound (resume_stands id mode count rows free) is there found) (sound pair.0 p there)) sound) sound) sound
-commands_sound (Suspend id) bps targets orderly sound =
+commands_sound (Suspend id) target orderly sound =
+    let targets : TargetsValue = target.contexts in
     let rows = targets.processes in
     let state : ThreadState = Suspended suspended_text [] in
-    keeps (run_fault (Suspend id) targets) (run_left (Suspend id) bps targets) targets (λ free.
-    left_sound (λ pair. suspend_after pair.0 pair.1) (thread_named id) targets (λ pair is.
+    by_keeps SoundTarget (run_fault (Suspend id) targets) (run_left (Suspend id) target) target (λ free.
+    left_keeps SoundTargets (λ pair. suspend_after pair.0 pair.1) (thread_named id) targets (λ pair is.
     sound_change (in_thread (with_state state) pair.1) pair.0 targets (λ p there.
     thread_sound (with_state state) pair.1 p (λ t found was needs.
     not_unattached rows (number_named id) pair.0 p (suspend_attached id rows free) (same_number (context_of id) pair is) there) (sound pair.0 p there)) sound) sound) sound
-commands_sound (Terminate id) bps targets orderly sound =
-    keeps (run_fault (Terminate id) targets) (run_left (Terminate id) bps targets) targets (λ free.
-    left_sound end_after (number_named id) targets (λ n is. sound_end n targets orderly sound) sound) sound
-commands_sound (ProcStart directory file args environment attach) bps targets orderly sound =
-    keeps (run_fault (ProcStart directory file args environment attach) targets) (run_left (ProcStart directory file args environment attach) bps targets) targets (λ free.
-    start_sound attach targets (image_of file targets.images) orderly sound) sound
-commands_sound (ProcAttach id) bps targets orderly sound =
-    keeps (run_fault (ProcAttach id) targets) (run_left (ProcAttach id) bps targets) targets (λ free.
-    left_sound attach_after (process_named id) targets (λ n is. sound_change attached n targets (λ p there. attached_sound (attached p) refl) sound) sound) sound
-commands_sound (ProcDetach id) bps targets orderly sound =
-    keeps (run_fault (ProcDetach id) targets) (run_left (ProcDetach id) bps targets) targets (λ free.
-    left_sound detach_after (process_named id) targets (λ n is. sound_change detached n targets (λ p there. detached_sound p) sound) sound) sound
-commands_sound (ProcTerminate id) bps targets orderly sound =
-    keeps (run_fault (ProcTerminate id) targets) (run_left (ProcTerminate id) bps targets) targets (λ free.
-    left_sound end_after (process_named id) targets (λ n is. sound_end n targets orderly sound) sound) sound
-commands_sound (TraceRun id count) bps targets orderly sound =
-    let rows = targets.processes in
-    keeps (run_fault (TraceRun id count) targets) (run_left (TraceRun id count) bps targets) targets (λ free.
-    left_sound (λ pair. trace_after bps (unsigned_abs count) pair.0 pair.1) (thread_named id) targets (λ pair is.
-    trace_at bps pair.0 pair.1 (unsigned_abs count) targets (process_of pair.0 rows) refl (λ p there.
+commands_sound (Terminate id) target orderly sound =
+    by_keeps SoundTarget (run_fault (Terminate id) target.contexts) (run_left (Terminate id) target) target (λ free.
+    left_keeps SoundTarget end_after (number_named id) target (λ n is. sound_end n target.contexts orderly sound) sound) sound
+commands_sound (ProcStart directory file args environment attach) target orderly sound =
+    by_keeps SoundTarget (run_fault (ProcStart directory file args environment attach) target.contexts) (run_left (ProcStart directory file args environment attach) target) target (λ free.
+    start_sound attach target.contexts (image_of file target.contexts.images) orderly sound) sound
+commands_sound (ProcAttach id) target orderly sound =
+    by_keeps SoundTarget (run_fault (ProcAttach id) target.contexts) (run_left (ProcAttach id) target) target (λ free.
+    left_keeps SoundTarget attach_after (process_named id) target (λ n is. sound_change attached n target.contexts (λ p there. attached_sound (attached p) refl) sound) sound) sound
+commands_sound (ProcDetach id) target orderly sound =
+    by_keeps SoundTarget (run_fault (ProcDetach id) target.contexts) (run_left (ProcDetach id) target) target (λ free.
+    left_keeps SoundTarget detach_after (process_named id) target (λ n is. sound_change detached n target.contexts (λ p there. detached_sound p) sound) sound) sound
+commands_sound (ProcTerminate id) target orderly sound =
+    by_keeps SoundTarget (run_fault (ProcTerminate id) target.contexts) (run_left (ProcTerminate id) target) target (λ free.
+    left_keeps SoundTarget end_after (process_named id) target (λ n is. sound_end n target.contexts orderly sound) sound) sound
+commands_sound (TraceRun id count) target orderly sound =
+    let rows = target.contexts.processes in
+    by_keeps SoundTarget (run_fault (TraceRun id count) target.contexts) (run_left (TraceRun id count) target) target (λ free.
+    left_keeps SoundTarget (λ pair. trace_after (unsigned_abs count) pair.0 pair.1) (thread_named id) target (λ pair is.
+    trace_at pair.0 pair.1 (unsigned_abs count) target (process_of pair.0 rows) refl (λ p there.
     stands_by rows (thread_named id) pair p (thread_at pair.1 p) refl sound (trace_there id count rows free) (trace_stands id count rows free) is there) orderly sound) sound) sound
-commands_sound command bps targets orderly sound =
-    keeps (run_fault command targets) targets targets (λ free. sound) sound
+commands_sound command target orderly sound =
+    by_keeps SoundTarget (run_fault command target.contexts) target target (λ free. sound) sound

@@ -1,23 +1,20 @@
--- What one instruction of a thread comes to where the machine leaves the thread and memory as they were.
+-- What one instruction of a thread comes to.
 use Rattle.std.proofs.Common.{◌≡◌, ℕ, List, Option, Some, sym, ◌∙◌, ap}
-use Rattle.breakpoints.specs.declared.rows.Placed.{Placed}
 use Rattle.rv32i_core.specs.Machine.{Step, machine, spawns}
 use Rattle.rv32i_core.specs.declared.registers.Cpu.{Cpu}
 use Rattle.target_contexts.specs.ProcessValue.{ProcessValue}
 use Rattle.target_contexts.specs.ThreadList.{with_numbered}
 use Rattle.target_contexts.specs.Threads.{thread_at, with_thread}
 use Rattle.target_contexts.specs.declared.threads.Thread.{Thread}
-use Rattle.run_control.specs.Executing.{executed_at, executed_by, executed_of, executed_with, hits_at, spawned, stepped, stepped_at, stepped_by}
+use Rattle.run_control.specs.Executing.{halt_at, halt_by, halt_of, spawned, stepped, stepped_at, stepped_by}
+use Rattle.run_control.specs.declared.executing.Executed.TheVariants.{Plain}
 use Rattle.target_contexts.proofs.TheLaws.{thread_put_back}
 
 step_there : (n : ℕ) (p : ProcessValue) (thread : Thread) (step : Step) → thread_at n p ≡ Some thread → machine thread.cpu p.memory ≡ step → stepped n p ≡ stepped_by step n p
 step_there n p thread step there is = ap (λ (o : Option Thread). stepped_at n o p) there ∙ ap (λ (s : Step). stepped_by s n p) is
 
-executed_there : (bps : List Placed) (number n : ℕ) (p : ProcessValue) (thread : Thread) (step : Step) → thread_at n p ≡ Some thread → machine thread.cpu p.memory ≡ step
-    → executed_of bps number n p ≡ executed_by (hits_at bps number n (stepped n p)) step
-executed_there bps number n p thread step there is =
-    let hits : List (List ℕ) = hits_at bps number n (stepped n p) in
-    ap (λ (o : Option Thread). executed_at hits o p) there ∙ ap (executed_by hits) is
+halt_there : (n : ℕ) (p : ProcessValue) (thread : Thread) (step : Step) → thread_at n p ≡ Some thread → machine thread.cpu p.memory ≡ step → halt_of n p ≡ halt_by step
+halt_there n p thread step there is = ap (λ (o : Option Thread). halt_at o p) there ∙ ap halt_by is
 
 -- the process of which a thread and memory are as the machine left them
 abbrev pub left : ℕ → Thread → Cpu → List ℕ → ProcessValue → ProcessValue
@@ -47,10 +44,7 @@ spawn_stepped n entry argument p given q thread cpu before memory there ready sa
     ∙ sym (step_there n p thread (spawns entry argument) there (sym (is ∙ ap (machine thread.cpu) ready)))
     ∙ ap (stepped n) same
 
--- and then it is tested for breakpoints
-pub spawn_executed : (bps : List Placed) (number n entry argument : ℕ) (p given q : ProcessValue) (thread : Thread) (before : List ℕ) → thread_at n p ≡ Some thread → before ≡ p.memory → p ≡ given
-    → spawns entry argument ≡ machine thread.cpu before → q ≡ stepped n given → executed_with (hits_at bps number n q) ≡ executed_of bps number n given
-spawn_executed bps number n entry argument p given q thread before there ready same is after =
-    ap (λ (r : ProcessValue). executed_with (hits_at bps number n r)) (after ∙ sym (ap (stepped n) same))
-    ∙ sym (executed_there bps number n p thread (spawns entry argument) there (sym (is ∙ ap (machine thread.cpu) ready)))
-    ∙ ap (executed_of bps number n) same
+pub spawn_halted : (n entry argument : ℕ) (p given : ProcessValue) (thread : Thread) (before : List ℕ) → thread_at n p ≡ Some thread → before ≡ p.memory → p ≡ given
+    → spawns entry argument ≡ machine thread.cpu before → Plain ≡ halt_of n given
+spawn_halted n entry argument p given thread before there ready same is =
+    sym (halt_there n p thread (spawns entry argument) there (sym (is ∙ ap (machine thread.cpu) ready))) ∙ ap (halt_of n) same

@@ -5,7 +5,9 @@ pub mod Steps
 pub mod Executed
 pub mod Traces
 pub mod Changed
-pub mod Told
+pub mod Settled
+pub mod Left
+pub mod Counted
 pub mod Short
 pub mod Soundness
 pub mod Commanded

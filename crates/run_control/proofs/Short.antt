@@ -6,12 +6,11 @@ use Rattle.std.specs.Prelude.{unsigned_abs}
 use Rattle.std.proofs.lemmas.List.{length-map}
 use Rattle.tcf_values.specs.declared.command.Command.{Command}
 use Rattle.tcf_values.specs.declared.command.Command.TheVariants.{Resume, Suspend, Terminate, ProcStart, ProcAttach, ProcDetach, ProcTerminate, TraceRun}
-use Rattle.tcf_values.specs.declared.faults.Fault.{Fault}
 use Rattle.breakpoints.specs.declared.rows.Placed.{Placed}
 use Rattle.rv32i_core.specs.Machine.{Step, goes_on, ends, excepts, machine, spawns}
 use Rattle.breakpoints.specs.Rows.{ids_of}
 use Rattle.breakpoints.specs.Status.{hits_of, is_hit}
-use Rattle.target_contexts.specs.Changes.{targets_by, with_change}
+use Rattle.target_contexts.specs.Changes.{with_change}
 use Rattle.target_contexts.specs.Live.{process_of}
 use Rattle.target_contexts.specs.Named.{number_named, thread_named}
 use Rattle.target_contexts.specs.Short.{AllShort, AreShort, AreShortThreads, IsShort, IsShortState}
@@ -24,18 +23,20 @@ use Rattle.target_contexts.specs.declared.threads.Thread.{Thread}
 use Rattle.target_contexts.specs.declared.process.ThreadState.{ThreadState}
 use Rattle.target_contexts.specs.declared.process.ThreadState.TheVariants.{Running, Suspended}
 use Rattle.run_control.specs.Attaching.{attach_after, attached, detach_after, detached, with_states}
-use Rattle.run_control.specs.Commands.{left_of, run_fault, run_left}
+use Rattle.run_control.specs.Commands.{run_fault, run_left}
 use Rattle.run_control.specs.Ending.{end_after}
-use Rattle.run_control.specs.Executing.{breakpoint_text, exception_text, executed_at, executed_by, executed_of, executed_with, fate_by, hits_at, hits_in, result_for, settled, step_text, stepped, stepped_at, stepped_by, with_cpu, with_result}
+use Rattle.run_control.specs.Executing.{breakpoint_text, exception_text, fate_by, halt_at, halt_by, halt_of, hits_at, hits_in, result_for, settled, step_text, stepped, stepped_at, stepped_by, with_cpu, with_result}
 use Rattle.run_control.specs.Naming.{process_named}
 use Rattle.run_control.specs.Short.{CommandsKeepShort, TicksKeepShort}
 use Rattle.run_control.specs.Steering.{left_by, resume_after, suspend_after, with_state}
-use Rattle.run_control.specs.Ticking.{counted, counted_by, counted_in, running_pair, tick_fate, ticked, ticked_at}
-use Rattle.run_control.specs.Tracing.{Trace, halt_at, halt_by, last_hits, last_of, next_at, next_by, next_of, run_from, states_of, stop_by, trace_after, trace_fate, trace_of, traced_at, up_to_hit}
+use Rattle.run_control.specs.TargetValue.{TargetValue, with_contexts}
+use Rattle.run_control.specs.Ticking.{counted, counted_by, counted_in, executed_after, hit_state, is_stopped, running_pair, tick_fate, tick_fate_by, ticked, ticked_at, with_hits}
+use Rattle.run_control.specs.Tracing.{Trace, last_hits, last_of, next_at, next_by, next_of, run_from, states_of, stop_by, trace_after, trace_fate, trace_of, traced_at, up_to_hit}
 use Rattle.run_control.specs.declared.executing.Executed.{Executed}
 use Rattle.run_control.specs.declared.executing.Executed.TheVariants.{Plain, Hit, Exit, Exception}
 use Rattle.run_control.specs.declared.executing.Fate.{Fate}
 use Rattle.run_control.specs.declared.executing.Fate.TheVariants.{Ends, Lives}
+use Rattle.run_control.proofs.Left.{by_keeps, left_keeps}
 use Rattle.target_contexts.proofs.TheLaws.{begin_stays_short, change_stays_short, end_stays_short, found_is_short, start_stays_short, thread_stays_short}
 use Rattle.target_contexts.proofs.ThreadLists.{found_thread_is}
 use Rattle.list_laws.proofs.AllLists.{all_map}
@@ -86,7 +87,7 @@ at_short bps number n process ids = in_short bps number process.attached (thread
 
 abbrev IsShortFate : Fate → Type 0
 IsShortFate (Ends code) = Unit {0}
-IsShortFate (Lives state) = IsShortState state
+IsShortFate (Lives state hits) = IsShortState state
 
 abbrev IsShortEnd : Executed → Type 0
 IsShortEnd Plain = Unit {0}
@@ -106,7 +107,7 @@ hit_short : (hits : List (List ℕ)) → AreShort hits → IsShortState (Suspend
 unfolding breakpoint_text
 hit_short hits short = (lit≤ tt, short)
 
-exception_short : (attached : Bool) (code : ℤ) → IsShortFate (cond attached (Lives (Suspended exception_text [])) (Ends code))
+exception_short : (attached : Bool) (code : ℤ) → IsShortFate (cond attached (Lives (Suspended exception_text []) []) (Ends code))
 unfolding exception_text
 exception_short true code = (lit≤ tt, (lit≤ tt, tt))
 exception_short false code = tt
@@ -120,10 +121,10 @@ fate_short plain attached Exception short end = exception_short attached _
 state_short : (state : ThreadState) (n : ℕ) (process : ProcessValue) → IsShortState state → IsShort process → IsShort (in_thread (with_state state) n process)
 state_short state n process short is = thread_stays_short (with_state state) n process (λ thread was. short) is
 
-settled_short : (number n : ℕ) (fate : Fate) (targets : TargetsValue) → IsShortFate fate → AllShort targets.processes → AllShort (settled number n fate targets).processes
-settled_short number n (Ends code) targets short all = end_stays_short targets.processes number all
-settled_short number n (Lives state) targets short all =
-    change_stays_short (in_thread (with_state state) n) number targets (λ process is. state_short state n process short is) all
+settled_short : (number n : ℕ) (fate : Fate) (target : TargetValue) → IsShortFate fate → AllShort target.contexts.processes → AllShort (settled number n fate target).contexts.processes
+settled_short number n (Ends code) target short all = end_stays_short target.contexts.processes number all
+settled_short number n (Lives state hits) target short all =
+    change_stays_short (in_thread (with_state state) n) number target.contexts (λ process is. state_short state n process short is) all
 
 -- ---- a tick
 
@@ -144,23 +145,37 @@ counted_in_short n process None there all = tt
 counted_in_short n process (Some thread) there all =
     counted_short thread.state (found_thread_is (λ (t : Thread). IsShortState t.state) n thread process there all)
 
-with_short : (hits : List (List ℕ)) → AreShort hits → IsShortEnd (executed_with hits)
-with_short [] short = tt
-with_short (hit ∷ hits) short = short
+hits_state_short : (hits : List (List ℕ)) (plain : ThreadState) → AreShort hits → IsShortState plain → IsShortState (with_hits hits plain)
+hits_state_short hits (Running left) short plain = tt
+hits_state_short hits (Suspended reason others) short plain = (plain.0, short)
 
-executed_by_short : (hits : List (List ℕ)) (step : Step) → AreShort hits → IsShortEnd (executed_by hits step)
-executed_by_short hits (goes_on cpu memory) short = with_short hits short
-executed_by_short hits (ends code) short = tt
-executed_by_short hits (spawns entry argument) short = with_short hits short
-executed_by_short hits excepts short = tt
+hit_state_short : (hits : List (List ℕ)) (stops : Bool) (plain : ThreadState) → AreShort hits → IsShortState plain → IsShortState (hit_state hits stops plain)
+hit_state_short [] stops plain short is = is
+hit_state_short (hit ∷ hits) true plain short is = hit_short (hit ∷ hits) short
+hit_state_short (hit ∷ hits) false plain short is = hits_state_short (hit ∷ hits) plain short is
 
-executed_at_short : (hits : List (List ℕ)) (found : Option Thread) (process : ProcessValue) → AreShort hits → IsShortEnd (executed_at hits found process)
-executed_at_short hits None process short = tt
-executed_at_short hits (Some thread) process short = executed_by_short hits (machine thread.cpu process.memory) short
+-- an instruction alone hits nothing
+tick_by_short : (hits : List (List ℕ)) (stops : Bool) (plain : ThreadState) (attached : Bool) (executed : Executed) → AreShort hits → IsShortState plain → IsShortEnd executed → IsShortFate (tick_fate_by hits stops plain attached executed)
+tick_by_short hits stops plain attached Plain short is end = hit_state_short hits stops plain short is
+tick_by_short hits stops plain attached (Hit others) short is end = hit_short others end
+tick_by_short hits stops plain attached (Exit code) short is end = tt
+tick_by_short hits stops plain attached Exception short is end = exception_short attached _
 
-executed_short : (bps : List Placed) (number n : ℕ) (process : ProcessValue) → AreShort (ids_of bps) → IsShortEnd (executed_of bps number n process)
-executed_short bps number n process ids =
-    executed_at_short (hits_at bps number n (stepped n process)) (thread_at n process) process (at_short bps number n (stepped n process) ids)
+halt_short : (step : Step) → IsShortEnd (halt_by step)
+halt_short (goes_on cpu memory) = tt
+halt_short (ends code) = tt
+halt_short (spawns entry argument) = tt
+halt_short excepts = tt
+
+halt_at_short : (found : Option Thread) (last : ProcessValue) → IsShortEnd (halt_at found last)
+halt_at_short None last = tt
+halt_at_short (Some thread) last = halt_short (machine thread.cpu last.memory)
+
+tick_fate_short : (bps : List Placed) (number n : ℕ) (process : ProcessValue) → AreShort (ids_of bps) → IsShort process → IsShortFate (tick_fate bps number n process)
+tick_fate_short bps number n process ids is =
+    let after : ProcessValue = stepped n process in
+    tick_by_short (hits_at bps number n after) (is_stopped bps number n after) (counted_in (thread_at n process)) process.attached (halt_of n process)
+    (at_short bps number n after ids) (counted_in_short n process (thread_at n process) refl is.threads) (halt_at_short (thread_at n process) process)
 
 memory_short : (memory : List ℕ) (process : ProcessValue) → IsShort process → IsShort (record process { memory = memory })
 memory_short memory process is = record { name = is.name; threads = is.threads; count = is.count }
@@ -180,23 +195,23 @@ stepped_at_short n (Some thread) process is = stepped_by_short (machine thread.c
 stepped_short : (n : ℕ) (process : ProcessValue) → IsShort process → IsShort (stepped n process)
 stepped_short n process is = stepped_at_short n (thread_at n process) process is
 
-tick_at_short : (bps : List Placed) (number n : ℕ) (found : Option ProcessValue) (targets : TargetsValue) → AreShort (ids_of bps) → ((process : ProcessValue) → found ≡ Some process → IsShort process)
-    → AllShort targets.processes → AllShort (ticked_at bps number n found targets).processes
-tick_at_short bps number n None targets ids each all = all
-tick_at_short bps number n (Some process) targets ids each all =
-    settled_short number n (tick_fate bps number n process) (with_change (stepped n) number targets)
-    (fate_short (counted_in (thread_at n process)) process.attached (executed_of bps number n process)
-    (counted_in_short n process (thread_at n process) refl (each process refl).threads) (executed_short bps number n process ids))
-    (change_stays_short (stepped n) number targets (λ p is. stepped_short n p is) all)
+tick_at_short : (number n : ℕ) (found : Option ProcessValue) (target : TargetValue) → AreShort (ids_of target.breakpoints) → ((process : ProcessValue) → found ≡ Some process → IsShort process)
+    → AllShort target.contexts.processes → AllShort (ticked_at number n found target).contexts.processes
+tick_at_short number n None target ids each all = all
+tick_at_short number n (Some process) target ids each all =
+    settled_short number n (tick_fate target.breakpoints number n process) (executed_after number n process target)
+    (tick_fate_short target.breakpoints number n process ids (each process refl))
+    (change_stays_short (stepped n) number target.contexts (λ p is. stepped_short n p is) all)
 
-tick_short : (bps : List Placed) (pair : Option (ℕ × ℕ)) (targets : TargetsValue) → AreShort (ids_of bps) → AllShort targets.processes
-    → AllShort (option_map_or (λ p. ticked bps p.0 p.1 targets) pair targets).processes
-tick_short bps None targets ids all = all
-tick_short bps (Some pair) targets ids all =
-    tick_at_short bps pair.0 pair.1 (process_of pair.0 targets.processes) targets ids (λ process there. found_is_short targets.processes pair.0 process all there) all
+tick_short : (pair : Option (ℕ × ℕ)) (target : TargetValue) → AreShort (ids_of target.breakpoints) → AllShort target.contexts.processes
+    → AllShort (option_map_or (λ p. ticked p.0 p.1 target) pair target).contexts.processes
+tick_short None target ids all = all
+tick_short (Some pair) target ids all =
+    let rows = target.contexts.processes in
+    tick_at_short pair.0 pair.1 (process_of pair.0 rows) target ids (λ process there. found_is_short rows pair.0 process all there) all
 
 pub ticks_short : TicksKeepShort
-ticks_short thread bps targets ids all = tick_short bps (running_pair thread targets.processes) targets ids all
+ticks_short thread target ids all = tick_short (running_pair thread target.contexts.processes) target ids all
 
 -- ---- a trace
 
@@ -239,43 +254,31 @@ last_hits_short : (bps : List Placed) (number n : ℕ) (process : ProcessValue) 
 last_hits_short bps number n process [] ids = (lit≤ tt, tt)
 last_hits_short bps number n process (state ∷ states) ids = at_short bps number n (last_of state states) ids
 
-halt_short : (step : Step) → IsShortEnd (halt_by step)
-halt_short (goes_on cpu memory) = tt
-halt_short (ends code) = tt
-halt_short (spawns entry argument) = tt
-halt_short excepts = tt
-
-halt_at_short : (found : Option Thread) (last : ProcessValue) → IsShortEnd (halt_at found last)
-halt_at_short None last = tt
-halt_at_short (Some thread) last = halt_short (machine thread.cpu last.memory)
-
 stop_short : (hits : List (List ℕ)) (all : Bool) (n : ℕ) (last : ProcessValue) → AreShort hits → IsShortEnd (stop_by hits all n last)
 stop_short (hit ∷ hits) all n last short = short
 stop_short [] true n last short = tt
 stop_short [] false n last short = halt_at_short (thread_at n last) last
 
-traced_short : (bps : List Placed) (number n count : ℕ) (found : Option ProcessValue) (targets : TargetsValue) → AreShort (ids_of bps) → ((process : ProcessValue) → found ≡ Some process → IsShort process)
-    → AllShort targets.processes → AllShort (traced_at bps number n count found targets).processes
-traced_short bps number n count None targets ids each all = all
-traced_short bps number n count (Some process) targets ids each all =
+traced_short : (number n count : ℕ) (found : Option ProcessValue) (target : TargetValue) → AreShort (ids_of target.breakpoints) → ((process : ProcessValue) → found ≡ Some process → IsShort process)
+    → AllShort target.contexts.processes → AllShort (traced_at number n count found target).contexts.processes
+traced_short number n count None target ids each all = all
+traced_short number n count (Some process) target ids each all =
+    let bps : List Placed = target.breakpoints in
     let is = each process refl in
     let states = states_of bps number n count process in
     let trace : Trace = trace_of bps number n count process in
     let last : IsShort trace.process = last_short process states is (up_to_short bps number n (run_from n count process) (run_short n count process is)) in
-    settled_short number n (trace_fate process trace) (with_change (λ _. trace.process) number targets)
+    settled_short number n (trace_fate process trace) (with_contexts (with_change (λ _. trace.process) number) target)
     (fate_short (Suspended step_text []) process.attached trace.stop step_short (stop_short (last_hits bps number n process states) (length states == count) n (last_of process states) (last_hits_short bps number n process states ids)))
-    (change_stays_short (λ _. trace.process) number targets (λ p short. last) all)
+    (change_stays_short (λ _. trace.process) number target.contexts (λ p short. last) all)
 
 -- ---- each command
 
-kept_by : (fault : Option Fault) (left targets : TargetsValue) → AllShort left.processes → AllShort targets.processes → AllShort (targets_by fault left targets).processes
-kept_by None left targets given all = given
-kept_by (Some fault) left targets given all = all
+abbrev ShortTargets : TargetsValue → Type 0
+ShortTargets targets = AllShort targets.processes
 
-left_short : {A : Type 0} → (change : A → TargetsValue → TargetsValue) (named : Option A) (targets : TargetsValue) → ((one : A) → AllShort (change one targets).processes) → AllShort targets.processes
-    → AllShort (left_of change named targets).processes
-left_short change None targets given all = all
-left_short change (Some one) targets given all = given one
+abbrev ShortTarget : TargetValue → Type 0
+ShortTarget target = AllShort target.contexts.processes
 
 state_left : (state : ThreadState) (number n : ℕ) (targets : TargetsValue) → IsShortState state → AllShort targets.processes → AllShort (with_change (in_thread (with_state state) n) number targets).processes
 state_left state number n targets short all = change_stays_short (in_thread (with_state state) n) number targets (λ process is. state_short state n process short is) all
@@ -293,24 +296,30 @@ states_short state process short is =
 flag_short : (attached : Bool) (process : ProcessValue) → IsShort process → IsShort (record process { attached = attached })
 flag_short attached process is = record { name = is.name; threads = is.threads; count = is.count }
 
-run_left_short : (command : Command) (bps : List Placed) (targets : TargetsValue) → AreShort (ids_of bps) → AllShort targets.processes → AllShort (run_left command bps targets).processes
-run_left_short (Resume id mode count) bps targets ids all =
-    left_short (λ pair. resume_after (left_by mode count) pair.0 pair.1) (thread_named id) targets (λ pair. state_left (Running (left_by mode count)) pair.0 pair.1 targets tt all) all
-run_left_short (Suspend id) bps targets ids all =
-    left_short (λ pair. suspend_after pair.0 pair.1) (thread_named id) targets (λ pair. state_left (Suspended suspended_text []) pair.0 pair.1 targets suspended_short all) all
-run_left_short (Terminate id) bps targets ids all = left_short end_after (number_named id) targets (λ n. end_stays_short targets.processes n all) all
-run_left_short (ProcStart directory file args environment attach) bps targets ids all = start_stays_short file attach targets all
-run_left_short (ProcAttach id) bps targets ids all =
-    left_short attach_after (process_named id) targets (λ n. change_stays_short attached n targets
+run_left_short : (command : Command) (target : TargetValue) → AreShort (ids_of target.breakpoints) → AllShort target.contexts.processes → AllShort (run_left command target).contexts.processes
+run_left_short (Resume id mode count) target ids all =
+    left_keeps ShortTargets (λ pair. resume_after (left_by mode count) pair.0 pair.1) (thread_named id) target.contexts
+    (λ pair is. state_left (Running (left_by mode count)) pair.0 pair.1 target.contexts tt all) all
+run_left_short (Suspend id) target ids all =
+    left_keeps ShortTargets (λ pair. suspend_after pair.0 pair.1) (thread_named id) target.contexts
+    (λ pair is. state_left (Suspended suspended_text []) pair.0 pair.1 target.contexts suspended_short all) all
+run_left_short (Terminate id) target ids all =
+    left_keeps ShortTarget end_after (number_named id) target (λ n is. end_stays_short target.contexts.processes n all) all
+run_left_short (ProcStart directory file args environment attach) target ids all = start_stays_short file attach target.contexts all
+run_left_short (ProcAttach id) target ids all =
+    left_keeps ShortTarget attach_after (process_named id) target (λ n named. change_stays_short attached n target.contexts
     (λ process is. flag_short true (with_states (Suspended suspended_text []) process) (states_short (Suspended suspended_text []) process suspended_short is)) all) all
-run_left_short (ProcDetach id) bps targets ids all =
-    left_short detach_after (process_named id) targets (λ n. change_stays_short detached n targets
+run_left_short (ProcDetach id) target ids all =
+    left_keeps ShortTarget detach_after (process_named id) target (λ n named. change_stays_short detached n target.contexts
     (λ process is. flag_short false (with_states (Running None) process) (states_short (Running None) process tt is)) all) all
-run_left_short (ProcTerminate id) bps targets ids all = left_short end_after (process_named id) targets (λ n. end_stays_short targets.processes n all) all
-run_left_short (TraceRun id count) bps targets ids all =
-    left_short (λ pair. trace_after bps (unsigned_abs count) pair.0 pair.1) (thread_named id) targets
-    (λ pair. traced_short bps pair.0 pair.1 (unsigned_abs count) (process_of pair.0 targets.processes) targets ids (λ process there. found_is_short targets.processes pair.0 process all there) all) all
-run_left_short command bps targets ids all = all
+run_left_short (ProcTerminate id) target ids all =
+    left_keeps ShortTarget end_after (process_named id) target (λ n is. end_stays_short target.contexts.processes n all) all
+run_left_short (TraceRun id count) target ids all =
+    let rows = target.contexts.processes in
+    left_keeps ShortTarget (λ pair. trace_after (unsigned_abs count) pair.0 pair.1) (thread_named id) target
+    (λ pair is. traced_short pair.0 pair.1 (unsigned_abs count) (process_of pair.0 rows) target ids (λ process there. found_is_short rows pair.0 process all there) all) all
+run_left_short command target ids all = all
 
 pub commands_short : CommandsKeepShort
-commands_short command bps targets ids all = kept_by (run_fault command targets) (run_left command bps targets) targets (run_left_short command bps targets ids all) all
+commands_short command target ids all =
+    by_keeps ShortTarget (run_fault command target.contexts) (run_left command target) target (λ free. run_left_short command target ids all) all

@@ -2,7 +2,7 @@
 use Rattle.std.proofs.Common.{◌≡◌, ℕ, Bool, true, false, cond, List, [], ◌∷◌, ◌++◌, Option, Some, None, option_map, refl, sym, ◌∙◌, ap, subst, inl, inr}
 use Rattle.breakpoints.specs.declared.rows.Placed.{Placed}
 use Rattle.rv32i_core.specs.Machine.{Step, goes_on, ends, excepts, machine, spawns}
-use Rattle.breakpoints.specs.Status.{hits_of}
+use Rattle.breakpoints.specs.Counting.{stops_at}
 use Rattle.target_contexts.specs.Changes.{with_change}
 use Rattle.target_contexts.specs.Live.{IsOrderly, process_of, without}
 use Rattle.target_contexts.specs.TargetsValue.{TargetsValue}
@@ -12,12 +12,12 @@ use Rattle.target_contexts.specs.Threads.{in_thread, thread_at}
 use Rattle.target_contexts.specs.declared.threads.Thread.{Thread}
 use Rattle.target_contexts.specs.declared.process.ThreadState.{ThreadState}
 use Rattle.target_contexts.specs.declared.process.ThreadState.TheVariants.{Running, Suspended}
-use Rattle.run_control.specs.Ending.{end_after}
-use Rattle.run_control.specs.Executing.{executed_of, fate_by, hits_in, result_for, settled, stepped, stepped_at, stepped_by, with_cpu, with_result}
+use Rattle.run_control.specs.Ending.{ended}
+use Rattle.run_control.specs.Executing.{fate_by, halt_at, halt_by, halt_of, hits_at, result_for, settled, stepped, stepped_at, stepped_by, with_cpu, with_result}
 use Rattle.run_control.specs.Laws.{AreSound, IsSound, IsSoundThread, needs_debugger}
-use Rattle.run_control.specs.Naming.{is_empty}
 use Rattle.run_control.specs.Steering.{with_state}
-use Rattle.run_control.specs.Ticking.{counted, counted_by, counted_in, tick_fate, ticked, ticked_at}
+use Rattle.run_control.specs.TargetValue.{TargetValue}
+use Rattle.run_control.specs.Ticking.{counted, counted_by, counted_in, executed_after, hit_state, is_stopped, stops_in, tick_fate, tick_fate_by, ticked, ticked_at, with_hits}
 use Rattle.run_control.specs.declared.executing.Executed.{Executed}
 use Rattle.run_control.specs.declared.executing.Executed.TheVariants.{Plain, Hit, Exit, Exception}
 use Rattle.run_control.specs.declared.executing.Fate.{Fate}
@@ -26,7 +26,6 @@ use Rattle.target_contexts.proofs.TheLaws.{ends_one}
 use Rattle.target_contexts.proofs.ThreadLists.{each_thread_keeps, found_thread_is}
 use Rattle.list_laws.proofs.AllLists.{all_append, all_each}
 use Rattle.run_control.proofs.Changed.{changed_process, live_found, orderly_change, others_stay, same_or_other}
-use Rattle.run_control.proofs.Steps.{hit_hits, hit_some}
 
 -- ---- a change, and an end
 
@@ -45,19 +44,19 @@ sound_change change n targets keeps sound other process there =
     ]
 
 -- the others stay sound
-pub sound_end : (n : ℕ) (targets : TargetsValue) → IsOrderly targets.processes targets.next → AreSound targets.processes → AreSound (end_after n targets).processes
+pub sound_end : (n : ℕ) (targets : TargetsValue) → IsOrderly targets.processes targets.next → AreSound targets.processes → AreSound (ended n targets).processes
 sound_end n targets orderly sound other process there =
-    let ended = ends_one targets.processes targets.next n orderly in
+    let gone = ends_one targets.processes targets.next n orderly in
     elim (same_or_other other n) [
-      | inl same ↦ absurd (ended.0 (live_found n (without n targets.processes) process (ap (λ (m : ℕ). process_of m (without n targets.processes)) (sym same) ∙ there)))
-      | inr differ ↦ sound other process (sym (ended.1 other differ) ∙ there)
+      | inl same ↦ absurd (gone.0 (live_found n (without n targets.processes) process (ap (λ (m : ℕ). process_of m (without n targets.processes)) (sym same) ∙ there)))
+      | inr differ ↦ sound other process (sym (gone.1 other differ) ∙ there)
     ]
 
 -- ---- what becomes of a process
 
 abbrev pub FateSound : Fate → Bool → Type 0
 FateSound (Ends code) attached = Unit {0}
-FateSound (Lives state) attached = needs_debugger state ≡ true → attached ≡ true
+FateSound (Lives state hits) attached = needs_debugger state ≡ true → attached ≡ true
 
 exception_fate : (attached : Bool) (plain : ThreadState) → FateSound (fate_by plain attached Exception) attached
 exception_fate true plain = λ _. refl
@@ -68,11 +67,6 @@ fate_sound plain attached Plain given hit = given
 fate_sound plain attached (Hit hits) given hit = λ _. hit hits refl
 fate_sound plain attached (Exit code) given hit = tt
 fate_sound plain attached Exception given hit = exception_fate attached plain
-
--- breakpoints are hit by attached processes alone
-attached_by : (number pc : ℕ) (bps : List Placed) (attached : Bool) → is_empty (hits_of number attached pc bps) ≡ false → attached ≡ true
-attached_by number pc bps true some = refl
-attached_by number pc bps false some = absurd cc
 
 begun_attached : (can : Bool) (entry argument : ℕ) (process : ProcessValue) → (cond can (record process { threads = process.threads ++ begun_thread entry argument ∷ [] }) process).attached ≡ process.attached
 begun_attached true entry argument process = refl
@@ -90,16 +84,6 @@ stepped_at_attached n (Some thread) process = stepped_by_attached (machine threa
 
 pub stepped_attached : (n : ℕ) (process : ProcessValue) → (stepped n process).attached ≡ process.attached
 stepped_attached n process = stepped_at_attached n (thread_at n process) process
-
-in_attached : (bps : List Placed) (number : ℕ) (attached : Bool) (found : Option Thread) → is_empty (hits_in bps number attached found) ≡ false → attached ≡ true
-in_attached bps number attached None some = absurd cc
-in_attached bps number attached (Some thread) some = attached_by number thread.cpu.pc bps attached some
-
-pub hit_attached : (bps : List Placed) (number n : ℕ) (process : ProcessValue) (hits : List (List ℕ)) → executed_of bps number n process ≡ Hit hits → process.attached ≡ true
-hit_attached bps number n process hits hit =
-    let after : ProcessValue = stepped n process in
-    sym (stepped_attached n process)
-    ∙ in_attached bps number after.attached (thread_at n after) (ap is_empty (hit_hits bps number n process hits hit) ∙ hit_some bps number n process hits hit)
 
 -- ---- a thread of a sound process is changed, or one more begins
 
@@ -134,13 +118,14 @@ pub attached_sound : (process : ProcessValue) → process.attached ≡ true → 
 attached_sound process is = all_each (IsSoundThread process.attached) process.threads (λ thread needs. is)
 
 -- what becomes of a process leaves all sound
-state_sound : (state : ThreadState) (n : ℕ) (process : ProcessValue) → FateSound (Lives state) process.attached → IsSound process → IsSound (in_thread (with_state state) n process)
+state_sound : (state : ThreadState) (n : ℕ) (process : ProcessValue) → (needs_debugger state ≡ true → process.attached ≡ true) → IsSound process → IsSound (in_thread (with_state state) n process)
 state_sound state n process fits sound = thread_sound (with_state state) n process (λ thread found is needs. fits needs) sound
 
-pub sound_settled : (number n : ℕ) (fate : Fate) (targets : TargetsValue) → IsOrderly targets.processes targets.next → ((p : ProcessValue) → process_of number targets.processes ≡ Some p → FateSound fate p.attached) → AreSound targets.processes → AreSound (settled number n fate targets).processes
-sound_settled number n (Ends code) targets orderly fits sound = sound_end number targets orderly sound
-sound_settled number n (Lives state) targets orderly fits sound =
-    sound_change (in_thread (with_state state) n) number targets (λ p found. state_sound state n p (fits p found) (sound number p found)) sound
+pub sound_settled : (number n : ℕ) (fate : Fate) (target : TargetValue) → IsOrderly target.contexts.processes target.contexts.next → ((p : ProcessValue) → process_of number target.contexts.processes ≡ Some p → FateSound fate p.attached)
+    → AreSound target.contexts.processes → AreSound (settled number n fate target).contexts.processes
+sound_settled number n (Ends code) target orderly fits sound = sound_end number target.contexts orderly sound
+sound_settled number n (Lives state hits) target orderly fits sound =
+    sound_change (in_thread (with_state state) n) number target.contexts (λ p found. state_sound state n p (fits p found) (sound number p found)) sound
 
 -- ---- a tick
 
@@ -157,25 +142,70 @@ thread_needs n process None there sound needs = absurd cc
 thread_needs n process (Some thread) there sound needs =
     found_thread_is (IsSoundThread process.attached) n thread process there sound (state_needs thread.state needs)
 
+-- breakpoints stop threads of attached processes alone
+stop_by : (number pc : ℕ) (bps : List Placed) (attached : Bool) → stops_at number attached pc bps ≡ true → attached ≡ true
+stop_by number pc bps true stops = refl
+stop_by number pc bps false stops = absurd cc
+
+stop_in : (bps : List Placed) (number : ℕ) (attached : Bool) (found : Option Thread) → stops_in bps number attached found ≡ true → attached ≡ true
+stop_in bps number attached None stops = absurd cc
+stop_in bps number attached (Some thread) stops = stop_by number thread.cpu.pc bps attached stops
+
+stop_attached : (bps : List Placed) (number n : ℕ) (process : ProcessValue) → is_stopped bps number n (stepped n process) ≡ true → process.attached ≡ true
+stop_attached bps number n process stops =
+    let after : ProcessValue = stepped n process in
+    sym (stepped_attached n process) ∙ stop_in bps number after.attached (thread_at n after) stops
+
+with_needs : (hits : List (List ℕ)) (plain : ThreadState) → needs_debugger (with_hits hits plain) ≡ true → needs_debugger plain ≡ true
+with_needs hits (Running left) needs = needs
+with_needs hits (Suspended reason others) needs = refl
+
+hit_needs : (hits : List (List ℕ)) (stops attached : Bool) (plain : ThreadState) → (needs_debugger plain ≡ true → attached ≡ true) → (stops ≡ true → attached ≡ true)
+    → needs_debugger (hit_state hits stops plain) ≡ true → attached ≡ true
+hit_needs [] stops attached plain given stopped needs = given needs
+hit_needs (hit ∷ hits) true attached plain given stopped needs = stopped refl
+hit_needs (hit ∷ hits) false attached plain given stopped needs = given (with_needs (hit ∷ hits) plain needs)
+
+tick_by_sound : (hits : List (List ℕ)) (stops : Bool) (plain : ThreadState) (attached : Bool) (executed : Executed) → (needs_debugger plain ≡ true → attached ≡ true) → (stops ≡ true → attached ≡ true)
+    → ((others : List (List ℕ)) → executed ≡ Hit others → ⊥) → FateSound (tick_fate_by hits stops plain attached executed) attached
+tick_by_sound hits stops plain attached Plain given stopped none = hit_needs hits stops attached plain given stopped
+tick_by_sound hits stops plain attached (Hit others) given stopped none = absurd (none others refl)
+tick_by_sound hits stops plain attached (Exit code) given stopped none = tt
+tick_by_sound hits stops plain attached Exception given stopped none = exception_fate attached plain
+
+-- an instruction alone hits nothing
+halt_none : (step : Step) (others : List (List ℕ)) → halt_by step ≡ Hit others → ⊥
+halt_none (goes_on cpu memory) others is = cc
+halt_none (ends code) others is = cc
+halt_none (spawns entry argument) others is = cc
+halt_none excepts others is = cc
+
+pub no_hit_at : (found : Option Thread) (process : ProcessValue) (others : List (List ℕ)) → halt_at found process ≡ Hit others → ⊥
+no_hit_at None process others is = cc
+no_hit_at (Some thread) process others is = halt_none (machine thread.cpu process.memory) others is
+
 pub tick_fate_sound : (bps : List Placed) (number n : ℕ) (process : ProcessValue) → IsSound process → FateSound (tick_fate bps number n process) process.attached
 tick_fate_sound bps number n process sound =
-    fate_sound (counted_in (thread_at n process)) process.attached (executed_of bps number n process)
-    (thread_needs n process (thread_at n process) refl sound) (hit_attached bps number n process)
+    let after : ProcessValue = stepped n process in
+    tick_by_sound (hits_at bps number n after) (is_stopped bps number n after) (counted_in (thread_at n process)) process.attached (halt_of n process)
+    (thread_needs n process (thread_at n process) refl sound) (stop_attached bps number n process) (no_hit_at (thread_at n process) process)
 
 some_same : (n : ℕ) (p q : ProcessValue) (found : Option ProcessValue) → found ≡ Some p → option_map (stepped n) (Some q) ≡ found → p ≡ stepped n q
 some_same n p q found there is = cc
 
-tick_at : (bps : List Placed) (number n : ℕ) (targets : TargetsValue) (found : Option ProcessValue) → process_of number targets.processes ≡ found → IsOrderly targets.processes targets.next → AreSound targets.processes → AreSound (ticked_at bps number n found targets).processes
-tick_at bps number n targets None there orderly sound = sound
-tick_at bps number n targets (Some process) there orderly sound =
+tick_at : (number n : ℕ) (target : TargetValue) (found : Option ProcessValue) → process_of number target.contexts.processes ≡ found → IsOrderly target.contexts.processes target.contexts.next → AreSound target.contexts.processes
+    → AreSound (ticked_at number n found target).contexts.processes
+tick_at number n target None there orderly sound = sound
+tick_at number n target (Some process) there orderly sound =
     let mine : IsSound process = sound number process there in
+    let targets : TargetsValue = target.contexts in
     let after : TargetsValue = with_change (stepped n) number targets in
-    sound_settled number n (tick_fate bps number n process) after (orderly_change (stepped n) number targets orderly)
-    (λ p found. subst (FateSound (tick_fate bps number n process))
+    sound_settled number n (tick_fate target.breakpoints number n process) (executed_after number n process target) (orderly_change (stepped n) number targets orderly)
+    (λ p found. subst (FateSound (tick_fate target.breakpoints number n process))
     (sym (ap (λ (q : ProcessValue). q.attached) (some_same n p process (process_of number after.processes) found (ap (option_map (stepped n)) (sym there) ∙ sym (changed_process (stepped n) number targets)))
     ∙ stepped_attached n process))
-    (tick_fate_sound bps number n process mine))
+    (tick_fate_sound target.breakpoints number n process mine))
     (sound_change (stepped n) number targets (λ p found. step_sound n p (sound number p found)) sound)
 
-pub ticked_sound : (bps : List Placed) (number n : ℕ) (targets : TargetsValue) → IsOrderly targets.processes targets.next → AreSound targets.processes → AreSound (ticked bps number n targets).processes
-ticked_sound bps number n targets orderly sound = tick_at bps number n targets (process_of number targets.processes) refl orderly sound
+pub ticked_sound : (number n : ℕ) (target : TargetValue) → IsOrderly target.contexts.processes target.contexts.next → AreSound target.contexts.processes → AreSound (ticked number n target).contexts.processes
+ticked_sound number n target orderly sound = tick_at number n target (process_of number target.contexts.processes) refl orderly sound

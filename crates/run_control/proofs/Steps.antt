@@ -5,9 +5,9 @@ use Rattle.rv32i_core.specs.Machine.{Step, goes_on, ends, excepts, machine, spaw
 use Rattle.target_contexts.specs.ProcessValue.{ProcessValue}
 use Rattle.target_contexts.specs.Threads.{thread_at}
 use Rattle.target_contexts.specs.declared.threads.Thread.{Thread}
-use Rattle.run_control.specs.Executing.{executed_at, executed_by, executed_of, executed_with, hits_at, hits_in, stepped, stepped_at, stepped_by}
+use Rattle.run_control.specs.Executing.{executed_at, executed_by, executed_of, executed_with, halt_at, halt_by, hits_at, hits_in, stepped, stepped_at, stepped_by}
 use Rattle.run_control.specs.Naming.{is_empty}
-use Rattle.run_control.specs.Tracing.{halt_at, halt_by, next_at, next_by, next_of}
+use Rattle.run_control.specs.Tracing.{next_at, next_by, next_of}
 use Rattle.run_control.specs.declared.executing.Executed.{Executed}
 use Rattle.run_control.specs.declared.executing.Executed.TheVariants.{Plain, Hit, Exit, Exception}
 

@@ -5,9 +5,9 @@ use Rattle.std.specs.Option.{option_map_or}
 use Rattle.breakpoints.specs.declared.rows.Placed.{Placed}
 use Rattle.target_contexts.specs.ProcessValue.{ProcessValue}
 use Rattle.target_contexts.specs.Threads.{thread_at}
-use Rattle.run_control.specs.Executing.{executed_of, hits_at, pc_at, stepped}
+use Rattle.run_control.specs.Executing.{executed_of, halt_at, hits_at, pc_at, stepped}
 use Rattle.run_control.specs.Naming.{is_empty}
-use Rattle.run_control.specs.Tracing.{Trace, addresses_of, halt_at, last_hits, last_of, next_of, run_from, states_of, stop_by, stop_of, trace_by, trace_of, up_to_hit}
+use Rattle.run_control.specs.Tracing.{Trace, addresses_of, last_hits, last_of, next_of, run_from, states_of, stop_by, stop_of, trace_by, trace_of, up_to_hit}
 use Rattle.run_control.specs.declared.executing.Executed.{Executed}
 use Rattle.run_control.specs.declared.executing.Executed.TheVariants.{Plain, Hit, Exit, Exception}
 use Rattle.run_control.proofs.Steps.{exception_stays, exit_stays, hit_goes_on, hit_hits, hit_some, plain_goes_on, plain_hits_none}

@@ -5,7 +5,6 @@ use Rattle.tcf_values.specs.Faults.{first_fault}
 use Rattle.tcf_values.specs.declared.event.EventData.{EventData}
 use Rattle.tcf_values.specs.declared.faults.Fault.{Fault}
 use Rattle.tcf_values.specs.declared.faults.Fault.TheVariants.{Other, AlreadyAttached, BadContext, BadSize}
-use Rattle.breakpoints.specs.declared.rows.Placed.{Placed}
 use Rattle.target_contexts.specs.Changes.{with_change}
 use Rattle.target_contexts.specs.Live.{process_of}
 use Rattle.target_contexts.specs.Named.{is_attached, is_unattached, process_at_number}
@@ -18,6 +17,7 @@ use Rattle.target_contexts.specs.declared.targets.StartRefusal.{StartRefusal}
 use Rattle.target_contexts.specs.declared.targets.StartRefusal.TheVariants as refusals
 use Rattle.run_control.specs.Naming.{process_named}
 use Rattle.run_control.specs.Steering.{with_state}
+use Rattle.run_control.specs.TargetValue.{TargetValue, with_contexts, without_counts}
 use Rattle.run_control.specs.Telling.{added_events, all_resumed_events, all_suspended_events, changed_events, statuses_in}
 
 -- the live process that a text names
@@ -39,17 +39,17 @@ start_fault_for refusals.NoMemory = Other
 abbrev pub start_fault : List ℕ → TargetsValue → Option Fault
 start_fault file targets = option_map start_fault_for (refusal_of file targets)
 
-abbrev pub start_events : List Placed → ℕ → TargetsValue → List EventData
-start_events bps number targets =
-    let process = process_of number targets.processes in
-    added_events number process ++ (all_suspended_events number process ++ statuses_in bps targets)
+abbrev pub start_events : ℕ → TargetValue → List EventData
+start_events number target =
+    let process = process_of number target.contexts.processes in
+    added_events number process ++ (all_suspended_events number process ++ statuses_in target)
 
 -- ---- all threads of a process have another state
 
 abbrev pub with_states : ThreadState → ProcessValue → ProcessValue
 with_states state process = record process { threads = map (with_state state) process.threads }
 
--- ---- attach: the threads are suspended
+-- ---- attach: the threads are suspended, and the counts of hits in the process are dropped
 
 abbrev pub attach_fault : List ℕ → List (ℕ × ProcessValue) → Option Fault
 attach_fault id rows = first_fault (
@@ -60,15 +60,15 @@ attach_fault id rows = first_fault (
 abbrev pub attached : ProcessValue → ProcessValue
 attached process = record (with_states (Suspended suspended_text []) process) { attached = true }
 
-abbrev pub attach_after : ℕ → TargetsValue → TargetsValue
-attach_after number targets = with_change attached number targets
+abbrev pub attach_after : ℕ → TargetValue → TargetValue
+attach_after number target = without_counts number (with_contexts (with_change attached number) target)
 
-abbrev pub attach_events : List Placed → ℕ → TargetsValue → List EventData
-attach_events bps number targets =
-    let process = process_of number targets.processes in
-    changed_events number process ++ (all_suspended_events number process ++ statuses_in bps targets)
+abbrev pub attach_events : ℕ → TargetValue → List EventData
+attach_events number target =
+    let process = process_of number target.contexts.processes in
+    changed_events number process ++ (all_suspended_events number process ++ statuses_in target)
 
--- ---- detach: the threads run, and instructions left to step are forgotten
+-- ---- detach: the threads run, instructions left to step are forgotten, and the counts of hits in the process are dropped
 
 abbrev pub detach_fault : List ℕ → List (ℕ × ProcessValue) → Option Fault
 detach_fault id rows = first_fault (
@@ -79,11 +79,11 @@ detach_fault id rows = first_fault (
 abbrev pub detached : ProcessValue → ProcessValue
 detached process = record (with_states (Running None) process) { attached = false }
 
-abbrev pub detach_after : ℕ → TargetsValue → TargetsValue
-detach_after number targets = with_change detached number targets
+abbrev pub detach_after : ℕ → TargetValue → TargetValue
+detach_after number target = without_counts number (with_contexts (with_change detached number) target)
 
 -- contextResumed of each thread that was suspended
-abbrev pub detach_events : List Placed → Option ProcessValue → ℕ → TargetsValue → List EventData
-detach_events bps was number targets =
-    changed_events number (process_of number targets.processes)
-    ++ (all_resumed_events number was ++ statuses_in bps targets)
+abbrev pub detach_events : Option ProcessValue → ℕ → TargetValue → List EventData
+detach_events was number target =
+    changed_events number (process_of number target.contexts.processes)
+    ++ (all_resumed_events number was ++ statuses_in target)

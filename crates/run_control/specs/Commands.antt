@@ -8,8 +8,6 @@ use Rattle.tcf_values.specs.declared.command.Command.TheVariants.{GetContext, Ge
 use Rattle.tcf_values.specs.declared.effect.Effect.{Effect}
 use Rattle.tcf_values.specs.declared.event.EventData.{EventData}
 use Rattle.tcf_values.specs.declared.faults.Fault.{Fault}
-use Rattle.breakpoints.specs.declared.rows.Placed.{Placed}
-use Rattle.target_contexts.specs.Changes.{targets_by}
 use Rattle.target_contexts.specs.Live.{process_of}
 use Rattle.target_contexts.specs.Named.{number_named, thread_named}
 use Rattle.target_contexts.specs.Starting.{started}
@@ -20,6 +18,7 @@ use Rattle.run_control.specs.Attaching.{attach_after, attach_events, attach_faul
 use Rattle.run_control.specs.Ending.{end_after, end_events, terminate_fault}
 use Rattle.run_control.specs.Naming.{process_named}
 use Rattle.run_control.specs.Steering.{left_by, resume_after, resume_fault, suspend_after, suspend_events, suspend_fault, thread_there}
+use Rattle.run_control.specs.TargetValue.{TargetValue, target_by, with_contexts}
 use Rattle.run_control.specs.Telling.{resumed_events}
 use Rattle.run_control.specs.Tracing.{trace_addresses, trace_after, trace_events, trace_fault}
 
@@ -74,22 +73,22 @@ run_fault _ targets = None
 
 -- ---- what it leaves where no check fails
 
--- the target changed as that of a process's number, or of a thread, where a text names one
-abbrev pub left_of : {A : Type 0} → (A → TargetsValue → TargetsValue) → Option A → TargetsValue → TargetsValue
-left_of change named targets = option_map_or (λ one. change one targets) named targets
+-- what is changed as that of a process's number, or of a thread, where a text names one
+abbrev pub left_of : {A T : Type 0} → (A → T → T) → Option A → T → T
+left_of change named before = option_map_or (λ one. change one before) named before
 
-abbrev pub run_left : Command → List Placed → TargetsValue → TargetsValue
-run_left (Resume id mode count) bps targets =
-    left_of (λ pair. resume_after (left_by mode count) pair.0 pair.1) (thread_named id) targets
-run_left (Suspend id) bps targets = left_of (λ pair. suspend_after pair.0 pair.1) (thread_named id) targets
-run_left (Terminate id) bps targets = left_of end_after (number_named id) targets
-run_left (ProcStart directory file args environment attach) bps targets = started file attach targets
-run_left (ProcAttach id) bps targets = left_of attach_after (process_named id) targets
-run_left (ProcDetach id) bps targets = left_of detach_after (process_named id) targets
-run_left (ProcTerminate id) bps targets = left_of end_after (process_named id) targets
-run_left (TraceRun id count) bps targets =
-    left_of (λ pair. trace_after bps (unsigned_abs count) pair.0 pair.1) (thread_named id) targets
-run_left _ bps targets = targets
+abbrev pub run_left : Command → TargetValue → TargetValue
+run_left (Resume id mode count) target =
+    with_contexts (left_of (λ pair. resume_after (left_by mode count) pair.0 pair.1) (thread_named id)) target
+run_left (Suspend id) target = with_contexts (left_of (λ pair. suspend_after pair.0 pair.1) (thread_named id)) target
+run_left (Terminate id) target = left_of end_after (number_named id) target
+run_left (ProcStart directory file args environment attach) target = with_contexts (started file attach) target
+run_left (ProcAttach id) target = left_of attach_after (process_named id) target
+run_left (ProcDetach id) target = left_of detach_after (process_named id) target
+run_left (ProcTerminate id) target = left_of end_after (process_named id) target
+run_left (TraceRun id count) target =
+    left_of (λ pair. trace_after (unsigned_abs count) pair.0 pair.1) (thread_named id) target
+run_left _ target = target
 
 -- ---- what it gives where no check fails, from the target before it and the target after it
 
@@ -98,45 +97,45 @@ abbrev pub events_of : {A : Type 0} → (A → List EventData) → Option A → 
 events_of events named = option_map_or events named []
 
 -- those of the end of a process that is terminated
-abbrev pub terminate_events : List Placed → ℕ → TargetsValue → TargetsValue → List EventData
-terminate_events bps number targets after =
-    end_events bps number (count_in (process_of number targets.processes)) terminate_code after
+abbrev pub terminate_events : ℕ → TargetValue → TargetValue → List EventData
+terminate_events number target after =
+    end_events number (count_in (process_of number target.contexts.processes)) terminate_code after
 
-abbrev pub trace_given : List Placed → ℕ → Option (ℕ × ℕ) → TargetsValue → TargetsValue → Effect
-trace_given bps count None targets after = gives (answers.Count 0)
-trace_given bps count (Some pair) targets after =
-    let addresses = trace_addresses bps count pair.0 pair.1 targets in
-    record { events = trace_events bps count pair.0 pair.1 targets after; progress = addresses; answer = answers.Count (length addresses) }
+abbrev pub trace_given : ℕ → Option (ℕ × ℕ) → TargetValue → TargetValue → Effect
+trace_given count None target after = gives (answers.Count 0)
+trace_given count (Some pair) target after =
+    let addresses = trace_addresses count pair.0 pair.1 target in
+    record { events = trace_events count pair.0 pair.1 target after; progress = addresses; answer = answers.Count (length addresses) }
 
-abbrev pub run_given : Command → List Placed → TargetsValue → TargetsValue → Effect
-run_given (GetContext id) bps targets after = gives (context_answer (data_named id targets.processes))
-run_given (GetChildren id) bps targets after = gives (answers.Ids (children_named id targets.processes))
-run_given (GetState id) bps targets after = gives (state_answer (thread_there id targets.processes))
-run_given (Resume id mode count) bps targets after =
+abbrev pub run_given : Command → TargetValue → TargetValue → Effect
+run_given (GetContext id) target after = gives (context_answer (data_named id target.contexts.processes))
+run_given (GetChildren id) target after = gives (answers.Ids (children_named id target.contexts.processes))
+run_given (GetState id) target after = gives (state_answer (thread_there id target.contexts.processes))
+run_given (Resume id mode count) target after =
     tells (events_of (λ pair. resumed_events pair.0 pair.1) (thread_named id)) answers.Nothing
-run_given (Suspend id) bps targets after =
-    tells (events_of (λ pair. suspend_events pair.0 pair.1 after) (thread_named id)) answers.Nothing
-run_given (Terminate id) bps targets after =
-    tells (events_of (λ number. terminate_events bps number targets after) (number_named id)) answers.Nothing
-run_given (ProcContext id) bps targets after = gives (process_answer (process_named id) targets.processes)
-run_given (ProcChildren id attached) bps targets after = gives (answers.Ids (processes_named id attached targets.processes))
-run_given (ProcStart directory file args environment attach) bps targets after =
-    tells (start_events bps targets.next after) (process_answer (Some targets.next) after.processes)
-run_given (ProcAttach id) bps targets after =
-    tells (events_of (λ number. attach_events bps number after) (process_named id)) answers.Nothing
-run_given (ProcDetach id) bps targets after =
-    tells (events_of (λ number. detach_events bps (process_there id targets.processes) number after) (process_named id)) answers.Nothing
-run_given (ProcTerminate id) bps targets after =
-    tells (events_of (λ number. terminate_events bps number targets after) (process_named id)) answers.Nothing
-run_given (TraceRun id count) bps targets after = trace_given bps (unsigned_abs count) (thread_named id) targets after
-run_given _ bps targets after = gives answers.Nothing
+run_given (Suspend id) target after =
+    tells (events_of (λ pair. suspend_events pair.0 pair.1 after.contexts) (thread_named id)) answers.Nothing
+run_given (Terminate id) target after =
+    tells (events_of (λ number. terminate_events number target after) (number_named id)) answers.Nothing
+run_given (ProcContext id) target after = gives (process_answer (process_named id) target.contexts.processes)
+run_given (ProcChildren id attached) target after = gives (answers.Ids (processes_named id attached target.contexts.processes))
+run_given (ProcStart directory file args environment attach) target after =
+    tells (start_events target.contexts.next after) (process_answer (Some target.contexts.next) after.contexts.processes)
+run_given (ProcAttach id) target after =
+    tells (events_of (λ number. attach_events number after) (process_named id)) answers.Nothing
+run_given (ProcDetach id) target after =
+    tells (events_of (λ number. detach_events (process_there id target.contexts.processes) number after) (process_named id)) answers.Nothing
+run_given (ProcTerminate id) target after =
+    tells (events_of (λ number. terminate_events number target after) (process_named id)) answers.Nothing
+run_given (TraceRun id count) target after = trace_given (unsigned_abs count) (thread_named id) target after
+run_given _ target after = gives answers.Nothing
 
 -- ---- a command that fails gives its report alone, and changes nothing
 
 -- the events, the progress and the answer of a command
-abbrev pub run_effect : Command → List Placed → TargetsValue → Effect
-run_effect command bps targets = effect_by (run_fault command targets) (run_given command bps targets (run_left command bps targets))
+abbrev pub run_effect : Command → TargetValue → Effect
+run_effect command target = effect_by (run_fault command target.contexts) (run_given command target (run_left command target))
 
 -- the target after a command
-abbrev pub run_after : Command → List Placed → TargetsValue → TargetsValue
-run_after command bps targets = targets_by (run_fault command targets) (run_left command bps targets) targets
+abbrev pub run_after : Command → TargetValue → TargetValue
+run_after command target = target_by (run_fault command target.contexts) (run_left command target) target

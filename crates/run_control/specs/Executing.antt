@@ -8,8 +8,8 @@ use Rattle.rv32i_core.specs.Registers.{answered}
 use Rattle.rv32i_core.specs.declared.registers.Cpu.{Cpu}
 use Rattle.breakpoints.specs.Status.{hits_of}
 use Rattle.target_contexts.specs.Live.{process_of}
-use Rattle.target_contexts.specs.TargetsValue.{TargetsValue}
 use Rattle.target_contexts.specs.ProcessValue.{ProcessValue}
+use Rattle.target_contexts.specs.Named.{runs}
 use Rattle.target_contexts.specs.Spawning.{begun_number, with_begun}
 use Rattle.target_contexts.specs.Threads.{in_thread, thread_at, thread_of}
 use Rattle.target_contexts.specs.declared.process.ThreadState.{ThreadState}
@@ -17,7 +17,8 @@ use Rattle.target_contexts.specs.declared.process.ThreadState.TheVariants.{Suspe
 use Rattle.target_contexts.specs.declared.threads.Thread.{Thread}
 use Rattle.run_control.specs.Ending.{end_after, end_events}
 use Rattle.run_control.specs.Steering.{state_after}
-use Rattle.run_control.specs.Telling.{made_events, suspended_events}
+use Rattle.run_control.specs.TargetValue.{TargetValue, with_contexts}
+use Rattle.run_control.specs.Telling.{hit_events, made_events, suspended_events}
 use Rattle.run_control.specs.declared.executing.Executed.{Executed}
 use Rattle.run_control.specs.declared.executing.Executed.TheVariants.{Plain, Hit, Exit, Exception}
 use Rattle.run_control.specs.declared.executing.Fate.{Fate}
@@ -53,6 +54,20 @@ stepped_at n (Some thread) process = stepped_by (machine thread.cpu process.memo
 
 abbrev pub stepped : ℕ → ProcessValue → ProcessValue
 stepped n process = stepped_at n (thread_at n process) process
+
+-- what comes of it: an exit, an exception, or nothing more
+abbrev pub halt_by : Step → Executed
+halt_by (goes_on cpu memory) = Plain
+halt_by (ends code) = Exit code
+halt_by (spawns entry argument) = Plain
+halt_by excepts = Exception
+
+abbrev pub halt_at : Option Thread → ProcessValue → Executed
+halt_at None process = Plain
+halt_at (Some thread) process = halt_by (machine thread.cpu process.memory)
+
+abbrev pub halt_of : ℕ → ProcessValue → Executed
+halt_of n process = halt_at (thread_at n process) process
 
 -- where a thread stands
 abbrev pub pc_in : Option Thread → ℕ
@@ -104,22 +119,28 @@ exception_text = codes "Exception"
 abbrev pub exception_code : ℤ
 exception_code = neg_ℤ (pos 2)
 
+-- the process lives on: its thread has this state, and hits the breakpoints of these IDs
+abbrev pub lives : ThreadState → List (List ℕ) → Fate
+lives state hits = Lives state hits
+
 -- a hit suspends the thread, and so does an exception where the process is attached; else the exception ends it.
 -- Where nothing of this comes, the thread has the plain state
 abbrev pub fate_by : ThreadState → Bool → Executed → Fate
-fate_by plain attached Plain = Lives plain
-fate_by plain attached (Hit hits) = Lives (Suspended breakpoint_text hits)
+fate_by plain attached Plain = lives plain []
+fate_by plain attached (Hit hits) = lives (Suspended breakpoint_text hits) hits
 fate_by plain attached (Exit code) = Ends code
-fate_by plain attached Exception = if attached then Lives (Suspended exception_text []) else Ends exception_code
+fate_by plain attached Exception = if attached then lives (Suspended exception_text []) [] else Ends exception_code
 
-abbrev pub settled : ℕ → ℕ → Fate → TargetsValue → TargetsValue
-settled number n (Ends code) targets = end_after number targets
-settled number n (Lives state) targets = state_after state number n targets
+abbrev pub settled : ℕ → ℕ → Fate → TargetValue → TargetValue
+settled number n (Ends code) target = end_after number target
+settled number n (Lives state hits) target = with_contexts (state_after state number n) target
 
 -- told of the target after it, where the process had so many threads before: the end, or contextAdded of the threads that
--- were made, where there is one, and contextSuspended where the thread is suspended now
-abbrev pub settled_events : List Placed → ℕ → ℕ → ℕ → Fate → TargetsValue → List EventData
-settled_events bps number n before (Ends code) targets = end_events bps number before code targets
-settled_events bps number n before (Lives state) targets =
-    made_events number before (process_of number targets.processes)
-    ++ suspended_events number n (thread_of number n targets.processes)
+-- were made, where there is one, contextSuspended where the thread is suspended now, and what the breakpoints that are hit
+-- come to
+abbrev pub settled_events : ℕ → ℕ → ℕ → Fate → TargetValue → List EventData
+settled_events number n before (Ends code) target = end_events number before code target
+settled_events number n before (Lives state hits) target =
+    (made_events number before (process_of number target.contexts.processes)
+    ++ suspended_events number n (thread_of number n target.contexts.processes))
+    ++ hit_events (runs state) hits target

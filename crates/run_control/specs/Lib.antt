@@ -7,6 +7,7 @@ pub mod Steering
 pub mod Attaching
 pub mod Ending
 pub mod Executing
+pub mod Settling
 pub mod Ticking
 pub mod Tracing
 pub mod Commands

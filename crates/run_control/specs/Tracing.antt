@@ -1,4 +1,5 @@
--- Trace.run: several instructions of a suspended thread at once. Trace is this project's own service.
+-- Trace.run: several instructions of a suspended thread at once. A breakpoint that is hit ends it, whatever its IgnoreCount,
+-- and no count is raised. Trace is this project's own service.
 use Rattle.std.specs.Prelude.{ℕ, zero, suc, ℤ, pos, ◌==◌, Bool, not, if◌then◌else◌, List, [], ◌∷◌, ◌++◌, length, map, take, Option, Some, None, is_none}
 use Rattle.std.specs.Option.{option_map_or}
 use Rattle.tcf_values.specs.Faults.{first_fault}
@@ -10,14 +11,15 @@ use Rattle.rv32i_core.specs.Machine.{Step, goes_on, ends, excepts, machine, spaw
 use Rattle.target_contexts.specs.Changes.{with_change}
 use Rattle.target_contexts.specs.Live.{process_of}
 use Rattle.target_contexts.specs.Named.{is_running}
-use Rattle.target_contexts.specs.TargetsValue.{TargetsValue}
 use Rattle.target_contexts.specs.ProcessValue.{ProcessValue}
 use Rattle.target_contexts.specs.Threads.{thread_at, thread_count}
 use Rattle.target_contexts.specs.declared.threads.Thread.{Thread}
 use Rattle.target_contexts.specs.declared.process.ThreadState.TheVariants.{Suspended}
-use Rattle.run_control.specs.Executing.{fate_by, hits_at, pc_at, settled, settled_events, step_text, stepped}
+use Rattle.run_control.specs.Executing.{fate_by, halt_of, hits_at, pc_at, settled, settled_events, step_text, stepped}
 use Rattle.run_control.specs.Naming.{is_empty}
+use Rattle.run_control.specs.Settling.{settled_as, settled_in}
 use Rattle.run_control.specs.Steering.{is_no_count, thread_there}
+use Rattle.run_control.specs.TargetValue.{TargetValue, with_contexts}
 use Rattle.run_control.specs.declared.executing.Executed.{Executed}
 use Rattle.run_control.specs.declared.executing.Executed.TheVariants.{Plain, Hit, Exit, Exception}
 use Rattle.run_control.specs.declared.executing.Fate.{Fate}
@@ -73,23 +75,12 @@ abbrev pub last_hits : List Placed → ℕ → ℕ → ProcessValue → List Pro
 last_hits bps number n process [] = []
 last_hits bps number n process (state ∷ states) = hits_at bps number n (last_of state states)
 
--- the machine doesn't go on
-abbrev pub halt_by : Step → Executed
-halt_by (goes_on cpu memory) = Plain
-halt_by (ends code) = Exit code
-halt_by (spawns entry argument) = Plain
-halt_by excepts = Exception
-
-abbrev pub halt_at : Option Thread → ProcessValue → Executed
-halt_at None process = Plain
-halt_at (Some thread) process = halt_by (machine thread.cpu process.memory)
-
 -- breakpoints are hit, or all instructions that were asked for are executed, or the machine doesn't go on
 abbrev pub stop_by : List (List ℕ) → Bool → ℕ → ProcessValue → Executed
 stop_by hits all n last =
     if not (is_empty hits) then Hit hits
     else if all then Plain
-    else halt_at (thread_at n last) last
+    else halt_of n last
 
 abbrev pub stop_of : List Placed → ℕ → ℕ → ℕ → ProcessValue → List ProcessValue → Executed
 stop_of bps number n count process states =
@@ -129,31 +120,42 @@ trace_of bps number n count process = trace_by bps number n count process (state
 abbrev pub trace_fate : ProcessValue → Trace → Fate
 trace_fate process trace = fate_by (Suspended step_text []) process.attached trace.stop
 
+-- the process after the trace, with its thread in the state that it is to have, and what is left to be done
+abbrev pub traced_process : List Placed → ℕ → ℕ → ℕ → ProcessValue → ProcessValue
+traced_process bps number n count process =
+    let trace = trace_of bps number n count process in
+    settled_in n (trace_fate process trace) trace.process
+
 abbrev pub traced_of : List Placed → ℕ → ℕ → ℕ → ProcessValue → Traced
 traced_of bps number n count process =
     let trace = trace_of bps number n count process in
-    record { addresses = trace.addresses; fate = trace_fate process trace }
+    record {
+      addresses = trace.addresses;
+      settled = settled_as number n (thread_count process) (trace_fate process trace) (traced_process bps number n count process);
+    }
 
-abbrev pub traced_at : List Placed → ℕ → ℕ → ℕ → Option ProcessValue → TargetsValue → TargetsValue
-traced_at bps number n count None targets = targets
-traced_at bps number n count (Some process) targets =
-    let trace = trace_of bps number n count process in
-    settled number n (trace_fate process trace) (with_change (λ _. trace.process) number targets)
+abbrev pub traced_at : ℕ → ℕ → ℕ → Option ProcessValue → TargetValue → TargetValue
+traced_at number n count None target = target
+traced_at number n count (Some process) target =
+    let trace = trace_of target.breakpoints number n count process in
+    settled number n (trace_fate process trace) (with_contexts (with_change (λ _. trace.process) number) target)
 
-abbrev pub trace_after : List Placed → ℕ → ℕ → ℕ → TargetsValue → TargetsValue
-trace_after bps count number n targets = traced_at bps number n count (process_of number targets.processes) targets
+abbrev pub trace_after : ℕ → ℕ → ℕ → TargetValue → TargetValue
+trace_after count number n target = traced_at number n count (process_of number target.contexts.processes) target
 
-abbrev pub traced_events_at : List Placed → ℕ → ℕ → ℕ → Option ProcessValue → TargetsValue → List EventData
+abbrev pub traced_events_at : List Placed → ℕ → ℕ → ℕ → Option ProcessValue → TargetValue → List EventData
 traced_events_at bps number n count None after = []
 traced_events_at bps number n count (Some process) after =
-    settled_events bps number n (thread_count process) (trace_fate process (trace_of bps number n count process)) after
+    settled_events number n (thread_count process) (trace_fate process (trace_of bps number n count process)) after
 
-abbrev pub trace_events : List Placed → ℕ → ℕ → ℕ → TargetsValue → TargetsValue → List EventData
-trace_events bps count number n targets after = traced_events_at bps number n count (process_of number targets.processes) after
+abbrev pub trace_events : ℕ → ℕ → ℕ → TargetValue → TargetValue → List EventData
+trace_events count number n target after =
+    traced_events_at target.breakpoints number n count (process_of number target.contexts.processes) after
 
 abbrev pub addresses_at : List Placed → ℕ → ℕ → ℕ → Option ProcessValue → List ℕ
 addresses_at bps number n count None = []
 addresses_at bps number n count (Some process) = (trace_of bps number n count process).addresses
 
-abbrev pub trace_addresses : List Placed → ℕ → ℕ → ℕ → TargetsValue → List ℕ
-trace_addresses bps count number n targets = addresses_at bps number n count (process_of number targets.processes)
+abbrev pub trace_addresses : ℕ → ℕ → ℕ → TargetValue → List ℕ
+trace_addresses count number n target =
+    addresses_at target.breakpoints number n count (process_of number target.contexts.processes)

@@ -4,12 +4,14 @@ ghost use Rattle.tcf_values.specs.Effects.{tells};
 ghost use Rattle.target_contexts.specs.Refusals.{IsRefusalOf};
 ghost use Rattle.target_contexts.specs.Changes.{with_change};
 ghost use Rattle.target_contexts.specs.Starting.{first_state, started};
+ghost use Rattle.run_control.specs.Laws.{uncounted};
 ghost use Rattle.run_control.specs.Steering.{with_state};
 ghost use Rattle.run_control.specs.Asking.{process_answer};
 ghost use Rattle.run_control.specs.Attaching.{attach_after, attach_events, attach_fault, detach_after, detach_events, detach_fault, process_there, start_events, start_fault, with_states};
 ghost use Rattle.run_control.specs.Commands.{events_of, left_of};
 ghost use Rattle.run_control.specs.Naming.{process_named};
 ghost use Rattle.run_control.specs.Refusing.{IfDue};
+ghost use Rattle.run_control.specs.TargetValue.{target_of};
 
 use crate::asking::process_answer;
 use crate::named::live_process;
@@ -31,7 +33,7 @@ pub(crate) fn start(
     attach: bool,
 ) -> Result<Effect, Refusal>
     ensures effect { IfOk result (λ effect. effect
-        ≡ tells (start_events bps.now targets.old.seen.next targets.new.seen) (process_answer (Some targets.old.seen.next) targets.new.seen.processes)) }
+        ≡ tells (start_events targets.old.seen.next (target_of targets.new.seen bps.now)) (process_answer (Some targets.old.seen.next) targets.new.seen.processes)) }
     ensures free { OnOk result (start_fault file.now targets.old.seen ≡ None) }
     ensures after { OnOk result (targets.new.seen ≡ started file.now attach targets.old.seen) }
     ensures refused { IfErr result (IsRefusalOf (start_fault file.now targets.old.seen)) }
@@ -62,21 +64,24 @@ fn add(targets: &mut Targets, file: &Text, attach: bool) -> Result<u32, Refusal>
     }
 }
 
-/// Processes.attach: the process is attached, and its threads are suspended.
+/// Processes.attach: the process is attached, its threads are suspended, and the counts of hits in it are dropped.
+#[tactic(auto, using(crate::proofs::Counted::forgotten_alone))]
 pub(crate) fn attach(
     alloc: Global,
     targets: &mut Targets,
-    bps: &Breakpoints,
+    bps: &mut Breakpoints,
     id: &Text,
 ) -> Result<Events, Refusal>
-    ensures events { IfOk result (λ events. events ≡ events_of (λ number. attach_events bps.now number targets.new.seen) (process_named id.now)) }
+    ensures events { IfOk result (λ events. events ≡ events_of (λ number. attach_events number (target_of targets.new.seen bps.new)) (process_named id.now)) }
     ensures free { OnOk result (attach_fault id.now targets.old.seen.processes ≡ None) }
-    ensures after { OnOk result (targets.new.seen ≡ left_of attach_after (process_named id.now) targets.old.seen) }
+    ensures after { OnOk result (target_of targets.new.seen bps.new ≡ left_of attach_after (process_named id.now) (target_of targets.old.seen bps.old)) }
     ensures refused { IfErr result (IsRefusalOf (attach_fault id.now targets.old.seen.processes)) }
-    ensures kept { IfErr result (λ refusal. IfDue refusal (targets.new.seen ≡ targets.old.seen)) }
+    ensures kept { IfErr result (λ refusal. IfDue refusal (target_of targets.new.seen bps.new ≡ target_of targets.old.seen bps.old)) }
+    ensures points { uncounted bps.new ≡ uncounted bps.old }
 {
     let number = to_attach(targets, id)?;
     set_attached(alloc, targets, number, true)?;
+    bps.forget(number);
     let mut events = Events::new(alloc);
     tell_changed(alloc, targets, number, &mut events)?;
     tell_all_suspended(alloc, targets, number, &mut events)?;
@@ -138,23 +143,26 @@ fn state_when(alloc: Global, attached: bool) -> Result<ThreadState, AllocError>
 }
 
 /// Processes.detach: the process is no longer attached, and its threads run. Instructions that were left to step are
-/// forgotten.
+/// forgotten, and the counts of hits in it are dropped.
+#[tactic(auto, using(crate::proofs::Counted::forgotten_alone))]
 pub(crate) fn detach(
     alloc: Global,
     targets: &mut Targets,
-    bps: &Breakpoints,
+    bps: &mut Breakpoints,
     id: &Text,
 ) -> Result<Events, Refusal>
     ensures events { IfOk result (λ events. events
-        ≡ events_of (λ number. detach_events bps.now (process_there id.now targets.old.seen.processes) number targets.new.seen) (process_named id.now)) }
+        ≡ events_of (λ number. detach_events (process_there id.now targets.old.seen.processes) number (target_of targets.new.seen bps.new)) (process_named id.now)) }
     ensures free { OnOk result (detach_fault id.now targets.old.seen.processes ≡ None) }
-    ensures after { OnOk result (targets.new.seen ≡ left_of detach_after (process_named id.now) targets.old.seen) }
+    ensures after { OnOk result (target_of targets.new.seen bps.new ≡ left_of detach_after (process_named id.now) (target_of targets.old.seen bps.old)) }
     ensures refused { IfErr result (IsRefusalOf (detach_fault id.now targets.old.seen.processes)) }
-    ensures kept { IfErr result (λ refusal. IfDue refusal (targets.new.seen ≡ targets.old.seen)) }
+    ensures kept { IfErr result (λ refusal. IfDue refusal (target_of targets.new.seen bps.new ≡ target_of targets.old.seen bps.old)) }
+    ensures points { uncounted bps.new ≡ uncounted bps.old }
 {
     let number = to_detach(targets, id)?;
     let stood = targets.suspended_threads(number)?;
     set_attached(alloc, targets, number, false)?;
+    bps.forget(number);
     let mut events = Events::new(alloc);
     tell_changed(alloc, targets, number, &mut events)?;
     tell_all_resumed(alloc, number, &stood, &mut events)?;

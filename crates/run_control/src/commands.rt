@@ -3,7 +3,9 @@ ghost use Rattle.std.specs.Prelude.{◌≡◌, None, IfErr, IfOk, IsSome, IsTrue
 ghost use Rattle.tcf_values.specs.Effects.{tells};
 ghost use Rattle.target_contexts.specs.Refusals.{IsRefusalOf};
 ghost use Rattle.run_control.specs.Commands.{is_run, is_told, run_after, run_effect, run_fault, run_given, run_left};
+ghost use Rattle.run_control.specs.Laws.{uncounted};
 ghost use Rattle.run_control.specs.Refusing.{IfDue};
+ghost use Rattle.run_control.specs.TargetValue.{target_of};
 
 use crate::{asking, attaching, ending, steering, tracing};
 use breakpoints::Breakpoints;
@@ -18,18 +20,20 @@ use tcf_values::{Answer, Command, Effect, Events, Refusal};
 /// is no such live process or thread, 10 where a thread to be suspended is, 12 where a thread to be resumed or traced
 /// runs, 13 where a process to be attached is, 15 where an image is too large, 20 where a count is out of its bounds, 23
 /// where a mode isn't 0 or 2, and 1 for every other cause. That is found before any memory is asked for, so want of memory
-/// can come in its place for the report alone, and then nothing has changed either. Where no check fails, the targets are
-/// valid after want of memory, and nothing more is known of them.
+/// can come in its place for the report alone, and then nothing has changed either. Where no check fails, the targets and
+/// the breakpoints are valid after want of memory, and nothing more is known of them but that of the breakpoints only counts
+/// of hits have changed. Nothing else of them ever does.
 pub fn apply(
     alloc: Global,
     targets: &mut Targets,
-    bps: &Breakpoints,
+    bps: &mut Breakpoints,
     command: &Command,
 ) -> Result<Effect, AllocError>
     requires { IsTrue (is_run command.now) }
-    ensures effect { IfOk result (λ effect. effect ≡ run_effect command.now bps.now targets.old.seen) }
-    ensures after { OnOk result (targets.new.seen ≡ run_after command.now bps.now targets.old.seen) }
-    ensures kept { OnErr result (IsSome (run_fault command.now targets.old.seen) → targets.new.seen ≡ targets.old.seen) }
+    ensures effect { IfOk result (λ effect. effect ≡ run_effect command.now (target_of targets.old.seen bps.old)) }
+    ensures after { OnOk result (target_of targets.new.seen bps.new ≡ run_after command.now (target_of targets.old.seen bps.old)) }
+    ensures kept { OnErr result (IsSome (run_fault command.now targets.old.seen) → target_of targets.new.seen bps.new ≡ target_of targets.old.seen bps.old) }
+    ensures points { uncounted bps.new ≡ uncounted bps.old }
 {
     match execute(alloc, targets, bps, command) {
         Ok(effect) => Ok(effect),
@@ -42,15 +46,16 @@ pub fn apply(
 fn execute(
     alloc: Global,
     targets: &mut Targets,
-    bps: &Breakpoints,
+    bps: &mut Breakpoints,
     command: &Command,
 ) -> Result<Effect, Refusal>
     requires { IsTrue (is_run command.now) }
-    ensures given { IfOk result (λ effect. effect ≡ run_given command.now bps.now targets.old.seen targets.new.seen) }
+    ensures given { IfOk result (λ effect. effect ≡ run_given command.now (target_of targets.old.seen bps.old) (target_of targets.new.seen bps.new)) }
     ensures free { OnOk result (run_fault command.now targets.old.seen ≡ None) }
-    ensures left { OnOk result (targets.new.seen ≡ run_left command.now bps.now targets.old.seen) }
+    ensures left { OnOk result (target_of targets.new.seen bps.new ≡ run_left command.now (target_of targets.old.seen bps.old)) }
     ensures refused { IfErr result (IsRefusalOf (run_fault command.now targets.old.seen)) }
-    ensures kept { IfErr result (λ refusal. IfDue refusal (targets.new.seen ≡ targets.old.seen)) }
+    ensures kept { IfErr result (λ refusal. IfDue refusal (target_of targets.new.seen bps.new ≡ target_of targets.old.seen bps.old)) }
+    ensures points { uncounted bps.new ≡ uncounted bps.old }
 {
     match command {
         Command::GetContext { id } => Ok(Effect::gives(alloc, asking::context(targets, id)?)),
@@ -81,15 +86,17 @@ fn execute(
 fn tell(
     alloc: Global,
     targets: &mut Targets,
-    bps: &Breakpoints,
+    bps: &mut Breakpoints,
     command: &Command,
 ) -> Result<Events, Refusal>
     requires { IsTrue (is_told command.now) }
-    ensures given { IfOk result (λ events. tells events Answer.Nothing ≡ run_given command.now bps.now targets.old.seen targets.new.seen) }
+    ensures given { IfOk result (λ events. tells events Answer.Nothing
+        ≡ run_given command.now (target_of targets.old.seen bps.old) (target_of targets.new.seen bps.new)) }
     ensures free { OnOk result (run_fault command.now targets.old.seen ≡ None) }
-    ensures left { OnOk result (targets.new.seen ≡ run_left command.now bps.now targets.old.seen) }
+    ensures left { OnOk result (target_of targets.new.seen bps.new ≡ run_left command.now (target_of targets.old.seen bps.old)) }
     ensures refused { IfErr result (IsRefusalOf (run_fault command.now targets.old.seen)) }
-    ensures kept { IfErr result (λ refusal. IfDue refusal (targets.new.seen ≡ targets.old.seen)) }
+    ensures kept { IfErr result (λ refusal. IfDue refusal (target_of targets.new.seen bps.new ≡ target_of targets.old.seen bps.old)) }
+    ensures points { uncounted bps.new ≡ uncounted bps.old }
 {
     match command {
         Command::Resume { id, mode, count } => {

@@ -1,19 +1,21 @@
 //! One instruction of a thread, and what becomes of its process by it.
 ghost use Rattle.std.specs.Prelude.{◌≡◌, ◌<◌, ◌++◌, [], Some, IfOk, OnOk};
-ghost use Rattle.breakpoints.specs.Status.{hits_of};
 ghost use Rattle.target_contexts.specs.Threads.{in_thread, thread_at};
+ghost use Rattle.run_control.specs.Laws.{uncounted};
 ghost use Rattle.run_control.specs.Steering.{with_state};
 ghost use Rattle.run_control.specs.Telling.{made_events, suspended_events};
-ghost use Rattle.run_control.specs.Executing.{breakpoint_text, exception_code, exception_text, executed_of, executed_with, fate_by, hits_at, pc_at, settled, settled_events, spawned, step_text, stepped};
+ghost use Rattle.run_control.specs.TargetValue.{target_of};
+ghost use Rattle.run_control.specs.Executing.{breakpoint_text, exception_code, exception_text, fate_by, halt_of, pc_at, spawned, step_text, stepped};
+ghost use Rattle.run_control.specs.Settling.{finished, finished_events, settled_as, settled_in};
 
 use crate::ending::end;
 use crate::steering::set_one;
-use crate::telling::{tell_made, tell_one};
+use crate::telling::{tell_hits, tell_made, tell_one};
 use breakpoints::Breakpoints;
 use rv32i_core::{Outcome, execute};
 use std::alloc::{AllocError, Global};
 use target_contexts::{Process, Targets, ThreadState};
-use tcf_values::{Events, Text, Texts};
+use tcf_values::{Duplicate, Events, Text, Texts};
 
 /// What came of one instruction.
 #[derive(Debug, Drop)]
@@ -33,8 +35,34 @@ pub(crate) enum Executed {
 pub(crate) enum Fate {
     /// It ends with this code.
     Ends(i32),
-    /// It lives on, and the thread that executed has this state.
-    Lives(ThreadState),
+    /// It lives on.
+    Lives {
+        /// The state of the thread that executed.
+        state: ThreadState,
+        /// The IDs of the breakpoints that this thread hits, in the order of the list.
+        hits: Texts,
+    },
+}
+
+/// What becomes of a process, once its thread has its state.
+#[derive(Debug, Drop)]
+pub(crate) enum Settled {
+    /// It is to end.
+    Ends {
+        /// With this code.
+        code: i32,
+        /// How many threads it had before the input.
+        count: u32,
+    },
+    /// It lives on.
+    Lives {
+        /// What is told of the threads that began and of the one that executed.
+        events: Events,
+        /// Whether the latter runs on.
+        runs: bool,
+        /// The IDs of the breakpoints that it hits, in the order of the list.
+        hits: Texts,
+    },
 }
 
 /// How many pages of its memory an instruction can make own.
@@ -74,15 +102,30 @@ pub(crate) fn stopped_by_step(alloc: Global) -> Result<ThreadState, AllocError>
     })
 }
 
-/// Executes one instruction of a thread of a process, and tests for breakpoints at its new pc. A thread that it asks for
-/// begins, where it can.
-pub(crate) fn execute_one(
-    process: &mut Process,
-    bps: &Breakpoints,
-    number: u32,
-    n: u32,
-) -> Result<Executed, AllocError>
-    ensures executed { IfOk result (λ executed. executed ≡ executed_of bps.now number n process.old.seen) }
+/// The state of a thread that breakpoints stop.
+pub(crate) fn stopped_by_breakpoints(alloc: Global, hits: &Texts) -> Result<ThreadState, AllocError>
+    ensures { IfOk result (λ state. state ≡ ThreadState.Suspended breakpoint_text hits.now) }
+{
+    Ok(ThreadState::Suspended {
+        reason: breakpoint_text(alloc)?,
+        hits: hits.copy()?,
+    })
+}
+
+/// The state of a thread that raised an exception.
+fn stopped_by_exception(alloc: Global) -> Result<ThreadState, AllocError>
+    ensures { IfOk result (λ state. state ≡ ThreadState.Suspended exception_text []) }
+{
+    Ok(ThreadState::Suspended {
+        reason: exception_text(alloc)?,
+        hits: Texts::new(alloc),
+    })
+}
+
+/// Executes one instruction of a thread of a process, without a test for breakpoints. A thread that it asks for begins,
+/// where it can.
+pub(crate) fn execute_one(process: &mut Process, n: u32) -> Result<Executed, AllocError>
+    ensures executed { IfOk result (λ executed. executed ≡ halt_of n process.old.seen) }
     ensures after { OnOk result (process.new.seen ≡ stepped n process.old.seen) }
 {
     process.memory.ready(STORED_PAGES)?;
@@ -90,11 +133,11 @@ pub(crate) fn execute_one(
         return Ok(Executed::Plain);
     };
     match execute(&mut thread.cpu, &mut process.memory) {
-        Outcome::Next => tested_at(bps, number, process.attached, thread.cpu.pc),
+        Outcome::Next => Ok(Executed::Plain),
         Outcome::Exit(code) => Ok(Executed::Exit(code)),
         Outcome::Spawn { entry, argument } => {
             spawn(process, n, entry, argument)?;
-            tested(process, bps, number, n)
+            Ok(Executed::Plain)
         }
         Outcome::Exception => Ok(Executed::Exception),
     }
@@ -111,28 +154,6 @@ fn spawn(process: &mut Process, n: u32, entry: u32, argument: u32) -> Result<(),
     Ok(())
 }
 
-/// Tests for breakpoints where a thread stands.
-fn tested(process: &Process, bps: &Breakpoints, number: u32, n: u32) -> Result<Executed, AllocError>
-    ensures { IfOk result (λ executed. executed ≡ executed_with (hits_at bps.now number n process.now.seen)) }
-{
-    match process.threads.get(n) {
-        Some(thread) => tested_at(bps, number, process.attached, thread.cpu.pc),
-        None => Ok(Executed::Plain),
-    }
-}
-
-/// Tests for breakpoints at a pc.
-fn tested_at(
-    bps: &Breakpoints,
-    number: u32,
-    attached: bool,
-    pc: u32,
-) -> Result<Executed, AllocError>
-    ensures { IfOk result (λ executed. executed ≡ executed_with (hits_of number attached pc bps.now)) }
-{
-    Ok(executed_with(bps.hits(number, attached, pc)?))
-}
-
 /// Where a thread stands; 0 where there is none of this number.
 pub(crate) fn pc_at(process: &Process, n: u32) -> u32
     ensures { result ≡ pc_at n process.now.seen }
@@ -140,16 +161,6 @@ pub(crate) fn pc_at(process: &Process, n: u32) -> u32
     match process.threads.get(n) {
         Some(thread) => thread.cpu.pc,
         None => 0,
-    }
-}
-
-fn executed_with(hits: Texts) -> Executed
-    ensures { result ≡ executed_with hits }
-{
-    if hits.is_empty() {
-        Executed::Plain
-    } else {
-        Executed::Hit(hits)
     }
 }
 
@@ -163,41 +174,47 @@ pub(crate) fn fate_of(
     ensures { IfOk result (λ fate. fate ≡ fate_by plain attached executed) }
 {
     match executed {
-        Executed::Plain => Ok(Fate::Lives(plain)),
-        Executed::Hit(hits) => Ok(Fate::Lives(ThreadState::Suspended {
-            reason: breakpoint_text(alloc)?,
-            hits,
-        })),
-        Executed::Exit(code) => Ok(Fate::Ends(code)),
-        Executed::Exception if attached => Ok(Fate::Lives(ThreadState::Suspended {
-            reason: exception_text(alloc)?,
+        Executed::Plain => Ok(Fate::Lives {
+            state: plain,
             hits: Texts::new(alloc),
-        })),
+        }),
+        Executed::Hit(hits) => Ok(Fate::Lives {
+            state: stopped_by_breakpoints(alloc, &hits)?,
+            hits,
+        }),
+        Executed::Exit(code) => Ok(Fate::Ends(code)),
+        Executed::Exception if attached => Ok(Fate::Lives {
+            state: stopped_by_exception(alloc)?,
+            hits: Texts::new(alloc),
+        }),
         Executed::Exception => Ok(Fate::Ends(EXCEPTION)),
     }
 }
 
-/// Gives a live process, which had so many threads before the input, and its thread their fate, and tells of it.
+/// Gives the thread of a process, which had so many threads before the input, its state, where the process lives on.
 pub(crate) fn settle(
     alloc: Global,
-    targets: &mut Targets,
-    bps: &Breakpoints,
+    process: &mut Process,
     number: u32,
     n: u32,
     before: u32,
     fate: Fate,
-) -> Result<Events, AllocError>
+) -> Result<Settled, AllocError>
     requires process { 0 < number }
     requires thread { 0 < n }
-    ensures events { IfOk result (λ events. events ≡ settled_events bps.now number n before fate targets.new.seen) }
-    ensures after { OnOk result (targets.new.seen ≡ settled number n fate targets.old.seen) }
+    ensures settled { IfOk result (λ settled. settled ≡ settled_as number n before fate process.new.seen) }
+    ensures after { OnOk result (process.new.seen ≡ settled_in n fate process.old.seen) }
 {
     match fate {
-        Fate::Ends(code) => end(alloc, targets, bps, number, before, code),
-        Fate::Lives(state) => match targets.process_mut(number) {
-            Some(process) => live_on(alloc, process, number, n, before, state),
-            None => Ok(Events::new(alloc)),
-        },
+        Fate::Ends(code) => Ok(Settled::Ends {
+            code,
+            count: before,
+        }),
+        Fate::Lives { state, hits } => {
+            let runs = state.runs();
+            let events = live_on(alloc, process, number, n, before, state)?;
+            Ok(Settled::Lives { events, runs, hits })
+        }
     }
 }
 
@@ -221,4 +238,30 @@ fn live_on(
     tell_made(alloc, process, number, before, &mut events)?;
     tell_one(alloc, number, n, &process.threads, &mut events)?;
     Ok(events)
+}
+
+/// Ends a process, where that is its fate, and tells what is left to be told.
+pub(crate) fn finish(
+    alloc: Global,
+    targets: &mut Targets,
+    bps: &mut Breakpoints,
+    number: u32,
+    settled: Settled,
+) -> Result<Events, AllocError>
+    requires { 0 < number }
+    ensures events { IfOk result (λ events. events ≡ finished_events number settled (target_of targets.new.seen bps.new)) }
+    ensures after { OnOk result (target_of targets.new.seen bps.new ≡ finished number settled (target_of targets.old.seen bps.old)) }
+    ensures points { uncounted bps.new ≡ uncounted bps.old }
+{
+    match settled {
+        Settled::Ends { code, count } => end(alloc, targets, bps, number, count, code),
+        Settled::Lives {
+            mut events,
+            runs,
+            hits,
+        } => {
+            tell_hits(targets, bps, runs, hits.as_slice(), &mut events)?;
+            Ok(events)
+        }
+    }
 }

@@ -1,5 +1,5 @@
 //! The laws of run control, over every target.
-ghost use Rattle.run_control.specs.Laws.{CommandsKeepOrder, CommandsKeepSound, EndsOnce, TicksKeepOrder, TicksKeepSound, TouchesOne};
+ghost use Rattle.run_control.specs.Laws.{CommandsCountAlone, CommandsKeepList, CommandsKeepOrder, CommandsKeepSound, EndsOnce, TicksCountAlone, TicksKeepList, TicksKeepOrder, TicksKeepSound, TouchesOne};
 
 /// The law that the end of a process is told by one exit with its code, that the process is gone, and that all others
 /// stay.
@@ -27,4 +27,13 @@ pub fn a_tick_keeps_threads_attached()
 pub fn the_processes_stay_orderly()
     ensures commands { CommandsKeepOrder }
     ensures ticks { TicksKeepOrder }
+{}
+
+/// The law that of the breakpoints nothing but the counts of hits changes, whatever command of run control is executed and
+/// whatever thread executes an instruction, and that the counts stay of 32 bits.
+pub fn only_counts_change()
+    ensures commands { CommandsCountAlone }
+    ensures ticks { TicksCountAlone }
+    ensures commands_keep { CommandsKeepList }
+    ensures ticks_keep { TicksKeepList }
 {}

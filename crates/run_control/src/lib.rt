@@ -18,7 +18,7 @@ mod tracing;
 pub use commands::apply;
 pub use laws::{
     a_command_keeps_threads_attached, a_tick_keeps_threads_attached, a_tick_touches_one,
-    an_end_is_told_once, the_processes_stay_orderly,
+    an_end_is_told_once, only_counts_change, the_processes_stay_orderly,
 };
 pub use lengths::the_processes_stay_short;
 pub use tcf_values::{Effect, Events, Numbers};

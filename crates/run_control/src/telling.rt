@@ -4,7 +4,8 @@ ghost use Rattle.std.specs.List.{flat_map};
 ghost use Rattle.target_contexts.specs.Live.{process_of};
 ghost use Rattle.target_contexts.specs.Named.{attached_in, is_attached};
 ghost use Rattle.run_control.specs.Naming.{process_id, thread_id, thread_ids};
-ghost use Rattle.run_control.specs.Telling.{added_events, all_suspended_events, changed_events, made_events, resumed_event, resumed_events, statuses_in, suspended_events};
+ghost use Rattle.run_control.specs.TargetValue.{target_of};
+ghost use Rattle.run_control.specs.Telling.{added_events, all_suspended_events, changed_events, hit_events, made_events, resumed_event, resumed_events, several_events, statuses_in, suspended_events};
 ghost use Rattle.target_contexts.specs.ThreadList.{numbered};
 ghost use Rattle.target_contexts.specs.Threads.{numbers_to, thread_of};
 
@@ -264,7 +265,38 @@ pub(crate) fn tell_statuses(
     bps: &Breakpoints,
     events: &mut Events,
 ) -> Result<(), AllocError>
-    ensures { OnOk result (events.new ≡ events.old ++ statuses_in bps.now targets.now.seen) }
+    ensures { OnOk result (events.new ≡ events.old ++ statuses_in (target_of targets.now.seen bps.now)) }
 {
     bps.add_statuses(&attached(targets)?, events)
+}
+
+/// What breakpoints come to that a thread hits, which runs on or is suspended: contextChanged of them where it runs on and
+/// they are several, and the status of each, in the order of the list.
+pub(crate) fn tell_hits(
+    targets: &Targets,
+    bps: &Breakpoints,
+    runs: bool,
+    ids: &[Text],
+    events: &mut Events,
+) -> Result<(), AllocError>
+    ensures { OnOk result (events.new ≡ events.old ++ hit_events runs ids.now (target_of targets.now.seen bps.now)) }
+{
+    if ids.is_empty() {
+        return Ok(());
+    }
+    if runs {
+        tell_several(bps, ids, events)?;
+    }
+    bps.add_statuses_of(ids, &attached(targets)?, events)
+}
+
+/// contextChanged of the breakpoints of these IDs, where there are several.
+fn tell_several(bps: &Breakpoints, ids: &[Text], events: &mut Events) -> Result<(), AllocError>
+    ensures { OnOk result (events.new ≡ events.old ++ several_events ids.now bps.now) }
+{
+    if ids.len() > 1 {
+        let list = bps.props_of(ids)?;
+        events.push(EventData::BpChanged { list })?;
+    }
+    Ok(())
 }

@@ -26,6 +26,7 @@ use Rattle.target_contexts.specs.Threads.{count_in, thread_of}
 use Rattle.target_contexts.specs.Named.{attached_in, number_named, thread_named}
 use Rattle.target_contexts.specs.TargetsValue.{TargetsValue}
 use Rattle.breakpoints.specs.Changes.{added_by, changed_by, changes_list, done, is_refused, is_switched, removed_by, switched, with_flag}
+use Rattle.breakpoints.specs.Rows.{IsOrderly as AreListed}
 use Rattle.breakpoints.specs.Statuses.{status_event}
 use Rattle.breakpoints.specs.declared.breakpoints.BpDone.{BpDone}
 use Rattle.breakpoints.specs.declared.breakpoints.BpDone.TheVariants.{Failed, Changed}
@@ -43,7 +44,8 @@ use Rattle.target_hub.specs.Execution.{effect_in, exec_effect}
 use Rattle.target_hub.specs.Limits.{AreEvents, AreReadable}
 use Rattle.run_control.specs.TargetValue.{TargetValue}
 use Rattle.target_hub.proofs.Lists.{all_mapped}
-use Rattle.target_hub.proofs.Told.{added_fit, all_resumed_fit, all_suspended_fit, changed_fit, end_fits, status_fits, statuses_fit, suspended_fit, trace_fits}
+use Rattle.target_hub.proofs.Points.{ArePoints, unless_fault}
+use Rattle.target_hub.proofs.Told.{added_fit, all_resumed_fit, all_suspended_fit, changed_fit, end_fits, run_points, status_fits, statuses_fit, suspended_fit, trace_fits}
 use Rattle.list_laws.proofs.Flags.{second_false}
 use Rattle.list_laws.proofs.AllLists.{all_append, all_filter, all_map}
 use Rattle.breakpoints.specs.declared.rows.Placed.{Placed}
@@ -71,56 +73,59 @@ test_fit false one other fit also = also
 three : (xs ys zs : List EventData) → AreEvents xs → AreEvents ys → AreEvents zs → AreEvents (xs ++ (ys ++ zs))
 three xs ys zs first second third = all_append IsEvent xs (ys ++ zs) first (all_append IsEvent ys zs second third)
 
-trace_fit : (bps : List Placed) (count : ℕ) (named : Option (ℕ × ℕ)) (targets after : TargetsValue) → AreEvents (trace_given bps count named targets after).events
-trace_fit bps count None targets after = tt
-trace_fit bps count (Some pair) targets after = trace_fits bps count pair.0 pair.1 targets after
+trace_fit : (count : ℕ) (named : Option (ℕ × ℕ)) (target after : TargetValue) → ArePoints after.breakpoints → AreEvents (trace_given count named target after).events
+trace_fit count None target after are = tt
+trace_fit count (Some pair) target after are = trace_fits count pair.0 pair.1 target after are
 
 resumed_fit : (number n : ℕ) → AreEvents (resumed_events number n)
 resumed_fit number n = (tt, tt)
 
-ended_fit : (bps : List Placed) (targets after : TargetsValue) (number : ℕ) → AreEvents (terminate_events bps number targets after)
-ended_fit bps targets after number =
-    end_fits bps number (count_in (process_of number targets.processes)) terminate_code after (lit< {m = 0} {n = 2 ^ 63} tt)
+ended_fit : (target after : TargetValue) (number : ℕ) → ArePoints after.breakpoints → AreEvents (terminate_events number target after)
+ended_fit target after number are =
+    end_fits number (count_in (process_of number target.contexts.processes)) terminate_code after (lit< {m = 0} {n = 2 ^ 63} tt) are
 
-started_fit : (bps : List Placed) (number : ℕ) (after : TargetsValue) → AreEvents (start_events bps number after)
-started_fit bps number after =
-    let process = process_of number after.processes in
-    three (added_events number process) (all_suspended_events number process) (statuses_in bps after)
-    (added_fit number process) (all_suspended_fit number process) (statuses_fit (attached_in after.processes) bps)
+started_fit : (number : ℕ) (after : TargetValue) → ArePoints after.breakpoints → AreEvents (start_events number after)
+started_fit number after are =
+    let process = process_of number after.contexts.processes in
+    three (added_events number process) (all_suspended_events number process) (statuses_in after)
+    (added_fit number process) (all_suspended_fit number process) (statuses_fit (attached_in after.contexts.processes) after.breakpoints are)
 
-attached_fit : (bps : List Placed) (after : TargetsValue) (number : ℕ) → AreEvents (attach_events bps number after)
-attached_fit bps after number =
-    let process = process_of number after.processes in
-    three (changed_events number process) (all_suspended_events number process) (statuses_in bps after)
-    (changed_fit number process) (all_suspended_fit number process) (statuses_fit (attached_in after.processes) bps)
+attached_fit : (after : TargetValue) (number : ℕ) → ArePoints after.breakpoints → AreEvents (attach_events number after)
+attached_fit after number are =
+    let process = process_of number after.contexts.processes in
+    three (changed_events number process) (all_suspended_events number process) (statuses_in after)
+    (changed_fit number process) (all_suspended_fit number process) (statuses_fit (attached_in after.contexts.processes) after.breakpoints are)
 
-detached_fit : (bps : List Placed) (was : Option ProcessValue) (after : TargetsValue) (number : ℕ) → AreEvents (detach_events bps was number after)
-detached_fit bps was after number =
-    let process = process_of number after.processes in
-    three (changed_events number process) (all_resumed_events number was) (statuses_in bps after)
-    (changed_fit number process) (all_resumed_fit number was) (statuses_fit (attached_in after.processes) bps)
+detached_fit : (was : Option ProcessValue) (after : TargetValue) (number : ℕ) → ArePoints after.breakpoints → AreEvents (detach_events was number after)
+detached_fit was after number are =
+    let process = process_of number after.contexts.processes in
+    three (changed_events number process) (all_resumed_events number was) (statuses_in after)
+    (changed_fit number process) (all_resumed_fit number was) (statuses_fit (attached_in after.contexts.processes) after.breakpoints are)
 
-run_fit : (command : Command) (bps : List Placed) (targets after : TargetsValue) → AreEvents (run_given command bps targets after).events
-run_fit (GetContext id) bps targets after = tt
-run_fit (GetChildren id) bps targets after = tt
-run_fit (GetState id) bps targets after = tt
-run_fit (Resume id mode count) bps targets after = of_fit (λ pair. resumed_events pair.0 pair.1) (thread_named id) (λ pair. resumed_fit pair.0 pair.1)
-run_fit (Suspend id) bps targets after =
-    of_fit (λ pair. suspend_events pair.0 pair.1 after) (thread_named id) (λ pair. suspended_fit pair.0 pair.1 (thread_of pair.0 pair.1 after.processes))
-run_fit (Terminate id) bps targets after = of_fit (λ number. terminate_events bps number targets after) (number_named id) (ended_fit bps targets after)
-run_fit (ProcContext id) bps targets after = tt
-run_fit (ProcChildren id attached) bps targets after = tt
-run_fit (ProcStart directory file args environment attach) bps targets after = started_fit bps targets.next after
-run_fit (ProcAttach id) bps targets after = of_fit (λ number. attach_events bps number after) (process_named id) (attached_fit bps after)
-run_fit (ProcDetach id) bps targets after =
-    let was = process_there id targets.processes in
-    of_fit (λ number. detach_events bps was number after) (process_named id) (detached_fit bps was after)
-run_fit (ProcTerminate id) bps targets after = of_fit (λ number. terminate_events bps number targets after) (process_named id) (ended_fit bps targets after)
-run_fit (TraceRun id count) bps targets after = trace_fit bps (unsigned_abs count) (thread_named id) targets after
-run_fit _ bps targets after = tt
+run_fit : (command : Command) (target after : TargetValue) → ArePoints after.breakpoints → AreEvents (run_given command target after).events
+run_fit (GetContext id) target after are = tt
+run_fit (GetChildren id) target after are = tt
+run_fit (GetState id) target after are = tt
+run_fit (Resume id mode count) target after are = of_fit (λ pair. resumed_events pair.0 pair.1) (thread_named id) (λ pair. resumed_fit pair.0 pair.1)
+run_fit (Suspend id) target after are =
+    of_fit (λ pair. suspend_events pair.0 pair.1 after.contexts) (thread_named id) (λ pair. suspended_fit pair.0 pair.1 (thread_of pair.0 pair.1 after.contexts.processes))
+run_fit (Terminate id) target after are = of_fit (λ number. terminate_events number target after) (number_named id) (λ number. ended_fit target after number are)
+run_fit (ProcContext id) target after are = tt
+run_fit (ProcChildren id attached) target after are = tt
+run_fit (ProcStart directory file args environment attach) target after are = started_fit target.contexts.next after are
+run_fit (ProcAttach id) target after are = of_fit (λ number. attach_events number after) (process_named id) (λ number. attached_fit after number are)
+run_fit (ProcDetach id) target after are =
+    let was = process_there id target.contexts.processes in
+    of_fit (λ number. detach_events was number after) (process_named id) (λ number. detached_fit was after number are)
+run_fit (ProcTerminate id) target after are = of_fit (λ number. terminate_events number target after) (process_named id) (λ number. ended_fit target after number are)
+run_fit (TraceRun id count) target after are = trace_fit (unsigned_abs count) (thread_named id) target after are
+run_fit _ target after are = tt
 
-pub run_told : (command : Command) (bps : List Placed) (targets : TargetsValue) → AreEvents (run_effect command bps targets).events
-run_told command bps targets = by_fault (run_fault command targets) _ (λ _. run_fit command bps targets (run_left command bps targets))
+pub run_told : (command : Command) (target : TargetValue) → AreReadable target.breakpoints → AreListed target.breakpoints → AreEvents (run_effect command target).events
+run_told command target readable orderly =
+    let left : TargetValue = run_left command target in
+    by_fault (run_fault command target.contexts) _ (λ free. run_fit command target left
+    (unless_fault (λ (t : TargetValue). ArePoints t.breakpoints) (run_fault command target.contexts) left target (run_points command target readable orderly) free))
 
 -- ---- Memory and Registers: a range that is set lies in memory
 
@@ -232,15 +237,15 @@ breakpoints_told channel command target readable all =
 
 -- ---- every service
 
-told_in : (name : CommandName) (channel : ℕ) (command : Command) (target : TargetValue) → IsReadable command → AreReadable target.breakpoints → AreEvents (effect_in name channel command target).events
-told_in (service.Locator name) channel command target readable all = tt
-told_in (service.RunControl name) channel command target readable all = run_told command target.breakpoints target.contexts
-told_in (service.Breakpoints name) channel command target readable all = breakpoints_told channel command target readable all
-told_in (service.Memory name) channel command target readable all = data_told command target.contexts
-told_in (service.Registers name) channel command target readable all = data_told command target.contexts
-told_in (service.Processes name) channel command target readable all = run_told command target.breakpoints target.contexts
-told_in (service.Trace name) channel command target readable all = run_told command target.breakpoints target.contexts
+told_in : (name : CommandName) (channel : ℕ) (command : Command) (target : TargetValue) → IsReadable command → AreReadable target.breakpoints → AreListed target.breakpoints → AreEvents (effect_in name channel command target).events
+told_in (service.Locator name) channel command target readable all orderly = tt
+told_in (service.RunControl name) channel command target readable all orderly = run_told command target all orderly
+told_in (service.Breakpoints name) channel command target readable all orderly = breakpoints_told channel command target readable all
+told_in (service.Memory name) channel command target readable all orderly = data_told command target.contexts
+told_in (service.Registers name) channel command target readable all orderly = data_told command target.contexts
+told_in (service.Processes name) channel command target readable all orderly = run_told command target all orderly
+told_in (service.Trace name) channel command target readable all orderly = run_told command target all orderly
 
-pub exec_told : (channel : ℕ) (command : Command) (target : TargetValue) → IsReadable command → AreReadable target.breakpoints → AreEvents (exec_effect channel command target).events
+pub exec_told : (channel : ℕ) (command : Command) (target : TargetValue) → IsReadable command → AreReadable target.breakpoints → AreListed target.breakpoints → AreEvents (exec_effect channel command target).events
 unfolding exec_effect
-exec_told channel command target readable all = told_in (named_as command) channel command target readable all
+exec_told channel command target readable all orderly = told_in (named_as command) channel command target readable all orderly

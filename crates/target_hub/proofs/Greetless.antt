@@ -1,9 +1,10 @@
 -- The target tells no Hello: it tells of its processes, its breakpoints, its memory and its registers.
-use Rattle.std.proofs.Common.{ℕ, ℤ, pos, Bool, true, false, cond, List, [], ◌∷◌, ◌++◌, Option, Some, None, option_map}
+use Rattle.std.proofs.Common.{ℕ, ℤ, pos, ◌==◌, Bool, true, false, cond, List, [], ◌∷◌, ◌++◌, Option, Some, None, option_map}
 use Rattle.std.specs.List.{flat_map}
 use Rattle.std.specs.Prelude.{IfSome, int_lt, slice_get, unsigned_abs}
 use Rattle.tcf_values.specs.declared.values.ContextData.{ContextData}
 use Rattle.breakpoints.specs.Changes.{changes_list, done}
+use Rattle.breakpoints.specs.Counting.{listed}
 use Rattle.breakpoints.specs.Rows.{ids_of, owned_by}
 use Rattle.breakpoints.specs.Statuses.{statuses_of}
 use Rattle.breakpoints.specs.declared.breakpoints.BpDone.{BpDone}
@@ -15,10 +16,10 @@ use Rattle.data_services.specs.RegisterRows.{events_from, name_one}
 use Rattle.run_control.specs.Attaching.{attach_events, detach_events, process_there, start_events}
 use Rattle.run_control.specs.Commands.{events_of, run_effect, run_fault, run_given, run_left, terminate_code, terminate_events, trace_given}
 use Rattle.run_control.specs.Ending.{end_events}
-use Rattle.run_control.specs.Executing.{settled_events, step_text}
+use Rattle.run_control.specs.Executing.{hits_at, settled_events, step_text, stepped}
 use Rattle.run_control.specs.Naming.{process_named}
 use Rattle.run_control.specs.Steering.{suspend_events}
-use Rattle.run_control.specs.Telling.{added_events, all_resumed_events, all_suspended_events, changed_events, contexts_events, made_events, resumed_event, resumed_events, statuses_in, stop_events, suspended_events}
+use Rattle.run_control.specs.Telling.{added_events, all_resumed_events, all_suspended_events, changed_events, contexts_events, hit_events, made_events, resumed_event, resumed_events, several_events, statuses_among, statuses_in, stop_events, suspended_events}
 use Rattle.run_control.specs.Ticking.{counted_in, running_pair, ticked, ticked_events, ticked_events_at}
 use Rattle.run_control.specs.Tracing.{traced_events_at}
 use Rattle.service_names.specs.Commands.{named_as}
@@ -28,7 +29,7 @@ use Rattle.target_contexts.specs.Contexts.{threads_behind}
 use Rattle.target_contexts.specs.Live.{process_of}
 use Rattle.target_contexts.specs.Threads.{count_in, thread_at, thread_count, thread_numbers, thread_of}
 use Rattle.target_contexts.specs.declared.threads.Thread.{Thread}
-use Rattle.target_contexts.specs.Named.{attached_in, number_named, thread_named}
+use Rattle.target_contexts.specs.Named.{attached_in, number_named, runs as is_run, thread_named}
 use Rattle.target_contexts.specs.TargetsValue.{TargetsValue}
 use Rattle.target_contexts.specs.ProcessValue.{ProcessValue}
 use Rattle.target_contexts.specs.declared.process.ThreadState.{ThreadState}
@@ -46,7 +47,7 @@ use Rattle.tcf_values.specs.declared.event.EventData.{EventData}
 use Rattle.tcf_values.specs.declared.faults.Fault.{Fault}
 use Rattle.tcf_values.specs.declared.values.BpProps.{BpProps}
 use Rattle.tcf_values.specs.declared.values.Location.{Location}
-use Rattle.target_hub.proofs.Fates.{Covers, tick_keeps, trace_keeps}
+use Rattle.target_hub.proofs.Fates.{CoversAlone, tick_alone, trace_alone}
 use Rattle.list_laws.proofs.AllLists.{all_append, all_map}
 use Rattle.breakpoints.specs.declared.rows.Placed.{Placed}
 
@@ -78,8 +79,8 @@ statuses_all : (attached : List ℕ) (rows : List Placed) → AreNoHello (status
 statuses_all attached [] = tt
 statuses_all attached (row ∷ rows) = (tt, statuses_all attached rows)
 
-statuses_told : (bps : List Placed) (targets : TargetsValue) → AreNoHello (statuses_in bps targets)
-statuses_told bps targets = statuses_all (attached_in targets.processes) bps
+statuses_told : (target : TargetValue) → AreNoHello (statuses_in target)
+statuses_told target = statuses_all (attached_in target.contexts.processes) target.breakpoints
 
 added_told : (number : ℕ) (process : Option ProcessValue) → AreNoHello (added_events number process)
 added_told number None = tt
@@ -116,75 +117,95 @@ resumed_told number n = (tt, tt)
 all_resumed_told : (number : ℕ) (was : Option ProcessValue) → AreNoHello (all_resumed_events number was)
 all_resumed_told number was = all_map IsNoHello (resumed_event number) _ (λ n. tt)
 
-end_told : (bps : List Placed) (number count : ℕ) (code : ℤ) (targets : TargetsValue) → AreNoHello (end_events bps number count code targets)
-end_told bps number count code targets = (tt, (tt, statuses_told bps targets))
+end_told : (number count : ℕ) (code : ℤ) (target : TargetValue) → AreNoHello (end_events number count code target)
+end_told number count code target = (tt, (tt, statuses_told target))
 
-started_told : (bps : List Placed) (number : ℕ) (after : TargetsValue) → AreNoHello (start_events bps number after)
-started_told bps number after =
-    let process = process_of number after.processes in
-    three (added_events number process) (all_suspended_events number process) (statuses_in bps after)
-    (added_told number process) (all_suspended_told number process) (statuses_told bps after)
+started_told : (number : ℕ) (after : TargetValue) → AreNoHello (start_events number after)
+started_told number after =
+    let process = process_of number after.contexts.processes in
+    three (added_events number process) (all_suspended_events number process) (statuses_in after)
+    (added_told number process) (all_suspended_told number process) (statuses_told after)
 
-attached_told : (bps : List Placed) (after : TargetsValue) (number : ℕ) → AreNoHello (attach_events bps number after)
-attached_told bps after number =
-    let process = process_of number after.processes in
-    three (changed_events number process) (all_suspended_events number process) (statuses_in bps after)
-    (changed_told number process) (all_suspended_told number process) (statuses_told bps after)
+attached_told : (after : TargetValue) (number : ℕ) → AreNoHello (attach_events number after)
+attached_told after number =
+    let process = process_of number after.contexts.processes in
+    three (changed_events number process) (all_suspended_events number process) (statuses_in after)
+    (changed_told number process) (all_suspended_told number process) (statuses_told after)
 
-detached_told : (bps : List Placed) (was : Option ProcessValue) (after : TargetsValue) (number : ℕ) → AreNoHello (detach_events bps was number after)
-detached_told bps was after number =
-    let process = process_of number after.processes in
-    three (changed_events number process) (all_resumed_events number was) (statuses_in bps after)
-    (changed_told number process) (all_resumed_told number was) (statuses_told bps after)
+detached_told : (was : Option ProcessValue) (after : TargetValue) (number : ℕ) → AreNoHello (detach_events was number after)
+detached_told was after number =
+    let process = process_of number after.contexts.processes in
+    three (changed_events number process) (all_resumed_events number was) (statuses_in after)
+    (changed_told number process) (all_resumed_told number was) (statuses_told after)
 
 -- ---- what becomes of a process after its instructions
 
-fate_told : (bps : List Placed) (number n before : ℕ) (plain : ThreadState) (after : TargetsValue) → Covers (λ fate. AreNoHello (settled_events bps number n before fate after)) plain
-fate_told bps number n before plain after =
-    let lived =
-    all_append IsNoHello (made_events number before (process_of number after.processes)) (suspended_events number n (thread_of number n after.processes))
-    (contexts_told (threads_behind before number (process_of number after.processes))) (suspended_told number n (thread_of number n after.processes)) in
-    record { plainly = lived; suspended = λ state stands. lived; ended = λ code whole. end_told bps number before code after }
+several_told : (hits : List (List ℕ)) (bps : List Placed) → AreNoHello (several_events hits bps)
+several_told [] bps = tt
+several_told (hit ∷ []) bps = tt
+several_told (hit ∷ other ∷ hits) bps = (tt, tt)
 
-traced_told : (bps : List Placed) (number n count : ℕ) (process : Option ProcessValue) (after : TargetsValue) → AreNoHello (traced_events_at bps number n count process after)
+hits_told : (runs : Bool) (hits : List (List ℕ)) (target : TargetValue) → AreNoHello (hit_events runs hits target)
+hits_told runs hits target =
+    all_append IsNoHello (cond runs (several_events hits target.breakpoints) []) (statuses_among hits target)
+    (either runs (several_events hits target.breakpoints) [] (several_told hits target.breakpoints) tt)
+    (statuses_all (attached_in target.contexts.processes) (listed hits target.breakpoints))
+
+fate_told : (number n before : ℕ) (plain : ThreadState) (hits : List (List ℕ)) (after : TargetValue) → CoversAlone (λ fate. AreNoHello (settled_events number n before fate after)) plain hits
+fate_told number n before plain hits after =
+    let made : List EventData = made_events number before (process_of number after.contexts.processes) in
+    let stopped : List EventData = suspended_events number n (thread_of number n after.contexts.processes) in
+    let lived = λ (runs : Bool) (others : List (List ℕ)).
+    all_append IsNoHello (made ++ stopped) (hit_events runs others after)
+    (all_append IsNoHello made stopped
+    (contexts_told (threads_behind before number (process_of number after.contexts.processes))) (suspended_told number n (thread_of number n after.contexts.processes)))
+    (hits_told runs others after) in
+    record {
+      plainly = lived (is_run plain) [];
+      passing = λ now. lived (is_run plain) hits;
+      suspended = λ reason others. lived false others;
+      ended = λ code whole. end_told number before code after;
+    }
+
+traced_told : (bps : List Placed) (number n count : ℕ) (process : Option ProcessValue) (after : TargetValue) → AreNoHello (traced_events_at bps number n count process after)
 traced_told bps number n count None after = tt
 traced_told bps number n count (Some process) after =
-    trace_keeps (λ fate. AreNoHello (settled_events bps number n (thread_count process) fate after)) bps number n count process
-    (fate_told bps number n (thread_count process) (Suspended step_text []) after)
+    trace_alone (λ fate. AreNoHello (settled_events number n (thread_count process) fate after)) bps number n count process
+    (fate_told number n (thread_count process) (Suspended step_text []) [] after)
 
-trace_told : (bps : List Placed) (count : ℕ) (named : Option (ℕ × ℕ)) (targets after : TargetsValue) → AreNoHello (trace_given bps count named targets after).events
-trace_told bps count None targets after = tt
-trace_told bps count (Some pair) targets after = traced_told bps pair.0 pair.1 count (process_of pair.0 targets.processes) after
+trace_told : (count : ℕ) (named : Option (ℕ × ℕ)) (target after : TargetValue) → AreNoHello (trace_given count named target after).events
+trace_told count None target after = tt
+trace_told count (Some pair) target after = traced_told target.breakpoints pair.0 pair.1 count (process_of pair.0 target.contexts.processes) after
 
-terminate_told : (bps : List Placed) (targets after : TargetsValue) (number : ℕ) → AreNoHello (terminate_events bps number targets after)
-terminate_told bps targets after number = end_told bps number (count_in (process_of number targets.processes)) terminate_code after
+terminate_told : (target after : TargetValue) (number : ℕ) → AreNoHello (terminate_events number target after)
+terminate_told target after number = end_told number (count_in (process_of number target.contexts.processes)) terminate_code after
 
-run_all : (command : Command) (bps : List Placed) (targets after : TargetsValue) → AreNoHello (run_given command bps targets after).events
-run_all (GetContext id) bps targets after = tt
-run_all (GetChildren id) bps targets after = tt
-run_all (GetState id) bps targets after = tt
-run_all (Resume id mode count) bps targets after =
+run_all : (command : Command) (target after : TargetValue) → AreNoHello (run_given command target after).events
+run_all (GetContext id) target after = tt
+run_all (GetChildren id) target after = tt
+run_all (GetState id) target after = tt
+run_all (Resume id mode count) target after =
     of_one (λ pair. resumed_events pair.0 pair.1) (thread_named id) (λ pair. resumed_told pair.0 pair.1)
-run_all (Suspend id) bps targets after =
-    of_one (λ pair. suspend_events pair.0 pair.1 after) (thread_named id) (λ pair. suspended_told pair.0 pair.1 (thread_of pair.0 pair.1 after.processes))
-run_all (Terminate id) bps targets after =
-    of_one (λ number. terminate_events bps number targets after) (number_named id) (terminate_told bps targets after)
-run_all (ProcContext id) bps targets after = tt
-run_all (ProcChildren id attached) bps targets after = tt
-run_all (ProcStart directory file args environment attach) bps targets after = started_told bps targets.next after
-run_all (ProcAttach id) bps targets after = of_one (λ number. attach_events bps number after) (process_named id) (attached_told bps after)
-run_all (ProcDetach id) bps targets after =
-    let was = process_there id targets.processes in
-    of_one (λ number. detach_events bps was number after) (process_named id) (detached_told bps was after)
-run_all (ProcTerminate id) bps targets after =
-    of_one (λ number. terminate_events bps number targets after) (process_named id) (terminate_told bps targets after)
-run_all (TraceRun id count) bps targets after = trace_told bps (unsigned_abs count) (thread_named id) targets after
-run_all _ bps targets after = tt
+run_all (Suspend id) target after =
+    of_one (λ pair. suspend_events pair.0 pair.1 after.contexts) (thread_named id) (λ pair. suspended_told pair.0 pair.1 (thread_of pair.0 pair.1 after.contexts.processes))
+run_all (Terminate id) target after =
+    of_one (λ number. terminate_events number target after) (number_named id) (terminate_told target after)
+run_all (ProcContext id) target after = tt
+run_all (ProcChildren id attached) target after = tt
+run_all (ProcStart directory file args environment attach) target after = started_told target.contexts.next after
+run_all (ProcAttach id) target after = of_one (λ number. attach_events number after) (process_named id) (attached_told after)
+run_all (ProcDetach id) target after =
+    let was = process_there id target.contexts.processes in
+    of_one (λ number. detach_events was number after) (process_named id) (detached_told was after)
+run_all (ProcTerminate id) target after =
+    of_one (λ number. terminate_events number target after) (process_named id) (terminate_told target after)
+run_all (TraceRun id count) target after = trace_told (unsigned_abs count) (thread_named id) target after
+run_all _ target after = tt
 
-run_told : (command : Command) (bps : List Placed) (targets : TargetsValue) → AreNoHello (run_effect command bps targets).events
-run_told command bps targets =
-    let after = run_left command bps targets in
-    by_fault (run_fault command targets) (run_given command bps targets after) (run_all command bps targets after)
+run_told : (command : Command) (target : TargetValue) → AreNoHello (run_effect command target).events
+run_told command target =
+    let after = run_left command target in
+    by_fault (run_fault command target.contexts) (run_given command target after) (run_all command target after)
 
 -- ---- of memory and registers
 
@@ -249,12 +270,12 @@ breakpoints_told channel command target =
 
 told_in : (name : CommandName) (channel : ℕ) (command : Command) (target : TargetValue) → AreNoHello (effect_in name channel command target).events
 told_in (service.Locator name) channel command target = tt
-told_in (service.RunControl name) channel command target = run_told command target.breakpoints target.contexts
+told_in (service.RunControl name) channel command target = run_told command target
 told_in (service.Breakpoints name) channel command target = breakpoints_told channel command target
 told_in (service.Memory name) channel command target = data_told command target.contexts
 told_in (service.Registers name) channel command target = data_told command target.contexts
-told_in (service.Processes name) channel command target = run_told command target.breakpoints target.contexts
-told_in (service.Trace name) channel command target = run_told command target.breakpoints target.contexts
+told_in (service.Processes name) channel command target = run_told command target
+told_in (service.Trace name) channel command target = run_told command target
 
 exec_told : (channel : ℕ) (command : Command) (target : TargetValue) → AreNoHello (exec_effect channel command target).events
 unfolding exec_effect
@@ -265,18 +286,18 @@ commands_greetless channel service name (readings.Known command) target = exec_t
 commands_greetless channel service name readings.Unknown target = tt
 commands_greetless channel service name (readings.Bad index code) target = tt
 
-ticked_told : (bps : List Placed) (number n : ℕ) (process : Option ProcessValue) (after : TargetsValue) → AreNoHello (ticked_events_at bps number n process after)
+ticked_told : (bps : List Placed) (number n : ℕ) (process : Option ProcessValue) (after : TargetValue) → AreNoHello (ticked_events_at bps number n process after)
 ticked_told bps number n None after = tt
 ticked_told bps number n (Some process) after =
-    tick_keeps (λ fate. AreNoHello (settled_events bps number n (thread_count process) fate after)) bps number n process
-    (fate_told bps number n (thread_count process) (counted_in (thread_at n process)) after)
+    tick_alone (λ fate. AreNoHello (settled_events number n (thread_count process) fate after)) bps number n process
+    (fate_told number n (thread_count process) (counted_in (thread_at n process)) (hits_at bps number n (stepped n process)) after)
 
-tick_named : (bps : List Placed) (targets : TargetsValue) (named : Option (ℕ × ℕ)) → IfSome (option_map (λ pair. ticked_events bps pair.0 pair.1 targets) named) AreNoHello
-tick_named bps targets None = tt
-tick_named bps targets (Some pair) = ticked_told bps pair.0 pair.1 (process_of pair.0 targets.processes) (ticked bps pair.0 pair.1 targets)
+tick_named : (target : TargetValue) (named : Option (ℕ × ℕ)) → IfSome (option_map (λ pair. ticked_events pair.0 pair.1 target) named) AreNoHello
+tick_named target None = tt
+tick_named target (Some pair) = ticked_told target.breakpoints pair.0 pair.1 (process_of pair.0 target.contexts.processes) (ticked pair.0 pair.1 target)
 
 pub ticks_greetless : TicksTellNoHello
-ticks_greetless thread target = tick_named target.breakpoints target.contexts (running_pair thread target.contexts.processes)
+ticks_greetless thread target = tick_named target (running_pair thread target.contexts.processes)
 
 pub closings_greetless : ClosingsTellNoHello
 closings_greetless channel target = removed_told (ids_of (owned_by channel target.breakpoints))

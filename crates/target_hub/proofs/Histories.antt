@@ -13,12 +13,13 @@ use Rattle.service_names.specs.declared.commands.CommandName.TheVariants as serv
 use Rattle.tcf_values.specs.declared.command.Command.{Command}
 use Rattle.breakpoints.specs.declared.rows.Placed.{Placed}
 use Rattle.breakpoints.specs.Changes.{after}
-use Rattle.breakpoints.specs.Laws.{Step, command, going, list_after_all}
+use Rattle.breakpoints.specs.Laws.{command, going}
 use Rattle.breakpoints.specs.Rows.{IsOrderly as AreListed, others, owned_by}
 use Rattle.data_services.specs.Commands.{data_after}
 use Rattle.data_services.specs.Laws.{thread_part}
 use Rattle.run_control.specs.Commands.{run_after}
-use Rattle.run_control.specs.Laws.{AreSound, IsSound, IsSoundThread, needs_debugger}
+use Rattle.run_control.specs.Laws.{AreSound, IsSound, IsSoundThread, needs_debugger, uncounted}
+use Rattle.run_control.specs.Ticking.{tick_after}
 use Rattle.target_contexts.specs.Live.{IsOrderly, process_of}
 use Rattle.target_contexts.specs.TargetsValue.{TargetsValue}
 use Rattle.target_contexts.specs.declared.process.Image.{Image}
@@ -34,12 +35,13 @@ use Rattle.target_hub.specs.Limits.{AreReadable}
 use Rattle.target_hub.specs.declared.input.Input.{Input}
 use Rattle.target_hub.specs.declared.input.Input.TheVariants.{Opened, Executed, Ticked, Closed}
 use Rattle.run_control.specs.TargetValue.{TargetValue}
-use Rattle.breakpoints.proofs.TheLaws.{list_stays_orderly}
+use Rattle.breakpoints.proofs.TheLaws.{list_stays_orderly, steps_keep_order}
 use Rattle.command_tables.proofs.TheLaws.{known_are_readable}
 use Rattle.data_services.proofs.TheLaws.{order_stays, threads_stay}
-use Rattle.run_control.proofs.TheLaws.{commands_keep_order, commands_keep_sound, ticks_keep_order, ticks_keep_sound}
+use Rattle.run_control.proofs.TheLaws.{commands_change_counts, commands_keep_order, commands_keep_sound, commands_list, ticks_change_counts, ticks_keep_order, ticks_keep_sound, ticks_list}
 use Rattle.target_hub.proofs.Kept.{after_readable, others_readable}
-use Rattle.target_hub.proofs.Owned.{going_owns, gone_owns, list_append, silent_owns}
+use Rattle.target_hub.proofs.Owned.{going_owns, gone_owns, silent_owns}
+use Rattle.target_hub.proofs.Points.{owned_like, readable_like}
 
 pub inputs_append : (xs ys : List Input) (target : TargetValue) → inputs_after (xs ++ ys) target ≡ inputs_after ys (inputs_after xs target)
 inputs_append [] ys target = refl
@@ -50,10 +52,9 @@ pub record AreFine (contexts : TargetsValue) : Type 0 where
   pub processes : IsOrderly contexts.processes contexts.next
   pub threads : AreSound contexts.processes
 
--- of the breakpoints: they come of some commands and goings, and no closed channel owns one
+-- of the breakpoints: they are orderly, and no closed channel owns one
 pub record AreKept (before : List Input) (rows : List Placed) : Type 0 where
-  pub steps : List Step
-  pub made : rows ≡ list_after_all steps []
+  pub orderly : AreListed rows
   pub properties : AreReadable rows
   pub closed : (channel : ℕ) → was_closed channel before ≡ true → owned_by channel rows ≡ []
 
@@ -79,10 +80,10 @@ data_sound : (c : Command) (contexts : TargetsValue) → AreSound contexts.proce
 data_sound c contexts sound number process there =
     sound_at (process_of number contexts.processes) process (ap (option_map thread_part) (sym there) ∙ threads_stay c contexts number) (sound number)
 
-run_fine : (c : Command) (bps : List Placed) (contexts : TargetsValue) → AreFine contexts → AreFine (run_after c bps contexts)
-run_fine c bps contexts fine = record {
-  processes = commands_keep_order c bps contexts fine.processes;
-  threads = commands_keep_sound c bps contexts fine.processes fine.threads;
+run_fine : (c : Command) (target : TargetValue) → AreFine target.contexts → AreFine (run_after c target).contexts
+run_fine c target fine = record {
+  processes = commands_keep_order c target fine.processes;
+  threads = commands_keep_sound c target fine.processes fine.threads;
 }
 
 data_fine : (c : Command) (contexts : TargetsValue) → AreFine contexts → AreFine (data_after c contexts)
@@ -93,12 +94,12 @@ data_fine c contexts fine = record {
 
 fine_in : (name : CommandName) (channel : ℕ) (c : Command) (target : TargetValue) → AreFine target.contexts → AreFine (after_in name channel c target).contexts
 fine_in (service.Locator name) channel c target fine = fine
-fine_in (service.RunControl name) channel c target fine = run_fine c target.breakpoints target.contexts fine
+fine_in (service.RunControl name) channel c target fine = run_fine c target fine
 fine_in (service.Breakpoints name) channel c target fine = fine
 fine_in (service.Memory name) channel c target fine = data_fine c target.contexts fine
 fine_in (service.Registers name) channel c target fine = data_fine c target.contexts fine
-fine_in (service.Processes name) channel c target fine = run_fine c target.breakpoints target.contexts fine
-fine_in (service.Trace name) channel c target fine = run_fine c target.breakpoints target.contexts fine
+fine_in (service.Processes name) channel c target fine = run_fine c target fine
+fine_in (service.Trace name) channel c target fine = run_fine c target fine
 
 exec_fine : (channel : ℕ) (c : Command) (target : TargetValue) → AreFine target.contexts → AreFine (exec_after channel c target).contexts
 unfolding exec_after
@@ -113,8 +114,8 @@ fine_after : (input : Input) (target : TargetValue) → AreFine target.contexts 
 fine_after (Opened channel) target fine = fine
 fine_after (Executed channel reading service name) target fine = reading_fine channel reading name service target fine
 fine_after (Ticked thread) target fine = record {
-  processes = ticks_keep_order thread target.breakpoints target.contexts fine.processes;
-  threads = ticks_keep_sound thread target.breakpoints target.contexts fine.processes fine.threads;
+  processes = ticks_keep_order thread target fine.processes;
+  threads = ticks_keep_sound thread target fine.processes fine.threads;
 }
 fine_after (Closed channel) target fine = fine
 
@@ -146,11 +147,22 @@ not_closed false closed is = absurd cc
 
 same_kept : (before : List Input) (input : Input) (rows : List Placed) → ((channel : ℕ) → closes channel input ≡ false) → AreKept before rows → AreKept (before ++ input ∷ []) rows
 same_kept before input rows shut_none kept = record {
-  steps = kept.steps;
-  made = kept.made;
+  orderly = kept.orderly;
   properties = kept.properties;
   closed = λ channel is. kept.closed channel (only_before channel before input (shut_none channel) is);
 }
+
+-- an input that changes counts alone
+counted_kept : (before : List Input) (input : Input) (rows new : List Placed) → ((channel : ℕ) → closes channel input ≡ false) → uncounted new ≡ uncounted rows → AreListed new → AreKept before rows → AreKept (before ++ input ∷ []) new
+counted_kept before input rows new shut_none same orderly kept = record {
+  orderly = orderly;
+  properties = readable_like new rows same kept.properties;
+  closed = λ channel is. owned_like channel new rows same (kept.closed channel (only_before channel before input (shut_none channel) is));
+}
+
+run_kept : (before : List Input) (input : Input) (c : Command) (target : TargetValue) → ((channel : ℕ) → closes channel input ≡ false) → AreKept before target.breakpoints → AreKept (before ++ input ∷ []) (run_after c target).breakpoints
+run_kept before input c target shut_none kept =
+    counted_kept before input target.breakpoints (run_after c target).breakpoints shut_none (commands_change_counts c target) (commands_list c target kept.orderly) kept
 
 true_is_false : true ≡ false → ⊥
 true_is_false is = cc
@@ -158,8 +170,7 @@ true_is_false is = cc
 change_kept : (before : List Input) (input : Input) (channel : ℕ) (c : Command) (rows : List Placed) → ((other : ℕ) → closes other input ≡ false) → was_closed channel before ≡ false → IsReadable c
     → AreKept before rows → AreKept (before ++ input ∷ []) (after channel c rows)
 change_kept before input channel c rows shut_none live readable kept = record {
-  steps = kept.steps ++ command channel c ∷ [];
-  made = ap (after channel c) kept.made ∙ sym (list_append kept.steps (command channel c ∷ []) []);
+  orderly = steps_keep_order (command channel c) rows kept.orderly;
   properties = after_readable channel c rows readable kept.properties;
   closed = λ other is.
       let was = only_before other before input (shut_none other) is in
@@ -169,8 +180,7 @@ change_kept before input channel c rows shut_none live readable kept = record {
 
 going_kept : (before : List Input) (channel : ℕ) (rows : List Placed) → AreKept before rows → AreKept (before ++ Closed channel ∷ []) (others channel rows)
 going_kept before channel rows kept = record {
-  steps = kept.steps ++ going channel ∷ [];
-  made = ap (others channel) kept.made ∙ sym (list_append kept.steps (going channel ∷ []) []);
+  orderly = steps_keep_order (going channel) rows kept.orderly;
   properties = others_readable channel rows kept.properties;
   closed = λ other is.
       elim (closed_before other before (Closed channel) is) [
@@ -182,12 +192,12 @@ going_kept before channel rows kept = record {
 kept_in : (name : CommandName) (before : List Input) (input : Input) (channel : ℕ) (c : Command) (target : TargetValue) → ((other : ℕ) → closes other input ≡ false) → was_closed channel before ≡ false → IsReadable c
     → AreKept before target.breakpoints → AreKept (before ++ input ∷ []) (after_in name channel c target).breakpoints
 kept_in (service.Locator name) before input channel c target shut_none live readable kept = same_kept before input target.breakpoints shut_none kept
-kept_in (service.RunControl name) before input channel c target shut_none live readable kept = same_kept before input target.breakpoints shut_none kept
+kept_in (service.RunControl name) before input channel c target shut_none live readable kept = run_kept before input c target shut_none kept
 kept_in (service.Breakpoints name) before input channel c target shut_none live readable kept = change_kept before input channel c target.breakpoints shut_none live readable kept
 kept_in (service.Memory name) before input channel c target shut_none live readable kept = same_kept before input target.breakpoints shut_none kept
 kept_in (service.Registers name) before input channel c target shut_none live readable kept = same_kept before input target.breakpoints shut_none kept
-kept_in (service.Processes name) before input channel c target shut_none live readable kept = same_kept before input target.breakpoints shut_none kept
-kept_in (service.Trace name) before input channel c target shut_none live readable kept = same_kept before input target.breakpoints shut_none kept
+kept_in (service.Processes name) before input channel c target shut_none live readable kept = run_kept before input c target shut_none kept
+kept_in (service.Trace name) before input channel c target shut_none live readable kept = run_kept before input c target shut_none kept
 
 exec_kept : (before : List Input) (input : Input) (channel : ℕ) (c : Command) (target : TargetValue) → ((other : ℕ) → closes other input ≡ false) → was_closed channel before ≡ false → IsReadable c
     → AreKept before target.breakpoints → AreKept (before ++ input ∷ []) (exec_after channel c target).breakpoints
@@ -202,7 +212,8 @@ kept_after before (Executed channel (Known c) service name) target allowed kept 
 kept_after before (Executed channel Unknown service name) target allowed kept = same_kept before (Executed channel Unknown service name) target.breakpoints (λ _. refl) kept
 kept_after before (Executed channel (Bad index code) service name) target allowed kept =
     same_kept before (Executed channel (Bad index code) service name) target.breakpoints (λ _. refl) kept
-kept_after before (Ticked thread) target allowed kept = same_kept before (Ticked thread) target.breakpoints (λ _. refl) kept
+kept_after before (Ticked thread) target allowed kept =
+    counted_kept before (Ticked thread) target.breakpoints (tick_after thread target).breakpoints (λ _. refl) (ticks_change_counts thread target) (ticks_list thread target kept.orderly) kept
 kept_after before (Closed channel) target allowed kept = going_kept before channel target.breakpoints kept
 
 -- ---- whole lists of inputs
@@ -232,7 +243,7 @@ new_closed channel is = refl
 new_stands : (images : List Image) → Stands [] (new_target images)
 new_stands images = record {
   fine = record { processes = record { few = omega arith; rising = omega arith; bounded = omega arith }; threads = new_sound };
-  kept = record { steps = []; made = refl; properties = tt; closed = new_closed };
+  kept = record { orderly = list_stays_orderly []; properties = tt; closed = new_closed };
 }
 
 legal_stands : (images : List Image) (inputs : List Input) → IsLegal images inputs → Stands inputs (inputs_after inputs (new_target images))
@@ -244,7 +255,7 @@ stays_consistent images inputs legal =
     record {
       processes = stands.fine.processes;
       threads = stands.fine.threads;
-      breakpoints = subst AreListed (sym stands.kept.made) (list_stays_orderly stands.kept.steps);
+      breakpoints = stands.kept.orderly;
       properties = stands.kept.properties;
     }
 

@@ -5,7 +5,7 @@ use Rattle.command_tables.specs.Canonical.{IsReadable}
 use Rattle.tcf_values.specs.declared.command.Command.{Command}
 use Rattle.tcf_values.specs.declared.command.Command.TheVariants.{BpSet, BpAdd, BpChange, BpEnable, BpDisable, BpRemove}
 use Rattle.tcf_values.specs.declared.values.BpProps.{BpProps}
-use Rattle.breakpoints.specs.Changes.{added_by, after, changed_by, done, is_refused, removed_by, row_with_flag, row_with_props, rows_after, with_flag}
+use Rattle.breakpoints.specs.Changes.{added_by, after, changed_by, done, is_refused, is_switched, removed_by, row_with_flag, row_with_props, rows_after, with_flag}
 use Rattle.breakpoints.specs.Rows.{is_among, others, rows_for}
 use Rattle.breakpoints.specs.declared.breakpoints.BpDone.{BpDone}
 use Rattle.breakpoints.specs.declared.breakpoints.BpDone.TheVariants.{Failed, Changed}
@@ -31,11 +31,11 @@ rows_readable channel (BpSet list) rows readable all =
     (all_mapped (λ (props : BpProps). is_bp props ≡ true) IsKept (row_for channel) list (λ _ is. is) readable)
 rows_readable channel (BpAdd props) rows readable all = all_append IsKept rows (row_for channel props ∷ []) all (readable, tt)
 rows_readable channel (BpChange props) rows readable all =
-    all_mapped IsKept IsKept (row_with_props props) rows (λ row is. either (bytes_eq props.id row.props.id) (record row { props = props }) row readable is) all
+    all_mapped IsKept IsKept (row_with_props props) rows (λ row is. either (bytes_eq props.id row.props.id) (record row { props = props; counts = [] }) row readable is) all
 rows_readable channel (BpEnable ids) rows readable all =
-    all_mapped IsKept IsKept (row_with_flag true ids) rows (λ row is. either (is_among ids row.props.id) (record row { props = with_flag true row.props }) row is is) all
+    all_mapped IsKept IsKept (row_with_flag true ids) rows (λ row is. either (is_switched true ids row) (record row { props = with_flag true row.props; counts = [] }) row is is) all
 rows_readable channel (BpDisable ids) rows readable all =
-    all_mapped IsKept IsKept (row_with_flag false ids) rows (λ row is. either (is_among ids row.props.id) (record row { props = with_flag false row.props }) row is is) all
+    all_mapped IsKept IsKept (row_with_flag false ids) rows (λ row is. either (is_switched false ids row) (record row { props = with_flag false row.props; counts = [] }) row is is) all
 rows_readable channel (BpRemove ids) rows readable all = all_filter IsKept (λ row. not (is_among ids row.props.id)) rows all
 rows_readable channel _ rows readable all = all
 

@@ -1,4 +1,5 @@
 pub mod Lists
+pub mod Points
 pub mod Fates
 pub mod Told
 pub mod Given

@@ -3,7 +3,7 @@ use Rattle.std.proofs.Common.{◌≡◌, ◌≢◌, ℕ, ◌==◌, Bool, true, f
 use Rattle.tcf_values.specs.declared.command.Command.{Command}
 use Rattle.breakpoints.specs.declared.rows.Placed.{Placed}
 use Rattle.breakpoints.specs.Changes.{after}
-use Rattle.breakpoints.specs.Laws.{Step, command, going, list_after_all}
+use Rattle.breakpoints.specs.Laws.{command}
 use Rattle.breakpoints.specs.Rows.{others, owned_by}
 use Rattle.breakpoints.proofs.TheLaws.{gone_owns_nothing}
 
@@ -48,8 +48,3 @@ going_owns channel other rows none = part_none (λ (row : Placed). row.channel =
 pub gone_owns : (channel other : ℕ) (rows : List Placed) → (other == channel) ≡ true → owned_by channel (others other rows) ≡ []
 gone_owns channel other rows is =
     subst (λ (n : ℕ). owned_by channel (others n rows) ≡ []) (sym (eqb-true other channel is)) (gone_owns_nothing channel rows [] tt)
-
-pub list_append : (steps more : List Step) (rows : List Placed) → list_after_all (steps ++ more) rows ≡ list_after_all more (list_after_all steps rows)
-list_append [] more rows = refl
-list_append (command channel c ∷ steps) more rows = list_append steps more (after channel c rows)
-list_append (going channel ∷ steps) more rows = list_append steps more (others channel rows)

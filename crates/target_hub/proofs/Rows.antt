@@ -1,5 +1,5 @@
 -- The answer to each command is one of its row.
-use Rattle.std.proofs.Common.{◌≡◌, ℕ, ◌<◌, ◌^◌, Bool, true, false, cond, List, [], ◌∷◌, Option, Some, None, option_map, option_and_then, refl, bytes_eq, length, lit<}
+use Rattle.std.proofs.Common.{◌≡◌, ℕ, ◌<◌, ◌^◌, Bool, true, false, cond, List, [], ◌∷◌, Option, Some, None, option_map, option_and_then, IfSome, refl, bytes_eq, length, ◌==◌, lit<}
 use Rattle.std.specs.Prelude.{is_none, unsigned_abs}
 use Rattle.json_values.specs.Contexts.{IsContext}
 use Rattle.json_values.specs.Props.{is_bp}
@@ -20,7 +20,8 @@ use Rattle.tcf_values.specs.declared.ids.ContextId.TheVariants as ids
 use Rattle.tcf_values.specs.declared.values.BpProps.{BpProps}
 use Rattle.tcf_values.specs.declared.values.ContextData.{ContextData}
 use Rattle.breakpoints.specs.Changes.{added_by, changed_by, done, is_refused, removed_by}
-use Rattle.breakpoints.specs.Rows.{props_of}
+use Rattle.breakpoints.specs.Counts.{AreCounts}
+use Rattle.breakpoints.specs.Rows.{IsOrderly as AreListed, props_of, row_of}
 use Rattle.breakpoints.specs.Status.{instances_of}
 use Rattle.breakpoints.specs.declared.breakpoints.BpDone.TheVariants.{Failed, Changed}
 use Rattle.data_services.specs.Commands.{data_fault}
@@ -44,6 +45,7 @@ use Rattle.target_hub.specs.Execution.{exec_effect}
 use Rattle.target_hub.specs.Limits.{AreReadable}
 use Rattle.run_control.specs.TargetValue.{TargetValue}
 use Rattle.target_contexts.proofs.TheLaws.{starts_one}
+use Rattle.target_hub.proofs.Points.{found_is}
 use Rattle.target_hub.proofs.Told.{instances_fit, process_within, thread_within}
 use Rattle.breakpoints.specs.declared.rows.Placed.{Placed}
 
@@ -124,9 +126,9 @@ start_row : (file : List ℕ) (attach : Bool) (targets : TargetsValue) → IsOrd
     → IsOfRow (ErrorThen Kind.Process) (process_answer (Some targets.next) (started file attach targets).processes)
 start_row file attach targets orderly none = start_row_of attach targets (image_of file targets.images) orderly none
 
-trace_row : (bps : List Placed) (count : ℕ) (named : Option (ℕ × ℕ)) (targets after : TargetsValue) → IsOfRow (ErrorThen Kind.Count) (trace_given bps count named targets after).answer
-trace_row bps count None targets after = refl
-trace_row bps count (Some pair) targets after = refl
+trace_row : (count : ℕ) (named : Option (ℕ × ℕ)) (target after : TargetValue) → IsOfRow (ErrorThen Kind.Count) (trace_given count named target after).answer
+trace_row count None target after = refl
+trace_row count (Some pair) target after = refl
 
 -- ---- breakpoints
 
@@ -156,53 +158,57 @@ props_row : (found : Option BpProps) → IfReadable found → first_fault ((is_n
 props_row None readable none = absurd cc
 props_row (Some props) readable none = (refl, readable)
 
-status_row : (attached : List ℕ) (found : Option BpProps) → first_fault ((is_none found, faults.Other) ∷ []) ≡ None → IsOfRow (ErrorThen Kind.Status) (status_answer (option_map (λ props. record { instances = instances_of props attached }) found))
-status_row attached None none = absurd cc
-status_row attached (Some props) none = (refl, instances_fit props attached)
+abbrev AreCounted : Placed → Type 0
+AreCounted row = AreCounts row.counts
+
+status_row : (attached : List ℕ) (found : Option Placed) → IfSome found AreCounted → first_fault ((is_none (option_map (λ (row : Placed). row.props) found), faults.Other) ∷ []) ≡ None
+    → IsOfRow (ErrorThen Kind.Status) (status_answer (option_map (λ row. record { instances = instances_of row.props row.counts attached }) found))
+status_row attached None counted none = absurd cc
+status_row attached (Some row) counted none = (refl, instances_fit row.props row.counts attached counted)
 
 -- ---- every command
 
-pub exec_answers : (channel : ℕ) (command : Command) (target : TargetValue) → IsOrderly target.contexts.processes target.contexts.next → AreReadable target.breakpoints
+pub exec_answers : (channel : ℕ) (command : Command) (target : TargetValue) → IsOrderly target.contexts.processes target.contexts.next → AreReadable target.breakpoints → AreListed target.breakpoints
     → IsAnswerTo command (exec_effect channel command target).answer
 unfolding exec_effect
-exec_answers channel Sync target orderly all = tt
-exec_answers channel GetPeers target orderly all = refl
-exec_answers channel (Redirect peer) target orderly all = lit< tt
-exec_answers channel (GetContext id) target orderly all =
+exec_answers channel Sync target orderly all listed = tt
+exec_answers channel GetPeers target orderly all listed = refl
+exec_answers channel (Redirect peer) target orderly all listed = lit< tt
+exec_answers channel (GetContext id) target orderly all listed =
     by_fault (ErrorThen Kind.Context) (run_fault (GetContext id) target.contexts) _ (context_row (data_named id target.contexts.processes) (named_within target.contexts.processes (context_of id)))
-exec_answers channel (GetChildren id) target orderly all = by_fault (ErrorThen Kind.Ids) (run_fault (GetChildren id) target.contexts) _ (λ _. refl)
-exec_answers channel (GetState id) target orderly all =
+exec_answers channel (GetChildren id) target orderly all listed = by_fault (ErrorThen Kind.Ids) (run_fault (GetChildren id) target.contexts) _ (λ _. refl)
+exec_answers channel (GetState id) target orderly all listed =
     by_fault ErrorState (run_fault (GetState id) target.contexts) _ (state_row (thread_there id target.contexts.processes))
-exec_answers channel (Resume id mode count) target orderly all = by_fault ErrorAlone (run_fault (Resume id mode count) target.contexts) _ (λ _. tt)
-exec_answers channel (Suspend id) target orderly all = by_fault ErrorAlone (run_fault (Suspend id) target.contexts) _ (λ _. tt)
-exec_answers channel (Terminate id) target orderly all = by_fault ErrorAlone (run_fault (Terminate id) target.contexts) _ (λ _. tt)
-exec_answers channel (BpSet list) target orderly all = done_row channel (BpSet list) target
-exec_answers channel (BpAdd props) target orderly all = done_row channel (BpAdd props) target
-exec_answers channel (BpChange props) target orderly all = done_row channel (BpChange props) target
-exec_answers channel (BpEnable ids) target orderly all = done_row channel (BpEnable ids) target
-exec_answers channel (BpDisable ids) target orderly all = done_row channel (BpDisable ids) target
-exec_answers channel (BpRemove ids) target orderly all = done_row channel (BpRemove ids) target
-exec_answers channel BpIds target orderly all = refl
-exec_answers channel (BpProperties id) target orderly all =
+exec_answers channel (Resume id mode count) target orderly all listed = by_fault ErrorAlone (run_fault (Resume id mode count) target.contexts) _ (λ _. tt)
+exec_answers channel (Suspend id) target orderly all listed = by_fault ErrorAlone (run_fault (Suspend id) target.contexts) _ (λ _. tt)
+exec_answers channel (Terminate id) target orderly all listed = by_fault ErrorAlone (run_fault (Terminate id) target.contexts) _ (λ _. tt)
+exec_answers channel (BpSet list) target orderly all listed = done_row channel (BpSet list) target
+exec_answers channel (BpAdd props) target orderly all listed = done_row channel (BpAdd props) target
+exec_answers channel (BpChange props) target orderly all listed = done_row channel (BpChange props) target
+exec_answers channel (BpEnable ids) target orderly all listed = done_row channel (BpEnable ids) target
+exec_answers channel (BpDisable ids) target orderly all listed = done_row channel (BpDisable ids) target
+exec_answers channel (BpRemove ids) target orderly all listed = done_row channel (BpRemove ids) target
+exec_answers channel BpIds target orderly all listed = refl
+exec_answers channel (BpProperties id) target orderly all listed =
     by_fault (ErrorThen Kind.Bp) (ask_fault (BpProperties id) target) _ (props_row (props_of id target.breakpoints) (found_readable id target.breakpoints all))
-exec_answers channel (BpGetStatus id) target orderly all =
-    by_fault (ErrorThen Kind.Status) (ask_fault (BpGetStatus id) target) _ (status_row (attached_in target.contexts.processes) (props_of id target.breakpoints))
-exec_answers channel (BpCapabilities id) target orderly all = by_fault (ErrorThen Kind.Capabilities) (ask_fault (BpCapabilities id) target) _ (λ _. refl)
-exec_answers channel (MemGet id addr word size mode) target orderly all =
+exec_answers channel (BpGetStatus id) target orderly all listed =
+    by_fault (ErrorThen Kind.Status) (ask_fault (BpGetStatus id) target) _ (status_row (attached_in target.contexts.processes) (row_of id target.breakpoints) (found_is AreCounted id target.breakpoints listed.counted))
+exec_answers channel (BpCapabilities id) target orderly all listed = by_fault (ErrorThen Kind.Capabilities) (ask_fault (BpCapabilities id) target) _ (λ _. refl)
+exec_answers channel (MemGet id addr word size mode) target orderly all listed =
     by_fault BlobErrorNull (data_fault (MemGet id addr word size mode) target.contexts) _ (λ _. refl)
-exec_answers channel (MemSet id addr word size mode bytes) target orderly all =
+exec_answers channel (MemSet id addr word size mode bytes) target orderly all listed =
     by_fault ErrorNull (data_fault (MemSet id addr word size mode bytes) target.contexts) _ (λ _. tt)
-exec_answers channel (RegGet id) target orderly all = by_fault (ErrorThen Kind.Blob) (data_fault (RegGet id) target.contexts) _ (λ _. refl)
-exec_answers channel (RegSet id bytes) target orderly all = by_fault ErrorAlone (data_fault (RegSet id bytes) target.contexts) _ (λ _. tt)
-exec_answers channel (RegGetm list) target orderly all = by_fault (ErrorThen Kind.Blob) (data_fault (RegGetm list) target.contexts) _ (λ _. refl)
-exec_answers channel (RegSetm list bytes) target orderly all = by_fault ErrorAlone (data_fault (RegSetm list bytes) target.contexts) _ (λ _. tt)
-exec_answers channel (ProcContext id) target orderly all =
+exec_answers channel (RegGet id) target orderly all listed = by_fault (ErrorThen Kind.Blob) (data_fault (RegGet id) target.contexts) _ (λ _. refl)
+exec_answers channel (RegSet id bytes) target orderly all listed = by_fault ErrorAlone (data_fault (RegSet id bytes) target.contexts) _ (λ _. tt)
+exec_answers channel (RegGetm list) target orderly all listed = by_fault (ErrorThen Kind.Blob) (data_fault (RegGetm list) target.contexts) _ (λ _. refl)
+exec_answers channel (RegSetm list bytes) target orderly all listed = by_fault ErrorAlone (data_fault (RegSetm list bytes) target.contexts) _ (λ _. tt)
+exec_answers channel (ProcContext id) target orderly all listed =
     by_fault (ErrorThen Kind.Process) (run_fault (ProcContext id) target.contexts) _ (process_row (process_named id) target.contexts.processes)
-exec_answers channel (ProcChildren id attached) target orderly all = by_fault (ErrorThen Kind.Ids) (run_fault (ProcChildren id attached) target.contexts) _ (λ _. refl)
-exec_answers channel (ProcStart directory file args environment attach) target orderly all =
+exec_answers channel (ProcChildren id attached) target orderly all listed = by_fault (ErrorThen Kind.Ids) (run_fault (ProcChildren id attached) target.contexts) _ (λ _. refl)
+exec_answers channel (ProcStart directory file args environment attach) target orderly all listed =
     by_fault (ErrorThen Kind.Process) (run_fault (ProcStart directory file args environment attach) target.contexts) _ (start_row file attach target.contexts orderly)
-exec_answers channel (ProcAttach id) target orderly all = by_fault ErrorAlone (run_fault (ProcAttach id) target.contexts) _ (λ _. tt)
-exec_answers channel (ProcDetach id) target orderly all = by_fault ErrorAlone (run_fault (ProcDetach id) target.contexts) _ (λ _. tt)
-exec_answers channel (ProcTerminate id) target orderly all = by_fault ErrorAlone (run_fault (ProcTerminate id) target.contexts) _ (λ _. tt)
-exec_answers channel (TraceRun id count) target orderly all = by_fault (ErrorThen Kind.Count) (run_fault (TraceRun id count) target.contexts) _
-    (λ _. trace_row target.breakpoints (unsigned_abs count) (thread_named id) target.contexts (run_left (TraceRun id count) target.breakpoints target.contexts))
+exec_answers channel (ProcAttach id) target orderly all listed = by_fault ErrorAlone (run_fault (ProcAttach id) target.contexts) _ (λ _. tt)
+exec_answers channel (ProcDetach id) target orderly all listed = by_fault ErrorAlone (run_fault (ProcDetach id) target.contexts) _ (λ _. tt)
+exec_answers channel (ProcTerminate id) target orderly all listed = by_fault ErrorAlone (run_fault (ProcTerminate id) target.contexts) _ (λ _. tt)
+exec_answers channel (TraceRun id count) target orderly all listed = by_fault (ErrorThen Kind.Count) (run_fault (TraceRun id count) target.contexts) _
+    (λ _. trace_row (unsigned_abs count) (thread_named id) target (run_left (TraceRun id count) target))

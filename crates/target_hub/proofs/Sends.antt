@@ -1,5 +1,5 @@
 -- What the target tells and answers can be sent, and names, reasons and hits stay short.
-use Rattle.std.proofs.Common.{◌≡◌, ◌≤◌, ℕ, List, [], ◌∷◌, length, Option, Some, None, IfSome, refl}
+use Rattle.std.proofs.Common.{◌≡◌, ◌≤◌, ℕ, List, [], ◌∷◌, length, Option, Some, None, IfSome, refl, sym, subst}
 use Rattle.command_tables.specs.Canonical.{IsReadable}
 use Rattle.command_tables.specs.declared.reading.Reading.TheVariants.{Known, Unknown, Bad}
 use Rattle.reply_tables.specs.Rows.{row_named}
@@ -12,14 +12,12 @@ use Rattle.service_names.specs.declared.events.EventName.{EventName}
 use Rattle.service_names.specs.declared.events.EventName.TheVariants.{Hello, CtxAdded, CtxChanged, CtxRemoved, Suspended, Resumed, BpStatusIs, BpAdded, BpChanged, BpRemoved, MemChanged, RegChanged, RegsChanged, Exited}
 use Rattle.tcf_values.specs.declared.command.Command.{Command}
 use Rattle.tcf_values.specs.declared.event.EventData.{EventData}
-use Rattle.tcf_values.specs.declared.faults.Fault.{Fault}
 use Rattle.breakpoints.specs.Rows.{ids_of}
-use Rattle.run_control.specs.Commands.{run_fault, run_left}
-use Rattle.run_control.specs.Ticking.{running_pair}
-use Rattle.target_contexts.specs.Changes.{targets_by}
+use Rattle.run_control.specs.Commands.{run_after, run_fault, run_left}
+use Rattle.run_control.specs.Laws.{uncounted}
+use Rattle.run_control.specs.Ticking.{running_pair, tick_after}
 use Rattle.target_contexts.specs.Live.{IsOrderly}
 use Rattle.target_contexts.specs.Short.{AllShort, AreShort}
-use Rattle.target_contexts.specs.TargetsValue.{TargetsValue}
 use Rattle.target_hub.specs.Answering.{refusal}
 use Rattle.target_hub.specs.Execution.{after_in, effect_in, exec_after, exec_effect}
 use Rattle.target_hub.specs.Sendable.{AnswersAreSendable, AreSendable, ClosingsTellSendable, CommandsKeepShort, CommandsTellSendable, HasNoZero, IsBounded, IsSendable, IsSendableEvent, TicksKeepShort, TicksTellSendable}
@@ -27,7 +25,8 @@ use Rattle.run_control.specs.TargetValue.{TargetValue}
 use Rattle.command_tables.proofs.TheLaws.{known_are_readable}
 use Rattle.data_services.proofs.TheLaws.{short_stays}
 use Rattle.reply_tables.proofs.TheLaws.{answers_fit, events_fit, refusals_fit}
-use Rattle.run_control.proofs.TheLaws.{commands_keep_order, commands_keep_short, ticks_keep_order, ticks_keep_short}
+use Rattle.run_control.proofs.TheLaws.{commands_change_counts, commands_keep_order, commands_keep_short, ticks_change_counts, ticks_keep_order, ticks_keep_short}
+use Rattle.target_hub.proofs.Points.{length_like, readable_like, unless_fault}
 use Rattle.target_hub.proofs.Small.{AreBounded, AreSmall, ids_words}
 use Rattle.target_hub.proofs.SmallAnswers.{exec_answer_small}
 use Rattle.target_hub.proofs.SmallGiven.{breakpoints_told, data_told, removed_small, run_told, tick_told_small}
@@ -78,7 +77,7 @@ if_sendable (Some told) small = sendable told small
 
 -- ---- what is bounded stays so
 
-now_bounded : (target : TargetValue) → IsBounded target → AreBounded target.breakpoints target.contexts
+now_bounded : (target : TargetValue) → IsBounded target → AreBounded target
 now_bounded target bounded = record {
   short = bounded.processes;
   few = bounded.orderly.few;
@@ -89,38 +88,35 @@ now_bounded target bounded = record {
 ids_short : (target : TargetValue) → IsBounded target → AreShort (ids_of target.breakpoints)
 ids_short target bounded = ids_words target.breakpoints bounded.listed.few bounded.properties
 
-unless_fault : (P : TargetsValue → Type 0) (fault : Option Fault) (left targets : TargetsValue) → P (targets_by fault left targets) → fault ≡ None → P left
-unless_fault P None left targets holds none = holds
-unless_fault P (Some fault) left targets holds none = absurd cc
+-- a target whose breakpoints differ in counts alone
+counted_bounded : (target after : TargetValue) → IsBounded target → uncounted after.breakpoints ≡ uncounted target.breakpoints → AllShort after.contexts.processes → IsOrderly after.contexts.processes after.contexts.next → AreBounded after
+counted_bounded target after bounded same short orderly = record {
+  short = short;
+  few = orderly.few;
+  properties = readable_like after.breakpoints target.breakpoints same bounded.properties;
+  listed = subst (λ (n : ℕ). n ≤ 256) (sym (length_like after.breakpoints target.breakpoints same)) bounded.listed.few;
+}
 
 -- the target after a command of run control that isn't refused
-left_bounded : (command : Command) (target : TargetValue) → IsBounded target → run_fault command target.contexts ≡ None
-    → AreBounded target.breakpoints (run_left command target.breakpoints target.contexts)
+left_bounded : (command : Command) (target : TargetValue) → IsBounded target → run_fault command target.contexts ≡ None → AreBounded (run_left command target)
 left_bounded command target bounded none =
-    let bps = target.breakpoints in
-    let left = run_left command bps target.contexts in
-    record {
-      short = unless_fault (λ (t : TargetsValue). AllShort t.processes) (run_fault command target.contexts) left target.contexts
-          (commands_keep_short command bps target.contexts (ids_short target bounded) bounded.processes) none;
-      few = (unless_fault (λ (t : TargetsValue). IsOrderly t.processes t.next) (run_fault command target.contexts) left target.contexts
-          (commands_keep_order command bps target.contexts bounded.orderly) none).few;
-      properties = bounded.properties;
-      listed = bounded.listed.few;
-    }
+    unless_fault AreBounded (run_fault command target.contexts) (run_left command target) target
+    (counted_bounded target (run_after command target) bounded (commands_change_counts command target)
+    (commands_keep_short command target (ids_short target bounded) bounded.processes) (commands_keep_order command target bounded.orderly)) none
 
 -- ---- commands
 
 told_in : (name : CommandName) (channel : ℕ) (command : Command) (target : TargetValue) → IsReadable command → IsBounded target → AreSmall (effect_in name channel command target).events
 told_in (service.Locator name) channel command target readable bounded = tt
 told_in (service.RunControl name) channel command target readable bounded =
-    run_told command target.breakpoints target.contexts bounded.processes (left_bounded command target bounded)
+    run_told command target bounded.processes (left_bounded command target bounded)
 told_in (service.Breakpoints name) channel command target readable bounded = breakpoints_told channel command target readable (now_bounded target bounded)
 told_in (service.Memory name) channel command target readable bounded = data_told command target.contexts
 told_in (service.Registers name) channel command target readable bounded = data_told command target.contexts
 told_in (service.Processes name) channel command target readable bounded =
-    run_told command target.breakpoints target.contexts bounded.processes (left_bounded command target bounded)
+    run_told command target bounded.processes (left_bounded command target bounded)
 told_in (service.Trace name) channel command target readable bounded =
-    run_told command target.breakpoints target.contexts bounded.processes (left_bounded command target bounded)
+    run_told command target bounded.processes (left_bounded command target bounded)
 
 exec_sendable : (channel : ℕ) (command : Command) (target : TargetValue) → IsReadable command → IsBounded target → AreSendable (exec_effect channel command target).events
 unfolding exec_effect
@@ -148,12 +144,12 @@ answers_sendable channel service name (Bad index code) target bounded = refusal_
 
 short_in : (name : CommandName) (channel : ℕ) (command : Command) (target : TargetValue) → IsBounded target → AllShort (after_in name channel command target).contexts.processes
 short_in (service.Locator name) channel command target bounded = bounded.processes
-short_in (service.RunControl name) channel command target bounded = commands_keep_short command target.breakpoints target.contexts (ids_short target bounded) bounded.processes
+short_in (service.RunControl name) channel command target bounded = commands_keep_short command target (ids_short target bounded) bounded.processes
 short_in (service.Breakpoints name) channel command target bounded = bounded.processes
 short_in (service.Memory name) channel command target bounded = short_stays command target.contexts bounded.processes
 short_in (service.Registers name) channel command target bounded = short_stays command target.contexts bounded.processes
-short_in (service.Processes name) channel command target bounded = commands_keep_short command target.breakpoints target.contexts (ids_short target bounded) bounded.processes
-short_in (service.Trace name) channel command target bounded = commands_keep_short command target.breakpoints target.contexts (ids_short target bounded) bounded.processes
+short_in (service.Processes name) channel command target bounded = commands_keep_short command target (ids_short target bounded) bounded.processes
+short_in (service.Trace name) channel command target bounded = commands_keep_short command target (ids_short target bounded) bounded.processes
 
 exec_short : (channel : ℕ) (command : Command) (target : TargetValue) → IsBounded target → AllShort (exec_after channel command target).contexts.processes
 unfolding exec_after
@@ -167,17 +163,13 @@ commands_short channel (Bad index code) target bounded = bounded.processes
 -- ---- ticks and closings
 
 pub ticks_short : TicksKeepShort
-ticks_short thread target bounded = ticks_keep_short thread target.breakpoints target.contexts (ids_short target bounded) bounded.processes
+ticks_short thread target bounded = ticks_keep_short thread target (ids_short target bounded) bounded.processes
 
 pub ticks_sendable : TicksTellSendable
 ticks_sendable thread target bounded =
-    let after : AreBounded target.breakpoints _ = record {
-      short = ticks_short thread target bounded;
-      few = (ticks_keep_order thread target.breakpoints target.contexts bounded.orderly).few;
-      properties = bounded.properties;
-      listed = bounded.listed.few;
-    } in
-    if_sendable _ (tick_told_small target.breakpoints target.contexts (running_pair thread target.contexts.processes) bounded.processes after)
+    let after : AreBounded (tick_after thread target) =
+    counted_bounded target (tick_after thread target) bounded (ticks_change_counts thread target) (ticks_short thread target bounded) (ticks_keep_order thread target bounded.orderly) in
+    if_sendable _ (tick_told_small target (running_pair thread target.contexts.processes) bounded.processes bounded.listed.few after)
 
 pub closings_sendable : ClosingsTellSendable
 closings_sendable channel target bounded = sendable _ (removed_small channel target.breakpoints bounded.listed.few bounded.properties)

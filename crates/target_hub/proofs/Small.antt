@@ -5,7 +5,7 @@ use Rattle.std.specs.Prelude.{codes, decimal}
 use Rattle.std.proofs.lemmas.Bool.{and_parts}
 use Rattle.std.proofs.lemmas.List.{length-map}
 use Rattle.std.proofs.lemmas.List.FromFn.{length-range_with_len}
-use Rattle.json_values.specs.Props.{are_contexts, is_bp, is_location, is_short}
+use Rattle.json_values.specs.Props.{are_contexts, is_bp, is_ignore_count, is_location, is_short}
 use Rattle.json_values.specs.Sizes.{AreWords, has_name, IsSmallContext, IsSmallInstance, IsSmallPlace, IsSmallStatus, IsWord}
 use Rattle.json_values.specs.SizeLaws.{decimal_size}
 use Rattle.reply_tables.specs.Sizes.{IsSmallEvent}
@@ -13,16 +13,17 @@ use Rattle.tcf_values.specs.declared.event.EventData.{EventData}
 use Rattle.tcf_values.specs.declared.values.BpProps.{BpProps}
 use Rattle.breakpoints.specs.Rows.{ids_of}
 use Rattle.breakpoints.specs.Status.{bad_location, instance_of, instances_of, is_for, place_at, place_of}
-use Rattle.breakpoints.specs.Statuses.{status_event}
+use Rattle.breakpoints.specs.Counting.{listed}
+use Rattle.breakpoints.specs.Statuses.{counted_status, status_event, statuses_of}
 use Rattle.run_control.specs.Ending.{end_events}
 use Rattle.run_control.specs.Executing.{settled_events}
 use Rattle.run_control.specs.Naming.{process_id, thread_id, thread_ids}
-use Rattle.run_control.specs.Telling.{added_events, all_resumed_events, all_suspended_events, changed_events, contexts_events, made_events, resumed_event, resumed_events, statuses_in, stop_events, suspended_events}
+use Rattle.run_control.specs.Telling.{added_events, all_resumed_events, all_suspended_events, changed_events, contexts_events, hit_events, made_events, resumed_event, resumed_events, several_events, statuses_among, statuses_in, stop_events, suspended_events}
 use Rattle.target_contexts.specs.Contexts.{process_data, thread_data, threads_data}
 use Rattle.target_contexts.specs.Live.{numbers_of, process_of}
-use Rattle.target_contexts.specs.Named.{attached_in, is_attached}
+use Rattle.target_contexts.specs.Named.{attached_in, is_attached, runs as is_run}
 use Rattle.target_contexts.specs.Short.{AllShort, IsShort, IsShortState}
-use Rattle.target_contexts.specs.TargetsValue.{TargetsValue}
+use Rattle.run_control.specs.TargetValue.{TargetValue}
 use Rattle.target_contexts.specs.Threads.{count_in, numbers_to, thread_at, thread_count, thread_numbers, thread_of}
 use Rattle.target_contexts.specs.declared.threads.Thread.{Thread}
 use Rattle.tcf_values.specs.declared.values.ContextData.{ContextData}
@@ -32,8 +33,9 @@ use Rattle.target_contexts.specs.declared.process.ThreadState.TheVariants.{Runni
 use Rattle.target_hub.specs.Limits.{AreReadable}
 use Rattle.target_contexts.proofs.TheLaws.{found_is_short}
 use Rattle.target_contexts.proofs.ThreadLists.{found_thread_is}
-use Rattle.target_hub.proofs.Fates.{Covers}
+use Rattle.target_hub.proofs.Fates.{CoversAlone}
 use Rattle.target_hub.proofs.Lists.{all_mapped}
+use Rattle.target_hub.proofs.Points.{listed_are, listed_few}
 use Rattle.run_control.proofs.Short.{filter_fewer}
 use Rattle.list_laws.proofs.AllLists.{all_append, all_map}
 use Rattle.breakpoints.specs.declared.rows.Placed.{Placed}
@@ -42,11 +44,11 @@ abbrev pub AreSmall : List EventData → Type 0
 AreSmall told = AllByRecursion IsSmallEvent told
 
 -- breakpoints and processes, before a command or after it
-pub record AreBounded (bps : List Placed) (targets : TargetsValue) : Type 0 where
-  pub short : AllShort targets.processes
-  pub few : length targets.processes ≤ 64
-  pub properties : AreReadable bps
-  pub listed : length bps ≤ 256
+pub record AreBounded (target : TargetValue) : Type 0 where
+  pub short : AllShort target.contexts.processes
+  pub few : length target.contexts.processes ≤ 64
+  pub properties : AreReadable target.breakpoints
+  pub listed : length target.breakpoints ≤ 256
 
 -- ---- lists
 
@@ -83,7 +85,8 @@ ids_of_all number count few = (
 pub id_word : (props : BpProps) → is_bp props ≡ true → IsWord props.id
 id_word props within =
     let named = nat_le 1 (length props.id) && is_short 255 props.id in
-    let last = and_parts (named && is_location props.location) (are_contexts props.contexts) within in
+    let ignored = and_parts (named && is_location props.location && are_contexts props.contexts) (is_ignore_count props.ignore) within in
+    let last = and_parts (named && is_location props.location) (are_contexts props.contexts) ignored.0 in
     let front = and_parts named (is_location props.location) last.0 in
     let id = and_parts (nat_le 1 (length props.id)) (is_short 255 props.id) front.0 in
     leb-true (length props.id) 255 (and_parts (nat_le (length props.id) 255) (list_all (λ b. nat_le 32 b) props.id) id.1).0
@@ -104,30 +107,63 @@ place_at_small (Some address) = tt
 place_of_small : (location : Option (List ℕ)) → IsSmallPlace (place_of location)
 place_of_small location = place_at_small _
 
-if_instances : (enabled : Bool) (props : BpProps) (numbers : List ℕ) → length numbers ≤ 64
-    → (length (cond enabled (map (instance_of props) numbers) []) ≤ 64) × AllByRecursion IsSmallInstance (cond enabled (map (instance_of props) numbers) [])
-if_instances true props numbers few = (
-  omega (arith, few, length-map numbers (instance_of props)),
-  all_map IsSmallInstance (instance_of props) numbers (λ number. (process_word number, place_of_small props.location)),
+if_instances : (enabled : Bool) (props : BpProps) (counts : List (ℕ × ℕ)) (numbers : List ℕ) → length numbers ≤ 64
+    → (length (cond enabled (map (instance_of props counts) numbers) []) ≤ 64) × AllByRecursion IsSmallInstance (cond enabled (map (instance_of props counts) numbers) [])
+if_instances true props counts numbers few = (
+  omega (arith, few, length-map numbers (instance_of props counts)),
+  all_map IsSmallInstance (instance_of props counts) numbers (λ number. (process_word number, place_of_small props.location)),
 )
-if_instances false props numbers few = (lit≤ tt, tt)
+if_instances false props counts numbers few = (lit≤ tt, tt)
 
-pub instances_small : (props : BpProps) (attached : List ℕ) → length attached ≤ 64 → IsSmallStatus (record { instances = instances_of props attached })
-instances_small props attached few =
-    if_instances props.enabled props (filter (is_for props.contexts) attached) (omega (arith, few, filter_fewer (is_for props.contexts) attached))
+pub instances_small : (props : BpProps) (counts : List (ℕ × ℕ)) (attached : List ℕ) → length attached ≤ 64 → IsSmallStatus (record { instances = instances_of props counts attached })
+instances_small props counts attached few =
+    if_instances props.enabled props counts (filter (is_for props.contexts) attached) (omega (arith, few, filter_fewer (is_for props.contexts) attached))
+
+counted_small : (attached : List ℕ) (props : BpProps) (counts : List (ℕ × ℕ)) → length attached ≤ 64 → is_bp props ≡ true → IsSmallEvent (counted_status attached props counts)
+counted_small attached props counts few within = (id_word props within, instances_small props counts attached few)
 
 pub status_small : (attached : List ℕ) (props : BpProps) → length attached ≤ 64 → is_bp props ≡ true → IsSmallEvent (status_event attached props)
-status_small attached props few within = (id_word props within, instances_small props attached few)
+status_small attached props few within = counted_small attached props [] few within
 
 pub attached_few : (rows : List (ℕ × ProcessValue)) → length rows ≤ 64 → length (attached_in rows) ≤ 64
 attached_few rows few =
     omega (arith, few, filter_fewer (λ number. is_attached (process_of number rows)) (numbers_of rows), length-map rows (λ (row : ℕ × ProcessValue). row.0))
 
-pub statuses_small : (bps : List Placed) (targets : TargetsValue) → AreBounded bps targets → AreSmall (statuses_in bps targets)
-statuses_small bps targets bounded =
-    let attached = attached_in targets.processes in
-    all_mapped (λ (row : Placed). is_bp row.props ≡ true) IsSmallEvent (λ (row : Placed). status_event attached row.props) bps
-    (λ row is. status_small attached row.props (attached_few targets.processes bounded.few) is) bounded.properties
+all_statuses_small : (attached : List ℕ) (bps : List Placed) → length attached ≤ 64 → AreReadable bps → AreSmall (statuses_of attached bps)
+all_statuses_small attached bps few readable =
+    all_mapped (λ (row : Placed). is_bp row.props ≡ true) IsSmallEvent (λ (row : Placed). counted_status attached row.props row.counts) bps
+    (λ row is. counted_small attached row.props row.counts few is) readable
+
+pub statuses_small : (target : TargetValue) → AreBounded target → AreSmall (statuses_in target)
+statuses_small target bounded =
+    all_statuses_small (attached_in target.contexts.processes) target.breakpoints (attached_few target.contexts.processes bounded.few) bounded.properties
+
+-- ---- breakpoints that are hit, which are some of the list
+
+several_small : (hits : List (List ℕ)) (bps : List Placed) → length hits ≤ 256 → AreReadable bps → AreSmall (several_events hits bps)
+several_small [] bps few readable = tt
+several_small (hit ∷ []) bps few readable = tt
+several_small (hit ∷ other ∷ hits) bps few readable =
+    let ids : List (List ℕ) = hit ∷ other ∷ hits in (
+      (
+        omega (arith, few, listed_few ids bps, length-map (listed ids bps) (λ (row : Placed). row.props)),
+        all_mapped (λ (row : Placed). is_bp row.props ≡ true) (λ (props : BpProps). is_bp props ≡ true) (λ (row : Placed). row.props) (listed ids bps) (λ row is. is)
+            (listed_are (λ (row : Placed). is_bp row.props ≡ true) ids bps readable),
+      ),
+      tt,
+    )
+
+among_small : (hits : List (List ℕ)) (target : TargetValue) → AreBounded target → AreSmall (statuses_among hits target)
+among_small hits target bounded =
+    all_statuses_small (attached_in target.contexts.processes) (listed hits target.breakpoints) (attached_few target.contexts.processes bounded.few)
+    (listed_are (λ (row : Placed). is_bp row.props ≡ true) hits target.breakpoints bounded.properties)
+
+-- at most 256 where the thread runs on
+hits_small : (runs : Bool) (hits : List (List ℕ)) (target : TargetValue) → (runs ≡ true → length hits ≤ 256) → AreBounded target → AreSmall (hit_events runs hits target)
+hits_small true hits target few bounded =
+    all_append IsSmallEvent (several_events hits target.breakpoints) (statuses_among hits target)
+    (several_small hits target.breakpoints (few refl) bounded.properties) (among_small hits target bounded)
+hits_small false hits target few bounded = among_small hits target bounded
 
 -- ---- contexts
 
@@ -245,15 +281,24 @@ resumed_small number n = (thread_word number n, tt)
 
 -- ---- the end of a process, and what becomes of one
 
-pub end_small : (bps : List Placed) (number count : ℕ) (code : ℤ) (targets : TargetsValue) → count ≤ 8 → AreBounded bps targets → AreSmall (end_events bps number count code targets)
-end_small bps number count code targets few bounded =
-    (ids_of_all number count few, (process_word number, statuses_small bps targets bounded))
+pub end_small : (number count : ℕ) (code : ℤ) (target : TargetValue) → count ≤ 8 → AreBounded target → AreSmall (end_events number count code target)
+end_small number count code target few bounded =
+    (ids_of_all number count few, (process_word number, statuses_small target bounded))
 
-pub fate_small : (bps : List Placed) (number n before : ℕ) (plain : ThreadState) (after : TargetsValue) → before ≤ 8 → AreBounded bps after
-    → Covers (λ fate. AreSmall (settled_events bps number n before fate after)) plain
-fate_small bps number n before plain after few bounded =
-    let lived =
-    all_append IsSmallEvent (made_events number before (process_of number after.processes)) (suspended_events number n (thread_of number n after.processes))
-    (made_small number before (process_of number after.processes) (found_short after.processes number bounded.short))
-    (suspended_small number n (thread_of number n after.processes) (thread_found_short after.processes number n bounded.short)) in
-    record { plainly = lived; suspended = λ state stands. lived; ended = λ code whole. end_small bps number before code after few bounded }
+pub fate_small : (number n before : ℕ) (plain : ThreadState) (hits : List (List ℕ)) (after : TargetValue) → before ≤ 8 → length hits ≤ 256 → AreBounded after
+    → CoversAlone (λ fate. AreSmall (settled_events number n before fate after)) plain hits
+fate_small number n before plain hits after few hit bounded =
+    let rows = after.contexts.processes in
+    let made : List EventData = made_events number before (process_of number rows) in
+    let stopped : List EventData = suspended_events number n (thread_of number n rows) in
+    let lived = λ (runs : Bool) (others : List (List ℕ)) (short : runs ≡ true → length others ≤ 256).
+    all_append IsSmallEvent (made ++ stopped) (hit_events runs others after)
+    (all_append IsSmallEvent made stopped (made_small number before (process_of number rows) (found_short rows number bounded.short))
+    (suspended_small number n (thread_of number n rows) (thread_found_short rows number n bounded.short)))
+    (hits_small runs others after short bounded) in
+    record {
+      plainly = lived (is_run plain) [] (λ now. lit≤ tt);
+      passing = λ now. lived (is_run plain) hits (λ now. hit);
+      suspended = λ reason others. lived false others (λ now. absurd cc);
+      ended = λ code whole. end_small number before code after few bounded;
+    }

@@ -24,7 +24,7 @@ use Rattle.tcf_values.specs.declared.values.BpProps.{BpProps}
 use Rattle.tcf_values.specs.declared.values.ContextData.{ContextData}
 use Rattle.tcf_values.specs.declared.values.Location.{Location}
 use Rattle.breakpoints.specs.Changes.{added_by, changed_by, changes_list, done, is_refused, removed_by}
-use Rattle.breakpoints.specs.Rows.{props_of}
+use Rattle.breakpoints.specs.Rows.{props_of, row_of}
 use Rattle.breakpoints.specs.Status.{instances_of}
 use Rattle.breakpoints.specs.declared.breakpoints.BpDone.TheVariants.{Failed, Changed}
 use Rattle.data_services.specs.Bytes.{part_of, word_bytes}
@@ -141,19 +141,19 @@ processes_words id attached rows few =
 
 -- ---- RunControl, Processes and Trace
 
-trace_answer : (bps : List Placed) (count : ℕ) (pair : Option (ℕ × ℕ)) (targets after : TargetsValue) → IsSmallAnswer (trace_given bps count pair targets after).answer
-trace_answer bps count None targets after = tt
-trace_answer bps count (Some pair) targets after = tt
+trace_answer : (count : ℕ) (pair : Option (ℕ × ℕ)) (target after : TargetValue) → IsSmallAnswer (trace_given count pair target after).answer
+trace_answer count None target after = tt
+trace_answer count (Some pair) target after = tt
 
-run_answer : (command : Command) (bps : List Placed) (targets after : TargetsValue) → AreBounded bps targets → AllShort after.processes → IsSmallAnswer (run_given command bps targets after).answer
-run_answer (GetContext id) bps targets after bounded short = context_small (data_named id targets.processes) (named_small (context_of id) targets.processes bounded.short)
-run_answer (GetChildren id) bps targets after bounded short = named_words id targets.processes bounded.few bounded.short
-run_answer (GetState id) bps targets after bounded short = state_of_small (thread_there id targets.processes) (at_pair targets.processes (thread_named id) bounded.short)
-run_answer (ProcContext id) bps targets after bounded short = process_answer_small targets.processes (process_named id) bounded.short
-run_answer (ProcChildren id attached) bps targets after bounded short = processes_words id attached targets.processes bounded.few
-run_answer (ProcStart directory file args environment attach) bps targets after bounded short = process_answer_small after.processes (Some targets.next) short
-run_answer (TraceRun id count) bps targets after bounded short = trace_answer bps (unsigned_abs count) (thread_named id) targets after
-run_answer _ bps targets after bounded short = tt
+run_answer : (command : Command) (target after : TargetValue) → AreBounded target → AllShort after.contexts.processes → IsSmallAnswer (run_given command target after).answer
+run_answer (GetContext id) target after bounded short = context_small (data_named id target.contexts.processes) (named_small (context_of id) target.contexts.processes bounded.short)
+run_answer (GetChildren id) target after bounded short = named_words id target.contexts.processes bounded.few bounded.short
+run_answer (GetState id) target after bounded short = state_of_small (thread_there id target.contexts.processes) (at_pair target.contexts.processes (thread_named id) bounded.short)
+run_answer (ProcContext id) target after bounded short = process_answer_small target.contexts.processes (process_named id) bounded.short
+run_answer (ProcChildren id attached) target after bounded short = processes_words id attached target.contexts.processes bounded.few
+run_answer (ProcStart directory file args environment attach) target after bounded short = process_answer_small after.contexts.processes (Some target.contexts.next) short
+run_answer (TraceRun id count) target after bounded short = trace_answer (unsigned_abs count) (thread_named id) target after
+run_answer _ target after bounded short = tt
 
 -- ---- Memory and Registers
 
@@ -234,15 +234,16 @@ props_small : (found : Option BpProps) → IfReadable found → IsSmallAnswer (p
 props_small None readable = tt
 props_small (Some props) readable = readable
 
-status_answer_small : (attached : List ℕ) (found : Option BpProps) → length attached ≤ 64 → IsSmallAnswer (status_answer (option_map (λ props. record { instances = instances_of props attached }) found))
+status_answer_small : (attached : List ℕ) (found : Option Placed) → length attached ≤ 64
+    → IsSmallAnswer (status_answer (option_map (λ row. record { instances = instances_of row.props row.counts attached }) found))
 status_answer_small attached None few = tt
-status_answer_small attached (Some props) few = instances_small props attached few
+status_answer_small attached (Some row) few = instances_small row.props row.counts attached few
 
-ask_small : (command : Command) (target : TargetValue) → AreBounded target.breakpoints target.contexts → IsSmallAnswer (ask_answer command (attached_in target.contexts.processes) target.breakpoints)
+ask_small : (command : Command) (target : TargetValue) → AreBounded target → IsSmallAnswer (ask_answer command (attached_in target.contexts.processes) target.breakpoints)
 ask_small BpIds target bounded = ids_words target.breakpoints bounded.listed bounded.properties
 ask_small (BpProperties id) target bounded = props_small (props_of id target.breakpoints) (found_readable id target.breakpoints bounded.properties)
 ask_small (BpGetStatus id) target bounded =
-    status_answer_small (attached_in target.contexts.processes) (props_of id target.breakpoints) (attached_few target.contexts.processes bounded.few)
+    status_answer_small (attached_in target.contexts.processes) (row_of id target.breakpoints) (attached_few target.contexts.processes bounded.few)
 ask_small (BpCapabilities id) target bounded = tt
 ask_small _ target bounded = tt
 
@@ -250,7 +251,7 @@ either_answer : (test : Bool) (one other : Effect) → IsSmallAnswer one.answer 
 either_answer true one other small also = small
 either_answer false one other small also = also
 
-breakpoints_answer : (channel : ℕ) (command : Command) (target : TargetValue) → AreBounded target.breakpoints target.contexts → IsSmallAnswer (breakpoints_effect channel command target).answer
+breakpoints_answer : (channel : ℕ) (command : Command) (target : TargetValue) → AreBounded target → IsSmallAnswer (breakpoints_effect channel command target).answer
 breakpoints_answer channel command target bounded =
     let attached = attached_in target.contexts.processes in
     let answer = gives (ask_answer command attached target.breakpoints) in
@@ -264,26 +265,26 @@ locator_small GetPeers = (lit≤ tt, tt)
 locator_small (Redirect peer) = reports_are_small 7
 locator_small _ = tt
 
-run_small : (command : Command) (bps : List Placed) (targets : TargetsValue) → AreBounded bps targets → (run_fault command targets ≡ None → AllShort (run_left command bps targets).processes)
-    → IsSmallAnswer (run_effect command bps targets).answer
-run_small command bps targets bounded after =
-    let left = run_left command bps targets in
-    answer_by (run_fault command targets) (run_given command bps targets left) (λ none. run_answer command bps targets left bounded (after none))
+run_small : (command : Command) (target : TargetValue) → AreBounded target → (run_fault command target.contexts ≡ None → AllShort (run_left command target).contexts.processes)
+    → IsSmallAnswer (run_effect command target).answer
+run_small command target bounded after =
+    let left = run_left command target in
+    answer_by (run_fault command target.contexts) (run_given command target left) (λ none. run_answer command target left bounded (after none))
 
 data_small : (command : Command) (targets : TargetsValue) → IsSmallAnswer (data_effect command targets).answer
 data_small command targets = answer_by (data_fault command targets) (data_given command targets) (data_answer command targets)
 
-answer_in : (name : CommandName) (channel : ℕ) (command : Command) (target : TargetValue) → AreBounded target.breakpoints target.contexts
-    → (run_fault command target.contexts ≡ None → AllShort (run_left command target.breakpoints target.contexts).processes) → IsSmallAnswer (effect_in name channel command target).answer
+answer_in : (name : CommandName) (channel : ℕ) (command : Command) (target : TargetValue) → AreBounded target
+    → (run_fault command target.contexts ≡ None → AllShort (run_left command target).contexts.processes) → IsSmallAnswer (effect_in name channel command target).answer
 answer_in (service.Locator name) channel command target bounded after = locator_small command
-answer_in (service.RunControl name) channel command target bounded after = run_small command target.breakpoints target.contexts bounded after
+answer_in (service.RunControl name) channel command target bounded after = run_small command target bounded after
 answer_in (service.Breakpoints name) channel command target bounded after = breakpoints_answer channel command target bounded
 answer_in (service.Memory name) channel command target bounded after = data_small command target.contexts
 answer_in (service.Registers name) channel command target bounded after = data_small command target.contexts
-answer_in (service.Processes name) channel command target bounded after = run_small command target.breakpoints target.contexts bounded after
-answer_in (service.Trace name) channel command target bounded after = run_small command target.breakpoints target.contexts bounded after
+answer_in (service.Processes name) channel command target bounded after = run_small command target bounded after
+answer_in (service.Trace name) channel command target bounded after = run_small command target bounded after
 
-pub exec_answer_small : (channel : ℕ) (command : Command) (target : TargetValue) → AreBounded target.breakpoints target.contexts
-    → (run_fault command target.contexts ≡ None → AllShort (run_left command target.breakpoints target.contexts).processes) → IsSmallAnswer (exec_effect channel command target).answer
+pub exec_answer_small : (channel : ℕ) (command : Command) (target : TargetValue) → AreBounded target
+    → (run_fault command target.contexts ≡ None → AllShort (run_left command target).contexts.processes) → IsSmallAnswer (exec_effect channel command target).answer
 unfolding exec_effect
 exec_answer_small channel command target bounded after = answer_in (named_as command) channel command target bounded after

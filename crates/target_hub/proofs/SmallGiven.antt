@@ -24,6 +24,7 @@ use Rattle.tcf_values.specs.declared.values.BpProps.{BpProps}
 use Rattle.tcf_values.specs.declared.values.Location.{Location}
 use Rattle.breakpoints.specs.Changes.{added_by, changed_by, changes_list, done, has_no_place, has_twice, clashes, is_overfull, is_refused, is_switched, removed_by, switched, with_flag}
 use Rattle.breakpoints.specs.Rows.{ids_of, others, owned_by}
+use Rattle.breakpoints.specs.Status.{hits_of, is_hit}
 use Rattle.breakpoints.specs.Statuses.{status_event}
 use Rattle.breakpoints.specs.declared.breakpoints.BpDone.{BpDone}
 use Rattle.breakpoints.specs.declared.breakpoints.BpDone.TheVariants.{Failed, Changed}
@@ -36,7 +37,7 @@ use Rattle.run_control.specs.Commands.{events_of, run_effect, run_fault, run_giv
 use Rattle.run_control.specs.Naming.{process_named}
 use Rattle.run_control.specs.Steering.{suspend_events}
 use Rattle.run_control.specs.Telling.{added_events, all_resumed_events, all_suspended_events, changed_events, resumed_events, statuses_in}
-use Rattle.run_control.specs.Executing.{settled_events, step_text}
+use Rattle.run_control.specs.Executing.{hits_at, hits_in, settled_events, step_text, stepped}
 use Rattle.run_control.specs.Ticking.{counted_in, ticked, ticked_events, ticked_events_at}
 use Rattle.run_control.specs.Tracing.{traced_events_at}
 use Rattle.target_contexts.specs.Live.{process_of}
@@ -44,6 +45,7 @@ use Rattle.target_contexts.specs.Named.{attached_in, number_named, thread_named}
 use Rattle.target_contexts.specs.Short.{AllShort, IsShort}
 use Rattle.target_contexts.specs.Threads.{count_in, thread_at, thread_count, thread_of}
 use Rattle.target_contexts.specs.declared.process.ThreadState.TheVariants.{Suspended}
+use Rattle.target_contexts.specs.declared.threads.Thread.{Thread}
 use Rattle.target_contexts.specs.TargetsValue.{TargetsValue}
 use Rattle.target_contexts.specs.ProcessValue.{ProcessValue}
 use Rattle.target_hub.specs.BreakpointsRows.{ask_answer, ask_fault, breakpoints_effect, effect_of, removed_events, status_events}
@@ -53,7 +55,7 @@ use Rattle.run_control.specs.TargetValue.{TargetValue}
 use Rattle.tcf_values.proofs.TheLaws.{register_round_trip}
 use Rattle.target_hub.proofs.Given.{AreProps, added_readable, changed_readable}
 use Rattle.target_hub.proofs.Lists.{all_mapped}
-use Rattle.target_hub.proofs.Fates.{tick_keeps, trace_keeps}
+use Rattle.target_hub.proofs.Fates.{tick_alone, trace_alone}
 use Rattle.target_hub.proofs.Small.{AreBounded, AreSmall, added_small, all_resumed_small, all_suspended_small, attached_few, changed_small, count_few, end_small, fate_small, found_short, ids_words, process_word, resumed_small, status_small, statuses_small, suspended_small, test_small, thread_found_short, three_small}
 use Rattle.list_laws.proofs.AllLists.{all_append, all_filter}
 use Rattle.run_control.proofs.Short.{filter_fewer}
@@ -75,67 +77,67 @@ of_small : {A : Type 0} → (events : A → List EventData) (named : Option A) �
 of_small events None each = tt
 of_small events (Some one) each = each one
 
-traced_small : (bps : List Placed) (number n count : ℕ) (process : Option ProcessValue) (after : TargetsValue) → IfSome process IsShort → AreBounded bps after → AreSmall (traced_events_at bps number n count process after)
+traced_small : (bps : List Placed) (number n count : ℕ) (process : Option ProcessValue) (after : TargetValue) → IfSome process IsShort → AreBounded after → AreSmall (traced_events_at bps number n count process after)
 traced_small bps number n count None after is bounded = tt
 traced_small bps number n count (Some process) after is bounded =
-    trace_keeps (λ fate. AreSmall (settled_events bps number n (thread_count process) fate after)) bps number n count process
-    (fate_small bps number n (thread_count process) (Suspended step_text []) after is.count.few bounded)
+    trace_alone (λ fate. AreSmall (settled_events number n (thread_count process) fate after)) bps number n count process
+    (fate_small number n (thread_count process) (Suspended step_text []) [] after is.count.few (lit≤ tt) bounded)
 
-trace_small : (bps : List Placed) (count : ℕ) (pair : Option (ℕ × ℕ)) (targets after : TargetsValue) → AllShort targets.processes → AreBounded bps after → AreSmall (trace_given bps count pair targets after).events
-trace_small bps count None targets after short bounded = tt
-trace_small bps count (Some pair) targets after short bounded =
-    traced_small bps pair.0 pair.1 count (process_of pair.0 targets.processes) after (found_short targets.processes pair.0 short) bounded
+trace_small : (count : ℕ) (pair : Option (ℕ × ℕ)) (target after : TargetValue) → AllShort target.contexts.processes → AreBounded after → AreSmall (trace_given count pair target after).events
+trace_small count None target after short bounded = tt
+trace_small count (Some pair) target after short bounded =
+    traced_small target.breakpoints pair.0 pair.1 count (process_of pair.0 target.contexts.processes) after (found_short target.contexts.processes pair.0 short) bounded
 
-started_small : (bps : List Placed) (number : ℕ) (after : TargetsValue) → AreBounded bps after → AreSmall (start_events bps number after)
-started_small bps number after bounded =
-    let process = process_of number after.processes in
-    let is = found_short after.processes number bounded.short in
-    three_small (added_events number process) (all_suspended_events number process) (statuses_in bps after)
-    (added_small number process is) (all_suspended_small number process is) (statuses_small bps after bounded)
+started_small : (number : ℕ) (after : TargetValue) → AreBounded after → AreSmall (start_events number after)
+started_small number after bounded =
+    let process = process_of number after.contexts.processes in
+    let is = found_short after.contexts.processes number bounded.short in
+    three_small (added_events number process) (all_suspended_events number process) (statuses_in after)
+    (added_small number process is) (all_suspended_small number process is) (statuses_small after bounded)
 
-attached_small : (bps : List Placed) (number : ℕ) (after : TargetsValue) → AreBounded bps after → AreSmall (attach_events bps number after)
-attached_small bps number after bounded =
-    let process = process_of number after.processes in
-    let is = found_short after.processes number bounded.short in
-    three_small (changed_events number process) (all_suspended_events number process) (statuses_in bps after)
-    (changed_small number process is) (all_suspended_small number process is) (statuses_small bps after bounded)
+attached_small : (number : ℕ) (after : TargetValue) → AreBounded after → AreSmall (attach_events number after)
+attached_small number after bounded =
+    let process = process_of number after.contexts.processes in
+    let is = found_short after.contexts.processes number bounded.short in
+    three_small (changed_events number process) (all_suspended_events number process) (statuses_in after)
+    (changed_small number process is) (all_suspended_small number process is) (statuses_small after bounded)
 
-detached_small : (bps : List Placed) (was : Option ProcessValue) (number : ℕ) (after : TargetsValue) → AreBounded bps after → AreSmall (detach_events bps was number after)
-detached_small bps was number after bounded =
-    let process = process_of number after.processes in
-    three_small (changed_events number process) (all_resumed_events number was) (statuses_in bps after)
-    (changed_small number process (found_short after.processes number bounded.short)) (all_resumed_small number was) (statuses_small bps after bounded)
+detached_small : (was : Option ProcessValue) (number : ℕ) (after : TargetValue) → AreBounded after → AreSmall (detach_events was number after)
+detached_small was number after bounded =
+    let process = process_of number after.contexts.processes in
+    three_small (changed_events number process) (all_resumed_events number was) (statuses_in after)
+    (changed_small number process (found_short after.contexts.processes number bounded.short)) (all_resumed_small number was) (statuses_small after bounded)
 
-terminate_small : (bps : List Placed) (targets after : TargetsValue) (number : ℕ) → AllShort targets.processes → AreBounded bps after → AreSmall (terminate_events bps number targets after)
-terminate_small bps targets after number short bounded =
-    end_small bps number (count_in (process_of number targets.processes)) terminate_code after (count_few targets.processes number short) bounded
+terminate_small : (target after : TargetValue) (number : ℕ) → AllShort target.contexts.processes → AreBounded after → AreSmall (terminate_events number target after)
+terminate_small target after number short bounded =
+    end_small number (count_in (process_of number target.contexts.processes)) terminate_code after (count_few target.contexts.processes number short) bounded
 
-run_small : (command : Command) (bps : List Placed) (targets after : TargetsValue) → AllShort targets.processes → AreBounded bps after → AreSmall (run_given command bps targets after).events
-run_small (GetContext id) bps targets after short bounded = tt
-run_small (GetChildren id) bps targets after short bounded = tt
-run_small (GetState id) bps targets after short bounded = tt
-run_small (Resume id mode count) bps targets after short bounded =
+run_small : (command : Command) (target after : TargetValue) → AllShort target.contexts.processes → AreBounded after → AreSmall (run_given command target after).events
+run_small (GetContext id) target after short bounded = tt
+run_small (GetChildren id) target after short bounded = tt
+run_small (GetState id) target after short bounded = tt
+run_small (Resume id mode count) target after short bounded =
     of_small (λ pair. resumed_events pair.0 pair.1) (thread_named id) (λ pair. resumed_small pair.0 pair.1)
-run_small (Suspend id) bps targets after short bounded =
-    of_small (λ pair. suspend_events pair.0 pair.1 after) (thread_named id)
-    (λ pair. suspended_small pair.0 pair.1 (thread_of pair.0 pair.1 after.processes) (thread_found_short after.processes pair.0 pair.1 bounded.short))
-run_small (Terminate id) bps targets after short bounded =
-    of_small (λ n. terminate_events bps n targets after) (number_named id) (λ n. terminate_small bps targets after n short bounded)
-run_small (ProcContext id) bps targets after short bounded = tt
-run_small (ProcChildren id attached) bps targets after short bounded = tt
-run_small (ProcStart directory file args environment attach) bps targets after short bounded = started_small bps targets.next after bounded
-run_small (ProcAttach id) bps targets after short bounded = of_small (λ n. attach_events bps n after) (process_named id) (λ n. attached_small bps n after bounded)
-run_small (ProcDetach id) bps targets after short bounded =
-    let was = process_there id targets.processes in
-    of_small (λ n. detach_events bps was n after) (process_named id) (λ n. detached_small bps was n after bounded)
-run_small (ProcTerminate id) bps targets after short bounded =
-    of_small (λ n. terminate_events bps n targets after) (process_named id) (λ n. terminate_small bps targets after n short bounded)
-run_small (TraceRun id count) bps targets after short bounded = trace_small bps (unsigned_abs count) (thread_named id) targets after short bounded
-run_small _ bps targets after short bounded = tt
+run_small (Suspend id) target after short bounded =
+    of_small (λ pair. suspend_events pair.0 pair.1 after.contexts) (thread_named id)
+    (λ pair. suspended_small pair.0 pair.1 (thread_of pair.0 pair.1 after.contexts.processes) (thread_found_short after.contexts.processes pair.0 pair.1 bounded.short))
+run_small (Terminate id) target after short bounded =
+    of_small (λ n. terminate_events n target after) (number_named id) (λ n. terminate_small target after n short bounded)
+run_small (ProcContext id) target after short bounded = tt
+run_small (ProcChildren id attached) target after short bounded = tt
+run_small (ProcStart directory file args environment attach) target after short bounded = started_small target.contexts.next after bounded
+run_small (ProcAttach id) target after short bounded = of_small (λ n. attach_events n after) (process_named id) (λ n. attached_small n after bounded)
+run_small (ProcDetach id) target after short bounded =
+    let was = process_there id target.contexts.processes in
+    of_small (λ n. detach_events was n after) (process_named id) (λ n. detached_small was n after bounded)
+run_small (ProcTerminate id) target after short bounded =
+    of_small (λ n. terminate_events n target after) (process_named id) (λ n. terminate_small target after n short bounded)
+run_small (TraceRun id count) target after short bounded = trace_small (unsigned_abs count) (thread_named id) target after short bounded
+run_small _ target after short bounded = tt
 
-pub run_told : (command : Command) (bps : List Placed) (targets : TargetsValue) → AllShort targets.processes → (run_fault command targets ≡ None → AreBounded bps (run_left command bps targets))
-    → AreSmall (run_effect command bps targets).events
-run_told command bps targets short after = by_fault (run_fault command targets) _ (λ none. run_small command bps targets (run_left command bps targets) short (after none))
+pub run_told : (command : Command) (target : TargetValue) → AllShort target.contexts.processes → (run_fault command target.contexts ≡ None → AreBounded (run_left command target))
+    → AreSmall (run_effect command target).events
+run_told command target short after = by_fault (run_fault command target.contexts) _ (λ none. run_small command target (run_left command target) short (after none))
 
 -- ---- Memory and Registers: a register that is there has a short ID
 
@@ -277,7 +279,7 @@ either_told : (test : Bool) (one other : Effect) → AreSmall one.events → Are
 either_told true one other small also = small
 either_told false one other small also = also
 
-pub breakpoints_told : (channel : ℕ) (command : Command) (target : TargetValue) → IsReadable command → AreBounded target.breakpoints target.contexts → AreSmall (breakpoints_effect channel command target).events
+pub breakpoints_told : (channel : ℕ) (command : Command) (target : TargetValue) → IsReadable command → AreBounded target → AreSmall (breakpoints_effect channel command target).events
 breakpoints_told channel command target readable bounded =
     let attached = attached_in target.contexts.processes in
     let answer = gives (ask_answer command attached target.breakpoints) in
@@ -287,14 +289,26 @@ breakpoints_told channel command target readable bounded =
 
 -- ---- a tick
 
-ticked_small : (bps : List Placed) (number n : ℕ) (process : Option ProcessValue) (after : TargetsValue) → IfSome process IsShort → AreBounded bps after → AreSmall (ticked_events_at bps number n process after)
-ticked_small bps number n None after is bounded = tt
-ticked_small bps number n (Some process) after is bounded =
-    tick_keeps (λ fate. AreSmall (settled_events bps number n (thread_count process) fate after)) bps number n process
-    (fate_small bps number n (thread_count process) (counted_in (thread_at n process)) after is.count.few bounded)
+hits_few : (number : ℕ) (attached : Bool) (pc : ℕ) (bps : List Placed) → length bps ≤ 256 → length (hits_of number attached pc bps) ≤ 256
+hits_few number true pc bps few =
+    let hit = λ (row : Placed). is_hit number pc row.props in
+    omega (arith, few, filter_fewer hit bps, length-map (filter hit bps) (λ (row : Placed). row.props.id))
+hits_few number false pc bps few = lit≤ tt
 
-pub tick_told_small : (bps : List Placed) (targets : TargetsValue) (pair : Option (ℕ × ℕ)) → AllShort targets.processes → AreBounded bps (option_map_or (λ p. ticked bps p.0 p.1 targets) pair targets)
-    → IfSome (option_map (λ p. ticked_events bps p.0 p.1 targets) pair) AreSmall
-tick_told_small bps targets None short bounded = tt
-tick_told_small bps targets (Some pair) short bounded =
-    ticked_small bps pair.0 pair.1 (process_of pair.0 targets.processes) (ticked bps pair.0 pair.1 targets) (found_short targets.processes pair.0 short) bounded
+in_few : (bps : List Placed) (number : ℕ) (attached : Bool) (found : Option Thread) → length bps ≤ 256 → length (hits_in bps number attached found) ≤ 256
+in_few bps number attached None few = lit≤ tt
+in_few bps number attached (Some thread) few = hits_few number attached thread.cpu.pc bps few
+
+ticked_small : (bps : List Placed) (number n : ℕ) (process : Option ProcessValue) (after : TargetValue) → IfSome process IsShort → length bps ≤ 256 → AreBounded after → AreSmall (ticked_events_at bps number n process after)
+ticked_small bps number n None after is few bounded = tt
+ticked_small bps number n (Some process) after is few bounded =
+    let next : ProcessValue = stepped n process in
+    tick_alone (λ fate. AreSmall (settled_events number n (thread_count process) fate after)) bps number n process
+    (fate_small number n (thread_count process) (counted_in (thread_at n process)) (hits_at bps number n next) after is.count.few (in_few bps number next.attached (thread_at n next) few) bounded)
+
+pub tick_told_small : (target : TargetValue) (pair : Option (ℕ × ℕ)) → AllShort target.contexts.processes → length target.breakpoints ≤ 256 → AreBounded (option_map_or (λ p. ticked p.0 p.1 target) pair target)
+    → IfSome (option_map (λ p. ticked_events p.0 p.1 target) pair) AreSmall
+tick_told_small target None short few bounded = tt
+tick_told_small target (Some pair) short few bounded =
+    let rows = target.contexts.processes in
+    ticked_small target.breakpoints pair.0 pair.1 (process_of pair.0 rows) (ticked pair.0 pair.1 target) (found_short rows pair.0 short) few bounded

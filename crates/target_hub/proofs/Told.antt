@@ -1,38 +1,50 @@
 -- Each event that the target tells can be written.
-use Rattle.std.proofs.Common.{◌≡◌, ℕ, ℤ, ◌<◌, ◌^◌, Bool, true, false, cond, ◌&&◌, List, [], ◌∷◌, map, Option, Some, None, option_map, refl, drop, arith, lit<}
+use Rattle.std.proofs.Common.{◌≡◌, ℕ, ℤ, ◌<◌, ◌^◌, Bool, true, false, cond, ◌&&◌, List, [], ◌∷◌, map, Option, Some, None, option_map, refl, drop, arith, lit<, ◌++◌}
 use Rattle.std.proofs.lemmas.Bool.{ltb-true}
 use Rattle.std.specs.List.{AllByRecursion, flat_map}
 use Rattle.tcf_values.specs.declared.event.EventData.{EventData}
 use Rattle.tcf_values.specs.declared.values.ContextData.{ContextData}
-use Rattle.std.specs.Option.{IfSome}
+use Rattle.std.specs.Option.{IfSome, option_map_or}
 use Rattle.std.specs.Str.Parse.{digits_value}
 use Rattle.json_args.specs.Kinds.{IsWhole}
 use Rattle.json_values.specs.Contexts.{IsContext}
-use Rattle.json_values.specs.Statuses.{IsInstance, IsPlace}
+use Rattle.json_values.specs.Props.{is_bp}
+use Rattle.json_values.specs.Statuses.{IsCount, IsInstance, IsPlace}
 use Rattle.reply_tables.specs.Events.{IsEvent}
+use Rattle.tcf_values.specs.declared.command.Command.{Command}
 use Rattle.tcf_values.specs.declared.ids.ContextId.{ContextId}
 use Rattle.tcf_values.specs.declared.values.BpProps.{BpProps}
+use Rattle.tcf_values.specs.declared.values.Place.{Place}
+use Rattle.tcf_values.specs.declared.values.Place.TheVariants.{Address, Error}
 use Rattle.breakpoints.specs.Address.{address_in, is_address, is_numeral, is_prefixed}
-use Rattle.breakpoints.specs.Status.{instance_of, instances_of, place_at, place_of}
-use Rattle.breakpoints.specs.Statuses.{status_event, statuses_of}
+use Rattle.breakpoints.specs.Counting.{listed}
+use Rattle.breakpoints.specs.Counts.{AreCounts, count_of}
+use Rattle.breakpoints.specs.Rows.{IsOrderly as AreListed}
+use Rattle.breakpoints.specs.Status.{count_at, instance_of, instances_of, place_at, place_of}
+use Rattle.breakpoints.specs.Statuses.{counted_status, status_event, statuses_of}
 use Rattle.target_contexts.specs.Contexts.{process_data, thread_data, threads_behind, threads_data}
 use Rattle.target_contexts.specs.Live.{process_of}
 use Rattle.target_contexts.specs.Threads.{thread_at, thread_count, thread_numbers, thread_of}
 use Rattle.target_contexts.specs.declared.threads.Thread.{Thread}
-use Rattle.target_contexts.specs.Named.{attached_in}
-use Rattle.target_contexts.specs.TargetsValue.{TargetsValue}
+use Rattle.target_contexts.specs.Named.{attached_in, runs as is_run}
 use Rattle.target_contexts.specs.ProcessValue.{ProcessValue}
 use Rattle.target_contexts.specs.declared.process.ThreadState.{ThreadState}
 use Rattle.target_contexts.specs.declared.process.ThreadState.TheVariants.{Running, Suspended}
 use Rattle.run_control.specs.Ending.{end_events}
-use Rattle.run_control.specs.Executing.{settled_events, step_text}
-use Rattle.run_control.specs.Telling.{added_events, all_resumed_events, all_suspended_events, changed_events, contexts_events, made_events, resumed_event, stop_events, suspended_events}
-use Rattle.run_control.specs.Ticking.{counted_in, running_pair, ticked_events, ticked_events_at}
+use Rattle.run_control.specs.Commands.{run_after}
+use Rattle.run_control.specs.Executing.{hits_at, settled_events, step_text, stepped}
+use Rattle.run_control.specs.Telling.{added_events, all_resumed_events, all_suspended_events, changed_events, contexts_events, hit_events, made_events, resumed_event, several_events, statuses_among, stop_events, suspended_events}
+use Rattle.run_control.specs.Ticking.{counted_in, running_pair, tick_after, ticked, ticked_events, ticked_events_at}
 use Rattle.run_control.specs.Tracing.{trace_events, traced_events_at}
-use Rattle.target_hub.specs.Limits.{AreEvents}
+use Rattle.target_hub.specs.Limits.{AreEvents, AreReadable}
 use Rattle.target_hub.specs.Passing.{tick_told}
+use Rattle.target_hub.specs.Sendable.{IsBounded}
 use Rattle.run_control.specs.TargetValue.{TargetValue}
-use Rattle.target_hub.proofs.Fates.{Covers, tick_keeps, trace_keeps}
+use Rattle.breakpoints.proofs.Raising.{count_small}
+use Rattle.run_control.proofs.TheLaws.{commands_change_counts, commands_list, ticks_change_counts, ticks_list}
+use Rattle.target_hub.proofs.Fates.{CoversAlone, tick_alone, trace_alone}
+use Rattle.target_hub.proofs.Lists.{all_mapped}
+use Rattle.target_hub.proofs.Points.{ArePoints, IsPoint, listed_are, points_of, readable_like}
 use Rattle.list_laws.proofs.Flags.{and_first}
 use Rattle.list_laws.proofs.AllLists.{all_append, all_map}
 use Rattle.breakpoints.specs.declared.rows.Placed.{Placed}
@@ -66,18 +78,48 @@ place_fits : (location : Option (List ℕ)) → IsPlace (place_of location)
 place_fits None = tt
 place_fits (Some text) = of_small (is_prefixed text) (address_in 16 (drop 2 text)) (address_in 10 text) (in_small 16 (drop 2 text)) (in_small 10 text)
 
-some_fit : (props : BpProps) (numbers : List ℕ) (enabled : Bool) → AllByRecursion IsInstance (cond enabled (map (instance_of props) numbers) [])
-some_fit props numbers true = all_map IsInstance (instance_of props) numbers (λ _. place_fits props.location)
-some_fit props numbers false = tt
+count_fits : (place : Place) (count : ℕ) → count < 2 ^ 32 → IsCount place (count_at place count)
+count_fits (Address address) count small = small
+count_fits (Error error) count small = refl
 
-pub instances_fit : (props : BpProps) (attached : List ℕ) → AllByRecursion IsInstance (instances_of props attached)
-instances_fit props attached = some_fit props _ props.enabled
+instance_fits : (props : BpProps) (counts : List (ℕ × ℕ)) (number : ℕ) → AreCounts counts → IsInstance (instance_of props counts number)
+instance_fits props counts number are =
+    (place_fits props.location, count_fits (place_of props.location) (count_of number counts) (count_small number counts are))
+
+some_fit : (props : BpProps) (counts : List (ℕ × ℕ)) (numbers : List ℕ) (enabled : Bool) → AreCounts counts → AllByRecursion IsInstance (cond enabled (map (instance_of props counts) numbers) [])
+some_fit props counts numbers true are = all_map IsInstance (instance_of props counts) numbers (λ number. instance_fits props counts number are)
+some_fit props counts numbers false are = tt
+
+pub instances_fit : (props : BpProps) (counts : List (ℕ × ℕ)) (attached : List ℕ) → AreCounts counts → AllByRecursion IsInstance (instances_of props counts attached)
+instances_fit props counts attached are = some_fit props counts _ props.enabled are
 
 pub status_fits : (attached : List ℕ) (props : BpProps) → IsEvent (status_event attached props)
-status_fits attached props = instances_fit props attached
+status_fits attached props = instances_fit props [] attached tt
 
-pub statuses_fit : (attached : List ℕ) (rows : List Placed) → AreEvents (statuses_of attached rows)
-statuses_fit attached rows = all_map IsEvent (λ (row : Placed). status_event attached row.props) rows (λ row. status_fits attached row.props)
+pub statuses_fit : (attached : List ℕ) (bps : List Placed) → ArePoints bps → AreEvents (statuses_of attached bps)
+statuses_fit attached bps are =
+    all_mapped IsPoint IsEvent (λ (row : Placed). counted_status attached row.props row.counts) bps (λ row is. instances_fit row.props row.counts attached is.counted) are
+
+-- ---- breakpoints that are hit
+
+several_fit : (hits : List (List ℕ)) (bps : List Placed) → ArePoints bps → AreEvents (several_events hits bps)
+several_fit [] bps are = tt
+several_fit (hit ∷ []) bps are = tt
+several_fit (hit ∷ other ∷ hits) bps are = (
+  all_mapped IsPoint (λ (props : BpProps). is_bp props ≡ true) (λ (row : Placed). row.props) (listed (hit ∷ other ∷ hits) bps) (λ row is. is.readable)
+      (listed_are IsPoint (hit ∷ other ∷ hits) bps are),
+  tt,
+)
+
+if_fit : (runs : Bool) (told : List EventData) → AreEvents told → AreEvents (cond runs told [])
+if_fit true told fit = fit
+if_fit false told fit = tt
+
+hits_fit : (runs : Bool) (hits : List (List ℕ)) (target : TargetValue) → ArePoints target.breakpoints → AreEvents (hit_events runs hits target)
+hits_fit runs hits target are =
+    all_append IsEvent (cond runs (several_events hits target.breakpoints) []) (statuses_among hits target)
+    (if_fit runs (several_events hits target.breakpoints) (several_fit hits target.breakpoints are))
+    (statuses_fit (attached_in target.contexts.processes) (listed hits target.breakpoints) (listed_are IsPoint hits target.breakpoints are))
 
 -- ---- contexts
 
@@ -135,38 +177,58 @@ all_resumed_fit number was = all_map IsEvent (resumed_event number) _ (λ n. tt)
 
 -- ---- the end of a process
 
-pub end_fits : (bps : List Placed) (number count : ℕ) (code : ℤ) (targets : TargetsValue) → IsWhole code → AreEvents (end_events bps number count code targets)
-end_fits bps number count code targets whole = (tt, (whole, statuses_fit (attached_in targets.processes) bps))
+pub end_fits : (number count : ℕ) (code : ℤ) (target : TargetValue) → IsWhole code → ArePoints target.breakpoints → AreEvents (end_events number count code target)
+end_fits number count code target whole are = (tt, (whole, statuses_fit (attached_in target.contexts.processes) target.breakpoints are))
 
 -- ---- what becomes of a process after its instructions
 
-fate_fits : (bps : List Placed) (number n before : ℕ) (plain : ThreadState) (after : TargetsValue) → Covers (λ fate. AreEvents (settled_events bps number n before fate after)) plain
-fate_fits bps number n before plain after =
-    let lived =
-    all_append IsEvent (made_events number before (process_of number after.processes)) (suspended_events number n (thread_of number n after.processes))
-    (made_fit number before (process_of number after.processes)) (suspended_fit number n (thread_of number n after.processes)) in
-    record { plainly = lived; suspended = λ state stands. lived; ended = λ code whole. end_fits bps number before code after whole }
+fate_fits : (number n before : ℕ) (plain : ThreadState) (hits : List (List ℕ)) (after : TargetValue) → ArePoints after.breakpoints → CoversAlone (λ fate. AreEvents (settled_events number n before fate after)) plain hits
+fate_fits number n before plain hits after are =
+    let made : List EventData = made_events number before (process_of number after.contexts.processes) in
+    let stopped : List EventData = suspended_events number n (thread_of number n after.contexts.processes) in
+    let lived = λ (runs : Bool) (others : List (List ℕ)).
+    all_append IsEvent (made ++ stopped) (hit_events runs others after)
+    (all_append IsEvent made stopped (made_fit number before (process_of number after.contexts.processes)) (suspended_fit number n (thread_of number n after.contexts.processes)))
+    (hits_fit runs others after are) in
+    record {
+      plainly = lived (is_run plain) [];
+      passing = λ now. lived (is_run plain) hits;
+      suspended = λ reason others. lived false others;
+      ended = λ code whole. end_fits number before code after whole are;
+    }
 
 -- ---- a tick, and a trace
 
-ticked_fit : (bps : List Placed) (number n : ℕ) (process : Option ProcessValue) (after : TargetsValue) → AreEvents (ticked_events_at bps number n process after)
-ticked_fit bps number n None after = tt
-ticked_fit bps number n (Some process) after =
-    tick_keeps (λ fate. AreEvents (settled_events bps number n (thread_count process) fate after)) bps number n process
-    (fate_fits bps number n (thread_count process) (counted_in (thread_at n process)) after)
+ticked_fit : (bps : List Placed) (number n : ℕ) (process : Option ProcessValue) (after : TargetValue) → ArePoints after.breakpoints → AreEvents (ticked_events_at bps number n process after)
+ticked_fit bps number n None after are = tt
+ticked_fit bps number n (Some process) after are =
+    tick_alone (λ fate. AreEvents (settled_events number n (thread_count process) fate after)) bps number n process
+    (fate_fits number n (thread_count process) (counted_in (thread_at n process)) (hits_at bps number n (stepped n process)) after are)
 
-tick_fit_of : (bps : List Placed) (targets : TargetsValue) (pair : Option (ℕ × ℕ)) → IfSome (option_map (λ p. ticked_events bps p.0 p.1 targets) pair) AreEvents
-tick_fit_of bps targets None = tt
-tick_fit_of bps targets (Some pair) = ticked_fit bps pair.0 pair.1 (process_of pair.0 targets.processes) _
+tick_fit_of : (target : TargetValue) (pair : Option (ℕ × ℕ)) → ArePoints (option_map_or (λ p. ticked p.0 p.1 target) pair target).breakpoints → IfSome (option_map (λ p. ticked_events p.0 p.1 target) pair) AreEvents
+tick_fit_of target None are = tt
+tick_fit_of target (Some pair) are = ticked_fit target.breakpoints pair.0 pair.1 (process_of pair.0 target.contexts.processes) (ticked pair.0 pair.1 target) are
 
-pub tick_fits : (thread : ContextId) (target : TargetValue) → IfSome (tick_told thread target) AreEvents
-tick_fits thread target = tick_fit_of target.breakpoints target.contexts (running_pair thread target.contexts.processes)
+-- the breakpoints after a tick, and after a command of run control
+pub tick_points : (thread : ContextId) (target : TargetValue) → AreReadable target.breakpoints → AreListed target.breakpoints → ArePoints (tick_after thread target).breakpoints
+tick_points thread target readable orderly =
+    let after : List Placed = (tick_after thread target).breakpoints in
+    points_of after (readable_like after target.breakpoints (ticks_change_counts thread target) readable) (ticks_list thread target orderly).counted
 
-traced_fit : (bps : List Placed) (number n count : ℕ) (process : Option ProcessValue) (after : TargetsValue) → AreEvents (traced_events_at bps number n count process after)
-traced_fit bps number n count None after = tt
-traced_fit bps number n count (Some process) after =
-    trace_keeps (λ fate. AreEvents (settled_events bps number n (thread_count process) fate after)) bps number n count process
-    (fate_fits bps number n (thread_count process) (Suspended step_text []) after)
+pub run_points : (command : Command) (target : TargetValue) → AreReadable target.breakpoints → AreListed target.breakpoints → ArePoints (run_after command target).breakpoints
+run_points command target readable orderly =
+    let after : List Placed = (run_after command target).breakpoints in
+    points_of after (readable_like after target.breakpoints (commands_change_counts command target) readable) (commands_list command target orderly).counted
 
-pub trace_fits : (bps : List Placed) (count number n : ℕ) (targets after : TargetsValue) → AreEvents (trace_events bps count number n targets after)
-trace_fits bps count number n targets after = traced_fit bps number n count (process_of number targets.processes) after
+pub tick_fits : (thread : ContextId) (target : TargetValue) → IsBounded target → IfSome (tick_told thread target) AreEvents
+tick_fits thread target bounded =
+    tick_fit_of target (running_pair thread target.contexts.processes) (tick_points thread target bounded.properties bounded.listed)
+
+traced_fit : (bps : List Placed) (number n count : ℕ) (process : Option ProcessValue) (after : TargetValue) → ArePoints after.breakpoints → AreEvents (traced_events_at bps number n count process after)
+traced_fit bps number n count None after are = tt
+traced_fit bps number n count (Some process) after are =
+    trace_alone (λ fate. AreEvents (settled_events number n (thread_count process) fate after)) bps number n count process
+    (fate_fits number n (thread_count process) (Suspended step_text []) [] after are)
+
+pub trace_fits : (count number n : ℕ) (target after : TargetValue) → ArePoints after.breakpoints → AreEvents (trace_events count number n target after)
+trace_fits count number n target after are = traced_fit target.breakpoints number n count (process_of number target.contexts.processes) after are

@@ -27,7 +27,7 @@ use Rattle.run_control.specs.Steering.{thread_there}
 use Rattle.target_hub.specs.BreakpointsRows.{ask_fault, breakpoints_after, effect_of}
 use Rattle.target_hub.specs.Execution.{exec_after, exec_effect}
 use Rattle.target_hub.specs.Laws.{AskingChangesNothing, AskingIsTheSame, FailureChangesNothing}
-use Rattle.run_control.specs.TargetValue.{TargetValue}
+use Rattle.run_control.specs.TargetValue.{TargetValue, target_by}
 use Rattle.data_services.proofs.TheLaws.{failure_changes_nothing}
 use Rattle.breakpoints.specs.declared.rows.Placed.{Placed}
 
@@ -52,14 +52,21 @@ asked : (target : TargetValue) (fault : Option Fault) (answer : Answer) →
     (record target { contexts = targets_by fault target.contexts target.contexts } ≡ target) × ((effect_by fault (gives answer)).events ≡ [])
 asked target fault answer = (with_same target _ (same_by fault target.contexts), given_alone fault answer)
 
+pub same_target : (fault : Option Fault) (target : TargetValue) → target_by fault target target ≡ target
+same_target None target = refl
+same_target (Some fault) target = refl
+
+run_asked : (target : TargetValue) (fault : Option Fault) (answer : Answer) → (target_by fault target target ≡ target) × ((effect_by fault (gives answer)).events ≡ [])
+run_asked target fault answer = (same_target fault target, given_alone fault answer)
+
 pub asking_nothing : AskingChangesNothing
 unfolding exec_effect exec_after
 asking_nothing channel Sync target asks = (refl, refl)
 asking_nothing channel GetPeers target asks = (refl, refl)
 asking_nothing channel (Redirect peer) target asks = absurd cc
-asking_nothing channel (GetContext id) target asks = asked target _ _
-asking_nothing channel (GetChildren id) target asks = asked target _ _
-asking_nothing channel (GetState id) target asks = asked target _ _
+asking_nothing channel (GetContext id) target asks = run_asked target _ _
+asking_nothing channel (GetChildren id) target asks = run_asked target _ _
+asking_nothing channel (GetState id) target asks = run_asked target _ _
 asking_nothing channel (Resume id mode count) target asks = absurd cc
 asking_nothing channel (Suspend id) target asks = absurd cc
 asking_nothing channel (Terminate id) target asks = absurd cc
@@ -79,8 +86,8 @@ asking_nothing channel (RegGet id) target asks = asked target _ _
 asking_nothing channel (RegSet id bytes) target asks = absurd cc
 asking_nothing channel (RegGetm list) target asks = asked target _ _
 asking_nothing channel (RegSetm list bytes) target asks = absurd cc
-asking_nothing channel (ProcContext id) target asks = asked target _ _
-asking_nothing channel (ProcChildren id attached) target asks = asked target _ _
+asking_nothing channel (ProcContext id) target asks = run_asked target _ _
+asking_nothing channel (ProcChildren id attached) target asks = run_asked target _ _
 asking_nothing channel (ProcStart directory file args environment attach) target asks = absurd cc
 asking_nothing channel (ProcAttach id) target asks = absurd cc
 asking_nothing channel (ProcDetach id) target asks = absurd cc
@@ -118,30 +125,29 @@ process_none : (named : Option ℕ) (rows : List (ℕ × ProcessValue)) → IsNo
 process_none None rows = tt
 process_none (Some number) rows = there_none number (process_of number rows)
 
-trace_none : (bps : List Placed) (count : ℕ) (named : Option (ℕ × ℕ)) (targets after : TargetsValue) → IsNoFailure (trace_given bps count named targets after).answer
-trace_none bps count None targets after = tt
-trace_none bps count (Some pair) targets after = tt
+trace_none : (count : ℕ) (named : Option (ℕ × ℕ)) (target after : TargetValue) → IsNoFailure (trace_given count named target after).answer
+trace_none count None target after = tt
+trace_none count (Some pair) target after = tt
 
-run_none : (command : Command) (bps : List Placed) (targets after : TargetsValue) → IsNoFailure (run_given command bps targets after).answer
-run_none (GetContext id) bps targets after = context_none (data_named id targets.processes)
-run_none (GetState id) bps targets after = state_none (thread_there id targets.processes)
-run_none (ProcContext id) bps targets after = process_none (process_named id) targets.processes
-run_none (ProcStart directory file args environment attach) bps targets after = process_none (Some targets.next) after.processes
-run_none (TraceRun id count) bps targets after = trace_none bps (unsigned_abs count) (thread_named id) targets after
-run_none _ bps targets after = tt
+run_none : (command : Command) (target after : TargetValue) → IsNoFailure (run_given command target after).answer
+run_none (GetContext id) target after = context_none (data_named id target.contexts.processes)
+run_none (GetState id) target after = state_none (thread_there id target.contexts.processes)
+run_none (ProcContext id) target after = process_none (process_named id) target.contexts.processes
+run_none (ProcStart directory file args environment attach) target after = process_none (Some target.contexts.next) after.contexts.processes
+run_none (TraceRun id count) target after = trace_none (unsigned_abs count) (thread_named id) target after
+run_none _ target after = tt
 
 -- an error comes of a fault alone
-by_fault : (target : TargetValue) (fault : Option Fault) (left : TargetsValue) (given : Effect) (report : ErrorReport) → IsNoFailure given.answer → (effect_by fault given).answer ≡ answers.Failed report →
-    (record target { contexts = targets_by fault left target.contexts } ≡ target) × ((effect_by fault given).events ≡ [])
-by_fault target None left given report none same = absurd (failed_is_none given.answer report none same)
-by_fault target (Some fault) left given report none same = (refl, nothing_told fault)
+by_fault : (target left : TargetValue) (fault : Option Fault) (given : Effect) (report : ErrorReport) → IsNoFailure given.answer → (effect_by fault given).answer ≡ answers.Failed report →
+    (target_by fault left target ≡ target) × ((effect_by fault given).events ≡ [])
+by_fault target left None given report none same = absurd (failed_is_none given.answer report none same)
+by_fault target left (Some fault) given report none same = (refl, nothing_told fault)
 
-run_nothing : (command : Command) (target : TargetValue) (report : ErrorReport) → (run_effect command target.breakpoints target.contexts).answer ≡ answers.Failed report →
-    (record target { contexts = run_after command target.breakpoints target.contexts } ≡ target) × ((run_effect command target.breakpoints target.contexts).events ≡ [])
+run_nothing : (command : Command) (target : TargetValue) (report : ErrorReport) → (run_effect command target).answer ≡ answers.Failed report →
+    (run_after command target ≡ target) × ((run_effect command target).events ≡ [])
 run_nothing command target report same =
-    let left = run_left command target.breakpoints target.contexts in
-    by_fault target (run_fault command target.contexts) left (run_given command target.breakpoints target.contexts left) report
-    (run_none command target.breakpoints target.contexts left) same
+    let left : TargetValue = run_left command target in
+    by_fault target left (run_fault command target.contexts) (run_given command target left) report (run_none command target left) same
 
 data_nothing : (command : Command) (target : TargetValue) (report : ErrorReport) → (data_effect command target.contexts).answer ≡ answers.Failed report →
     (record target { contexts = data_after command target.contexts } ≡ target) × ((data_effect command target.contexts).events ≡ [])

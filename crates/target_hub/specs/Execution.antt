@@ -16,12 +16,12 @@ use Rattle.run_control.specs.TargetValue.{TargetValue}
 
 abbrev pub effect_in : CommandName → ℕ → Command → TargetValue → Effect
 effect_in (service.Locator name) channel command target = gives (locator_answer command)
-effect_in (service.RunControl name) channel command target = run_effect command target.breakpoints target.contexts
+effect_in (service.RunControl name) channel command target = run_effect command target
 effect_in (service.Breakpoints name) channel command target = breakpoints_effect channel command target
 effect_in (service.Memory name) channel command target = data_effect command target.contexts
 effect_in (service.Registers name) channel command target = data_effect command target.contexts
-effect_in (service.Processes name) channel command target = run_effect command target.breakpoints target.contexts
-effect_in (service.Trace name) channel command target = run_effect command target.breakpoints target.contexts
+effect_in (service.Processes name) channel command target = run_effect command target
+effect_in (service.Trace name) channel command target = run_effect command target
 
 -- the events, the progress and the answer of a command of a channel
 unfoldable pub exec_effect : ℕ → Command → TargetValue → Effect
@@ -29,20 +29,17 @@ exec_effect channel command target = effect_in (named_as command) channel comman
 
 -- ---- what it leaves
 
-abbrev pub after_run : Command → TargetValue → TargetValue
-after_run command target = record target { contexts = run_after command target.breakpoints target.contexts }
-
 abbrev pub after_data : Command → TargetValue → TargetValue
 after_data command target = record target { contexts = data_after command target.contexts }
 
 abbrev pub after_in : CommandName → ℕ → Command → TargetValue → TargetValue
 after_in (service.Locator name) channel command target = target
-after_in (service.RunControl name) channel command target = after_run command target
+after_in (service.RunControl name) channel command target = run_after command target
 after_in (service.Breakpoints name) channel command target = breakpoints_after channel command target
 after_in (service.Memory name) channel command target = after_data command target
 after_in (service.Registers name) channel command target = after_data command target
-after_in (service.Processes name) channel command target = after_run command target
-after_in (service.Trace name) channel command target = after_run command target
+after_in (service.Processes name) channel command target = run_after command target
+after_in (service.Trace name) channel command target = run_after command target
 
 -- the target after a command of a channel
 unfoldable pub exec_after : ℕ → Command → TargetValue → TargetValue

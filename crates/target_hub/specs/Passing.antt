@@ -12,10 +12,10 @@ use Rattle.run_control.specs.TargetValue.{TargetValue}
 -- ---- one instruction of a thread, where it lives and runs
 
 abbrev pub ticked : ContextId → TargetValue → TargetValue
-ticked thread target = record target { contexts = tick_after target.breakpoints thread target.contexts }
+ticked thread target = tick_after thread target
 
 abbrev pub tick_told : ContextId → TargetValue → Option (List EventData)
-tick_told thread target = tick_events target.breakpoints thread target.contexts
+tick_told thread target = tick_events thread target
 
 -- the threads that run, in the order of their processes and then of their numbers
 abbrev pub running_in : List (ℕ × ProcessValue) → List ContextId

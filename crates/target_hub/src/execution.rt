@@ -10,7 +10,7 @@ use std::alloc::{AllocError, Global};
 use tcf_values::{Command, Effect};
 
 /// Executes a command of a channel. After want of memory the target is valid, and nothing more is known of it.
-#[tactic(auto, unfolding(crate::specs::Execution::exec_effect, crate::specs::Execution::exec_after))]
+#[tactic(auto, unfolding(crate::specs::Execution::exec_effect, crate::specs::Execution::exec_after), using(crate::proofs::Points::readable_like))]
 pub(crate) fn execute(
     alloc: Global,
     target: &mut Target,
@@ -44,6 +44,11 @@ pub(crate) fn execute(
         | Command::RegSet { .. }
         | Command::RegGetm { .. }
         | Command::RegSetm { .. } => data_services::apply(alloc, &mut target.contexts, command),
-        _ => run_control::apply(alloc, &mut target.contexts, &target.breakpoints, command),
+        _ => run_control::apply(
+            alloc,
+            &mut target.contexts,
+            &mut target.breakpoints,
+            command,
+        ),
     }
 }

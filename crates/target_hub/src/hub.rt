@@ -92,7 +92,7 @@ impl Hub {
 
     /// Executes one instruction of a thread, and answers its events; `None` exactly where that isn't a live thread that
     /// runs, and then nothing changes, whatever the memory.
-    #[tactic(auto, using(crate::proofs::Told::tick_fits))]
+    #[tactic(auto, using(crate::proofs::Told::tick_fits, crate::proofs::Points::readable_like))]
     pub fn tick(&mut self, thread: ContextId) -> Result<Option<Events>, AllocError>
         ensures idle { self.old.is_spent ≡ false → IfNone (tick_told thread self.old.target) (result ≡ Ok None) }
         ensures told { IfOk result (λ told. told ≡ tick_told thread self.old.target) }
@@ -107,7 +107,7 @@ impl Hub {
         let told = run_control::step(
             self.alloc,
             &mut self.target.contexts,
-            &self.target.breakpoints,
+            &mut self.target.breakpoints,
             thread,
         )?;
         self.spent = false;
@@ -195,6 +195,7 @@ impl Hub {
     {
         a_start_adds_one();
         self.target.contexts.are_orderly();
+        self.target.breakpoints.are_orderly();
         let effect = execute(self.alloc, &mut self.target, channel, command)?;
         let mut data = Octets::new(self.alloc);
         write_answer(self.alloc, command, &effect.answer, &mut data)?;

@@ -14,6 +14,7 @@ fn props(alloc: Global, location: &str) -> Result<BpProps, AllocError> {
         enabled: true,
         location,
         contexts: None,
+        ignore: None,
     })
 }
 
@@ -80,6 +81,7 @@ fn place(
         enabled,
         location: Some(Text::from_str(alloc, location)?),
         contexts: None,
+        ignore: None,
     };
     list.apply(0, &Command::BpAdd { props })?;
     Ok(())

@@ -63,6 +63,24 @@ byte_within addr x process knows =
     let long : length (states_of process) ≡ thread_count process = length-map process.threads (λ (t : Thread). t.state) in
     omega (arith, some, long)
 
+-- ---- behind other changes
+
+pub behind_accounts : (number : ℕ) (was is : Option ProcessValue) (front changes : List Change) → ((list : Option (List (List ℕ))) → list_after number front list ≡ list)
+    → Accounts number was is changes → Accounts number was is (front ++ changes)
+behind_accounts number was is front changes quiet accounts = record {
+  process = λ id x named knows. more (context_is id x) (accounts.process id x named knows);
+  thread = λ id n x named knows. more (context_is id x) (accounts.thread id n x named knows);
+  threads = λ ids told.
+      accounts.threads ids (sym (list_append number front changes (threads_seen number was) ∙ ap (list_after number changes) (quiet (threads_seen number was))) ∙ told);
+  state = λ n x knows. more (state_is number n x) (accounts.state n x knows);
+  register = λ n index x few knows. more (register_is number n index x) (accounts.register n index x few knows);
+  byte = λ addr x knows. more (byte_is number addr x) (accounts.byte addr x knows);
+}
+  where
+    more : {P : Type 0} (fact : Fact) → P ⊎ IsTouched changes fact → P ⊎ IsTouched (front ++ changes) fact
+    more fact (inl kept) = inl kept
+    more fact (inr touched) = inr (any_right (touches fact) front changes touched)
+
 -- ---- processes that come
 
 pub none_accounts : (number : ℕ) (is : Option ProcessValue) (changes : List Change)

@@ -15,7 +15,9 @@ use Rattle.target_contexts.specs.Laws.{AgreeBut}
 use Rattle.target_contexts.specs.Named.{attached_in}
 use Rattle.target_contexts.specs.ProcessValue.{ProcessValue}
 use Rattle.target_contexts.specs.Threads.{holding}
+use Rattle.run_control.specs.Laws.{uncounted}
 use Rattle.run_control.specs.TargetValue.{TargetValue}
+use Rattle.target_hub.proofs.Points.{props_like}
 use Rattle.target_truth.specs.Holds.{data_in, process_in}
 use Rattle.target_truth.proofs.Changes.{IsSaid, covered, is_bytes, touches}
 use Rattle.target_truth.proofs.Origins.{IsPlain, ListsOne, list_after, other_lists}
@@ -110,7 +112,7 @@ each_but number before now changes others lists here p =
     ]
 
 pub led_at : (number : ℕ) (before now : TargetValue) (was is : Option ProcessValue) (changes : List Change) → AllByRecursion (IsSaid now) changes → list_any is_bytes changes ≡ false
-    → AllByRecursion (ListsOne number) changes → AgreeBut number before.contexts.processes now.contexts.processes → now.breakpoints ≡ before.breakpoints
+    → AllByRecursion (ListsOne number) changes → AgreeBut number before.contexts.processes now.contexts.processes → uncounted now.breakpoints ≡ uncounted before.breakpoints
     → process_in number before ≡ was → process_in number now ≡ is → Accounts number was is changes
     → ((id : List ℕ) (x : BpStatus) → status_of id (attached_in before.contexts.processes) before.breakpoints ≡ Some x
     → (status_of id (attached_in now.contexts.processes) now.breakpoints ≡ Some x) ⊎ IsTouched changes (status_is id x))
@@ -119,4 +121,4 @@ led_at number before now was is changes so none lists others breakpoints was_is 
     led before now changes so none
     (each_but number before now changes others lists
     (subst (λ o. Accounts number o (process_in number now) changes) (sym was_is) (subst (λ o. Accounts number was o changes) (sym is_is) accounts)))
-    (λ id x knows. inl (ap (props_of id) breakpoints ∙ knows)) statuses
+    (λ id x knows. inl (props_like now.breakpoints before.breakpoints breakpoints id ∙ knows)) statuses

@@ -6,7 +6,7 @@ use Rattle.std.proofs.lemmas.Bool.{and_from, and_parts, eq-eqb, eqb-true}
 use Rattle.std.proofs.lemmas.Option.{none-some, same_Some}
 use Rattle.knowledge.specs.Changes.{Change, after, after_all, all_gone, are_still, at_register, at_thread, context_told, context_gone, threads_told, thread_joined, threads_gone, threads_stale, state_told, state_gone, register_read, register_gone, thread_registers_gone, registers_gone, bytes_read, bytes_gone, range_gone, status_told, statuses_gone, has_byte, is_still, of_each, with_id}
 use Rattle.knowledge.specs.Facts.{Facts, is_suspended, state_at, state_of}
-use Rattle.knowledge.specs.Rows.{added_context, begun, begun_for, changed_context, changed_range, changed_register, event_changes, is_outside, joined, joined_for, memory_changes, moved_for, process_for, removed_context, removed_properties, stale_for, told_properties, unlisted_for, unsettled, unsettled_for}
+use Rattle.knowledge.specs.Rows.{added_context, begun, begun_for, changed_context, changed_range, changed_register, event_changes, hit_breakpoint, is_outside, joined, joined_for, memory_changes, moved_for, process_for, removed_context, removed_properties, stale_for, told_properties, unlisted_for, unsettled, unsettled_for}
 use Rattle.knowledge.specs.declared.state.StateFact.{StateFact}
 use Rattle.knowledge.specs.declared.state.StateFact.TheVariants as state
 use Rattle.target_truth.proofs.Seen.{IsBased, are_own, is_own}
@@ -476,7 +476,9 @@ event_keeps (CtxRemoved list) =
     keeps_append (of_each removed_context list) (statuses_gone ∷ []) (keeps_each removed_context
     (λ id. keeps_append (context_gone id ∷ []) (stale_for (context_of id) ++ unlisted_for (context_of id)) (mild_keeps (context_gone id ∷ []) (tt, tt)) (gone_keeps (context_of id))) list)
     (mild_keeps (statuses_gone ∷ []) (tt, tt))
-event_keeps (Suspended id pc reason hits) = moved_keeps (run.Suspended pc reason hits) (context_of id)
+event_keeps (Suspended id pc reason hits) =
+    keeps_append (of_each hit_breakpoint hits) (moved_for (context_of id) (run.Suspended pc reason hits))
+    (keeps_each hit_breakpoint (λ hit. mild_keeps (hit_breakpoint hit) (tt, tt)) hits) (moved_keeps (run.Suspended pc reason hits) (context_of id))
 event_keeps (Resumed id) = moved_keeps run.Running (context_of id)
 event_keeps (BpStatusIs id status) = mild_keeps (status_told id status ∷ []) (tt, tt)
 event_keeps (BpAdded list) = told_keeps list

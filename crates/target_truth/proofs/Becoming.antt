@@ -1,5 +1,5 @@
 -- One process becomes another, and all others stay as they are.
-use Rattle.std.proofs.Common.{◌≡◌, ℕ, ◌≤◌, nat_eq, length, Option, Some, option_map, refl, sym, ◌∙◌, ap, subst, inl, inr}
+use Rattle.std.proofs.Common.{◌≡◌, ℕ, ◌≤◌, nat_eq, List, [], length, Option, Some, option_map, refl, sym, ◌∙◌, ap, subst, inl, inr}
 use Rattle.std.proofs.lemmas.Bool.{cases_Bool, eqb-false, eqb-true}
 use Rattle.std.proofs.lemmas.List.{length-map}
 use Rattle.target_contexts.specs.Changes.{with_change, with_change_at}
@@ -8,12 +8,13 @@ use Rattle.target_contexts.specs.Live.{IsOrderly, Rise, numbers_of, process_of}
 use Rattle.target_contexts.specs.Named.{is_attached}
 use Rattle.target_contexts.specs.TargetsValue.{TargetsValue}
 use Rattle.target_contexts.specs.ProcessValue.{ProcessValue}
+use Rattle.run_control.specs.Laws.{uncounted}
 use Rattle.run_control.specs.TargetValue.{TargetValue}
 use Rattle.target_truth.specs.Holds.{process_in}
 use Rattle.target_contexts.specs.Threads.{in_thread, thread_at}
 use Rattle.target_contexts.specs.declared.threads.Thread.{Thread}
 use Rattle.target_contexts.proofs.TheLaws.{changes_one, changes_one_thread}
-use Rattle.target_truth.proofs.First.{OthersStand, Stays, StaysAttached}
+use Rattle.target_truth.proofs.First.{OthersStand, StatusesStay, Stays, StaysAttached}
 use Rattle.target_truth.proofs.Silent.{attached_same}
 use Rattle.data_services.proofs.PartSteps.{live_found}
 
@@ -56,10 +57,11 @@ orderly number old new process becomes was =
 abbrev pub with_contexts : TargetsValue → TargetValue → TargetValue
 with_contexts contexts target = record target { contexts = contexts }
 
-pub stays : (number : ℕ) (target : TargetValue) (contexts : TargetsValue) (old new : ProcessValue) → process_in number target ≡ Some old → Becomes number target.contexts contexts new → new.name ≡ old.name
-    → Stays number target (with_contexts contexts target) old new
-stays number target contexts old new was becomes name = record {
-  differs = record { others = becomes.others; breakpoints = refl };
+-- and with other counts of hits
+pub stays : (number : ℕ) (target now : TargetValue) (old new : ProcessValue) → process_in number target ≡ Some old → Becomes number target.contexts now.contexts new → new.name ≡ old.name
+    → uncounted now.breakpoints ≡ uncounted target.breakpoints → Stays number target now old new
+stays number target now old new was becomes name same = record {
+  differs = record { others = becomes.others; breakpoints = same };
   was = was;
   is = becomes.found;
   name = name;
@@ -78,23 +80,24 @@ attached_by number target contexts old new was becomes attached n =
       | inr e ↦ ap is_attached (becomes.others n (eqb-false n number e))
     ]
 
-pub stays_attached : (number : ℕ) (target : TargetValue) (contexts : TargetsValue) (old new : ProcessValue) → process_in number target ≡ Some old → Becomes number target.contexts contexts new → new.name ≡ old.name
-    → new.attached ≡ old.attached → StaysAttached number target (with_contexts contexts target) old new
-stays_attached number target contexts old new was becomes name attached = record {
-  stays = stays number target contexts old new was becomes name;
+pub stays_attached : (touched : List (List ℕ)) (number : ℕ) (target now : TargetValue) (old new : ProcessValue) → process_in number target ≡ Some old → Becomes number target.contexts now.contexts new → new.name ≡ old.name
+    → new.attached ≡ old.attached → uncounted now.breakpoints ≡ uncounted target.breakpoints → StatusesStay touched target.breakpoints now.breakpoints → StaysAttached touched number target now old new
+stays_attached touched number target now old new was becomes name attached same points = record {
+  stays = stays number target now old new was becomes name same;
   attached = attached;
-  all = attached_same target.contexts.processes contexts.processes becomes.numbers (attached_by number target contexts old new was becomes attached);
+  all = attached_same target.contexts.processes now.contexts.processes becomes.numbers (attached_by number target now.contexts old new was becomes attached);
+  points = points;
 }
 
 -- the live process of a number is changed
 pub change_stays : (change : ProcessValue → ProcessValue) (number : ℕ) (target : TargetValue) (old : ProcessValue) → process_in number target ≡ Some old → (change old).name ≡ old.name → (change old).attached ≡ old.attached
-    → StaysAttached number target (with_contexts (with_change change number target.contexts) target) old (change old)
+    → StaysAttached [] number target (with_contexts (with_change change number target.contexts) target) old (change old)
 change_stays change number target old was name attached =
-    stays_attached number target (with_change change number target.contexts) old (change old) was (changed change number target.contexts old was) name attached
+    stays_attached [] number target (with_contexts (with_change change number target.contexts) target) old (change old) was (changed change number target.contexts old was) name attached refl (λ id none. refl)
 
 -- what stays as it is
-pub rests : (number : ℕ) (target : TargetValue) (process : ProcessValue) → process_in number target ≡ Some process → StaysAttached number target target process process
-rests number target process there = record {
+pub rests : (touched : List (List ℕ)) (number : ℕ) (target : TargetValue) (process : ProcessValue) → process_in number target ≡ Some process → StaysAttached touched number target target process process
+rests touched number target process there = record {
   stays = record {
     differs = record { others = λ other differ. refl; breakpoints = refl };
     was = there;
@@ -103,6 +106,7 @@ rests number target process there = record {
   };
   attached = refl;
   all = refl;
+  points = λ id none. refl;
 }
 
 -- ---- one of its threads is changed

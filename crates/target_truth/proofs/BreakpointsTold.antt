@@ -1,15 +1,16 @@
 -- The changes that events of breakpoints tell touch just the breakpoints that are named.
-use Rattle.std.proofs.Common.{◌≡◌, ℕ, true, false, true≢false, List, [], ◌∷◌, map, Some, refl, sym}
+use Rattle.std.proofs.Common.{◌≡◌, ℕ, true, false, true≢false, List, [], ◌∷◌, map, Option, Some, refl, sym}
 use Rattle.std.specs.Prelude.{bytes_eq}
 use Rattle.std.specs.List.{AllByRecursion, list_any}
 use Rattle.breakpoints.specs.Rows.{is_among, props_of}
-use Rattle.knowledge.specs.Changes.{of_each}
+use Rattle.knowledge.specs.Changes.{of_each, status_told}
 use Rattle.knowledge.specs.Facts.{properties_are, status_is}
-use Rattle.knowledge.specs.Rows.{removed_properties, told_properties}
+use Rattle.knowledge.specs.Rows.{hit_breakpoint, removed_properties, told_properties}
 use Rattle.run_control.specs.TargetValue.{TargetValue}
 use Rattle.target_truth.proofs.Agree.{IsTouched}
 use Rattle.target_truth.proofs.Changes.{IsSaid, is_bytes, touches}
-use Rattle.target_truth.proofs.Origins.{ListsNone}
+use Rattle.target_truth.proofs.Origins.{ListsNone, ListsOne, list_after}
+use Rattle.target_truth.proofs.Ranged.{Fails}
 use Rattle.target_truth.proofs.Texts.{turned}
 use Rattle.tcf_values.specs.declared.values.BpProps.{BpProps}
 use Rattle.tcf_values.specs.declared.values.BpStatus.{BpStatus}
@@ -69,3 +70,36 @@ removed_touched_status [] id x among = absurd (true≢false (sym among))
 removed_touched_status (other ∷ ids) id x among =
     or_then (bytes_eq id other) (is_among ids id) (bytes_eq other id) (list_any (touches (status_is id x)) (of_each removed_properties ids))
     (turned id other) (removed_touched_status ids id x) among
+
+-- ---- those that are hit
+
+pub hit_said : (now : TargetValue) (hits : List (List ℕ)) → AllByRecursion (IsSaid now) (of_each hit_breakpoint hits)
+hit_said now [] = tt
+hit_said now (hit ∷ hits) = (tt, hit_said now hits)
+
+pub hit_plain : (hits : List (List ℕ)) → AllByRecursion (Fails is_bytes) (of_each hit_breakpoint hits)
+hit_plain [] = tt
+hit_plain (hit ∷ hits) = (refl, hit_plain hits)
+
+pub hit_list : (number : ℕ) (hits : List (List ℕ)) → AllByRecursion (ListsOne number) (of_each hit_breakpoint hits)
+hit_list number [] = tt
+hit_list number (hit ∷ hits) = (tt, hit_list number hits)
+
+pub hit_quiet : (number : ℕ) (hits : List (List ℕ)) (list : Option (List (List ℕ))) → list_after number (of_each hit_breakpoint hits) list ≡ list
+hit_quiet number [] list = refl
+hit_quiet number (hit ∷ hits) list = hit_quiet number hits list
+
+pub hit_touched : (hits : List (List ℕ)) (id : List ℕ) (x : BpStatus) → is_among hits id ≡ true → IsTouched (of_each hit_breakpoint hits) (status_is id x)
+hit_touched [] id x among = absurd (true≢false (sym among))
+hit_touched (hit ∷ hits) id x among =
+    or_then (bytes_eq id hit) (is_among hits id) (bytes_eq hit id) (list_any (touches (status_is id x)) (of_each hit_breakpoint hits))
+    (turned id hit) (hit_touched hits id x) among
+
+-- the status of one of them is told
+pub told_one_touched : (hit : List ℕ) (status : BpStatus) (id : List ℕ) (x : BpStatus) → is_among (hit ∷ []) id ≡ true → IsTouched (status_told hit status ∷ []) (status_is id x)
+told_one_touched hit status id x among =
+    or_then (bytes_eq id hit) false (bytes_eq hit id) false (turned id hit) (λ none. none) among
+
+pub told_list : (number : ℕ) (list : List BpProps) → AllByRecursion (ListsOne number) (of_each told_properties list)
+told_list number [] = tt
+told_list number (props ∷ list) = (tt, (tt, told_list number list))

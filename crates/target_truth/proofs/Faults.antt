@@ -4,7 +4,7 @@ use Rattle.std.specs.Option.{option_or}
 use Rattle.std.proofs.lemmas.Option.{none-some}
 use Rattle.target_contexts.specs.Changes.{targets_by}
 use Rattle.target_contexts.specs.TargetsValue.{TargetsValue}
-use Rattle.run_control.specs.TargetValue.{TargetValue}
+use Rattle.run_control.specs.TargetValue.{TargetValue, target_by}
 use Rattle.target_truth.proofs.Becoming.{with_contexts}
 use Rattle.target_truth.proofs.Tells.{Tell}
 use Rattle.tcf_values.specs.Effects.{effect_by, failed}
@@ -17,6 +17,13 @@ pub by_fault : (fault : Option Fault) (target : TargetValue) (left : TargetsValu
 unfolding failed
 by_fault None target left given tell = tell refl
 by_fault (Some fault) target left given tell = λ fact knows. knows
+
+-- so does one of run control, which may leave other counts of hits too
+pub run_by_fault : (fault : Option Fault) (target left : TargetValue) (given : Effect) → (fault ≡ None → Tell target left given.events)
+    → Tell target (target_by fault left target) (effect_by fault given).events
+unfolding failed
+run_by_fault None target left given tell = tell refl
+run_by_fault (Some fault) target left given tell = λ fact knows. knows
 
 -- of checks none fails: the first one doesn't, nor one of the others
 pub check_passed : (test : Bool) (fault : Fault) (rest : Option Fault) → cond test (Some fault) rest ≡ None → (test ≡ false) × (rest ≡ None)

@@ -3,15 +3,16 @@ use Rattle.std.proofs.Common.{◌≡◌, ℕ, ◌+◌, ◌-◌, ◌≤◌, ◌<�
 use Rattle.std.specs.Prelude.{ℤ, option_map}
 use Rattle.std.specs.List.{AllByRecursion, range_with_len}
 use Rattle.std.proofs.lemmas.Bool.{cond-true}
-use Rattle.knowledge.specs.Changes.{Change, bytes_gone, context_gone, context_told, of_each, register_read, statuses_gone, threads_stale, threads_told}
+use Rattle.knowledge.specs.Changes.{Change, bytes_gone, context_gone, context_told, of_each, register_read, status_told, statuses_gone, threads_stale, threads_told}
 use Rattle.knowledge.specs.Facts.{status_is}
-use Rattle.knowledge.specs.Rows.{added_context, added_contexts, begun, begun_for, changed_context, event_changes, joined, joined_for, moved_for, removed_context, stale_for, unlisted_for, unsettled, unsettled_for}
+use Rattle.knowledge.specs.Rows.{added_context, added_contexts, begun, begun_for, changed_context, event_changes, hit_breakpoint, joined, joined_for, moved_for, removed_context, stale_for, told_properties, unlisted_for, unsettled, unsettled_for}
 use Rattle.knowledge.specs.declared.state.StateFact.TheVariants as told
 use Rattle.list_laws.proofs.AllLists.{all_append}
 use Rattle.list_laws.proofs.Numbers.{number_itself}
 use Rattle.run_control.specs.Naming.{process_id, thread_id, thread_ids}
 use Rattle.target_contexts.specs.Contexts.{process_data, thread_data, threads_data, whole_data}
-use Rattle.target_contexts.specs.Named.{runs}
+use Rattle.breakpoints.specs.Status.{status_of}
+use Rattle.target_contexts.specs.Named.{attached_in, runs}
 use Rattle.target_contexts.specs.ProcessValue.{ProcessValue}
 use Rattle.target_contexts.specs.Threads.{holding, thread_at, thread_count}
 use Rattle.target_contexts.specs.declared.process.ThreadState.{ThreadState}
@@ -19,12 +20,13 @@ use Rattle.target_contexts.specs.declared.process.ThreadState.TheVariants.{Runni
 use Rattle.target_contexts.specs.declared.threads.Thread.{Thread}
 use Rattle.run_control.specs.TargetValue.{TargetValue}
 use Rattle.target_truth.specs.Holds.{data_in, process_in, state_fact}
-use Rattle.target_truth.proofs.Accounts.{added_all, added_ids, changes_added, changes_gone, changes_joined, changes_moved, changes_switched, goes, gone_accounts, joined_accounts, joins, moved_accounts, none_accounts, process_goes, switched_accounts, switches, tells, unsettles}
+use Rattle.target_truth.proofs.Accounts.{added_all, added_ids, behind_accounts, changes_added, changes_gone, changes_joined, changes_moved, changes_switched, goes, gone_accounts, joined_accounts, joins, moved_accounts, none_accounts, process_goes, running_accounts, switched_accounts, switches, tells, unsettles}
 use Rattle.target_truth.proofs.Agree.{IsTouched, data_named, led_at}
 use Rattle.target_truth.proofs.Changes.{IsSaid, is_bytes, touches}
-use Rattle.target_truth.proofs.Differs.{by_changes, status_same}
-use Rattle.target_truth.proofs.Origins.{ListsOne}
-use Rattle.target_truth.proofs.Ranged.{Fails, any_right, each_append, none_passes, ranged, ranged_all, ranged_is}
+use Rattle.target_truth.proofs.BreakpointsTold.{hit_list, hit_plain, hit_quiet, hit_said, hit_touched, told_list, told_lists, told_none, told_one_touched, told_so, told_touched_status}
+use Rattle.target_truth.proofs.Differs.{by_changes, none_touched, status_same}
+use Rattle.target_truth.proofs.Origins.{ListsOne, no_lists}
+use Rattle.target_truth.proofs.Ranged.{Fails, any_left, any_right, each_append, none_passes, ranged, ranged_all, ranged_is}
 use Rattle.target_truth.proofs.Seen.{number_of, number_seen, seen, state_seen}
 use Rattle.target_truth.proofs.ThreadIds.{process_named, thread_named}
 use Rattle.target_truth.proofs.Threads.{numbered_there, numbered_within, state_told, there_held}
@@ -32,12 +34,13 @@ use Rattle.tcf_values.specs.Ids.{context_of}
 use Rattle.tcf_values.specs.Spelling.{IsNumber}
 use Rattle.tcf_values.specs.declared.event.EventData.TheVariants as events
 use Rattle.tcf_values.specs.declared.ids.ContextId.TheVariants as contexts
+use Rattle.tcf_values.specs.declared.values.BpProps.{BpProps}
 use Rattle.tcf_values.specs.declared.values.BpStatus.{BpStatus}
 use Rattle.tcf_values.specs.declared.values.ContextData.{ContextData}
 use Rattle.tcf_values.specs.declared.values.RunState.TheVariants as run
 -- those of memory, registers and breakpoints
 pub use Rattle.target_truth.proofs.Accounts.{ButRegisters, IsRunningAt, OthersStand, without_cpus}
-pub use Rattle.target_truth.proofs.Differs.{Leads, DiffersAt, Stays, StaysAttached}
+pub use Rattle.target_truth.proofs.Differs.{Leads, DiffersAt, StatusesStay, Stays, StaysAttached}
 pub use Rattle.target_truth.proofs.FirstData.{ButCpus, memory_set, register_set, registers_set}
 pub use Rattle.target_truth.proofs.FirstBreakpoints.{AreThere, OthersStay, changed, put, status_is_so, taken_out}
 
@@ -148,9 +151,9 @@ joined_is number process a count is some few =
     same_four (of_each added_context list) (of_each unsettled list) (of_each begun list) (of_each joined list)
     (ranged (tells number process) a count) (ranged (λ n. unsettles number) a count) (ranged (λ n. []) a count) (ranged (joins number) a count) all.0 all.1 all.2 all.3
 
-joined_by : (number : ℕ) (before now : TargetValue) (old new : ProcessValue) (was count : ℕ) → IsNumber number → thread_count old ≡ was → thread_count new ≡ was + count → 1 ≤ count → was + count ≤ 8
-    → StaysAttached number before now old new → Leads before now (events.CtxAdded (map (λ n. thread_data number n new) (range_with_len (1 + was) count)))
-joined_by number before now old new was count is of_old of_new some few stays =
+joined_by : (hits : List (List ℕ)) (number : ℕ) (before now : TargetValue) (old new : ProcessValue) (was count : ℕ) → IsNumber number → thread_count old ≡ was → thread_count new ≡ was + count → 1 ≤ count → was + count ≤ 8
+    → StaysAttached hits number before now old new → Leads before now (events.CtxAdded (map (λ n. thread_data number n new) (range_with_len (1 + was) count)))
+joined_by hits number before now old new was count is of_old of_new some few stays =
     let a : ℕ = 1 + was in
     let list : List ContextData = map (λ n. thread_data number n new) (range_with_len a count) in
     let changes : List Change = changes_joined number new a count in
@@ -162,16 +165,16 @@ joined_by number before now old new was count is of_old of_new some few stays =
     (added_all (ListsOne number) [] [] [] number new a count tt tt tt (λ n low high. tt) tt tt (λ n. refl) tt)
     stays.stays.differs.others stays.stays.differs.breakpoints stays.stays.was stays.stays.is
     (joined_accounts number was count old new is of_old of_new some few stays.stays.name stays.attached)
-    (status_same before now changes stays.all stays.stays.differs.breakpoints))
+    (λ id x knows. inr (last_statuses [] [] [] number new a count id x)))
 
 -- so many behind the ones that the process had
-pub joined_them : (number : ℕ) (before now : TargetValue) (old new : ProcessValue) (count : ℕ) → IsNumber number → thread_count new ≡ thread_count old + count → 1 ≤ count → thread_count new ≤ 8
-    → StaysAttached number before now old new → Leads before now (events.CtxAdded (map (λ n. thread_data number n new) (range_with_len (thread_count old + 1) count)))
-joined_them number before now old new count is grown some few stays =
+pub joined_them : (hits : List (List ℕ)) (number : ℕ) (before now : TargetValue) (old new : ProcessValue) (count : ℕ) → IsNumber number → thread_count new ≡ thread_count old + count → 1 ≤ count → thread_count new ≤ 8
+    → StaysAttached hits number before now old new → Leads before now (events.CtxAdded (map (λ n. thread_data number n new) (range_with_len (thread_count old + 1) count)))
+joined_them hits number before now old new count is grown some few stays =
     let was : ℕ = thread_count old in
     let first : 1 + was ≡ was + 1 = omega arith in
     subst (λ a. Leads before now (events.CtxAdded (map (λ n. thread_data number n new) (range_with_len a count)))) first
-    (joined_by number before now old new was count is refl grown some (omega (arith, grown, few)) stays)
+    (joined_by hits number before now old new was count is refl grown some (omega (arith, grown, few)) stays)
 
 -- ---- the debugger comes or goes
 
@@ -260,21 +263,27 @@ its_number n process thread at few =
     (within.0, omega (arith, within.1, most))
 
 pub stopped : (number n : ℕ) (before now : TargetValue) (old new : ProcessValue) (thread : Thread) (reason : List ℕ) (hits : List (List ℕ)) → IsNumber number → thread_count new ≤ 8
-    → StaysAttached number before now old new → OthersStand n old new → thread_at n new ≡ Some thread → thread.state ≡ Suspended reason hits
+    → StaysAttached hits number before now old new → OthersStand n old new → thread_at n new ≡ Some thread → thread.state ≡ Suspended reason hits
     → Leads before now (events.Suspended (thread_id number n) thread.cpu.pc reason hits)
 stopped number n before now old new thread reason hits is few stays stand at suspended =
     let read : List Change = register_read number n 32 thread.cpu.pc ∷ [] in
-    let changes : List Change = changes_moved number n (told.Suspended reason hits) read in
+    let dropped : List Change = of_each hit_breakpoint hits in
+    let moved : List Change = changes_moved number n (told.Suspended reason hits) read in
+    let changes : List Change = dropped ++ moved in
     by_changes before now (events.Suspended (thread_id number n) thread.cpu.pc reason hits) changes
-    (ap (λ context. moved_for context (run.Suspended thread.cpu.pc reason hits)) (thread_named number n is (its_number n new thread at few)))
+    (ap (λ context. dropped ++ moved_for context (run.Suspended thread.cpu.pc reason hits)) (thread_named number n is (its_number n new thread at few)))
     (led_at number before now (Some old) (Some new) changes
-    (tt, (tt, (state_is_so number n now new thread (Suspended reason hits) stays.stays.is at suspended, (pc_is_so number n now new thread reason hits stays.stays.is at suspended, tt))))
-    refl (tt, (tt, (tt, (tt, tt)))) stays.stays.differs.others stays.stays.differs.breakpoints stays.stays.was stays.stays.is
-    (moved_accounts number n old new (told.Suspended reason hits) read stays.stays.name stays.attached stand (λ list. refl))
-    (status_same before now changes stays.all stays.stays.differs.breakpoints))
+    (all_append (IsSaid now) dropped moved (hit_said now hits)
+    (tt, (tt, (state_is_so number n now new thread (Suspended reason hits) stays.stays.is at suspended, (pc_is_so number n now new thread reason hits stays.stays.is at suspended, tt)))))
+    (none_passes is_bytes changes (all_append (Fails is_bytes) dropped moved (hit_plain hits) (refl, (refl, (refl, (refl, tt))))))
+    (all_append (ListsOne number) dropped moved (hit_list number hits) (tt, (tt, (tt, (tt, tt)))))
+    stays.stays.differs.others stays.stays.differs.breakpoints stays.stays.was stays.stays.is
+    (behind_accounts number (Some old) (Some new) dropped moved (hit_quiet number hits)
+    (moved_accounts number n old new (told.Suspended reason hits) read stays.stays.name stays.attached stand (λ list. refl)))
+    (status_same hits before now changes stays.all stays.points (λ id x among. any_left (touches (status_is id x)) dropped moved (hit_touched hits id x among))))
 
 pub went_on : (number n : ℕ) (before now : TargetValue) (old new : ProcessValue) (thread : Thread) (left : Option ℕ) → IsNumber number → thread_count new ≤ 8
-    → StaysAttached number before now old new → OthersStand n old new → thread_at n new ≡ Some thread → thread.state ≡ Running left
+    → StaysAttached [] number before now old new → OthersStand n old new → thread_at n new ≡ Some thread → thread.state ≡ Running left
     → Leads before now (events.Resumed (thread_id number n))
 went_on number n before now old new thread left is few stays stand at running =
     let changes : List Change = changes_moved number n told.Running [] in
@@ -282,4 +291,25 @@ went_on number n before now old new thread left is few stays stand at running =
     (led_at number before now (Some old) (Some new) changes (tt, (tt, (state_is_so number n now new thread (Running left) stays.stays.is at running, tt)))
     refl (tt, (tt, (tt, tt))) stays.stays.differs.others stays.stays.differs.breakpoints stays.stays.was stays.stays.is
     (moved_accounts number n old new told.Running [] stays.stays.name stays.attached stand (λ list. refl))
-    (status_same before now changes stays.all stays.stays.differs.breakpoints))
+    (status_same [] before now changes stays.all stays.points (none_touched changes)))
+
+-- ---- a thread that runs on hits breakpoints
+
+-- one: its status is told
+pub passed_one : (number n : ℕ) (before now : TargetValue) (old new : ProcessValue) (hit : List ℕ) (status : BpStatus) → StaysAttached (hit ∷ []) number before now old new → OthersStand n old new
+    → IsRunningAt n old → IsRunningAt n new → status_of hit (attached_in now.contexts.processes) now.breakpoints ≡ Some status → Leads before now (events.BpStatusIs hit status)
+passed_one number n before now old new hit status stays stand ran runs_on is =
+    let changes : List Change = status_told hit status ∷ [] in
+    led_at number before now (Some old) (Some new) changes (is, tt) refl (tt, tt) stays.stays.differs.others stays.stays.differs.breakpoints stays.stays.was stays.stays.is
+    (running_accounts number n old new changes stays.stays.name stays.attached stand ran runs_on (λ list. refl))
+    (status_same (hit ∷ []) before now changes stays.all stays.points (told_one_touched hit status))
+
+-- several: contextChanged names them all
+pub passed_several : (number n : ℕ) (before now : TargetValue) (old new : ProcessValue) (list : List BpProps) → StaysAttached (map (λ props. props.id) list) number before now old new → OthersStand n old new
+    → IsRunningAt n old → IsRunningAt n new → AreThere list now.breakpoints → Leads before now (events.BpChanged list)
+passed_several number n before now old new list stays stand ran runs_on there =
+    let changes : List Change = of_each told_properties list in
+    led_at number before now (Some old) (Some new) changes (told_so now list there) (told_none list) (told_list number list)
+    stays.stays.differs.others stays.stays.differs.breakpoints stays.stays.was stays.stays.is
+    (running_accounts number n old new changes stays.stays.name stays.attached stand ran runs_on (λ threads. no_lists number changes threads (told_lists list)))
+    (status_same (map (λ props. props.id) list) before now changes stays.all stays.points (told_touched_status list))

@@ -1,8 +1,9 @@
 -- The first message of an input that changes breakpoints, and what is told of one that stays.
-use Rattle.std.proofs.Common.{◌≡◌, ℕ, ◌⊎◌, false, true, List, map, Some, inl, inr, sym, ap, ◌∙◌, subst}
+use Rattle.std.proofs.Common.{◌≡◌, ℕ, ◌⊎◌, false, true, List, map, Option, Some, None, option_map, inl, inr, sym, ap, ◌∙◌, subst, refl}
 use Rattle.std.specs.List.{AllByRecursion}
 use Rattle.std.proofs.lemmas.Bool.{cases_Bool}
-use Rattle.breakpoints.specs.Rows.{is_among, props_of}
+use Rattle.std.proofs.lemmas.Option.{none-some}
+use Rattle.breakpoints.specs.Rows.{is_among, props_of, row_of}
 use Rattle.breakpoints.specs.Status.{status_of}
 use Rattle.knowledge.specs.Changes.{Change, of_each}
 use Rattle.knowledge.specs.Facts.{properties_are, status_is}
@@ -24,7 +25,7 @@ use Rattle.breakpoints.specs.declared.rows.Placed.{Placed}
 
 -- the breakpoints but these stay
 abbrev pub OthersStay : List (List ℕ) → List Placed → List Placed → Type 0
-OthersStay ids before now = (id : List ℕ) (props : BpProps) → is_among ids id ≡ false → props_of id before ≡ Some props → props_of id now ≡ Some props
+OthersStay ids before now = (id : List ℕ) (row : Placed) → is_among ids id ≡ false → row_of id before ≡ Some row → row_of id now ≡ Some row
 
 abbrev pub AreThere : List BpProps → List Placed → Type 0
 AreThere list rows = AllByRecursion (λ props. props_of props.id rows ≡ Some props) list
@@ -36,13 +37,17 @@ contexts_same before now changes none same p =
     subst (λ process. Accounts p (process_in p before) process changes) (sym (ap (λ contexts. process_of p contexts.processes) same))
     (same_accounts p (process_in p before) changes (λ list. no_lists p changes list none))
 
--- a status follows from the properties
+-- a status follows from the breakpoint, and so do its properties
 status_from : (before now : TargetValue) → now.contexts ≡ before.contexts → (id : List ℕ) (x : BpStatus)
-    → ((props : BpProps) → props_of id before.breakpoints ≡ Some props → props_of id now.breakpoints ≡ Some props)
+    → ((row : Placed) → row_of id before.breakpoints ≡ Some row → row_of id now.breakpoints ≡ Some row)
     → status_of id (attached_in before.contexts.processes) before.breakpoints ≡ Some x → status_of id (attached_in now.contexts.processes) now.breakpoints ≡ Some x
 status_from before now same id x kept knows =
     ap (λ contexts. status_of id (attached_in contexts.processes) now.breakpoints) same
-    ∙ status_kept (attached_in before.contexts.processes) x (props_of id before.breakpoints) (props_of id now.breakpoints) kept knows
+    ∙ status_kept (attached_in before.contexts.processes) x (row_of id before.breakpoints) (row_of id now.breakpoints) kept knows
+
+pub props_kept : (props : BpProps) (was is : Option Placed) → ((row : Placed) → was ≡ Some row → is ≡ Some row) → option_map (λ (r : Placed). r.props) was ≡ Some props → option_map (λ (r : Placed). r.props) is ≡ Some props
+props_kept props None is kept knows = absurd (none-some props knows)
+props_kept props (Some row) is kept knows = ap (option_map (λ (r : Placed). r.props)) (kept row refl) ∙ knows
 
 -- what isn't named stays, and what is named is touched
 properties_but : (before now : TargetValue) (ids : List (List ℕ)) (changes : List Change) → OthersStay ids before.breakpoints now.breakpoints
@@ -51,7 +56,7 @@ properties_but : (before now : TargetValue) (ids : List (List ℕ)) (changes : L
 properties_but before now ids changes stay touched id x knows =
     elim (cases_Bool (is_among ids id)) [
       | inl e ↦ inr (touched id x e)
-      | inr e ↦ inl (stay id x e knows)
+      | inr e ↦ inl (props_kept x (row_of id before.breakpoints) (row_of id now.breakpoints) (λ row. stay id row e) knows)
     ]
 
 status_but : (before now : TargetValue) (ids : List (List ℕ)) (changes : List Change) → now.contexts ≡ before.contexts → OthersStay ids before.breakpoints now.breakpoints
@@ -61,7 +66,7 @@ status_but : (before now : TargetValue) (ids : List (List ℕ)) (changes : List 
 status_but before now ids changes same stay touched id x knows =
     elim (cases_Bool (is_among ids id)) [
       | inl e ↦ inr (touched id x e)
-      | inr e ↦ inl (status_from before now same id x (λ props. stay id props e) knows)
+      | inr e ↦ inl (status_from before now same id x (λ row. stay id row e) knows)
     ]
 
 pub put : (before now : TargetValue) (list : List BpProps) → now.contexts ≡ before.contexts → AreThere list now.breakpoints

@@ -3,7 +3,7 @@ use Rattle.std.proofs.Common.{◌≡◌, ℕ, ◌≤◌, ◌<◌, ◌+◌, ◌==
 use Rattle.std.specs.Prelude.{ℤ, unsigned_abs, option_map}
 use Rattle.std.specs.List.{AllByRecursion, list_any}
 use Rattle.std.proofs.lemmas.Bool.{and_from, and_parts, eq-eqb, eqb-true, leb-true, ltb-true}
-use Rattle.breakpoints.specs.Rows.{props_of}
+use Rattle.breakpoints.specs.Rows.{props_of, row_of}
 use Rattle.data_services.specs.Bytes.{with_part}
 use Rattle.knowledge.specs.Changes.{Change, bytes_gone, is_within, range_gone, register_gone, registers_gone}
 use Rattle.knowledge.specs.Facts.{byte_is}
@@ -17,7 +17,7 @@ use Rattle.target_truth.specs.Holds.{process_in}
 use Rattle.target_truth.proofs.Accounts.{ButRegisters, cpu_accounts, memory_accounts, register_accounts, without_cpus}
 use Rattle.target_truth.proofs.Agree.{IsTouched, led, led_at}
 use Rattle.target_truth.proofs.Changes.{IsSaid, is_bytes}
-use Rattle.target_truth.proofs.Differs.{Leads, StaysAttached, by_changes, status_same}
+use Rattle.target_truth.proofs.Differs.{Leads, StaysAttached, by_changes, none_touched, status_same}
 use Rattle.target_truth.proofs.KeptBytes.{inside}
 use Rattle.target_truth.proofs.Origins.{ListsOne, list_after}
 use Rattle.target_truth.proofs.Seen.{number_of}
@@ -74,7 +74,7 @@ range_touched number addr size count place x false empty sized within =
     ap (λ b. b || false) (and_from _ _ (eq-eqb number number refl) (ap (λ n. is_within (unsigned_abs addr) n place) sized ∙ within))
 
 memory_by : (number : ℕ) (before now : TargetValue) (old : ProcessValue) (addr size : ℤ) (bytes pid : List ℕ) → context_of pid ≡ Some (contexts.Process number)
-    → StaysAttached number before now old (record old { memory = with_part (unsigned_abs addr) bytes old.memory }) → length old.memory ≡ 65536 → is_outside addr size ≡ false
+    → StaysAttached [] number before now old (record old { memory = with_part (unsigned_abs addr) bytes old.memory }) → length old.memory ≡ 65536 → is_outside addr size ≡ false
     → unsigned_abs size ≡ length bytes → Leads before now (events.MemChanged pid (record { addr = addr; size = size } ∷ []))
 memory_by number before now old addr size bytes pid process is full in_memory sized =
     let range : Range = record { addr = addr; size = size } in
@@ -86,19 +86,19 @@ memory_by number before now old addr size bytes pid process is full in_memory si
     (range_none number addr size none) (range_lists number addr size none) is.stays.differs.others is.stays.differs.breakpoints is.stays.was is.stays.is
     (memory_accounts number old (unsigned_abs addr) bytes changes fits (λ place x within. range_touched number addr size (length bytes) place x none refl sized within)
     (range_quiet number addr size none))
-    (status_same before now changes is.all is.stays.differs.breakpoints))
+    (status_same [] before now changes is.all is.points (none_touched changes)))
 
 pub memory_set : (number : ℕ) (before now : TargetValue) (old new : ProcessValue) (addr size : ℤ) (bytes : List ℕ) → IsNumber number
-    → StaysAttached number before now old new → length old.memory ≡ 65536 → is_outside addr size ≡ false → unsigned_abs size ≡ length bytes
+    → StaysAttached [] number before now old new → length old.memory ≡ 65536 → is_outside addr size ≡ false → unsigned_abs size ≡ length bytes
     → new ≡ record old { memory = with_part (unsigned_abs addr) bytes old.memory }
     → Leads before now (events.MemChanged (process_id number) (record { addr = addr; size = size } ∷ []))
 memory_set number before now old new addr size bytes is stays full inside sized new_is =
     memory_by number before now old addr size bytes (process_id number) (process_named number is)
-    (subst (λ process. StaysAttached number before now old process) new_is stays) full inside sized
+    (subst (λ process. StaysAttached [] number before now old process) new_is stays) full inside sized
 
 -- the register of the thread is another, and no other one is
 pub register_set : (before now : TargetValue) (old new : ProcessValue) (id : List ℕ) (register : RegisterId) → register_of id ≡ Some register
-    → StaysAttached register.process before now old new → ButRegisters old new
+    → StaysAttached [] register.process before now old new → ButRegisters old new
     → ((n index : ℕ) → index ≤ 32 → (n ≡ register.thread → index ≡ register.index → ⊥) → number_of index (thread_at n new) ≡ number_of index (thread_at n old))
     → Leads before now (events.RegChanged id)
 register_set before now old new id register named stays but same =
@@ -106,7 +106,7 @@ register_set before now old new id register named stays but same =
     by_changes before now (events.RegChanged id) changes (ap changed_register named)
     (led_at register.process before now (Some old) (Some new) changes (tt, tt) refl (tt, tt) stays.stays.differs.others stays.stays.differs.breakpoints
     stays.stays.was stays.stays.is (register_accounts register.process register.thread register.index old new but same)
-    (status_same before now changes stays.all stays.stays.differs.breakpoints))
+    (status_same [] before now changes stays.all stays.points (none_touched changes)))
 
 pub record ButCpus (before now : TargetValue) : Type 0 where
   pub processes : (number : ℕ) → option_map without_cpus (process_in number now) ≡ option_map without_cpus (process_in number before)
@@ -118,4 +118,5 @@ pub registers_set : (before now : TargetValue) → ButCpus before now → Leads 
 registers_set before now same =
     led before now (registers_gone ∷ []) (tt, tt) refl
     (λ p. cpu_accounts p (process_in p before) (process_in p now) (same.processes p) (same.attached p))
-    (λ id x knows. inl (ap (props_of id) same.breakpoints ∙ knows)) (status_same before now (registers_gone ∷ []) same.all same.breakpoints)
+    (λ id x knows. inl (ap (props_of id) same.breakpoints ∙ knows)) (status_same [] before now (registers_gone ∷ []) same.all
+    (λ id none. ap (row_of id) same.breakpoints) (none_touched (registers_gone ∷ [])))

@@ -11,7 +11,8 @@ use Rattle.run_control.specs.Ending.{end_after}
 use Rattle.run_control.specs.Executing.{hits_at, result_for, settled, step_text, stepped, stepped_at, stepped_by, with_cpu, with_result}
 use Rattle.run_control.specs.Naming.{is_empty, process_named}
 use Rattle.run_control.specs.Steering.{left_by, resume_after, suspend_after, with_state}
-use Rattle.run_control.specs.Ticking.{counted_in, running_pair, tick_after, ticked, ticked_at}
+use Rattle.run_control.specs.TargetValue.{TargetValue, target_by, with_contexts}
+use Rattle.run_control.specs.Ticking.{counted_in, executed_after, running_pair, tick_after, ticked, ticked_at}
 use Rattle.run_control.specs.Tracing.{last_of, next_at, next_by, next_of, run_from, states_of, trace_after, trace_of, traced_at, up_to_hit}
 use Rattle.rv32i_core.proofs.TheLaws.{results_stay_within, steps_stay_within}
 use Rattle.rv32i_core.specs.Laws.{IsCpu, IsWord, LeavesWhole}
@@ -35,7 +36,7 @@ use Rattle.target_contexts.specs.declared.targets.StartRefusal.TheVariants.{Full
 use Rattle.command_tables.specs.Canonical.{AreBytes}
 use Rattle.target_contexts.proofs.TheLaws.{begin_stays_whole, start_is_whole}
 use Rattle.target_contexts.proofs.ThreadLists.{each_thread_keeps, found_thread_is}
-use Rattle.target_hub.proofs.Fates.{Covers, tick_keeps, trace_keeps}
+use Rattle.target_hub.proofs.Fates.{CoversAlone, tick_alone, trace_alone}
 use Rattle.target_truth.proofs.Fit.{IsFit, change_fit, end_fit, found_whole, start_fit}
 use Rattle.tcf_values.specs.declared.command.Command.{Command}
 use Rattle.tcf_values.specs.declared.command.Command.TheVariants.{Resume, Suspend, Terminate, ProcStart, ProcAttach, ProcDetach, ProcTerminate, TraceRun}
@@ -75,11 +76,12 @@ state_fit : (state : ThreadState) (number n : ℕ) (targets : TargetsValue) → 
 state_fit state number n targets fit = change_fit (in_thread (with_state state) n) number targets fit (state_whole state n)
 
 -- whatever becomes of it
-fate_covers : (number n : ℕ) (plain : ThreadState) (targets : TargetsValue) → IsFit targets → Covers (λ fate. IsFit (settled number n fate targets)) plain
-fate_covers number n plain targets fit = record {
-  plainly = state_fit plain number n targets fit;
-  suspended = λ state stands. state_fit state number n targets fit;
-  ended = λ code whole. end_fit number targets fit;
+fate_covers : (number n : ℕ) (plain : ThreadState) (hits : List (List ℕ)) (target : TargetValue) → IsFit target.contexts → CoversAlone (λ fate. IsFit (settled number n fate target).contexts) plain hits
+fate_covers number n plain hits target fit = record {
+  plainly = state_fit plain number n target.contexts fit;
+  passing = λ on. state_fit plain number n target.contexts fit;
+  suspended = λ reason others. state_fit (Suspended reason others) number n target.contexts fit;
+  ended = λ code whole. end_fit number target.contexts fit;
 }
 
 -- ---- one instruction
@@ -113,19 +115,19 @@ stepped_by_whole n process (Some thread) there is =
 pub one_whole : (n : ℕ) (process : ProcessValue) → IsWhole process → IsWhole (stepped n process)
 one_whole n process is = stepped_by_whole n process (thread_at n process) refl is
 
-ticked_fit : (bps : List Placed) (number n : ℕ) (found : Option ProcessValue) (targets : TargetsValue) → IsFit targets → IsFit (ticked_at bps number n found targets)
-ticked_fit bps number n None targets fit = fit
-ticked_fit bps number n (Some process) targets fit =
-    let after = with_change (stepped n) number targets in
-    tick_keeps (λ fate. IsFit (settled number n fate after)) bps number n process
-    (fate_covers number n (counted_in (thread_at n process)) after (change_fit (stepped n) number targets fit (one_whole n)))
+ticked_fit : (number n : ℕ) (found : Option ProcessValue) (target : TargetValue) → IsFit target.contexts → IsFit (ticked_at number n found target).contexts
+ticked_fit number n None target fit = fit
+ticked_fit number n (Some process) target fit =
+    let after : TargetValue = executed_after number n process target in
+    tick_alone (λ fate. IsFit (settled number n fate after).contexts) target.breakpoints number n process
+    (fate_covers number n (counted_in (thread_at n process)) (hits_at target.breakpoints number n (stepped n process)) after (change_fit (stepped n) number target.contexts fit (one_whole n)))
 
-tick_by : (bps : List Placed) (named : Option (ℕ × ℕ)) (targets : TargetsValue) → IsFit targets → IsFit (option_map_or (λ pair. ticked bps pair.0 pair.1 targets) named targets)
-tick_by bps None targets fit = fit
-tick_by bps (Some pair) targets fit = ticked_fit bps pair.0 pair.1 (process_of pair.0 targets.processes) targets fit
+tick_by : (named : Option (ℕ × ℕ)) (target : TargetValue) → IsFit target.contexts → IsFit (option_map_or (λ pair. ticked pair.0 pair.1 target) named target).contexts
+tick_by None target fit = fit
+tick_by (Some pair) target fit = ticked_fit pair.0 pair.1 (process_of pair.0 target.contexts.processes) target fit
 
-pub tick_fit : (bps : List Placed) (thread : ContextId) (targets : TargetsValue) → IsFit targets → IsFit (tick_after bps thread targets)
-tick_fit bps thread targets fit = tick_by bps (running_pair thread targets.processes) targets fit
+pub tick_fit : (thread : ContextId) (target : TargetValue) → IsFit target.contexts → IsFit (tick_after thread target).contexts
+tick_fit thread target fit = tick_by (running_pair thread target.contexts.processes) target fit
 
 -- ---- several
 
@@ -164,19 +166,20 @@ last_whole : (process : ProcessValue) (states : List ProcessValue) → IsWhole p
 last_whole process [] is all = is
 last_whole process (state ∷ states) is all = last_whole state states all.0 all.1
 
-traced_fit : (bps : List Placed) (number n count : ℕ) (found : Option ProcessValue) (targets : TargetsValue) → IsFit targets → ((process : ProcessValue) → found ≡ Some process → IsWhole process)
-    → IsFit (traced_at bps number n count found targets)
-traced_fit bps number n count None targets fit whole = fit
-traced_fit bps number n count (Some process) targets fit whole =
+traced_fit : (number n count : ℕ) (found : Option ProcessValue) (target : TargetValue) → IsFit target.contexts → ((process : ProcessValue) → found ≡ Some process → IsWhole process)
+    → IsFit (traced_at number n count found target).contexts
+traced_fit number n count None target fit whole = fit
+traced_fit number n count (Some process) target fit whole =
+    let bps : List Placed = target.breakpoints in
     let trace = trace_of bps number n count process in
     let is : IsWhole trace.process = last_whole process (states_of bps number n count process) (whole process refl) (hit_whole bps number n (run_from n count process) (run_whole n count process (whole process refl))) in
-    let after = with_change (λ _. trace.process) number targets in
-    trace_keeps (λ fate. IsFit (settled number n fate after)) bps number n count process
-    (fate_covers number n (Suspended step_text []) after (change_fit (λ _. trace.process) number targets fit (λ _ _. is)))
+    let after : TargetValue = with_contexts (with_change (λ _. trace.process) number) target in
+    trace_alone (λ fate. IsFit (settled number n fate after).contexts) bps number n count process
+    (fate_covers number n (Suspended step_text []) [] after (change_fit (λ _. trace.process) number target.contexts fit (λ _ _. is)))
 
-trace_fit : (bps : List Placed) (count number n : ℕ) (targets : TargetsValue) → IsFit targets → IsFit (trace_after bps count number n targets)
-trace_fit bps count number n targets fit =
-    traced_fit bps number n count (process_of number targets.processes) targets fit (λ process is. found_whole number targets.processes process fit.processes is)
+trace_fit : (count number n : ℕ) (target : TargetValue) → IsFit target.contexts → IsFit (trace_after count number n target).contexts
+trace_fit count number n target fit =
+    traced_fit number n count (process_of number target.contexts.processes) target fit (λ process is. found_whole number target.contexts.processes process fit.processes is)
 
 -- ---- a start
 
@@ -207,24 +210,36 @@ left_fit : {A : Type 0} (change : A → TargetsValue → TargetsValue) (named : 
 left_fit change None targets fit keeps = fit
 left_fit change (Some one) targets fit keeps = keeps one
 
-run_left_fit : (command : Command) (bps : List Placed) (targets : TargetsValue) → IsFit targets → run_fault command targets ≡ None → IsFit (run_left command bps targets)
-run_left_fit (Resume id mode count) bps targets fit none =
+left_target : {A : Type 0} (change : A → TargetValue → TargetValue) (named : Option A) (target : TargetValue) → IsFit target.contexts → ((one : A) → IsFit (change one target).contexts)
+    → IsFit (left_of change named target).contexts
+left_target change None target fit keeps = fit
+left_target change (Some one) target fit keeps = keeps one
+
+run_left_fit : (command : Command) (target : TargetValue) → IsFit target.contexts → run_fault command target.contexts ≡ None → IsFit (run_left command target).contexts
+run_left_fit (Resume id mode count) target fit none =
+    let targets : TargetsValue = target.contexts in
     left_fit (λ pair. resume_after (left_by mode count) pair.0 pair.1) (thread_named id) targets fit (λ pair. state_fit (Running (left_by mode count)) pair.0 pair.1 targets fit)
-run_left_fit (Suspend id) bps targets fit none =
+run_left_fit (Suspend id) target fit none =
+    let targets : TargetsValue = target.contexts in
     left_fit (λ pair. suspend_after pair.0 pair.1) (thread_named id) targets fit (λ pair. state_fit (Suspended suspended_text []) pair.0 pair.1 targets fit)
-run_left_fit (Terminate id) bps targets fit none = left_fit end_after (number_named id) targets fit (λ number. end_fit number targets fit)
-run_left_fit (ProcStart directory file args environment attach) bps targets fit none =
+run_left_fit (Terminate id) target fit none = left_target end_after (number_named id) target fit (λ number. end_fit number target.contexts fit)
+run_left_fit (ProcStart directory file args environment attach) target fit none =
+    let targets : TargetsValue = target.contexts in
     started_fit attach targets (image_of file targets.images) fit (found_image file targets.images fit.images) none
-run_left_fit (ProcAttach id) bps targets fit none = left_fit attach_after (process_named id) targets fit (λ number. change_fit attached number targets fit attached_whole)
-run_left_fit (ProcDetach id) bps targets fit none = left_fit detach_after (process_named id) targets fit (λ number. change_fit detached number targets fit detached_whole)
-run_left_fit (ProcTerminate id) bps targets fit none = left_fit end_after (process_named id) targets fit (λ number. end_fit number targets fit)
-run_left_fit (TraceRun id count) bps targets fit none =
-    left_fit (λ pair. trace_after bps (unsigned_abs count) pair.0 pair.1) (thread_named id) targets fit (λ pair. trace_fit bps (unsigned_abs count) pair.0 pair.1 targets fit)
-run_left_fit _ bps targets fit none = fit
+run_left_fit (ProcAttach id) target fit none = left_target attach_after (process_named id) target fit (λ number. change_fit attached number target.contexts fit attached_whole)
+run_left_fit (ProcDetach id) target fit none = left_target detach_after (process_named id) target fit (λ number. change_fit detached number target.contexts fit detached_whole)
+run_left_fit (ProcTerminate id) target fit none = left_target end_after (process_named id) target fit (λ number. end_fit number target.contexts fit)
+run_left_fit (TraceRun id count) target fit none =
+    left_target (λ pair. trace_after (unsigned_abs count) pair.0 pair.1) (thread_named id) target fit (λ pair. trace_fit (unsigned_abs count) pair.0 pair.1 target fit)
+run_left_fit _ target fit none = fit
 
 pub fault_fit : (fault : Option Fault) (left targets : TargetsValue) → IsFit targets → (fault ≡ None → IsFit left) → IsFit (targets_by fault left targets)
 fault_fit None left targets fit keeps = keeps refl
 fault_fit (Some fault) left targets fit keeps = fit
 
-pub run_fit : (command : Command) (bps : List Placed) (targets : TargetsValue) → IsFit targets → IsFit (run_after command bps targets)
-run_fit command bps targets fit = fault_fit (run_fault command targets) (run_left command bps targets) targets fit (run_left_fit command bps targets fit)
+fault_target : (fault : Option Fault) (left target : TargetValue) → IsFit target.contexts → (fault ≡ None → IsFit left.contexts) → IsFit (target_by fault left target).contexts
+fault_target None left target fit keeps = keeps refl
+fault_target (Some fault) left target fit keeps = fit
+
+pub run_fit : (command : Command) (target : TargetValue) → IsFit target.contexts → IsFit (run_after command target).contexts
+run_fit command target fit = fault_target (run_fault command target.contexts) (run_left command target) target fit (run_left_fit command target fit)

@@ -35,12 +35,12 @@ good_fit target good = record { images = good.images; processes = orderly_whole 
 
 fit_in : (name : CommandName) (channel : ℕ) (command : Command) (target : TargetValue) → IsFit target.contexts → IsReadable command → IsFit (after_in name channel command target).contexts
 fit_in (service.Locator name) channel command target fit readable = fit
-fit_in (service.RunControl name) channel command target fit readable = run_fit command target.breakpoints target.contexts fit
+fit_in (service.RunControl name) channel command target fit readable = run_fit command target fit
 fit_in (service.Breakpoints name) channel command target fit readable = fit
 fit_in (service.Memory name) channel command target fit readable = data_fit command target.contexts fit readable
 fit_in (service.Registers name) channel command target fit readable = data_fit command target.contexts fit readable
-fit_in (service.Processes name) channel command target fit readable = run_fit command target.breakpoints target.contexts fit
-fit_in (service.Trace name) channel command target fit readable = run_fit command target.breakpoints target.contexts fit
+fit_in (service.Processes name) channel command target fit readable = run_fit command target fit
+fit_in (service.Trace name) channel command target fit readable = run_fit command target fit
 
 exec_fit : (channel : ℕ) (command : Command) (target : TargetValue) → IsFit target.contexts → IsReadable command → IsFit (exec_after channel command target).contexts
 unfolding exec_after
@@ -55,14 +55,14 @@ command_whole channel command target good readable number process is =
 pub tick_whole : (thread : ContextId) (target : TargetValue) → IsGood target
     → (number : ℕ) (process : ProcessValue) → process_in number (ticked thread target) ≡ Some process → IsWhole process
 tick_whole thread target good number process is =
-    found_whole number (ticked thread target).contexts.processes process (tick_fit target.breakpoints thread target.contexts (good_fit target good)).processes is
+    found_whole number (ticked thread target).contexts.processes process (tick_fit thread target (good_fit target good)).processes is
 
 input_fit : (input : Input) (target : TargetValue) → IsFit target.contexts → IsReadInput input → IsFit (input_after input target).contexts
 input_fit (Opened channel) target fit read = fit
 input_fit (Executed channel (Known command) service name) target fit read = exec_fit channel command target fit read
 input_fit (Executed channel Unknown service name) target fit read = fit
 input_fit (Executed channel (Bad index code) service name) target fit read = fit
-input_fit (Ticked thread) target fit read = tick_fit target.breakpoints thread target.contexts fit
+input_fit (Ticked thread) target fit read = tick_fit thread target fit
 input_fit (Closed channel) target fit read = fit
 
 -- ---- all inputs

@@ -27,6 +27,7 @@ pub mod Tells
 pub mod ContextLimits
 pub mod StatusLimits
 pub mod Listed
+pub mod Hits
 pub mod Statuses
 pub mod Live
 pub mod Becoming

@@ -3,7 +3,7 @@ use Rattle.std.proofs.Common.{◌≡◌, ℕ, nat_eq, pos, negsuc, unsigned_abs,
 use Rattle.std.specs.Prelude.{ℤ, ◌+ℤ◌, int_lt}
 use Rattle.std.proofs.lemmas.Bool.{eqb-false, ltb-false, or_from, or_parts}
 use Rattle.std.proofs.lemmas.List.{take-append-drop}
-use Rattle.breakpoints.specs.Rows.{props_of}
+use Rattle.breakpoints.specs.Rows.{row_of}
 use Rattle.data_services.specs.Bytes.{with_part}
 use Rattle.data_services.specs.MemoryRows.{is_no_size, is_outside, memory_events, with_memory}
 use Rattle.json_args.specs.Kinds.{IsWhole}
@@ -37,16 +37,16 @@ empty_list : (bytes : List ℕ) → length bytes ≡ 0 → bytes ≡ []
 empty_list [] none = refl
 empty_list (byte ∷ bytes) none = absurd (omega arith)
 
-same_at : (number n : ℕ) (old new : ProcessValue) (before now : TargetValue) (same : Bool) → nat_eq n number ≡ same → StaysAttached number before now old new → new ≡ old → process_in n now ≡ process_in n before
+same_at : (number n : ℕ) (old new : ProcessValue) (before now : TargetValue) (same : Bool) → nat_eq n number ≡ same → StaysAttached [] number before now old new → new ≡ old → process_in n now ≡ process_in n before
 same_at number n old new before now true e stays is =
     let named : n ≡ number = eqb-true n number e in
     ap (λ (m : ℕ). process_in m now) named ∙ stays.stays.is ∙ ap (λ (p : ProcessValue). Some p) is ∙ sym (ap (λ (m : ℕ). process_in m before) named ∙ stays.stays.was)
 same_at number n old new before now false e stays is = stays.stays.differs.others n (eqb-false n number e)
 
 -- a process that is put in place of itself
-still_seen : (number : ℕ) (before now : TargetValue) (old new : ProcessValue) → StaysAttached number before now old new → new ≡ old → now.breakpoints ≡ before.breakpoints → IsPart (seen before) (seen now)
+still_seen : (number : ℕ) (before now : TargetValue) (old new : ProcessValue) → StaysAttached [] number before now old new → new ≡ old → now.breakpoints ≡ before.breakpoints → IsPart (seen before) (seen now)
 still_seen number before now old new stays is breakpoints =
-    same_seen before now (λ n. same_at number n old new before now (nat_eq n number) refl stays is) stays.all (λ id. ap (λ rows. props_of id rows) breakpoints)
+    same_seen before now (λ n. same_at number n old new before now (nat_eq n number) refl stays is) stays.all (λ id. ap (λ rows. row_of id rows) breakpoints)
 
 -- the checks that a command has passed
 pub record Fits (addr size : ℤ) (bytes : List ℕ) : Type 0 where

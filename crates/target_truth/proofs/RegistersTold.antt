@@ -175,10 +175,10 @@ one_told id parts bytes target register old thread all held =
     let of = all register held.read in
     let but : ButRegisters old new = but_registers number parts bytes old in
     register_set target (with_contexts left target) old new id register held.read
-    (stays_attached number target left old new held.there
+    (stays_attached [] number target (with_contexts left target) old new held.there
     (parts_become number parts bytes target.contexts old held.there
     (λ other differ. process_after other parts bytes target.contexts ∙ nothing_over other register parts bytes (process_of other rows) of differ))
-    but.name but.attached)
+    but.name but.attached refl (λ point none. refl))
     but
     (λ m index few differ. beside number m index register parts bytes old of (index_small id register held.read) few differ)
 

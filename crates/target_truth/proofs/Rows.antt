@@ -9,7 +9,7 @@ use Rattle.target_contexts.specs.Changes.{targets_by}
 use Rattle.target_contexts.specs.TargetsValue.{TargetsValue}
 use Rattle.target_hub.specs.BreakpointsRows.{ask_fault}
 use Rattle.target_hub.specs.Execution.{exec_after, exec_effect}
-use Rattle.run_control.specs.TargetValue.{TargetValue}
+use Rattle.run_control.specs.TargetValue.{TargetValue, target_by}
 use Rattle.target_truth.proofs.Answering.{unheard}
 use Rattle.target_truth.proofs.Becoming.{with_contexts}
 use Rattle.target_truth.proofs.Changes.{Moves}
@@ -18,7 +18,7 @@ use Rattle.target_truth.proofs.RowsBreakpoints.{add, change, disable, enable, re
 use Rattle.target_truth.proofs.RowsData.{set_memory, set_register, set_registers}
 use Rattle.target_truth.proofs.RowsRun.{Tells, attach, detach, resume, start, suspend, terminate, terminate_process}
 use Rattle.target_truth.proofs.RowsTrace.{trace}
-use Rattle.target_truth.proofs.Faults.{by_fault}
+use Rattle.target_truth.proofs.Faults.{by_fault, run_by_fault}
 use Rattle.target_truth.proofs.Tells.{Tell}
 use Rattle.target_truth.proofs.Whole.{IsGood}
 use Rattle.tcf_values.specs.Effects.{effect_by, failed, gives}
@@ -26,13 +26,17 @@ use Rattle.tcf_values.specs.declared.answer.Answer.{Answer}
 use Rattle.tcf_values.specs.declared.command.Command.{Command}
 use Rattle.tcf_values.specs.declared.command.Command.TheVariants.{Sync, GetPeers, Redirect, GetContext, GetChildren, GetState, Resume, Suspend, Terminate, BpSet, BpAdd, BpChange, BpEnable, BpDisable, BpRemove, BpIds, BpProperties, BpGetStatus, BpCapabilities, MemGet, MemSet, RegGet, RegSet, RegGetm, RegSetm, ProcContext, ProcChildren, ProcStart, ProcAttach, ProcDetach, ProcTerminate, TraceRun}
 use Rattle.tcf_values.specs.declared.faults.Fault.{Fault}
-use Rattle.target_hub.proofs.Unchanged.{same_by}
+use Rattle.target_hub.proofs.Unchanged.{same_by, same_target}
 
 -- ---- events
 
 -- a command that asks changes nothing and tells nothing
 asks : (fault : Option Fault) (target : TargetValue) (answer : Answer) → Tell target (with_contexts (targets_by fault target.contexts target.contexts) target) (effect_by fault (gives answer)).events
 asks fault target answer = by_fault fault target target.contexts (gives answer) (λ none fact knows. knows)
+
+-- nor does one of run control
+run_asks : (fault : Option Fault) (target : TargetValue) (answer : Answer) → Tell target (target_by fault target target) (effect_by fault (gives answer)).events
+run_asks fault target answer = run_by_fault fault target target (gives answer) (λ none fact knows. knows)
 
 quiet : (fault : Option Fault) (target : TargetValue) (answer : Answer) → Tell target target (effect_by fault (gives answer)).events
 unfolding failed
@@ -44,9 +48,9 @@ unfolding exec_after exec_effect
 events_tell channel Sync target good readable = λ fact knows. knows
 events_tell channel GetPeers target good readable = λ fact knows. knows
 events_tell channel (Redirect peer) target good readable = λ fact knows. knows
-events_tell channel (GetContext id) target good readable = asks (run_fault (GetContext id) target.contexts) target _
-events_tell channel (GetChildren id) target good readable = asks (run_fault (GetChildren id) target.contexts) target _
-events_tell channel (GetState id) target good readable = asks (run_fault (GetState id) target.contexts) target _
+events_tell channel (GetContext id) target good readable = run_asks (run_fault (GetContext id) target.contexts) target _
+events_tell channel (GetChildren id) target good readable = run_asks (run_fault (GetChildren id) target.contexts) target _
+events_tell channel (GetState id) target good readable = run_asks (run_fault (GetState id) target.contexts) target _
 events_tell channel (Resume id mode count) target good readable = resume channel id mode count target good
 events_tell channel (Suspend id) target good readable = suspend channel id target good
 events_tell channel (Terminate id) target good readable = terminate channel id target good
@@ -66,8 +70,8 @@ events_tell channel (RegGet id) target good readable = asks (data_fault (RegGet 
 events_tell channel (RegSet id bytes) target good readable = set_register channel id bytes target good
 events_tell channel (RegGetm list) target good readable = asks (data_fault (RegGetm list) target.contexts) target _
 events_tell channel (RegSetm list bytes) target good readable = set_registers channel list bytes target good
-events_tell channel (ProcContext id) target good readable = asks (run_fault (ProcContext id) target.contexts) target _
-events_tell channel (ProcChildren id attached) target good readable = asks (run_fault (ProcChildren id attached) target.contexts) target _
+events_tell channel (ProcContext id) target good readable = run_asks (run_fault (ProcContext id) target.contexts) target _
+events_tell channel (ProcChildren id attached) target good readable = run_asks (run_fault (ProcChildren id attached) target.contexts) target _
 events_tell channel (ProcStart directory file args environment attach) target good readable = start channel directory file args environment attach target good
 events_tell channel (ProcAttach id) target good readable = attach channel id target good
 events_tell channel (ProcDetach id) target good readable = detach channel id target good
@@ -81,12 +85,15 @@ asked : (fault : Option Fault) (target : TargetValue) (message : Message) → Mo
     → Moves (with_contexts (targets_by fault target.contexts target.contexts) target) (with_contexts (targets_by fault target.contexts target.contexts) target) message
 asked fault target message moves = subst (λ (contexts : TargetsValue). Moves (with_contexts contexts target) (with_contexts contexts target) message) (sym (same_by fault target.contexts)) moves
 
+run_asked : (fault : Option Fault) (target : TargetValue) (message : Message) → Moves target target message → Moves (target_by fault target target) (target_by fault target target) message
+run_asked fault target message moves = subst (λ (left : TargetValue). Moves left left message) (sym (same_target fault target)) moves
+
 pub answers_so : (channel : ℕ) (command : Command) (target : TargetValue) → IsGood target → IsReadable command
     → Moves (exec_after channel command target) (exec_after channel command target) (reply channel command target)
 unfolding exec_after
-answers_so channel (GetContext id) target good readable = asked (run_fault (GetContext id) target.contexts) target _ (get_context channel id target good)
-answers_so channel (GetChildren id) target good readable = asked (run_fault (GetChildren id) target.contexts) target _ (get_children channel id target good)
-answers_so channel (GetState id) target good readable = asked (run_fault (GetState id) target.contexts) target _ (get_state channel id target good)
+answers_so channel (GetContext id) target good readable = run_asked (run_fault (GetContext id) target.contexts) target _ (get_context channel id target good)
+answers_so channel (GetChildren id) target good readable = run_asked (run_fault (GetChildren id) target.contexts) target _ (get_children channel id target good)
+answers_so channel (GetState id) target good readable = run_asked (run_fault (GetState id) target.contexts) target _ (get_state channel id target good)
 answers_so channel (BpProperties id) target good readable = get_properties channel id target good
 answers_so channel (BpGetStatus id) target good readable = get_status channel id target good
 answers_so channel (MemGet id addr word size mode) target good readable =

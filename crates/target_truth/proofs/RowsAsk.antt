@@ -4,8 +4,8 @@ use Rattle.std.specs.Prelude.{is_none, unsigned_abs}
 use Rattle.std.specs.List.{AllByRecursion, find, list_all}
 use Rattle.std.proofs.lemmas.Bool.{cond-false, cond_both}
 use Rattle.list_laws.proofs.AllLists.{all_if}
-use Rattle.breakpoints.specs.Rows.{props_of}
-use Rattle.breakpoints.specs.Status.{instances_of}
+use Rattle.breakpoints.specs.Counts.{AreCounts}
+use Rattle.breakpoints.specs.Rows.{props_of, row_of}
 use Rattle.command_tables.specs.Canonical.{IsReadable}
 use Rattle.data_services.specs.Bytes.{part_of, word_bytes}
 use Rattle.data_services.specs.MemoryRows.{memory_bytes, memory_get_fault}
@@ -49,6 +49,8 @@ use Rattle.target_truth.proofs.Threads.{state_told}
 use Rattle.target_truth.proofs.Faults.{check_passed}
 use Rattle.target_truth.proofs.Whole.{IsGood}
 use Rattle.target_truth.proofs.ContextLimits.{thread_fits}
+use Rattle.target_hub.proofs.Points.{found_is}
+use Rattle.target_truth.proofs.Differs.{status_by}
 use Rattle.target_truth.proofs.StatusLimits.{instances_fit}
 use Rattle.tcf_values.specs.Ids.{context_of, register_of}
 use Rattle.tcf_values.specs.declared.answer.Answer.TheVariants as answers
@@ -191,20 +193,21 @@ get_properties channel id target good =
     answered target (commands.BpProperties id) _ (answer_by_fault target (commands.BpProperties id) (ask_fault (commands.BpProperties id) target) _ (λ none.
     properties_so id target (props_of id target.breakpoints) refl (found_readable id target.breakpoints good.consistent.properties) (check_passed _ _ _ none).0))
 
-status_so : (id : List ℕ) (target : TargetValue) (found : Option BpProps) → props_of id target.breakpoints ≡ found → is_none found ≡ false
-    → IsTrueAnswer target (commands.BpGetStatus id) (status_answer (option_map (λ props. record { instances = instances_of props (attached_in target.contexts.processes) }) found))
-status_so id target None is some = absurd cc
-status_so id target (Some props) is some = record {
-  limits = (refl, instances_fit props (attached_in target.contexts.processes));
+status_so : (id : List ℕ) (target : TargetValue) (found : Option Placed) → row_of id target.breakpoints ≡ found → IfSome found (λ row. AreCounts row.counts)
+    → is_none (option_map (λ (row : Placed). row.props) found) ≡ false
+    → IsTrueAnswer target (commands.BpGetStatus id) (status_answer (status_by (attached_in target.contexts.processes) found))
+status_so id target None is counted some = absurd cc
+status_so id target (Some row) is counted some = record {
+  limits = (refl, instances_fit row.props row.counts (attached_in target.contexts.processes) counted);
   typed = tt;
-  so = (ap (option_map (λ (p : BpProps). record { instances = instances_of p (attached_in target.contexts.processes) })) is, tt);
+  so = (ap (status_by (attached_in target.contexts.processes)) is, tt);
 }
 
 pub get_status : (channel : ℕ) (id : List ℕ) (target : TargetValue) → IsGood target → Answers channel (commands.BpGetStatus id) target
 unfolding exec_effect
 get_status channel id target good =
     answered target (commands.BpGetStatus id) _ (answer_by_fault target (commands.BpGetStatus id) (ask_fault (commands.BpGetStatus id) target) _ (λ none.
-    status_so id target (props_of id target.breakpoints) refl (check_passed _ _ _ none).0))
+    status_so id target (row_of id target.breakpoints) refl (found_is (λ row. AreCounts row.counts) id target.breakpoints good.consistent.breakpoints.counted) (check_passed _ _ _ none).0))
 
 -- ---- memory
 

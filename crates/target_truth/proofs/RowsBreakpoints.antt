@@ -1,10 +1,10 @@
 -- The commands of Breakpoints that change the list, and the going of a channel: their events tell it.
-use Rattle.std.proofs.Common.{◌≡◌, ℕ, ◌==◌, Bool, true, false, cond, List, [], ◌∷◌, ◌++◌, map, refl}
+use Rattle.std.proofs.Common.{◌≡◌, ℕ, ◌==◌, Bool, true, false, cond, List, [], ◌∷◌, ◌++◌, map, Some, option_map, refl, ◌∙◌, ap}
 use Rattle.std.proofs.lemmas.Bool.{not-false, or_parts}
 use Rattle.std.specs.Prelude.{bytes_eq}
 use Rattle.std.specs.List.{AllByRecursion}
 use Rattle.breakpoints.specs.Changes.{is_refused, is_switched, rows_after, switched, with_flag, with_flags}
-use Rattle.breakpoints.specs.Rows.{ids_of, is_among, is_there, named, others, owned_by, props_of, unnamed}
+use Rattle.breakpoints.specs.Rows.{ids_of, is_among, is_there, named, others, owned_by, row_of, unnamed}
 use Rattle.breakpoints.specs.declared.breakpoints.BpDone.TheVariants.{Failed, Changed}
 use Rattle.command_tables.specs.Canonical.{IsReadable}
 use Rattle.json_values.specs.Props.{is_bp}
@@ -16,12 +16,13 @@ use Rattle.target_hub.specs.Limits.{AreReadable}
 use Rattle.target_hub.specs.Passing.{closed, closed_told}
 use Rattle.run_control.specs.TargetValue.{TargetValue}
 use Rattle.target_truth.proofs.Differs.{status_kept}
+use Rattle.target_truth.proofs.FirstBreakpoints.{props_kept}
 use Rattle.target_truth.proofs.First.{AreThere, OthersStay, changed as leads_changed, put, taken_out}
-use Rattle.target_truth.proofs.Listed.{Row, added_there, changed_there, stays_before, stays_beside, stays_unswitched, stays_without, switched_there}
+use Rattle.target_truth.proofs.Listed.{AreFresh, IsFresh, Row, added_there, changed_there, stays_before, stays_beside, stays_unswitched, stays_without, switched_there}
 use Rattle.target_truth.proofs.Lists.{all_picked}
 use Rattle.target_truth.proofs.RowsRun.{Tells}
 use Rattle.target_truth.proofs.Seen.{seen}
-use Rattle.target_truth.proofs.Statuses.{each_status_told}
+use Rattle.target_truth.proofs.Statuses.{each_fresh_told}
 use Rattle.target_truth.proofs.Tells.{IsTold, Tell}
 use Rattle.target_truth.proofs.Whole.{IsGood}
 use Rattle.tcf_values.specs.declared.command.Command.TheVariants as commands
@@ -44,11 +45,19 @@ all_stay target rows stay (threads_are process ids) knows = knows
 all_stay target rows stay (state_is process thread state) knows = knows
 all_stay target rows stay (register_is process thread index value) knows = knows
 all_stay target rows stay (byte_is process addr byte) knows = knows
-all_stay target rows stay (properties_are id properties) knows = stay id properties refl knows
+all_stay target rows stay (properties_are id properties) knows =
+    props_kept properties (row_of id target.breakpoints) (row_of id rows) (λ row found. stay id row refl found) knows
 all_stay target rows stay (status_is id status) knows =
-    status_kept (attached_of target) status (props_of id target.breakpoints) (props_of id rows) (λ props found. stay id props refl found) knows
+    status_kept (attached_of target) status (row_of id target.breakpoints) (row_of id rows) (λ row found. stay id row refl found) knows
 
 -- ---- what is told of breakpoints that are there
+
+-- what is new is there
+pub there_of : (list : List BpProps) (rows : List Row) → AreFresh list rows → AreThere list rows
+there_of [] rows fresh = tt
+there_of (props ∷ list) rows fresh =
+    let one : IsFresh rows props = fresh.0 in
+    (ap (option_map (λ (row : Row). row.props)) one.there ∙ ap (λ (p : BpProps). Some p) one.same, there_of list rows fresh.1)
 
 added_told : (before now : TargetValue) (list : List BpProps) → now.contexts ≡ before.contexts → AreProps list → AreThere list now.breakpoints
     → OthersStay (map (λ props. props.id) list) before.breakpoints now.breakpoints → AllByRecursion (IsTold before now) (added_events list)
@@ -57,35 +66,35 @@ added_told before now (props ∷ list) same fit there stay = (record { limits = 
 
 -- a list has what it had
 all_same : (ids : List (List ℕ)) (rows : List Row) → OthersStay ids rows rows
-all_same ids rows id props other found = found
+all_same ids rows id row other found = found
 
 -- ---- some are taken out, and then others are added
 
-put_told : (target : TargetValue) (rows : List Row) (removed : List (List ℕ)) (added : List BpProps) → OthersStay removed target.breakpoints rows → AreProps added → AreThere added rows
+put_told : (target : TargetValue) (rows : List Row) (removed : List (List ℕ)) (added : List BpProps) → OthersStay removed target.breakpoints rows → AreProps added → AreFresh added rows
     → Tell target (listing target rows) (effect_of (attached_of target) (Changed removed added [])).events
-put_told target rows [] [] stay fit there = all_stay target rows stay
-put_told target rows [] (props ∷ list) stay fit there =
+put_told target rows [] [] stay fit fresh = all_stay target rows stay
+put_told target rows [] (props ∷ list) stay fit fresh =
     let now = listing target rows in (
-      (added_told target now (props ∷ list) refl fit there (λ id was other found. stay id was refl found)).0,
-      all_append (IsTold now now) (status_events (attached_of target) (props ∷ list)) [] (each_status_told (λ (p : BpProps). p) now (props ∷ list) there) tt,
+      (added_told target now (props ∷ list) refl fit (there_of (props ∷ list) rows fresh) (λ id was other found. stay id was refl found)).0,
+      all_append (IsTold now now) (status_events (attached_of target) (props ∷ list)) [] (each_fresh_told now (props ∷ list) fresh) tt,
     )
-put_told target rows (id ∷ ids) added stay fit there =
+put_told target rows (id ∷ ids) added stay fit fresh =
     let now = listing target rows in (
       record { limits = tt; typed = tt; leads = taken_out target now (id ∷ ids) refl stay },
       all_append (IsTold now now) (added_events added) (status_events (attached_of target) added ++ [])
-          (added_told now now added refl fit there (all_same _ rows))
-          (all_append (IsTold now now) (status_events (attached_of target) added) [] (each_status_told (λ (p : BpProps). p) now added there) tt),
+          (added_told now now added refl fit (there_of added rows fresh) (all_same _ rows))
+          (all_append (IsTold now now) (status_events (attached_of target) added) [] (each_fresh_told now added fresh) tt),
     )
 
 -- ---- some are changed
 
-changes_told : (target : TargetValue) (rows : List Row) (list : List BpProps) → OthersStay (map (λ props. props.id) list) target.breakpoints rows → AreProps list → AreThere list rows
+changes_told : (target : TargetValue) (rows : List Row) (list : List BpProps) → OthersStay (map (λ props. props.id) list) target.breakpoints rows → AreProps list → AreFresh list rows
     → Tell target (listing target rows) (effect_of (attached_of target) (Changed [] [] list)).events
-changes_told target rows [] stay fit there = all_stay target rows stay
-changes_told target rows (props ∷ list) stay fit there =
+changes_told target rows [] stay fit fresh = all_stay target rows stay
+changes_told target rows (props ∷ list) stay fit fresh =
     let now = listing target rows in (
-      record { limits = fit; typed = tt; leads = leads_changed target now (props ∷ list) refl there stay },
-      each_status_told (λ (p : BpProps). p) now (props ∷ list) there,
+      record { limits = fit; typed = tt; leads = leads_changed target now (props ∷ list) refl (there_of (props ∷ list) rows fresh) stay },
+      each_fresh_told now (props ∷ list) fresh,
     )
 
 -- ---- a command that is refused changes nothing

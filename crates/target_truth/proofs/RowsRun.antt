@@ -6,6 +6,11 @@ use Rattle.std.specs.Option.{option_or}
 use Rattle.std.proofs.lemmas.Bool.{ltb-false}
 use Rattle.std.proofs.lemmas.List.{length-map}
 use Rattle.list_laws.proofs.AllLists.{all_append, all_map_then}
+use Rattle.breakpoints.specs.Counting.{forgotten}
+use Rattle.breakpoints.specs.Laws.{forgetting}
+use Rattle.breakpoints.specs.Rows.{IsOrderly as AreListed}
+use Rattle.breakpoints.proofs.TheLaws.{steps_keep_order}
+use Rattle.run_control.proofs.Counted.{forgotten_alone}
 use Rattle.run_control.specs.Attaching.{attach_after, attach_events, attach_fault, attached, detach_after, detach_events, detach_fault, detached, start_events, start_fault, start_fault_for}
 use Rattle.run_control.specs.Commands.{events_of, left_of, terminate_code, terminate_events}
 use Rattle.run_control.specs.Ending.{end_after, terminate_fault}
@@ -39,7 +44,7 @@ use Rattle.target_truth.proofs.First.{came, switched}
 use Rattle.target_truth.proofs.FitRun.{attached_whole, cpu_found, found_image}
 use Rattle.target_truth.proofs.Statuses.{statuses_told}
 use Rattle.target_truth.proofs.Tells.{IsTold, Tell}
-use Rattle.target_truth.proofs.Faults.{by_fault, check_passed}
+use Rattle.target_truth.proofs.Faults.{check_passed, run_by_fault}
 use Rattle.target_truth.proofs.Telling.{all_suspended_so, end_told, ended, holder_is_there, if_there, if_thread, resumed_told, stopped_told}
 use Rattle.target_truth.proofs.ContextLimits.{threads_fit}
 use Rattle.target_truth.proofs.Threads.{numbered_map}
@@ -74,8 +79,8 @@ resume_told left target good number n old thread there at =
 pub resume : (channel : ℕ) (id : List ℕ) (mode count : ℤ) (target : TargetValue) → IsGood target → Tells channel (commands.Resume id mode count) target
 unfolding exec_after exec_effect
 resume channel id mode count target good =
-    by_fault (resume_fault id mode count target.contexts.processes) target _ _ (λ none.
-    if_thread (λ pair. resume_after (left_by mode count) pair.0 pair.1) (λ pair after. resumed_events pair.0 pair.1) target (thread_named id) (check_passed _ _ _ none).0
+    run_by_fault (resume_fault id mode count target.contexts.processes) target _ _ (λ none.
+    if_thread (λ contexts. with_contexts contexts target) (λ pair. resume_after (left_by mode count) pair.0 pair.1) (λ pair after. resumed_events pair.0 pair.1) target.contexts target (thread_named id) (check_passed _ _ _ none).0
     (λ pair old thread there at. resume_told (left_by mode count) target good pair.0 pair.1 old thread there at))
 
 suspend_told : (target : TargetValue) → IsGood target → (number n : ℕ) (old : ProcessValue) (thread : Thread) → process_in number target ≡ Some old → thread_at n old ≡ Some thread
@@ -100,53 +105,58 @@ suspend_told target good number n old thread there at =
 pub suspend : (channel : ℕ) (id : List ℕ) (target : TargetValue) → IsGood target → Tells channel (commands.Suspend id) target
 unfolding exec_after exec_effect
 suspend channel id target good =
-    by_fault (suspend_fault id target.contexts.processes) target _ _ (λ none.
-    if_thread (λ pair. suspend_after pair.0 pair.1) (λ pair after. suspend_events pair.0 pair.1 after) target (thread_named id) (check_passed _ _ _ none).0
+    run_by_fault (suspend_fault id target.contexts.processes) target _ _ (λ none.
+    if_thread (λ contexts. with_contexts contexts target) (λ pair. suspend_after pair.0 pair.1) (λ pair after. suspend_events pair.0 pair.1 after) target.contexts target (thread_named id) (check_passed _ _ _ none).0
     (λ pair old thread there at. suspend_told target good pair.0 pair.1 old thread there at))
+
+-- ---- the counts of hits in a process are dropped
+
+forgotten_listed : (number : ℕ) (target : TargetValue) → IsGood target → AreListed (forgotten number target.breakpoints)
+forgotten_listed number target good = steps_keep_order (forgetting number) target.breakpoints good.consistent.breakpoints
 
 -- ---- the end of a process
 
 terminate_told : (target : TargetValue) → IsGood target → (number : ℕ) (old : ProcessValue) → process_in number target ≡ Some old
-    → Tell target (with_contexts (end_after number target.contexts) target) (terminate_events target.breakpoints number target.contexts (end_after number target.contexts))
+    → Tell target (end_after number target) (terminate_events number target (end_after number target))
 terminate_told target good number old there =
     let is = number_found target number old good there in
     let count : ℕ = count_in (process_of number target.contexts.processes) in
     let same : count ≡ thread_count old = ap count_in there in
-    end_told number count target (end_after number target.contexts) terminate_code is (omega (arith, same, few_found target number old good there))
-    (λ process at. let counted : count ≡ thread_count process = ap count_in at in omega (arith, counted)) good.consistent.breakpoints.differ
-    (ended number target.contexts good.consistent.processes) (lit< {m = 0} {n = 2 ^ 63} tt)
+    end_told number count target (end_after number target) terminate_code is (omega (arith, same, few_found target number old good there))
+    (λ process at. let counted : count ≡ thread_count process = ap count_in at in omega (arith, counted))
+    (forgotten_alone number target.breakpoints) (forgotten_listed number target good) (ended number target.contexts good.consistent.processes) (lit< {m = 0} {n = 2 ^ 63} tt)
 
 pub terminate : (channel : ℕ) (id : List ℕ) (target : TargetValue) → IsGood target → Tells channel (commands.Terminate id) target
 unfolding exec_after exec_effect
 terminate channel id target good =
-    by_fault (terminate_fault id target.contexts.processes) target _ _ (λ none.
-    if_there end_after (λ number after. terminate_events target.breakpoints number target.contexts after) target (number_named id)
+    run_by_fault (terminate_fault id target.contexts.processes) target _ _ (λ none.
+    if_there end_after (λ number after. terminate_events number target after) target (number_named id)
     (holder_is_there id target.contexts.processes (check_passed _ _ _ none).0) (terminate_told target good))
 
 pub terminate_process : (channel : ℕ) (id : List ℕ) (target : TargetValue) → IsGood target → Tells channel (commands.ProcTerminate id) target
 unfolding exec_after exec_effect
 terminate_process channel id target good =
-    by_fault (process_fault id target.contexts.processes) target _ _ (λ none.
-    if_there end_after (λ number after. terminate_events target.breakpoints number target.contexts after) target (process_named id) (check_passed _ _ _ none).0 (terminate_told target good))
+    run_by_fault (process_fault id target.contexts.processes) target _ _ (λ none.
+    if_there end_after (λ number after. terminate_events number target after) target (process_named id) (check_passed _ _ _ none).0 (terminate_told target good))
 
 -- ---- start
 
 -- whatever process it is that starts: its suspension is told behind it, where its threads are suspended
 started_told : (process : ProcessValue) (contexts : TargetsValue) (target : TargetValue) → IsGood target → IsNumber target.contexts.next → IsWhole process → thread_count process ≤ 8
     → process_of target.contexts.next contexts.processes ≡ Some process → AgreeBut target.contexts.next target.contexts.processes contexts.processes
-    → Tell target (with_contexts contexts target) (start_events target.breakpoints target.contexts.next contexts)
+    → Tell target (with_contexts contexts target) (start_events target.contexts.next (with_contexts contexts target))
 started_told process contexts target good is whole few there others =
     let next = target.contexts.next in
     let now = with_contexts contexts target in
-    let statuses = statuses_told now good.consistent.breakpoints.differ in
-    subst (λ (o : Option ProcessValue). Tell target now (added_events next o ++ (all_suspended_events next o ++ statuses_in target.breakpoints contexts))) (sym there) (
+    let statuses = statuses_told now good.consistent.breakpoints in
+    subst (λ (o : Option ProcessValue). Tell target now (added_events next o ++ (all_suspended_events next o ++ statuses_in now))) (sym there) (
       record {
         limits = (process_fits next process, threads_fit next _ _ process);
         typed = tt;
         leads = came next target now process is few (record { others = others; breakpoints = refl })
             (none_found next target.contexts.processes (next_unused next target.contexts.processes good.consistent.processes)) there;
       },
-      all_append (IsTold now now) (all_suspended_events next (Some process)) (statuses_in target.breakpoints contexts) (all_suspended_so next now process is few whole there) statuses,
+      all_append (IsTold now now) (all_suspended_events next (Some process)) (statuses_in now) (all_suspended_so next now process is few whole there) statuses,
     )
 
 -- no refusal is due, so its bytes aren't refused and there is a number left
@@ -159,7 +169,7 @@ room false None false none = (refl, refl)
 
 start_of : (image : Option Image) (attach : Bool) (target : TargetValue) → IsGood target → IfSome image (λ found. AreBytes found.bytes)
     → option_map start_fault_for (refusal_for image (length target.contexts.processes) target.contexts.next) ≡ None
-    → Tell target (with_contexts (with_started attach target.contexts image) target) (start_events target.breakpoints target.contexts.next (with_started attach target.contexts image))
+    → Tell target (with_contexts (with_started attach target.contexts image) target) (start_events target.contexts.next (with_contexts (with_started attach target.contexts image) target))
 start_of None attach target good are none = absurd cc
 start_of (Some image) attach target good are none =
     let next = target.contexts.next in
@@ -177,7 +187,7 @@ pub start : (channel : ℕ) (directory file : List ℕ) (args environment : List
     → Tells channel (commands.ProcStart directory file args environment attach) target
 unfolding exec_after exec_effect
 start channel directory file args environment attach target good =
-    by_fault (start_fault file target.contexts) target _ _
+    run_by_fault (start_fault file target.contexts) target _ _
     (start_of (image_of file target.contexts.images) attach target good (found_image file target.contexts.images good.images))
 
 -- ---- attach and detach
@@ -187,26 +197,29 @@ all_changed : (change : Thread → Thread) (old new : ProcessValue) → new.thre
 all_changed change old new same = ap length same ∙ length-map old.threads change
 
 attach_told : (target : TargetValue) → IsGood target → (number : ℕ) (old : ProcessValue) → process_in number target ≡ Some old
-    → Tell target (with_contexts (attach_after number target.contexts) target) (attach_events target.breakpoints number (attach_after number target.contexts))
+    → Tell target (attach_after number target) (attach_events number (attach_after number target))
 attach_told target good number old there =
     let new = attached old in
-    let contexts = attach_after number target.contexts in
-    let now = with_contexts contexts target in
+    let now = attach_after number target in
     let becomes = changed attached number target.contexts old there in
     let is = number_found target number old good there in
     let count : thread_count new ≡ thread_count old = all_changed (with_state (Suspended suspended_text [])) old new refl in
     let few : thread_count new ≤ 8 = omega (arith, count, few_found target number old good there) in
-    subst (λ (o : Option ProcessValue). Tell target now (changed_events number o ++ (all_suspended_events number o ++ statuses_in target.breakpoints contexts))) (sym becomes.found) (
-      record { limits = threads_fit number _ _ new; typed = tt; leads = switched number target now old new is few count (stays number target contexts old new there becomes refl) },
-      all_append (IsTold now now) (all_suspended_events number (Some new)) (statuses_in target.breakpoints contexts)
-          (all_suspended_so number now new is few (attached_whole old (good.whole number old there)) becomes.found) (statuses_told now good.consistent.breakpoints.differ),
+    subst (λ (o : Option ProcessValue). Tell target now (changed_events number o ++ (all_suspended_events number o ++ statuses_in now))) (sym becomes.found) (
+      record {
+        limits = threads_fit number _ _ new;
+        typed = tt;
+        leads = switched number target now old new is few count (stays number target now old new there becomes refl (forgotten_alone number target.breakpoints));
+      },
+      all_append (IsTold now now) (all_suspended_events number (Some new)) (statuses_in now)
+          (all_suspended_so number now new is few (attached_whole old (good.whole number old there)) becomes.found) (statuses_told now (forgotten_listed number target good)),
     )
 
 pub attach : (channel : ℕ) (id : List ℕ) (target : TargetValue) → IsGood target → Tells channel (commands.ProcAttach id) target
 unfolding exec_after exec_effect
 attach channel id target good =
-    by_fault (attach_fault id target.contexts.processes) target _ _ (λ none.
-    if_there attach_after (attach_events target.breakpoints) target (process_named id) (check_passed _ _ _ none).0 (attach_told target good))
+    run_by_fault (attach_fault id target.contexts.processes) target _ _ (λ none.
+    if_there attach_after attach_events target (process_named id) (check_passed _ _ _ none).0 (attach_told target good))
 
 -- each number that passes a test
 all_passing : {A : Type 0} (P : A → Type 0) (test : A → Bool) (items : List A) → ((item : A) → test item ≡ true → P item) → AllByRecursion P (filter test items)
@@ -224,7 +237,7 @@ resumed_by number n now old new None is few there same at stood = absurd (true�
 resumed_by number n now old new (Some thread) is few there same at stood =
     let change = with_state (Running None) in
     let at_new : thread_at n new ≡ Some (change thread) = ap (numbered n) same ∙ numbered_map change n old.threads ∙ ap (option_map change) at in
-    resumed_told number n now now new new (change thread) None is few (rests number now new there) (none_changed n new) at_new refl
+    resumed_told number n now now new new (change thread) None is few (rests [] number now new there) (none_changed n new) at_new refl
 
 all_resumed_so : (number : ℕ) (now : TargetValue) (old new : ProcessValue) → IsNumber number → thread_count new ≤ 8 → process_in number now ≡ Some new
     → new.threads ≡ map (with_state (Running None)) old.threads → AllByRecursion (IsTold now now) (all_resumed_events number (Some old))
@@ -234,36 +247,38 @@ all_resumed_so number now old new is few there same =
     (all_passing (λ n. is_suspended (numbered n old.threads) ≡ true) (λ n. is_suspended (numbered n old.threads)) (numbers_to (length old.threads)) (λ n stood. stood))
 
 detach_told : (was : Option ProcessValue) (target : TargetValue) → IsGood target → (number : ℕ) (old : ProcessValue) → was ≡ Some old → process_in number target ≡ Some old
-    → Tell target (with_contexts (detach_after number target.contexts) target) (detach_events target.breakpoints was number (detach_after number target.contexts))
+    → Tell target (detach_after number target) (detach_events was number (detach_after number target))
 detach_told was target good number old before there =
     let new = detached old in
-    let contexts = detach_after number target.contexts in
-    let now = with_contexts contexts target in
+    let now = detach_after number target in
     let becomes = changed detached number target.contexts old there in
     let is = number_found target number old good there in
     let count : thread_count new ≡ thread_count old = all_changed (with_state (Running None)) old new refl in
     let few : thread_count new ≤ 8 = omega (arith, count, few_found target number old good there) in
-    subst (λ (w : Option ProcessValue). Tell target now (detach_events target.breakpoints w number contexts)) (sym before)
-    (subst (λ (o : Option ProcessValue). Tell target now (changed_events number o ++ (all_resumed_events number (Some old) ++ statuses_in target.breakpoints contexts))) (sym becomes.found) (
-      record { limits = threads_fit number _ _ new; typed = tt; leads = switched number target now old new is few count (stays number target contexts old new there becomes refl) },
-      all_append (IsTold now now) (all_resumed_events number (Some old)) (statuses_in target.breakpoints contexts)
-          (all_resumed_so number now old new is few becomes.found refl) (statuses_told now good.consistent.breakpoints.differ),
+    subst (λ (w : Option ProcessValue). Tell target now (detach_events w number now)) (sym before)
+    (subst (λ (o : Option ProcessValue). Tell target now (changed_events number o ++ (all_resumed_events number (Some old) ++ statuses_in now))) (sym becomes.found) (
+      record {
+        limits = threads_fit number _ _ new;
+        typed = tt;
+        leads = switched number target now old new is few count (stays number target now old new there becomes refl (forgotten_alone number target.breakpoints));
+      },
+      all_append (IsTold now now) (all_resumed_events number (Some old)) (statuses_in now)
+          (all_resumed_so number now old new is few becomes.found refl) (statuses_told now (forgotten_listed number target good)),
     ))
 
 -- the process that was there is the one that is named
 detach_named : (target : TargetValue) (named : Option ℕ) → IsGood target → is_none (process_at_number named target.contexts.processes) ≡ false
-    → Tell target (with_contexts (left_of detach_after named target.contexts) target)
-    (events_of (λ number. detach_events target.breakpoints (process_at_number named target.contexts.processes) number (left_of detach_after named target.contexts)) named)
+    → (let now : TargetValue = left_of detach_after named target in
+    Tell target now (events_of (λ number. detach_events (process_at_number named target.contexts.processes) number now) named))
 detach_named target None good is = absurd cc
 detach_named target (Some number) good is = by (process_of number target.contexts.processes) refl is
   where
     by : (found : Option ProcessValue) → process_of number target.contexts.processes ≡ found → is_none found ≡ false
-        → Tell target (with_contexts (detach_after number target.contexts) target)
-        (detach_events target.breakpoints (process_of number target.contexts.processes) number (detach_after number target.contexts))
+        → Tell target (detach_after number target) (detach_events (process_of number target.contexts.processes) number (detach_after number target))
     by None there some = absurd cc
     by (Some old) there some = detach_told (process_of number target.contexts.processes) target good number old there there
 
 pub detach : (channel : ℕ) (id : List ℕ) (target : TargetValue) → IsGood target → Tells channel (commands.ProcDetach id) target
 unfolding exec_after exec_effect
 detach channel id target good =
-    by_fault (detach_fault id target.contexts.processes) target _ _ (λ none. detach_named target (process_named id) good (check_passed _ _ _ none).0)
+    run_by_fault (detach_fault id target.contexts.processes) target _ _ (λ none. detach_named target (process_named id) good (check_passed _ _ _ none).0)

@@ -1,13 +1,14 @@
 -- What several commands tell: a thread stops, goes on, or ends with its process; and of the process or thread that an ID
 -- names.
 use Rattle.std.proofs.Common.{◌≡◌, ℕ, ◌≤◌, ◌<◌, ◌^◌, false, List, [], ◌∷◌, Option, Some, None, option_map, refl}
-use Rattle.std.specs.Prelude.{ℤ, bytes_eq, is_none, option_and_then}
-use Rattle.std.specs.List.{AllByRecursion, IsDistinct, flat_map}
-use Rattle.breakpoints.specs.Rows.{ids_of}
+use Rattle.std.specs.Prelude.{ℤ, is_none, option_and_then}
+use Rattle.std.specs.List.{AllByRecursion, flat_map}
+use Rattle.breakpoints.specs.Rows.{IsOrderly as AreListed}
 use Rattle.json_args.specs.Kinds.{IsWhole}
 use Rattle.list_laws.proofs.AllLists.{all_append}
 use Rattle.run_control.specs.Commands.{events_of, left_of}
-use Rattle.run_control.specs.Ending.{end_after, end_events}
+use Rattle.run_control.specs.Ending.{end_events, ended as without_process}
+use Rattle.run_control.specs.Laws.{uncounted}
 use Rattle.run_control.specs.Naming.{process_id, thread_id}
 use Rattle.run_control.specs.Telling.{all_suspended_events, stop_events, suspended_events}
 use Rattle.target_contexts.specs.Laws.{AgreeBut}
@@ -23,7 +24,7 @@ use Rattle.target_contexts.specs.declared.threads.Thread.{Thread}
 use Rattle.run_control.specs.TargetValue.{TargetValue}
 use Rattle.target_truth.specs.Holds.{process_in}
 use Rattle.target_contexts.proofs.TheLaws.{ends_one}
-use Rattle.target_truth.proofs.Becoming.{none_changed, rests, with_contexts}
+use Rattle.target_truth.proofs.Becoming.{none_changed, rests}
 use Rattle.target_truth.proofs.First.{OthersStand, StaysAttached, exited, stopped, went, went_on}
 use Rattle.target_truth.proofs.FitRun.{cpu_found}
 use Rattle.target_truth.proofs.Live.{none_found}
@@ -42,13 +43,13 @@ there_by : {P : Type 0} (found : Option ProcessValue) → is_none found ≡ fals
 there_by None is each = absurd cc
 there_by (Some process) is each = each process refl
 
-pub if_there : (after : ℕ → TargetsValue → TargetsValue) (told : ℕ → TargetsValue → List EventData) (target : TargetValue) (named : Option ℕ)
+pub if_there : (after : ℕ → TargetValue → TargetValue) (told : ℕ → TargetValue → List EventData) (target : TargetValue) (named : Option ℕ)
     → is_none (process_at_number named target.contexts.processes) ≡ false
-    → ((number : ℕ) (process : ProcessValue) → process_in number target ≡ Some process → Tell target (with_contexts (after number target.contexts) target) (told number (after number target.contexts)))
-    → Tell target (with_contexts (left_of after named target.contexts) target) (events_of (λ number. told number (left_of after named target.contexts)) named)
+    → ((number : ℕ) (process : ProcessValue) → process_in number target ≡ Some process → Tell target (after number target) (told number (after number target)))
+    → Tell target (left_of after named target) (events_of (λ number. told number (left_of after named target)) named)
 if_there after told target None is each = absurd cc
 if_there after told target (Some number) is each =
-    there_by {P = Tell target (with_contexts (after number target.contexts) target) (told number (after number target.contexts))} (process_in number target) is (each number)
+    there_by {P = Tell target (after number target) (told number (after number target))} (process_in number target) is (each number)
 
 -- so it is where a thread of it is named, or the process itself
 process_holds : (n : ℕ) (found : Option ProcessValue) → is_none (holding n found) ≡ false → is_none found ≡ false
@@ -75,19 +76,20 @@ thread_by {P = P} n (Some process) is each = by (thread_at n process) refl is
     by None there is = absurd cc
     by (Some thread) there is = each process thread refl there
 
-pub if_thread : (after : ℕ × ℕ → TargetsValue → TargetsValue) (told : ℕ × ℕ → TargetsValue → List EventData) (target : TargetValue) (named : Option (ℕ × ℕ))
+-- whatever of the target a command changes
+pub if_thread : {T : Type 0} → (whole : T → TargetValue) (after : ℕ × ℕ → T → T) (told : ℕ × ℕ → T → List EventData) (before : T) (target : TargetValue) (named : Option (ℕ × ℕ))
     → is_none (thread_at_pair named target.contexts.processes) ≡ false
     → ((pair : ℕ × ℕ) (process : ProcessValue) (thread : Thread) → process_in pair.0 target ≡ Some process → thread_at pair.1 process ≡ Some thread
-    → Tell target (with_contexts (after pair target.contexts) target) (told pair (after pair target.contexts)))
-    → Tell target (with_contexts (left_of after named target.contexts) target) (events_of (λ pair. told pair (left_of after named target.contexts)) named)
-if_thread after told target None is each = absurd cc
-if_thread after told target (Some pair) is each =
-    thread_by {P = Tell target (with_contexts (after pair target.contexts) target) (told pair (after pair target.contexts))} pair.1 (process_in pair.0 target) is (each pair)
+    → Tell target (whole (after pair before)) (told pair (after pair before)))
+    → Tell target (whole (left_of after named before)) (events_of (λ pair. told pair (left_of after named before)) named)
+if_thread whole after told before target None is each = absurd cc
+if_thread whole after told before target (Some pair) is each =
+    thread_by {P = Tell target (whole (after pair before)) (told pair (after pair before))} pair.1 (process_in pair.0 target) is (each pair)
 
 -- ---- a thread that stops or goes on
 
 pub stopped_told : (number n : ℕ) (before now : TargetValue) (old new : ProcessValue) (thread : Thread) (reason : List ℕ) (hits : List (List ℕ)) → IsNumber number → thread_count new ≤ 8
-    → thread.cpu.pc < 2 ^ 32 → StaysAttached number before now old new → OthersStand n old new → thread_at n new ≡ Some thread → thread.state ≡ Suspended reason hits
+    → thread.cpu.pc < 2 ^ 32 → StaysAttached hits number before now old new → OthersStand n old new → thread_at n new ≡ Some thread → thread.state ≡ Suspended reason hits
     → IsTold before now (events.Suspended (thread_id number n) thread.cpu.pc reason hits)
 stopped_told number n before now old new thread reason hits is few pc stays stand there suspended = record {
   limits = tt;
@@ -96,7 +98,7 @@ stopped_told number n before now old new thread reason hits is few pc stays stan
 }
 
 pub resumed_told : (number n : ℕ) (before now : TargetValue) (old new : ProcessValue) (thread : Thread) (left : Option ℕ) → IsNumber number → thread_count new ≤ 8
-    → StaysAttached number before now old new → OthersStand n old new → thread_at n new ≡ Some thread → thread.state ≡ Running left
+    → StaysAttached [] number before now old new → OthersStand n old new → thread_at n new ≡ Some thread → thread.state ≡ Running left
     → IsTold before now (events.Resumed (thread_id number n))
 resumed_told number n before now old new thread left is few stays stand there running = record {
   limits = tt;
@@ -110,7 +112,7 @@ stop_so : (number n : ℕ) (now : TargetValue) (process : ProcessValue) (thread 
     → thread.cpu.pc < 2 ^ 32 → thread_at n process ≡ Some thread → thread.state ≡ state → AllByRecursion (IsTold now now) (stop_events number n thread.cpu.pc state)
 stop_so number n now process thread (Running left) is few there pc at same = tt
 stop_so number n now process thread (Suspended reason hits) is few there pc at same =
-    (stopped_told number n now now process process thread reason hits is few pc (rests number now process there) (none_changed n process) at same, tt)
+    (stopped_told number n now now process process thread reason hits is few pc (rests hits number now process there) (none_changed n process) at same, tt)
 
 suspended_by : (number n : ℕ) (now : TargetValue) (process : ProcessValue) (found : Option Thread) → IsNumber number → thread_count process ≤ 8 → IsWholeProcess process → process_in number now ≡ Some process
     → thread_at n process ≡ found → AllByRecursion (IsTold now now) (suspended_events number n found)
@@ -138,16 +140,16 @@ pub record Ended (number : ℕ) (old new : TargetsValue) : Type 0 where
   pub gone : process_of number new.processes ≡ None
   pub others : AgreeBut number old.processes new.processes
 
-pub ended : (number : ℕ) (targets : TargetsValue) → IsOrderly targets.processes targets.next → Ended number targets (end_after number targets)
+pub ended : (number : ℕ) (targets : TargetsValue) → IsOrderly targets.processes targets.next → Ended number targets (without_process number targets)
 ended number targets orderly =
     let is = ends_one targets.processes targets.next number orderly in
-    record { gone = none_found number (end_after number targets).processes is.0; others = is.1 }
+    record { gone = none_found number (without_process number targets).processes is.0; others = is.1 }
 
-pub end_told : (number count : ℕ) (target : TargetValue) (contexts : TargetsValue) (code : ℤ) → IsNumber number → count ≤ 8
-    → ((process : ProcessValue) → process_in number target ≡ Some process → thread_count process ≤ count) → IsDistinct bytes_eq (ids_of target.breakpoints)
-    → Ended number target.contexts contexts → IsWhole code → Tell target (with_contexts contexts target) (end_events target.breakpoints number count code contexts)
-end_told number count target contexts code is few most distinct ended whole =
-    let now = with_contexts contexts target in (
-      record { limits = tt; typed = tt; leads = went number count target now is few most (record { others = ended.others; breakpoints = refl }) ended.gone },
-      (record { limits = whole; typed = tt; leads = exited now (process_id number) code }, statuses_told now distinct),
-    )
+-- the target then has the same breakpoints, maybe with other counts
+pub end_told : (number count : ℕ) (target now : TargetValue) (code : ℤ) → IsNumber number → count ≤ 8
+    → ((process : ProcessValue) → process_in number target ≡ Some process → thread_count process ≤ count) → uncounted now.breakpoints ≡ uncounted target.breakpoints → AreListed now.breakpoints
+    → Ended number target.contexts now.contexts → IsWhole code → Tell target now (end_events number count code now)
+end_told number count target now code is few most same orderly ended whole = (
+  record { limits = tt; typed = tt; leads = went number count target now is few most (record { others = ended.others; breakpoints = same }) ended.gone },
+  (record { limits = whole; typed = tt; leads = exited now (process_id number) code }, statuses_told now orderly),
+)

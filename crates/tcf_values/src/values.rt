@@ -56,6 +56,8 @@ pub struct BpProps {
     pub location: Option<Text>,
     /// The IDs of the contexts that it is for; all of them where it is absent.
     pub contexts: Option<Texts>,
+    /// How many hits pass before one stops a thread; none where it is absent.
+    pub ignore: Option<u32>,
 }
 
 /// Where a breakpoint stands in a process: its address, or why it has none.
@@ -71,6 +73,8 @@ pub struct Instance {
     /// The ID of the process.
     pub context: Text,
     pub place: Place,
+    /// How often it was hit there; 0 where it has no address.
+    pub count: u32,
 }
 
 /// The instances of a breakpoint.
@@ -162,6 +166,7 @@ impl Duplicate for BpProps {
             enabled: self.enabled,
             location: copy_of(&self.location)?,
             contexts: copy_of(&self.contexts)?,
+            ignore: self.ignore,
         })
     }
 }
@@ -180,6 +185,7 @@ impl Duplicate for Instance {
         Ok(Instance {
             context: self.context.copy()?,
             place: self.place.copy()?,
+            count: self.count,
         })
     }
 }

@@ -5,7 +5,7 @@ ghost use Rattle.tcf_values.specs.declared.values.RunState.{RunState};
 ghost use Rattle.knowledge.specs.Changes.{of_each, statuses_gone};
 ghost use Rattle.knowledge.specs.KnowledgeValue.{IsAfter};
 ghost use Rattle.knowledge.specs.Learning.{only_drops};
-ghost use Rattle.knowledge.specs.Rows.{added_context, added_contexts, begun, begun_for, changed_context, changed_range, changed_register, event_changes, joined, joined_for, memory_changes, moved_for, removed_context, removed_properties, stale, state_changes, told_properties, unlisted_for, unsettled, unsettled_for};
+ghost use Rattle.knowledge.specs.Rows.{added_context, added_contexts, begun, begun_for, changed_context, changed_range, changed_register, event_changes, hit_breakpoint, joined, joined_for, memory_changes, moved_for, removed_context, removed_properties, stale, state_changes, told_properties, unlisted_for, unsettled, unsettled_for};
 
 use crate::knowledge::Knowledge;
 use crate::span::span_of;
@@ -182,7 +182,8 @@ impl Knowledge {
         }
     }
 
-    fn suspended(
+    /// Tells that a context stands still, and drops what it has changed.
+    fn stop_context(
         &mut self,
         id: &[u8],
         pc: u32,
@@ -203,6 +204,28 @@ impl Knowledge {
             }
             None => Ok(()),
         }
+    }
+
+    /// Drops the statuses of the breakpoints that are hit.
+    fn drop_hits(&mut self, hits: &[Text])
+        ensures { IsAfter (of_each hit_breakpoint hits.now) self.old self.new }
+    {
+        for id in hits {
+            self.drop_status(id.as_bytes());
+        }
+    }
+
+    fn suspended(
+        &mut self,
+        id: &[u8],
+        pc: u32,
+        reason: &Text,
+        hits: &Texts,
+    ) -> Result<(), AllocError>
+        ensures { OnOk result (IsAfter (of_each hit_breakpoint hits.now ++ moved_for (context_of id.now) (RunState.Suspended pc reason.now hits.now)) self.old self.new) }
+    {
+        self.drop_hits(hits.as_slice());
+        self.stop_context(id, pc, reason, hits)
     }
 
     fn resumed(&mut self, id: &[u8]) -> Result<(), AllocError>

@@ -1,14 +1,16 @@
 -- Contexts, states and breakpoints: what is answered of them is what the target answers.
 use Rattle.std.proofs.Common.{◌≡◌, ℕ, List, [], ◌∷◌, Option, Some, None, is_none, option_map, option_and_then, refl, sym, ◌∙◌, ap}
 use Rattle.std.proofs.lemmas.Option.{none-some, same_Some}
-use Rattle.breakpoints.specs.Rows.{props_of}
-use Rattle.breakpoints.specs.Status.{instances_of, status_of}
+use Rattle.breakpoints.specs.Rows.{props_of, row_of}
+use Rattle.breakpoints.specs.Status.{status_of}
+use Rattle.breakpoints.specs.declared.rows.Placed.{Placed}
 use Rattle.data_services.specs.Parts.{number_in}
 use Rattle.knowledge.specs.Facts.{Facts, context_is, properties_are, register_is, state_is, status_is}
 use Rattle.knowledge.specs.Reply.{context_reply, context_state_reply, properties_reply, state_reply, status_reply, thread_reply}
 use Rattle.knowledge.specs.declared.state.StateFact.{StateFact}
 use Rattle.knowledge.specs.declared.state.StateFact.TheVariants as told
 use Rattle.run_control.specs.Asking.{context_answer, run_state, state_answer}
+use Rattle.target_truth.proofs.Differs.{status_by}
 use Rattle.target_truth.proofs.Stored.Found.{mapped}
 use Rattle.target_contexts.specs.Named.{attached_in, thread_at_pair, thread_for}
 use Rattle.target_contexts.specs.declared.threads.Thread.{Thread}
@@ -28,7 +30,6 @@ use Rattle.tcf_values.specs.declared.faults.Fault.{Fault}
 use Rattle.tcf_values.specs.declared.faults.Fault.TheVariants as faults
 use Rattle.tcf_values.specs.declared.ids.ContextId.{ContextId}
 use Rattle.tcf_values.specs.declared.ids.ContextId.TheVariants as ids
-use Rattle.tcf_values.specs.declared.values.BpProps.{BpProps}
 use Rattle.tcf_values.specs.declared.values.BpStatus.{BpStatus}
 use Rattle.tcf_values.specs.declared.values.RunState.TheVariants as run
 
@@ -102,13 +103,14 @@ properties_alike channel id target known answer holds is =
     let there : props_of id target.breakpoints ≡ Some found.0 = holds.facts (properties_are id found.0) found.1 in
     sym found.2 ∙ ap (checked faults.Other props_answer) (sym there)
 
-abbrev status_in : List ℕ → BpProps → BpStatus
-status_in attached props = record { instances = instances_of props attached }
+-- that of a breakpoint, whose properties are looked for first
+abbrev status_reply_by : List ℕ → Option Placed → Answer
+status_reply_by attached found =
+    (effect_by (first_fault ((is_none (option_map (λ (row : Placed). row.props) found), faults.Other) ∷ [])) (gives (status_answer (status_by attached found)))).answer
 
-status_found : (attached : List ℕ) (found : Option BpProps) (status : BpStatus) → option_map (status_in attached) found ≡ Some status
-    → answers.Status status ≡ checked faults.Other (λ props. status_answer (option_map (status_in attached) props)) found
+status_found : (attached : List ℕ) (found : Option Placed) (status : BpStatus) → status_by attached found ≡ Some status → answers.Status status ≡ status_reply_by attached found
 status_found attached None status is = absurd (none-some status is)
-status_found attached (Some props) status is = sym (ap status_answer is)
+status_found attached (Some row) status is = sym (ap status_answer is)
 
 pub status_alike : (channel : ℕ) (id : List ℕ) (target : TargetValue) (known : Facts) (answer : Answer) → Holds known target → status_reply id known ≡ Some answer
     → answer ≡ (exec_effect channel (commands.BpGetStatus id) target).answer
@@ -117,4 +119,4 @@ status_alike channel id target known answer holds is =
     let attached = attached_in target.contexts.processes in
     let found = mapped answers.Status (known.statuses id) answer is in
     let there : status_of id attached target.breakpoints ≡ Some found.0 = holds.facts (status_is id found.0) found.1 in
-    sym found.2 ∙ status_found attached (props_of id target.breakpoints) found.0 there
+    sym found.2 ∙ status_found attached (row_of id target.breakpoints) found.0 there

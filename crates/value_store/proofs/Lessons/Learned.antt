@@ -10,7 +10,7 @@ use Rattle.json_values.specs.Statuses.{IsStatus}
 use Rattle.knowledge.specs.Changes.{Change, all_gone, context_told, context_gone, threads_told, thread_joined, threads_gone, threads_stale, state_told, state_gone, register_read, register_gone, thread_registers_gone, registers_gone, bytes_read, bytes_gone, range_gone, properties_told, properties_gone, status_told, status_gone, statuses_gone, after, after_all, at_register, has_byte, is_byte, is_still, of_each}
 use Rattle.knowledge.specs.Facts.{Facts, is_suspended, nothing}
 use Rattle.knowledge.specs.Learning.{Message, event_taken, bad_event_taken, answer_taken, other_taken, changes_of, learn, learn_all}
-use Rattle.knowledge.specs.Rows.{added_context, answer_changes, are_of_range, begun, begun_for, changed_context, changed_range, changed_register, event_changes, is_outside, is_part, is_thread_of, joined, joined_for, memory_changes, memory_read, moved_for, parts_read, process_for, removed_context, removed_properties, stale_for, state_changes, state_of_thread, threads_listed, told_properties, unlisted_for, unsettled, unsettled_for, whole_read, word_read}
+use Rattle.knowledge.specs.Rows.{added_context, answer_changes, are_of_range, begun, begun_for, changed_context, changed_range, changed_register, event_changes, hit_breakpoint, is_outside, is_part, is_thread_of, joined, joined_for, memory_changes, memory_read, moved_for, parts_read, process_for, removed_context, removed_properties, stale_for, state_changes, state_of_thread, threads_listed, told_properties, unlisted_for, unsettled, unsettled_for, whole_read, word_read}
 use Rattle.knowledge.specs.declared.state.StateFact.{StateFact}
 use Rattle.value_store.specs.Taken.{AreTaken}
 use Rattle.value_store.proofs.Lessons.Messages.{IsSoundMessage, taken_so}
@@ -243,7 +243,8 @@ event_fine (EventData.CtxAdded list) fine =
 event_fine (EventData.CtxChanged list) fine =
     all_append IsFine _ _ (contexts_fine changed_context list (λ context is. (is, stale_fine (context_of context.id))) fine) (tt, tt)
 event_fine (EventData.CtxRemoved list) fine = all_append IsFine _ _ (each_fine removed_context list removed_fine) (tt, tt)
-event_fine (EventData.Suspended id pc reason hits) fine = moved_fine (context_of id) (run.Suspended pc reason hits) fine
+event_fine (EventData.Suspended id pc reason hits) fine =
+    all_append IsFine (of_each hit_breakpoint hits) _ (each_fine hit_breakpoint hits (λ hit. (tt, tt))) (moved_fine (context_of id) (run.Suspended pc reason hits) fine)
 event_fine (EventData.Resumed id) fine = moved_fine (context_of id) run.Running tt
 event_fine (EventData.BpStatusIs id status) fine = (fine, tt)
 event_fine (EventData.BpAdded list) fine = properties_fine list fine

@@ -1,5 +1,5 @@
 -- What is read of an answer and of an event is within the limits of its kind and of its types.
-use Rattle.std.proofs.Common.{ℕ, ◌<◌, ◌^◌, nat_lt, Bool, true, false, cond, List, [], ◌∷◌, length, Option, Some, None, option_map, arith}
+use Rattle.std.proofs.Common.{ℕ, ◌<◌, ◌^◌, nat_lt, Bool, true, false, cond, List, [], ◌∷◌, length, Option, Some, None, option_map, refl, arith}
 use Rattle.std.proofs.lemmas.Bool.{ltb-true}
 use Rattle.std.specs.List.{AllByRecursion}
 use Rattle.std.specs.Prelude.{IfSome, option_and_then, unwrap_or, ◌==◌, codes}
@@ -16,7 +16,7 @@ use Rattle.json_values.specs.Processes.{process_in}
 use Rattle.json_values.specs.Props.{bp_from, bp_in, is_bp}
 use Rattle.json_values.specs.Ranges.{range_in}
 use Rattle.json_values.specs.States.{hits_in}
-use Rattle.json_values.specs.Statuses.{IsInstance, IsPlace, IsStatus, instance_in, instances_in, place_by, place_in, status_in}
+use Rattle.json_values.specs.Statuses.{IsCount, IsInstance, IsPlace, IsStatus, count_by, instance_in, instances_in, place_by, place_in, status_in}
 use Rattle.json_values.specs.Words.{fitting, is_object, word_in}
 use Rattle.reply_tables.specs.Answers.{answer_in, answer_of, answer_read, error_in, in_parts, result_in, state_by, state_in, suspended_in, unless_failed}
 use Rattle.reply_tables.specs.Events.{event_in}
@@ -36,6 +36,7 @@ use Rattle.tcf_values.specs.declared.command.Command.{Command}
 use Rattle.tcf_values.specs.declared.errors.ErrorReport.{ErrorReport}
 use Rattle.tcf_values.specs.declared.event.EventData.{EventData}
 use Rattle.tcf_values.specs.declared.values.BpProps.{BpProps}
+use Rattle.tcf_values.specs.declared.values.Place.{Place}
 use Rattle.tcf_values.specs.declared.values.Place.TheVariants.{Address, Error}
 use Rattle.cache_learning.proofs.Limits.{IsBp}
 
@@ -90,24 +91,30 @@ context_so d =
     then_any IsContext _ (or_else [] as_str (member_of (codes "ProcessID") d)) (λ process.
     map_any IsContext _ (optional as_str (member_of (codes "Name") d)) (λ name. so)))))
 
-bp_from_so : (id : List ℕ) (enabled : Option Bool) (location : Option (Option (List ℕ))) (contexts : Option (Option (List (List ℕ)))) → IfSome (bp_from id enabled location contexts) IsBp
-bp_from_so id enabled location contexts =
-    then_any IsBp _ enabled (λ e. then_any IsBp _ location (λ l. then_any IsBp _ contexts (λ c.
-    let props : BpProps = record { id = id; enabled = e; location = l; contexts = c } in
-    where_so IsBp (is_bp props) (Some props) (λ is. is))))
+bp_from_so : (id : List ℕ) (enabled : Option Bool) (location : Option (Option (List ℕ))) (contexts : Option (Option (List (List ℕ)))) (ignore : Option (Option ℕ))
+    → IfSome (bp_from id enabled location contexts ignore) IsBp
+bp_from_so id enabled location contexts ignore =
+    then_any IsBp _ enabled (λ e. then_any IsBp _ location (λ l. then_any IsBp _ contexts (λ c. then_any IsBp _ ignore (λ i.
+    let props : BpProps = record { id = id; enabled = e; location = l; contexts = c; ignore = i } in
+    where_so IsBp (is_bp props) (Some props) (λ is. is)))))
 
 bp_so : (d : Data) → IfSome (bp_in d) IsBp
-bp_so d = then_any IsBp _ (option_and_then as_str (member_of (codes "ID") d)) (λ id. bp_from_so id _ _ _)
+bp_so d = then_any IsBp _ (option_and_then as_str (member_of (codes "ID") d)) (λ id. bp_from_so id _ _ _ _)
 
 place_by_so : (error address : Option Data) → IfSome (place_by error address) IsPlace
 place_by_so (Some error) address = map_any IsPlace Error (as_str error) (λ text. tt)
 place_by_so None (Some address) = map_so IsWord IsPlace Address (word_in address) (word_so address) (λ n so. so)
 place_by_so None None = tt
 
+count_by_so : (found : Option Data) (place : Place) → IfSome (count_by found place) (IsCount place)
+count_by_so found (Address address) = else_so IsWord 0 word_in found (omega arith) word_so
+count_by_so found (Error error) = refl
+
 instance_so : (d : Data) → IfSome (instance_in d) IsInstance
 instance_so d =
-    then_so IsPlace IsInstance _ (place_in d) (place_by_so (member_of (codes "Error") d) (member_of (codes "Address") d))
-    (λ place so. map_any IsInstance _ (or_else [] as_str (member_of (codes "LocationContext") d)) (λ context. so))
+    then_so IsPlace IsInstance _ (place_in d) (place_by_so (member_of (codes "Error") d) (member_of (codes "Address") d)) (λ place so.
+    then_so (IsCount place) IsInstance _ (count_by (member_of (codes "HitCount") d) place) (count_by_so (member_of (codes "HitCount") d) place) (λ count few.
+    map_any IsInstance _ (or_else [] as_str (member_of (codes "LocationContext") d)) (λ context. (so, few))))
 
 status_so : (d : Data) → IfSome (status_in d) IsStatus
 status_so d =

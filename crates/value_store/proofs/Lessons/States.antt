@@ -6,7 +6,7 @@ use Rattle.std.proofs.lemmas.Bool.{and_parts, eqb-true}
 use Rattle.knowledge.specs.Changes.{Change, all_gone, context_told, context_gone, threads_told, thread_joined, threads_gone, threads_stale, state_told, state_gone, register_read, register_gone, thread_registers_gone, registers_gone, bytes_read, bytes_gone, range_gone, properties_told, properties_gone, status_told, status_gone, statuses_gone, after, after_all, at_register, of_each}
 use Rattle.knowledge.specs.Facts.{Facts, is_suspended, nothing, register_is, state_is}
 use Rattle.knowledge.specs.Learning.{Message, event_taken, bad_event_taken, answer_taken, other_taken, learn, learn_all}
-use Rattle.knowledge.specs.Rows.{added_context, answer_changes, are_of_range, begun, begun_for, changed_context, changed_range, changed_register, event_changes, is_outside, is_part, is_thread_of, joined, joined_for, memory_changes, memory_read, moved_for, parts_read, process_for, removed_context, removed_properties, stale_for, state_changes, state_of_thread, threads_listed, told_properties, unlisted_for, unsettled, unsettled_for, whole_read, word_read}
+use Rattle.knowledge.specs.Rows.{added_context, answer_changes, are_of_range, begun, begun_for, changed_context, changed_range, changed_register, event_changes, hit_breakpoint, is_outside, is_part, is_thread_of, joined, joined_for, memory_changes, memory_read, moved_for, parts_read, process_for, removed_context, removed_properties, stale_for, state_changes, state_of_thread, threads_listed, told_properties, unlisted_for, unsettled, unsettled_for, whole_read, word_read}
 use Rattle.knowledge.specs.declared.state.StateFact.{StateFact}
 use Rattle.value_store.specs.Laws.{HaveStates, LearnedHaveStates, PartsAreGrounded, StatesStay}
 use Rattle.tcf_values.specs.Ids.{context_of, register_of}
@@ -197,7 +197,10 @@ event_keep (EventData.CtxChanged list) =
 event_keep (EventData.CtxRemoved list) =
     keep_both (of_each removed_context list) (statuses_gone ∷ [])
     (keep_each removed_context removed_keep list) (keep_all (statuses_gone ∷ []) (tt, tt))
-event_keep (EventData.Suspended id pc reason hits) = keep_all (moved_for (context_of id) (run.Suspended pc reason hits)) (moved_keep (context_of id) (run.Suspended pc reason hits))
+event_keep (EventData.Suspended id pc reason hits) =
+    keep_both (of_each hit_breakpoint hits) (moved_for (context_of id) (run.Suspended pc reason hits))
+    (keep_all (of_each hit_breakpoint hits) (each_keeps hit_breakpoint (λ hit. (tt, tt)) hits))
+    (keep_all (moved_for (context_of id) (run.Suspended pc reason hits)) (moved_keep (context_of id) (run.Suspended pc reason hits)))
 event_keep (EventData.Resumed id) = keep_all (moved_for (context_of id) run.Running) (moved_keep (context_of id) run.Running)
 event_keep (EventData.BpStatusIs id status) = keep_all (status_told id status ∷ []) (tt, tt)
 event_keep (EventData.BpAdded list) = keep_all (of_each told_properties list) (each_keeps told_properties (λ properties. (tt, (tt, tt))) list)

@@ -1,11 +1,9 @@
-use Rattle.std.proofs.Common.{◌≡◌, refl, sym, ap, ◌∙◌}
-use Rattle.std.proofs.lemmas.Result.{IfOk-weaker}
+use Rattle.std.proofs.Common.{refl, sym, ap}
 use Rattle.rv32i_core.specs.Machine.{ends, excepts}
 use Rattle.rv32i_core.specs.PageKind.{MemoryValue}
 use Rattle.target_contexts.specs.KeptProcess.{KeptProcess}
 use Rattle.target_contexts.specs.ProcessValue.{ProcessValue}
-use Rattle.run_control.specs.Executing.{stepped}
-use Rattle.run_control.proofs.Executed.{spawn_executed, spawn_stepped, stays_stepped}
+use Rattle.run_control.proofs.Executed.{spawn_halted, spawn_stepped, stays_stepped}
 use Rattle.run_control.proofs.executing.execute_one.Goals as goal
 
 -- an exit leaves all as it was
@@ -25,18 +23,15 @@ returns-in-Exception-clause-after c =
     c.in-Exception.ensures.step (c.in-Exception.ensures.cpu_kept (λ same. cc)) (ap (λ (m : MemoryValue). m.bytes) (c.in-Exception.ensures.memory_kept (λ same. cc))) refl
 
 -- a thread that is asked for begins, where it can
-after_spawn : (c : goal.After-tested) → c.spawn.new.process.seen ≡ stepped c.args.n c.args.process.now.seen
-after_spawn c =
+pub returns-in_ok-spawn-in-Spawn-clause-executed : goal.returns-in_ok-spawn-in-Spawn-clause-executed
+returns-in_ok-spawn-in-Spawn-clause-executed c =
+    let p : ProcessValue = record { name = c.process.inside.name; attached = c.process.inside.attached; threads = c.process.inside.threads; memory = c.process.inside.memory.bytes } in
+    spawn_halted c.args.n c.in-Spawn.entry c.in-Spawn.argument p c.args.process.now.seen c.in-Some.thread.now c.ready.new.self.bytes
+    (sym c.in-Some.ensures.value) c.in_ok-ready.ensures.bytes (ap (λ (k : KeptProcess). k.seen) c.process.view_is) c.in-Spawn.ensures.step
+
+pub returns-in_ok-spawn-in-Spawn-clause-after : goal.returns-in_ok-spawn-in-Spawn-clause-after
+returns-in_ok-spawn-in-Spawn-clause-after c =
     let p : ProcessValue = record { name = c.process.inside.name; attached = c.process.inside.attached; threads = c.process.inside.threads; memory = c.process.inside.memory.bytes } in
     spawn_stepped c.args.n c.in-Spawn.entry c.in-Spawn.argument p c.args.process.now.seen c.spawn.new.process.seen c.in-Some.thread.now c.execute.new.cpu c.ready.new.self.bytes c.execute.new.memory.bytes
     (sym c.in-Some.ensures.value) c.in_ok-ready.ensures.bytes (ap (λ (k : KeptProcess). k.seen) c.process.view_is)
     c.in-Spawn.ensures.step (c.in-Spawn.ensures.cpu_kept (λ same. cc)) (ap (λ (m : MemoryValue). m.bytes) (c.in-Spawn.ensures.memory_kept (λ same. cc))) c.in_ok-spawn-in-Spawn.ensures
-
-pub returns-in_ok-spawn-in-Spawn-clause-executed : goal.returns-in_ok-spawn-in-Spawn-clause-executed
-returns-in_ok-spawn-in-Spawn-clause-executed c =
-    let p : ProcessValue = record { name = c.process.inside.name; attached = c.process.inside.attached; threads = c.process.inside.threads; memory = c.process.inside.memory.bytes } in
-    IfOk-weaker c.tested.result _ _ (λ executed is. is ∙ spawn_executed c.args.bps.now c.args.number c.args.n c.in-Spawn.entry c.in-Spawn.argument p c.args.process.now.seen c.spawn.new.process.seen c.in-Some.thread.now c.ready.new.self.bytes
-    (sym c.in-Some.ensures.value) c.in_ok-ready.ensures.bytes (ap (λ (k : KeptProcess). k.seen) c.process.view_is) c.in-Spawn.ensures.step (after_spawn c)) c.tested.ensures
-
-pub returns-in_ok-spawn-in-Spawn-clause-after : goal.returns-in_ok-spawn-in-Spawn-clause-after
-returns-in_ok-spawn-in-Spawn-clause-after c = IfOk-weaker c.tested.result _ _ (λ executed is. after_spawn c) c.tested.ensures

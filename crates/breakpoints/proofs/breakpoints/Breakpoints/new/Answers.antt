@@ -6,7 +6,7 @@ use Rattle.breakpoints.proofs.breakpoints.Breakpoints.new.Goals as goal
 
 none_kept : IsKept []
 unfolding IsDistinct
-none_kept = record { keyed = tt; orderly = record { differ = tt; few = omega arith } }
+none_kept = record { keyed = tt; orderly = record { differ = tt; few = omega arith; counted = tt } }
 
 -- a map without entries
 pub invariant_of-result : goal.invariant_of-result

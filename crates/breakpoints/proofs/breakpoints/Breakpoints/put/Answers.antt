@@ -1,12 +1,14 @@
-use Rattle.std.proofs.Common.{◌≡◌, ◌++◌, List, not, filter, sym, ap, ◌∙◌}
+use Rattle.std.proofs.Common.{◌≡◌, ◌++◌, List, not, filter, sym, ap, subst, ◌∙◌}
+use Rattle.std.specs.List.{AllByRecursion}
 use Rattle.std.specs.Map.{values_of}
 use Rattle.std.proofs.lemmas.Bool.{cond-false}
 use Rattle.breakpoints.specs.Placed.{Placed}
 use Rattle.breakpoints.specs.Changes.{clashes}
+use Rattle.breakpoints.specs.Counts.{AreCounts}
 use Rattle.breakpoints.specs.Rows.{rows_for}
 use Rattle.breakpoints.specs.Selecting.{selects, unselected}
-use Rattle.breakpoints.proofs.Filtered.{keyed_filter, values-filter}
-use Rattle.breakpoints.proofs.Indexing.{indexed_from}
+use Rattle.breakpoints.proofs.Filtered.{kept_filter, keyed_filter, values-filter}
+use Rattle.breakpoints.proofs.Indexing.{indexed_from, kept_of}
 use Rattle.breakpoints.proofs.Fresh.{a_place, apart_from, kept_append, values_append}
 use Rattle.breakpoints.proofs.breakpoints.Breakpoints.put.Goals as goal
 
@@ -32,10 +34,12 @@ invariant_of-self-2 c =
     let left : values_of (filter (λ e. not (selects c.args.leaving e.1)) c.self.inside.map.entries) ≡ rest =
     values-filter (λ row. not (selects c.args.leaving row)) c.self.inside.map.entries ∙ ap (unselected c.args.leaving) c.self.view_is in
     let place = a_place c.args.list.now rest (sym c.has_no_place.ensures ∙ c.if-has_no_place.false) in
+    let kept = kept_filter (λ row. not (selects c.args.leaving row)) c.self.inside.map.entries (kept_of _ _ c.self.invariant) in
+    let were : AllByRecursion (λ row. AreCounts row.counts) rest = subst (AllByRecursion (λ row. AreCounts row.counts)) left kept.orderly.counted in
     indexed_from c.replace.new.rows.entries c.add_list.new.index (rest ++ rows_for c.args.channel c.args.list.now)
     (kept_append c.args.channel (filter (λ e. not (selects c.args.leaving e.1)) c.self.inside.map.entries) c.in_ok-fresh.fresh.entries c.replace.new.rows.entries c.args.list.now rest
     c.in_ok-replace.ensures.entries left c.in_ok-fresh.ensures.rows
-    (keyed_filter _ c.self.inside.map.entries c.self.invariant.keyed) c.in_ok-fresh.ensures.keyed c.in_ok-replace.ensures.unique place.room)
+    (keyed_filter _ c.self.inside.map.entries c.self.invariant.keyed) c.in_ok-fresh.ensures.keyed c.in_ok-replace.ensures.unique place.room were)
     (values_append c.args.channel (filter (λ e. not (selects c.args.leaving e.1)) c.self.inside.map.entries) c.in_ok-fresh.fresh.entries c.replace.new.rows.entries c.args.list.now rest
     c.in_ok-replace.ensures.entries left c.in_ok-fresh.ensures.rows)
     (c.in_ok-add_list.ensures c.args.channel rest c.in_ok-index.ensures)

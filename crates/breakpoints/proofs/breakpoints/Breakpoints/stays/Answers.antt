@@ -1,10 +1,10 @@
 use Rattle.std.proofs.Common.{◌≡◌, List, Some, not, sym, ap, ◌∙◌}
 use Rattle.std.specs.Map.{values_of}
 use Rattle.breakpoints.specs.Placed.{Placed}
-use Rattle.breakpoints.specs.Rows.{is_there}
+use Rattle.breakpoints.specs.Rows.{is_there, row_of}
 use Rattle.breakpoints.specs.Selecting.{selects, unselected}
 use Rattle.breakpoints.proofs.Filtered.{none_stays, one_stays}
-use Rattle.breakpoints.proofs.Lookup.{lookup_row, none_found, row_of}
+use Rattle.breakpoints.proofs.Lookup.{lookup_row, none_found}
 use Rattle.breakpoints.proofs.breakpoints.Breakpoints.stays.Goals as goal
 
 -- the one breakpoint of the ID is left where it isn't chosen

@@ -1,4 +1,4 @@
-use Rattle.std.proofs.Common.{◌≡◌, ap, ◌∙◌}
+use Rattle.std.proofs.Common.{ap, ◌∙◌}
 use Rattle.block_store.specs.Store.{covered}
 use Rattle.knowledge.specs.KnowledgeValue.{KnowledgeValue}
 use Rattle.knowledge.proofs.Blocks.{read_known}

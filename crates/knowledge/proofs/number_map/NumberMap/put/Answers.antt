@@ -1,4 +1,4 @@
-use Rattle.std.proofs.Common.{◌≡◌, nat_eq, cond, Some, ap, ◌∙◌}
+use Rattle.std.proofs.Common.{nat_eq, cond, Some, ap, ◌∙◌}
 use Rattle.knowledge.specs.Keyed.{of_number}
 use Rattle.knowledge.proofs.number_map.NumberMap.put.Goals as goal
 

@@ -1,4 +1,4 @@
-use Rattle.std.proofs.Common.{◌≡◌, bytes_eq, cond, None, ap, ◌∙◌}
+use Rattle.std.proofs.Common.{bytes_eq, cond, None, ap, ◌∙◌}
 use Rattle.knowledge.specs.Keyed.{under}
 use Rattle.knowledge.proofs.Keys.{text_written}
 use Rattle.knowledge.proofs.text_map.TextMap.drop_at.Goals as goal

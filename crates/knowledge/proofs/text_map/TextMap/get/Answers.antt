@@ -1,4 +1,4 @@
-use Rattle.std.proofs.Common.{◌≡◌, sym, ap, ◌∙◌}
+use Rattle.std.proofs.Common.{sym, ap, ◌∙◌}
 use Rattle.knowledge.specs.Keyed.{under}
 use Rattle.knowledge.proofs.Keys.{lookup_rows}
 use Rattle.knowledge.proofs.text_map.TextMap.get.Goals as goal

@@ -1,4 +1,4 @@
-use Rattle.std.proofs.Common.{◌≡◌, ℕ, bytes_eq, cond, List, Some, ap, subst, ◌∙◌}
+use Rattle.std.proofs.Common.{ℕ, bytes_eq, cond, List, Some, ap, subst, ◌∙◌}
 use Rattle.std.specs.HashMap.{UpdatesBy}
 use Rattle.knowledge.specs.Keyed.{under}
 use Rattle.knowledge.proofs.Keys.{text_written}

@@ -1,4 +1,4 @@
-use Rattle.std.proofs.Common.{◌≡◌, nat_eq, cond, None, ap, ◌∙◌}
+use Rattle.std.proofs.Common.{nat_eq, cond, None, ap, ◌∙◌}
 use Rattle.knowledge.specs.Keyed.{of_thread}
 use Rattle.knowledge.proofs.Keys.{process_gone}
 use Rattle.knowledge.proofs.thread_map.ThreadMap.drop_process.Goals as goal

@@ -1,4 +1,4 @@
-use Rattle.std.proofs.Common.{◌≡◌, Some, ap, sym, ◌∙◌}
+use Rattle.std.proofs.Common.{Some, ap, sym, ◌∙◌}
 use Rattle.knowledge.specs.Keyed.{of_number}
 use Rattle.knowledge.proofs.thread_map.ThreadMap.is_empty_at.Goals as goal
 

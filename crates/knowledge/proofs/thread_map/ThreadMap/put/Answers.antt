@@ -1,4 +1,4 @@
-use Rattle.std.proofs.Common.{◌≡◌, nat_eq, ◌&&◌, cond, [], Some, None, is_some, ap, sym, ◌∙◌}
+use Rattle.std.proofs.Common.{nat_eq, ◌&&◌, cond, [], Some, is_some, ap, sym, ◌∙◌}
 use Rattle.std.specs.Prelude.{option_and_then}
 use Rattle.knowledge.specs.Keyed.{of_number, of_thread}
 use Rattle.knowledge.proofs.Keys.{no_process, within_process}

@@ -1,4 +1,4 @@
-use Rattle.std.proofs.Common.{◌≡◌, nat_eq, ◌&&◌, cond, None, is_some, ap, sym, ◌∙◌}
+use Rattle.std.proofs.Common.{nat_eq, ◌&&◌, cond, None, is_some, ap, sym, ◌∙◌}
 use Rattle.std.specs.Prelude.{option_and_then}
 use Rattle.knowledge.specs.Keyed.{of_number, of_thread}
 use Rattle.knowledge.proofs.Keys.{none_within, within_process}

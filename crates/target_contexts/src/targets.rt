@@ -418,6 +418,3 @@ fn add_if_suspended(numbers: &mut Vec<u32>, n: u32, threads: &Threads) -> Result
         _ => Ok(()),
     }
 }
-
-#[cfg(test)]
-mod tests;

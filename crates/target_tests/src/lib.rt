@@ -1,18 +1,8 @@
-//! Tests that show of values, of the target and of what a peer keeps what no clause says. Most cases are rows of the
-//! program `service_rows`.
+//! Tests of what the target lends: pages that are shared, and breakpoints by their address. What it answers and tells is
+//! tried by the rows of the program `service_rows`.
 #![tactic(auto)]
 
-#[cfg(test)]
-mod blocks;
-#[cfg(test)]
-mod data;
-#[cfg(test)]
-mod hub;
 #[cfg(test)]
 mod pages;
 #[cfg(test)]
 mod points;
-#[cfg(test)]
-mod processes;
-#[cfg(test)]
-mod values;

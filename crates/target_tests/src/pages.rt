@@ -1,7 +1,6 @@
-//! That processes of one image share its pages until one of them writes, and that a word across a page's end is whole.
+//! That processes of one image share its pages until one of them writes.
 use data_services::apply;
-use rv32i_core::{Cpu, Memory, Outcome, execute, pages};
-use std::alloc::{AllocError, Global};
+use std::alloc::Global;
 use std::test::Fail;
 use target_contexts::{Image, Targets};
 use tcf_values::{Bytes, Command, Text};
@@ -68,30 +67,5 @@ fn a_page_is_shared_until_it_is_written(rt: HostRuntime) -> Result<(), Fail> {
             "P{process}"
         );
     }
-    Ok(())
-}
-
-/// What a store of x1 at 254 leaves in the four bytes from there on.
-fn stored(alloc: Global, memory: &mut Memory) -> Result<[Option<u8>; 4], AllocError> {
-    let mut cpu = Cpu { pc: 0, x: [0; 32] };
-    cpu.x[1] = 0x0403_0201;
-    memory.write_range(0, &[0x23, 0x2f, 0x10, 0x0e])?; // sw x1, 254(x0)
-    memory.ready(4)?;
-    if execute(&mut cpu, memory) != Outcome::Next {
-        return Ok([None; 4]);
-    }
-    Ok([
-        memory.read(254),
-        memory.read(255),
-        memory.read(256),
-        memory.read(257),
-    ])
-}
-
-#[test]
-fn a_word_across_two_pages_is_stored_whole(rt: HostRuntime) -> Result<(), Fail> {
-    let mut memory = Memory::new(rt.alloc(), &pages(rt.alloc(), &[])?)?;
-    let want = [Some(1), Some(2), Some(3), Some(4)];
-    assert_eq!(rt; stored(rt.alloc(), &mut memory)?, want);
     Ok(())
 }

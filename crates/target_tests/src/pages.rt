@@ -1,9 +1,8 @@
 //! That processes of one image share its pages until one of them writes.
-use data_services::apply;
 use std::alloc::Global;
 use std::test::Fail;
 use target_contexts::{Image, Targets};
-use tcf_values::{Bytes, Command, Text};
+use tcf_values::{Bytes, Text};
 
 /// addi x1,x0,5; sw x1,0(x0); ebreak
 const PROGRAM: [u8; 12] = [147, 0, 80, 0, 35, 32, 16, 0, 115, 0, 16, 0];
@@ -23,16 +22,9 @@ fn targets(alloc: Global) -> Result<Targets, Fail> {
 }
 
 /// Puts the byte 255 at 0 in P2.
-fn set(alloc: Global, targets: &mut Targets) -> Result<(), Fail> {
-    let command = Command::MemSet {
-        id: Text::from_str(alloc, "P2")?,
-        addr: 0,
-        word: 1,
-        size: 1,
-        mode: 0,
-        bytes: Bytes::from_slice(alloc, &[255])?,
-    };
-    apply(alloc, targets, &command)?;
+fn set(targets: &mut Targets) -> Result<(), Fail> {
+    let process = targets.process_mut(2).ok_or("no process")?;
+    process.memory.write_range(0, &[255])?;
     Ok(())
 }
 
@@ -57,7 +49,7 @@ fn front(targets: &Targets, process: u32) -> Option<[u8; 4]> {
 #[test]
 fn a_page_is_shared_until_it_is_written(rt: HostRuntime) -> Result<(), Fail> {
     let mut targets = targets(rt.alloc())?;
-    set(rt.alloc(), &mut targets)?;
+    set(&mut targets)?;
     for (process, shared, byte) in [(1, Some(true), 147), (2, None, 255), (3, Some(true), 147)] {
         assert_eq!(rt; is_of_image(&targets, process, 0), shared, "P{process}");
         assert_eq!(rt; is_of_image(&targets, process, 1), None, "P{process}");

@@ -1,26 +1,35 @@
 //! That the enabled breakpoints of an address are lent by it.
+ghost use Rattle.std.specs.Prelude.{IsTrue};
+ghost use Rattle.breakpoints.specs.Changes.{changes_list};
+
 use breakpoints::Breakpoints;
 use std::alloc::{AllocError, Global};
 use std::test::Fail;
 use tcf_values::{BpProps, Command, Text, Texts};
 
-/// Adds a breakpoint of this ID.
-fn place(
-    alloc: Global,
-    list: &mut Breakpoints,
-    id: &str,
-    location: &str,
-    enabled: bool,
-) -> Result<(), AllocError> {
-    let props = BpProps {
-        id: Text::from_str(alloc, id)?,
+/// Executes a command that changes the list.
+fn change(list: &mut Breakpoints, command: Command) -> Result<(), AllocError>
+    requires { IsTrue (changes_list command) }
+{
+    list.apply(0, &command)?;
+    Ok(())
+}
+
+/// The properties of a breakpoint of this ID.
+fn props(alloc: Global, id: &str, location: &str, enabled: bool) -> Result<BpProps, AllocError> {
+    let id = Text::from_str(alloc, id)?;
+    let location = Text::from_str(alloc, location)?;
+    Ok(BpProps {
+        id,
         enabled,
-        location: Some(Text::from_str(alloc, location)?),
+        location: Some(location),
         contexts: None,
         ignore: None,
-    };
-    list.apply(0, &Command::BpAdd { props })?;
-    Ok(())
+    })
+}
+
+fn add(list: &mut Breakpoints, props: BpProps) -> Result<(), AllocError> {
+    change(list, Command::BpAdd { props })
 }
 
 /// The IDs at an address, each with a blank behind it; `none` where there are none.
@@ -38,11 +47,14 @@ fn found(alloc: Global, list: &Breakpoints, address: u32) -> Result<String, Allo
     }
 }
 
-fn enable(alloc: Global, list: &mut Breakpoints, id: &str) -> Result<(), AllocError> {
+fn ids(alloc: Global, id: &str) -> Result<Texts, AllocError> {
     let mut ids = Texts::new(alloc);
     ids.push(Text::from_str(alloc, id)?)?;
-    list.apply(0, &Command::BpEnable { ids })?;
-    Ok(())
+    Ok(ids)
+}
+
+fn enable(list: &mut Breakpoints, ids: Texts) -> Result<(), AllocError> {
+    change(list, Command::BpEnable { ids })
 }
 
 #[test]
@@ -53,10 +65,10 @@ fn enabled_breakpoints_are_found_by_their_address(rt: HostRuntime) -> Result<(),
         ("b2", "16", false),
         ("b3", "16", true),
     ] {
-        place(rt.alloc(), &mut list, id, location, enabled)?;
+        add(&mut list, props(rt.alloc(), id, location, enabled)?)?;
     }
     assert_eq!(rt; found(rt.alloc(), &list, 16)?.as_str(), "b1 b3 ");
-    enable(rt.alloc(), &mut list, "b2")?;
+    enable(&mut list, ids(rt.alloc(), "b2")?)?;
     assert_eq!(rt; found(rt.alloc(), &list, 16)?.as_str(), "b1 b2 b3 ");
     assert_eq!(rt; found(rt.alloc(), &list, 20)?.as_str(), "none");
     Ok(())

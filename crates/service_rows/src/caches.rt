@@ -1,9 +1,10 @@
 //! The rows of what peers keep of a target.
 use crate::rows::Board;
-use crate::tables::{command_of, put_answered, put_text};
+use crate::tables::{put_answered, put_text, read};
 use crate::words::{Named, data, first, two};
 use anyhow::{Result, ensure};
 use cache_learning::{hear_event, hear_final};
+use command_tables::Reading;
 use json_values::{bp_value, context_value, status_value};
 use knowledge::{Knowledge, StateFact};
 use std::alloc::{AllocError, Global};
@@ -17,6 +18,8 @@ pub struct Caches {
     alloc: Global,
     known: Knowledge,
     store: Store,
+    /// What the row asks, where it is a command.
+    asked: Option<Command>,
 }
 
 fn client_hears(alloc: Global, known: &mut Knowledge, event: &Named) -> Result<(), AllocError> {
@@ -62,6 +65,7 @@ impl Caches {
             alloc,
             known: Knowledge::new(alloc)?,
             store: Store::new(alloc)?,
+            asked: None,
         })
     }
 
@@ -79,21 +83,31 @@ impl Caches {
         Ok(())
     }
 
+    /// Takes what a row asks.
+    fn ask(&mut self, asked: &Named) -> Result<()> {
+        self.asked = match read(self.alloc, asked)? {
+            Reading::Known(command) => Some(command),
+            Reading::Unknown | Reading::Bad { .. } => None,
+        };
+        Ok(())
+    }
+
     /// Both take an answer to a command.
     fn learn(&mut self, words: &str) -> Result<()> {
         let (asked, answered) = two(words);
         let named = Named::read(self.alloc, asked)?;
         let answer = data(self.alloc, answered)?;
         client_learns(self.alloc, &mut self.known, &named, answer.as_slice())?;
-        let command = command_of(self.alloc, asked)?;
-        value_add_learns(self.alloc, &mut self.store, &command, answer.as_slice())?;
+        self.ask(&named)?;
+        value_add_learns(self.alloc, &mut self.store, &self.asked, answer.as_slice())?;
         Ok(())
     }
 
     /// What the value-add answers of a command.
     fn reply(&mut self, words: &str) -> Result<Option<Octets>> {
-        let command = command_of(self.alloc, words)?;
-        Ok(answer_of(self.alloc, &mut self.store, &command)?)
+        let named = Named::read(self.alloc, words)?;
+        self.ask(&named)?;
+        Ok(answer_of(self.alloc, &mut self.store, &self.asked)?)
     }
 
     /// Puts what the value-add answers of a command.

@@ -13,9 +13,8 @@ use anyhow::Result;
 use command_tables::{Reading, read_command, write_command};
 use reply_tables::{ReadAnswer, ReadEvent, read_answer, read_event, write_answer, write_event};
 use std::alloc::Global;
-use std::fmt::Debug;
 use tcf_message::Message;
-use tcf_outside::{Duplicate, Octets};
+use tcf_outside::Octets;
 use tcf_text::show_line;
 use tcf_values::{
     Answer, Command, ContextId, EventData, RegisterId, context_id, context_text, format_of_code,
@@ -27,16 +26,6 @@ pub fn put_text(text: &str, out: &mut Octets) -> Result<()> {
     out.extend(text.as_bytes())?;
     out.push(b'\n')?;
     Ok(())
-}
-
-/// Whether a copy shows what its source shows.
-fn is_copied<T: Duplicate + Debug>(alloc: Global, source: &T) -> Result<bool> {
-    let twin = source.copy()?;
-    let (shown, want) = (
-        format!(in alloc; "{twin:?}")?,
-        format!(in alloc; "{source:?}")?,
-    );
-    Ok(shown.as_str() == want.as_str())
 }
 
 /// What the data of a command is read as.
@@ -51,22 +40,10 @@ pub fn read(alloc: Global, named: &Named) -> Result<Reading>
     )?)
 }
 
-/// The command of the words, if it is one.
-pub fn command_of(alloc: Global, words: &str) -> Result<Option<Command>> {
-    let named = Named::read(alloc, words)?;
-    match read(alloc, &named)? {
-        Reading::Known(command) => Ok(Some(command)),
-        Reading::Unknown | Reading::Bad { .. } => Ok(None),
-    }
-}
-
 /// Puts a command as it is written.
 fn put_written(alloc: Global, command: &Command, out: &mut Octets) -> Result<()>
     requires { IsReadable command.now }
 {
-    if !is_copied(alloc, command)? {
-        return put_text("copied otherwise", out);
-    }
     let written = write_command(alloc, command)?;
     let message = Message::Command {
         token: b"",
@@ -79,10 +56,11 @@ fn put_written(alloc: Global, command: &Command, out: &mut Octets) -> Result<()>
 }
 
 /// Puts what a command is read as.
-pub fn put_command(alloc: Global, words: &str, out: &mut Octets) -> Result<()> {
-    let named = Named::read(alloc, words)?;
-    match read(alloc, &named)? {
-        Reading::Known(command) => put_written(alloc, &command, out),
+fn put_command(alloc: Global, named: &Named, reading: &Reading, out: &mut Octets) -> Result<()>
+    requires { IsReading named.now.service.items named.now.name.items reading.now }
+{
+    match reading {
+        Reading::Known(command) => put_written(alloc, command, out),
         Reading::Unknown => put_text("unknown", out),
         Reading::Bad { index, code } => {
             put_text(format!(in alloc; "bad {index} {code}")?.as_str(), out)
@@ -101,10 +79,10 @@ fn class_of(command: &Command) -> &'static str {
 }
 
 /// Puts whether a command is changing, storable or neither.
-pub fn put_class(alloc: Global, words: &str, out: &mut Octets) -> Result<()> {
-    match command_of(alloc, words)? {
-        Some(command) => put_text(class_of(&command), out),
-        None => put_text("no command", out),
+fn put_class(reading: &Reading, out: &mut Octets) -> Result<()> {
+    match reading {
+        Reading::Known(command) => put_text(class_of(command), out),
+        Reading::Unknown | Reading::Bad { .. } => put_text("no command", out),
     }
 }
 
@@ -123,9 +101,6 @@ pub fn put_answered(word: &str, data: &[u8], out: &mut Octets) -> Result<()> {
 fn put_known(alloc: Global, command: &Command, answer: &Answer, out: &mut Octets) -> Result<()>
     requires { IsAnswerTo command.now answer.now }
 {
-    if !is_copied(alloc, answer)? {
-        return put_text("copied otherwise", out);
-    }
     let word = match answer {
         Answer::Failed(_) => "failed ",
         _ => "",
@@ -144,21 +119,45 @@ fn put_read(alloc: Global, command: &Command, data: &[u8], out: &mut Octets) -> 
 }
 
 /// Puts what the data of an answer is read as.
-pub fn put_answer(alloc: Global, words: &str, out: &mut Octets) -> Result<()> {
-    let (asked, answered) = two(words);
-    match command_of(alloc, asked)? {
-        Some(command) => put_read(alloc, &command, data(alloc, answered)?.as_slice(), out),
-        None => put_text("no command", out),
+fn put_answer(alloc: Global, reading: &Reading, answered: &str, out: &mut Octets) -> Result<()> {
+    match reading {
+        Reading::Known(command) => {
+            put_read(alloc, command, data(alloc, answered)?.as_slice(), out)
+        }
+        Reading::Unknown | Reading::Bad { .. } => put_text("no command", out),
     }
+}
+
+/// Puts what a row of this kind asks of its command.
+fn put_asked(
+    alloc: Global,
+    kind: &str,
+    named: &Named,
+    reading: &Reading,
+    answered: &str,
+    out: &mut Octets,
+) -> Result<()>
+    requires { IsReading named.now.service.items named.now.name.items reading.now }
+{
+    match kind {
+        "command" => put_command(alloc, named, reading, out),
+        "class" => put_class(reading, out),
+        _ => put_answer(alloc, reading, answered, out),
+    }
+}
+
+/// Puts what a row of a command gives.
+fn put_row(alloc: Global, kind: &str, words: &str, out: &mut Octets) -> Result<()> {
+    let (asked, answered) = two(words);
+    let named = Named::read(alloc, asked)?;
+    let reading = read(alloc, &named)?;
+    put_asked(alloc, kind, &named, &reading, answered, out)
 }
 
 /// Puts an event as it is written.
 pub fn put_told(alloc: Global, event: &EventData, out: &mut Octets) -> Result<()>
     requires { IsEvent event.now }
 {
-    if !is_copied(alloc, event)? {
-        return put_text("copied otherwise", out);
-    }
     let written = write_event(alloc, event)?;
     let message = Message::Event {
         service: written.service.as_bytes(),
@@ -244,9 +243,7 @@ impl Board for Tables {
     fn play(&mut self, row: &str, out: &mut Octets) -> Result<()> {
         let (kind, words) = first(row);
         match kind {
-            "command" => put_command(self.alloc, words, out),
-            "class" => put_class(self.alloc, words, out),
-            "answer" => put_answer(self.alloc, words, out),
+            "command" | "class" | "answer" => put_row(self.alloc, kind, words, out),
             "event" => put_event(self.alloc, words, out),
             "id" => put_id(self.alloc, words, out),
             "part" => put_part(self.alloc, words, out),

@@ -104,13 +104,27 @@ fn done_of(
     )
 }
 
+/// Puts what a channel's command comes to.
+fn put_execution(
+    alloc: Global,
+    hub: &mut Hub,
+    channel: &str,
+    named: &Named,
+    reading: &Reading,
+    out: &mut Octets,
+) -> Result<()>
+    requires { IsReading named.now.service.items named.now.name.items reading.now }
+{
+    let done = done_of(hub, number(channel)?, named, reading)?;
+    put_done(alloc, channel.as_bytes(), &done, out)
+}
+
 /// Executes a channel's command.
 fn execute(alloc: Global, hub: &mut Hub, words: &str, out: &mut Octets) -> Result<()> {
     let (channel, words) = first(words);
     let named = Named::read(alloc, words)?;
     let reading = read(alloc, &named)?;
-    let done = done_of(hub, number(channel)?, &named, &reading)?;
-    put_done(alloc, channel.as_bytes(), &done, out)
+    put_execution(alloc, hub, channel, &named, &reading, out)
 }
 
 /// Executes an instruction of a thread.

@@ -5,8 +5,6 @@ ghost use Rattle.tcf_values.specs.Storable.{stores};
 
 use crate::text::{Bytes, Text, Texts};
 use crate::values::{BpProps, Locations, Props};
-use std::alloc::AllocError;
-use tcf_outside::Duplicate;
 
 /// A command. A variant has a field for each argument, in the order in which they are sent. Numbers are as a peer
 /// sends them, so they can be any whole number.
@@ -180,102 +178,5 @@ pub fn is_storable(command: &Command) -> bool
         Command::BpProperties { .. } | Command::BpGetStatus { .. } => true,
         Command::RegGet { .. } | Command::RegGetm { .. } | Command::MemGet { .. } => true,
         _ => false,
-    }
-}
-
-impl Duplicate for Command {
-    fn copy(&self) -> Result<Self, AllocError> {
-        match self {
-            Command::Sync => Ok(Command::Sync),
-            Command::GetPeers => Ok(Command::GetPeers),
-            Command::Redirect { peer } => Ok(Command::Redirect { peer: peer.copy()? }),
-            Command::GetContext { id } => Ok(Command::GetContext { id: id.copy()? }),
-            Command::GetChildren { id } => Ok(Command::GetChildren { id: id.copy()? }),
-            Command::GetState { id } => Ok(Command::GetState { id: id.copy()? }),
-            Command::Resume { id, mode, count } => Ok(Command::Resume {
-                id: id.copy()?,
-                mode: *mode,
-                count: *count,
-            }),
-            Command::Suspend { id } => Ok(Command::Suspend { id: id.copy()? }),
-            Command::Terminate { id } => Ok(Command::Terminate { id: id.copy()? }),
-            Command::BpSet { list } => Ok(Command::BpSet { list: list.copy()? }),
-            Command::BpAdd { props } => Ok(Command::BpAdd {
-                props: props.copy()?,
-            }),
-            Command::BpChange { props } => Ok(Command::BpChange {
-                props: props.copy()?,
-            }),
-            Command::BpEnable { ids } => Ok(Command::BpEnable { ids: ids.copy()? }),
-            Command::BpDisable { ids } => Ok(Command::BpDisable { ids: ids.copy()? }),
-            Command::BpRemove { ids } => Ok(Command::BpRemove { ids: ids.copy()? }),
-            Command::BpIds => Ok(Command::BpIds),
-            Command::BpProperties { id } => Ok(Command::BpProperties { id: id.copy()? }),
-            Command::BpGetStatus { id } => Ok(Command::BpGetStatus { id: id.copy()? }),
-            Command::BpCapabilities { id } => Ok(Command::BpCapabilities { id: id.copy()? }),
-            Command::MemGet {
-                id,
-                addr,
-                word,
-                size,
-                mode,
-            } => Ok(Command::MemGet {
-                id: id.copy()?,
-                addr: *addr,
-                word: *word,
-                size: *size,
-                mode: *mode,
-            }),
-            Command::MemSet {
-                id,
-                addr,
-                word,
-                size,
-                mode,
-                bytes,
-            } => Ok(Command::MemSet {
-                id: id.copy()?,
-                addr: *addr,
-                word: *word,
-                size: *size,
-                mode: *mode,
-                bytes: bytes.copy()?,
-            }),
-            Command::RegGet { id } => Ok(Command::RegGet { id: id.copy()? }),
-            Command::RegSet { id, bytes } => Ok(Command::RegSet {
-                id: id.copy()?,
-                bytes: bytes.copy()?,
-            }),
-            Command::RegGetm { list } => Ok(Command::RegGetm { list: list.copy()? }),
-            Command::RegSetm { list, bytes } => Ok(Command::RegSetm {
-                list: list.copy()?,
-                bytes: bytes.copy()?,
-            }),
-            Command::ProcContext { id } => Ok(Command::ProcContext { id: id.copy()? }),
-            Command::ProcChildren { id, attached } => Ok(Command::ProcChildren {
-                id: id.copy()?,
-                attached: *attached,
-            }),
-            Command::ProcStart {
-                directory,
-                file,
-                args,
-                environment,
-                attach,
-            } => Ok(Command::ProcStart {
-                directory: directory.copy()?,
-                file: file.copy()?,
-                args: args.copy()?,
-                environment: environment.copy()?,
-                attach: *attach,
-            }),
-            Command::ProcAttach { id } => Ok(Command::ProcAttach { id: id.copy()? }),
-            Command::ProcDetach { id } => Ok(Command::ProcDetach { id: id.copy()? }),
-            Command::ProcTerminate { id } => Ok(Command::ProcTerminate { id: id.copy()? }),
-            Command::TraceRun { id, count } => Ok(Command::TraceRun {
-                id: id.copy()?,
-                count: *count,
-            }),
-        }
     }
 }

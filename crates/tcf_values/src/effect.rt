@@ -7,7 +7,7 @@ use crate::errors::report;
 use crate::event::EventData;
 use crate::faults::Fault;
 use std::alloc::{AllocError, Global};
-use tcf_outside::{Duplicate, Sequence};
+use tcf_outside::Sequence;
 
 pub type Events = Sequence<EventData>;
 
@@ -50,15 +50,5 @@ impl Effect {
     {
         let report = report(alloc, fault.code())?;
         Ok(Effect::gives(alloc, Answer::Failed(report)))
-    }
-}
-
-impl Duplicate for Effect {
-    fn copy(&self) -> Result<Self, AllocError> {
-        Ok(Effect {
-            events: self.events.copy()?,
-            progress: self.progress.copy()?,
-            answer: self.answer.copy()?,
-        })
     }
 }

@@ -146,19 +146,6 @@ impl Duplicate for ProcessData {
     }
 }
 
-impl Duplicate for RunState {
-    fn copy(&self) -> Result<Self, AllocError> {
-        match self {
-            RunState::Running => Ok(RunState::Running),
-            RunState::Suspended { pc, reason, hits } => Ok(RunState::Suspended {
-                pc: *pc,
-                reason: reason.copy()?,
-                hits: hits.copy()?,
-            }),
-        }
-    }
-}
-
 impl Duplicate for BpProps {
     fn copy(&self) -> Result<Self, AllocError> {
         Ok(BpProps {
@@ -195,21 +182,5 @@ impl Duplicate for BpStatus {
         Ok(BpStatus {
             instances: self.instances.copy()?,
         })
-    }
-}
-
-impl Duplicate for Location {
-    fn copy(&self) -> Result<Self, AllocError> {
-        Ok(Location {
-            register: self.register.copy()?,
-            offset: self.offset,
-            size: self.size,
-        })
-    }
-}
-
-impl Duplicate for Range {
-    fn copy(&self) -> Result<Self, AllocError> {
-        Ok(*self)
     }
 }

@@ -5,6 +5,6 @@ use Rattle.service_rows.proofs.tables.put_command.Goals as goal
 
 pub put_written-requires : goal.put_written-requires
 put_written-requires c =
-    let service = c.in_ok-named.named.service.items in
-    let name = c.in_ok-named.named.name.items in
-    (known_are_readable service name c.in-Known.command (subst (IsReading service name) c.in-Known.is c.in_ok-command.ensures)).1
+    let service = c.before.before.args.named.now.service.items in
+    let name = c.before.before.args.named.now.name.items in
+    (known_are_readable service name c.in-Known.command (subst (IsReading service name) c.in-Known.is c.before.before.requires)).1

@@ -71,8 +71,13 @@ fn take_one(agent: &mut AgentNode, channel: u64) -> Result<bool, AllocError>
     ensures agent { OnOk result (agent.new ≡ (turned channel agent.old).1) }
     ensures over { IfOk result (λ is_over. is_over ≡ closes (turned channel agent.old).0) }
 {
-    match agent.turn(channel)? {
-        Turned::Took(Some(Input::Closed(_))) => Ok(true),
-        _ => Ok(false),
-    }
+    let turned = agent.turn(channel)?;
+    Ok(closes(&turned))
+}
+
+/// Whether the end of the channel was taken.
+fn closes(turned: &Turned) -> bool
+    ensures { result ≡ closes turned.now }
+{
+    matches!(turned, Turned::Took(Some(Input::Closed(_))))
 }

@@ -12,8 +12,10 @@ use Rattle.tcf_wires.specs.declared.event.WireRefusal.TheVariants.{Failed, NoMem
 use Rattle.serving_wires.specs.Calls.{Makes, events_in, with_calls}
 use Rattle.serving_wires.specs.Outbox.{Flushes, IsGivenUp, before_put}
 use Rattle.serving_wires.proofs.Making.{makes_both, makes_nothing, makes_one, makes_so}
+use Rattle.client_serving.specs.Begun.{IsBegun}
 use Rattle.client_serving.specs.Run.{RunsClient, no_calls, not_connected}
 use Rattle.client_serving.specs.Serving.{after_event, begun}
+use Rattle.client_node.specs.ClientValue.{ClientValue}
 use Rattle.client_serving.specs.ServingValue.{ServingValue}
 use Rattle.client_serving.specs.Turn.{BreaksOff, IsTurn, failed, given_up, no_event}
 use Rattle.serving_wires.specs.WireLaws.{WireLaws}
@@ -102,34 +104,40 @@ run_unbegun laws channel script address turns refusal seen_before seen_after is 
     makes_so (λ calls. calls ≡ connect channel address) (RunsClient script address turns (Err refusal)) seen_before seen_after
     (λ calls one. rw (is, one) (begins_not laws channel address script turns)) (one_connect channel address seen_before seen_after told faults)
 
+-- it has begun
+pub connects_begun : (channel : ℕ) (script : List ScriptLine) (address : List ℕ) (s : ServingValue) (seen_before seen_after : WiresSeen)
+    → seen_after.told ≡ with_calls (connect channel address) seen_before.told → seen_after.faults ≡ seen_before.faults → s ≡ begun channel script
+    → Makes (IsBegun script address s) seen_before seen_after
+connects_begun channel script address s seen_before seen_after told faults begins =
+    makes_so (λ calls. calls ≡ connect channel address) (IsBegun script address s) seen_before seen_after
+    (λ calls one. record { channel = channel; connects = one; begins = begins }) (one_connect channel address seen_before seen_after told faults)
+
 -- the script ends the run
 
-pub run_unput : WireLaws → (channel : ℕ) (script : List ScriptLine) (address : List ℕ) (turns : ℕ) (refusal : WireRefusal) (last : ClientEnd) (s : ServingValue)
+pub run_unput : WireLaws → (script : List ScriptLine) (address : List ℕ) (turns : ℕ) (refusal : WireRefusal) (last : ClientEnd) (s : ServingValue)
     (seen_before seen_mid seen_after : WiresSeen)
-    → refusal ≡ NoMemory → seen_mid.told ≡ with_calls (connect channel address) seen_before.told → seen_mid.faults ≡ seen_before.faults → s ≡ begun channel script → s.end ≡ Some last
-    → Makes (IsGivenUp s.outbox) seen_mid seen_after → Makes (RunsClient script address turns (Err refusal)) seen_before seen_after
-run_unput laws channel script address turns refusal last s seen_before seen_mid seen_after is told faults begins ended m =
-    makes_both (λ calls. calls ≡ connect channel address) (IsGivenUp s.outbox) (RunsClient script address turns (Err refusal)) seen_before seen_mid seen_after
-    (λ first rest one gives_up.
-    let given = subst (λ (t : ServingValue). IsGivenUp t.outbox rest) begins gives_up in
-    let runs = begun_given_up laws channel address script turns last rest (sym (ap (λ (t : ServingValue). t.end) begins) ∙ ended) given in
-    rw (is, one) runs)
-    (one_connect channel address seen_before seen_mid told faults) m
+    → refusal ≡ NoMemory → s.end ≡ Some last → Makes (IsBegun script address s) seen_before seen_mid → Makes (IsGivenUp s.outbox) seen_mid seen_after
+    → Makes (RunsClient script address turns (Err refusal)) seen_before seen_after
+run_unput laws script address turns refusal last s seen_before seen_mid seen_after is ended =
+    makes_both (IsBegun script address s) (IsGivenUp s.outbox) (RunsClient script address turns (Err refusal)) seen_before seen_mid seen_after
+    (λ first rest old gives_up.
+    let given = subst (λ (t : ServingValue). IsGivenUp t.outbox rest) old.begins gives_up in
+    let runs = begun_given_up laws old.channel address script turns last rest (sym (ap (λ (t : ServingValue). t.end) old.begins) ∙ ended) given in
+    rw (is, old.connects) runs)
 
-pub run_at_once : WireLaws → (channel : ℕ) (script : List ScriptLine) (address : List ℕ) (turns : ℕ) (run : ClientRun) (last : ClientEnd) (s new : ServingValue)
+pub run_at_once : WireLaws → (script : List ScriptLine) (address : List ℕ) (turns : ℕ) (run : ClientRun) (last : ClientEnd) (s new : ServingValue)
     (seen_before seen_mid seen_after : WiresSeen)
-    → seen_mid.told ≡ with_calls (connect channel address) seen_before.told → seen_mid.faults ≡ seen_before.faults → s ≡ begun channel script → s.end ≡ Some last → new ≡ record s { outbox = new.outbox }
-    → run.end ≡ last → run.client ≡ new.client
-    → Makes (Flushes s.outbox new.outbox) seen_mid seen_after → Makes (RunsClient script address turns (Ok run)) seen_before seen_after
-run_at_once laws channel script address turns run last s new seen_before seen_mid seen_after told faults begins ended same ends client m =
-    makes_both (λ calls. calls ≡ connect channel address) (Flushes s.outbox new.outbox) (RunsClient script address turns (Ok run)) seen_before seen_mid seen_after
-    (λ first rest one flush.
-    let put = begun_put laws channel address script last s new rest begins ended flush same in
+    → s.end ≡ Some last → new ≡ record s { outbox = new.outbox } → run.end ≡ last → run.client ≡ new.client
+    → Makes (IsBegun script address s) seen_before seen_mid → Makes (Flushes s.outbox new.outbox) seen_mid seen_after
+    → Makes (RunsClient script address turns (Ok run)) seen_before seen_after
+run_at_once laws script address turns run last s new seen_before seen_mid seen_after ended same ends client =
+    makes_both (IsBegun script address s) (Flushes s.outbox new.outbox) (RunsClient script address turns (Ok run)) seen_before seen_mid seen_after
+    (λ first rest old flush.
+    let put = begun_put laws old.channel address script last s new rest old.begins ended flush same in
     let over : new.end ≡ Some last = ap (λ (t : ServingValue). t.end) same ∙ ended in
-    let none = begun_count laws channel address script s new rest begins flush in
-    let runs = put_ends laws channel address script turns last run new (connect channel address ++ rest) put (omega (arith, none)) over ends client in
-    rw one runs)
-    (one_connect channel address seen_before seen_mid told faults) m
+    let none = begun_count laws old.channel address script s new rest old.begins flush in
+    let runs = put_ends laws old.channel address script turns last run new (connect old.channel address ++ rest) put (omega (arith, none)) over ends client in
+    rw old.connects runs)
 
 -- ---- turns
 
@@ -145,15 +153,13 @@ pub record Turned (script : List ScriptLine) (address : List ℕ) (count : ℕ) 
   pub put : IsPut channel address script s calls
   pub counted : length (events_in calls) ≡ count
 
-pub run_begins : WireLaws → (channel : ℕ) (script : List ScriptLine) (address : List ℕ) (s : ServingValue) (seen_before seen_after : WiresSeen)
-    → seen_after.told ≡ with_calls (connect channel address) seen_before.told → seen_after.faults ≡ seen_before.faults → s ≡ begun channel script → s.end ≡ None
-    → Makes (Waits script address 0 s) seen_before seen_after
-run_begins laws channel script address s seen_before seen_after told faults begins none =
-    makes_so (λ calls. calls ≡ connect channel address) (Waits script address 0 s) seen_before seen_after
-    (λ calls one.
-    let ready = begun_ready laws channel address script (sym (ap (λ (t : ServingValue). t.end) begins) ∙ none) in
-    rw (begins, one) (record { channel = channel; ready = ready; counted = refl }))
-    (one_connect channel address seen_before seen_after told faults)
+pub run_begins : WireLaws → (script : List ScriptLine) (address : List ℕ) (s : ServingValue) (seen_before seen_after : WiresSeen)
+    → s.end ≡ None → Makes (IsBegun script address s) seen_before seen_after → Makes (Waits script address 0 s) seen_before seen_after
+run_begins laws script address s seen_before seen_after none =
+    makes_so (IsBegun script address s) (Waits script address 0 s) seen_before seen_after
+    (λ calls old.
+    let ready = begun_ready laws old.channel address script (sym (ap (λ (t : ServingValue). t.end) old.begins) ∙ none) in
+    rw (old.begins, old.connects) (record { channel = old.channel; ready = ready; counted = refl }))
 
 pub turned : WireLaws → (script : List ScriptLine) (address : List ℕ) (count : ℕ) (s new : ServingValue) (seen_before seen_mid seen_after : WiresSeen)
     → Makes (Waits script address count s) seen_before seen_mid → Makes (IsTurn s new) seen_mid seen_after
@@ -192,3 +198,10 @@ pub run_turns : WireLaws → (script : List ScriptLine) (address : List ℕ) (tu
 run_turns laws script address turns count run s seen_before seen_after all ends client =
     makes_so (Waits script address count s) (RunsClient script address turns (Ok run)) seen_before seen_after
     (λ calls old. turns_end laws old.channel address script turns run s calls old.ready (old.counted ∙ all) ends client)
+
+-- ---- what a run is made of
+
+pub run_is : (run : ClientRun) (last : ClientEnd) (client : ClientValue) → run.end ≡ last → run.client ≡ client → record { end = last; client = client } ≡ run
+run_is run last client ends same =
+    subst (λ (e : ClientEnd). record { end = e; client = client } ≡ run) ends
+    (subst (λ (k : ClientValue). record { end = run.end; client = k } ≡ run) same refl)

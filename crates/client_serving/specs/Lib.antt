@@ -5,3 +5,4 @@ pub mod Client
 pub mod Left
 pub mod Turn
 pub mod Run
+pub mod Begun

@@ -1,11 +1,12 @@
 //! The run of a client.
-ghost use Rattle.std.specs.Prelude.{◌≡◌, IfOk, IsErrOf, false};
+ghost use Rattle.std.specs.Prelude.{IfOk, IsErrOf, false};
 ghost use Rattle.std.specs.List.{AllByRecursion};
 ghost use Rattle.tcf_outside.specs.Faults.{Rose};
 ghost use Rattle.tcf_schedules.specs.Script.{IsFit};
 ghost use Rattle.tcf_text.specs.Once.{Once};
 ghost use Rattle.serving_wires.specs.Calls.{Makes};
 ghost use Rattle.client_serving.specs.Run.{RunsClient};
+ghost use Rattle.client_serving.specs.Begun.{RunsOn};
 
 use crate::end::{ClientEnd, ClientRun};
 use crate::laws::whatever_comes_each_command_is_answered_once;
@@ -57,15 +58,28 @@ fn try_run<W: Wires>(
     each_wire_is_carried();
     let channel = wires.connect(address)?;
     let mut serving = Serving::begin(alloc, channel, script)?;
+    let end = serve(&mut serving, wires, turns)?;
+    Ok(serving.into_run(end))
+}
+
+/// Serves a client that has begun, until its run ends.
+fn serve<W: Wires>(
+    serving: &mut Serving<'_>,
+    wires: &mut W,
+    turns: u32,
+) -> Result<ClientEnd, WireRefusal>
+    ensures { RunsOn turns result serving.old serving.new (W.seen wires.old) (W.seen wires.new) }
+{
+    each_wire_is_carried();
     if let Some(end) = serving.end() {
         serving.flush(wires)?;
-        return Ok(serving.into_run(end));
+        return Ok(end);
     }
     for counter in 0..turns {
         serving.turn(wires)?;
         if let Some(end) = serving.end() {
-            return Ok(serving.into_run(end));
+            return Ok(end);
         }
     }
-    Ok(serving.into_run(ClientEnd::Turns))
+    Ok(ClientEnd::Turns)
 }

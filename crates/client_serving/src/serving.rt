@@ -1,9 +1,10 @@
 //! A client with its wire and the lines that are left of its script, and what each event makes of them.
-ghost use Rattle.std.specs.Prelude.{◌≡◌, IfErr, IfOk, OnErr, OnOk};
+ghost use Rattle.std.specs.Prelude.{◌≡◌, IfErr, IfOk, None, OnErr, OnOk};
 ghost use Rattle.std.specs.List.{AllByRecursion};
 ghost use Rattle.tcf_schedules.specs.Script.{IsFit};
 ghost use Rattle.serving_wires.specs.Calls.{Makes};
 ghost use Rattle.serving_wires.specs.Outbox.{Flushes, IsGivenUp};
+ghost use Rattle.client_node.specs.Client.{opened};
 ghost use Rattle.client_serving.specs.Turn.{BreaksOff, IsTurn};
 ghost use Rattle.client_serving.specs.Serving.{acted, after_event, all_gathered, all_taken, begun, ended_by, heard_on, one_taken, stopped, went_on};
 
@@ -49,17 +50,24 @@ impl<'a> Serving<'a> {
         requires { AllByRecursion IsFit script.now }
         ensures { IfOk result (λ serving. serving ≡ begun channel script.now) }
     {
-        let mut client = ClientNode::new(alloc)?;
-        client.opened()?;
         let mut serving = Serving {
-            client,
+            client: ClientNode::new(alloc)?,
             left: script,
             outbox: Outbox::new(alloc, channel),
             end: None,
         };
-        serving.go_on()?;
-        serving.gather()?;
+        serving.open()?;
         Ok(serving)
+    }
+
+    /// The client opens its end, and does the first lines.
+    fn open(&mut self) -> Result<(), AllocError>
+        requires { self.old.client.channel ≡ None }
+        ensures { OnOk result (self.new ≡ all_gathered (went_on (record self.old { client = opened self.old.client }))) }
+    {
+        self.client.opened()?;
+        self.go_on()?;
+        self.gather()
     }
 
     /// How the run ended, if it did.

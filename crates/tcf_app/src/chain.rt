@@ -60,16 +60,24 @@ pub(crate) fn play(alloc: Global, schedule: &Schedule) -> Result<World, AllocErr
     Ok(world)
 }
 
+/// The text of a world that was played: each chain with its log, and the length of the history.
+fn text_of_world(alloc: Global, heads: &[ChainHead], world: &World) -> Result<Octets, AllocError>
+    requires { length heads.now ≡ length world.now.chains }
+    ensures { IfOk result (λ text. text ≡ chains_text 0 heads.now world.now ++ history_line (length world.now.history)) }
+{
+    let mut text = Octets::new(alloc);
+    push_chains(&mut text, heads, world)?;
+    push_history(alloc, &mut text, world.history().len())?;
+    Ok(text)
+}
+
 /// The text of the schedule, played.
 fn text_of(alloc: Global, schedule: &Schedule) -> Result<Octets, AllocError>
     requires { AllByRecursion IsPlayable (plans_of schedule.now.steps) }
     ensures { IfOk result (λ text. text ≡ printed (meaning schedule.now)) }
 {
     let world = play(alloc, schedule)?;
-    let mut text = Octets::new(alloc);
-    push_chains(&mut text, schedule.chains.as_slice(), &world)?;
-    push_history(alloc, &mut text, world.history().len())?;
-    Ok(text)
+    text_of_world(alloc, schedule.chains.as_slice(), &world)
 }
 
 /// Plays the schedule that the file says, and puts what comes of it.

@@ -49,12 +49,12 @@ fn put_log<S: Sink>(alloc: Global, run: &ClientRun, out: &mut S) -> Exit
 }
 
 /// Puts the text of a run that came to this.
-fn report_run<S: Sink>(alloc: Global, ran: Result<ClientRun, WireRefusal>, out: &mut S) -> Exit
-    ensures ends { Ends (ran_ending ran) result (S.seen out.old) (S.seen out.new) }
+fn report_run<S: Sink>(alloc: Global, ran: &Result<ClientRun, WireRefusal>, out: &mut S) -> Exit
+    ensures ends { Ends (ran_ending ran.now) result (S.seen out.old) (S.seen out.new) }
     ensures fault { TellsFault result (S.seen out.old) (S.seen out.new) }
 {
     match ran {
-        Ok(run) => put_log(alloc, &run, out),
+        Ok(run) => put_log(alloc, run, out),
         Err(WireRefusal::Failed) => report_wire_fault(out),
         Err(WireRefusal::NoMemory) => Exit::NoMemory,
     }
@@ -76,7 +76,7 @@ pub(crate) fn do_script<S: Sink, W: Wires>(
     match read_script(alloc, file) {
         Ok(script) => {
             let ran = run_client(alloc, wires, address, script.as_slice(), turns);
-            report_run(alloc, ran, out)
+            report_run(alloc, &ran, out)
         }
         Err(TextRefusal::Bad { line, what }) => refuse_line(alloc, line, what, out),
         Err(TextRefusal::NoMemory) => Exit::NoMemory,

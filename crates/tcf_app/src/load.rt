@@ -6,7 +6,7 @@ ghost use Rattle.tcf_schedules.specs.Schedule.{meaning};
 ghost use Rattle.chain_world.specs.World.{IsPlayable};
 ghost use Rattle.tcf_app.specs.Exit.{TellsFault};
 ghost use Rattle.tcf_app.specs.Ending.{Ends, summed_ending};
-ghost use Rattle.tcf_app.specs.Played.{numbered, summed, sums_text};
+ghost use Rattle.tcf_app.specs.Played.{history_line, numbered, summed, sums_text};
 
 use crate::chain::{play, push_history};
 use crate::exit::Exit;
@@ -41,16 +41,32 @@ fn schedule_of(alloc: Global, number: u64) -> Result<Schedule, AllocError>
     generate(alloc, number)
 }
 
+/// The sum of a world that was played: a line for each chain, and the length of the history.
+fn sum_of_world(alloc: Global, heads: &[ChainHead], world: &World) -> Result<Octets, AllocError>
+    requires { length heads.now ≡ length world.now.chains }
+    ensures { IfOk result (λ text. text ≡ sums_text 0 heads.now world.now ++ history_line (length world.now.history)) }
+{
+    let mut text = Octets::new(alloc);
+    push_sums(&mut text, heads, world)?;
+    push_history(alloc, &mut text, world.history().len())?;
+    Ok(text)
+}
+
+/// The sum of the schedule, played.
+fn sum_of(alloc: Global, schedule: &Schedule) -> Result<Octets, AllocError>
+    requires { AllByRecursion IsPlayable (plans_of schedule.now.steps) }
+    ensures { IfOk result (λ text. text ≡ summed (meaning schedule.now)) }
+{
+    let world = play(alloc, schedule)?;
+    sum_of_world(alloc, schedule.chains.as_slice(), &world)
+}
+
 /// The sum of the schedule that the number gives, played.
 fn text_of(alloc: Global, number: u64) -> Result<Octets, AllocError>
     ensures { IfOk result (λ text. text ≡ summed (numbered number)) }
 {
     let schedule = schedule_of(alloc, number)?;
-    let world = play(alloc, &schedule)?;
-    let mut text = Octets::new(alloc);
-    push_sums(&mut text, schedule.chains.as_slice(), &world)?;
-    push_history(alloc, &mut text, world.history().len())?;
-    Ok(text)
+    sum_of(alloc, &schedule)
 }
 
 /// Plays the schedule that the number gives, and puts the sum of what comes of it.

@@ -1,14 +1,15 @@
 //! What came for a value-add passes through it, and a connection is made where it asks for one.
 ghost use Rattle.std.specs.Prelude.{◌≡◌, IfOk, OnErr, OnOk};
-ghost use Rattle.value_serving.specs.Adds.{emptied};
+ghost use Rattle.value_serving.specs.Adds.{emptied, new_add};
 ghost use Rattle.value_serving.specs.Following.{Does, DoesAlone, DoesPart, TakesOne, TakesPart};
 ghost use Rattle.value_serving.specs.Passing.{connected_on, connecting, gathered, heard, passed_on, room_made, taken};
 ghost use Rattle.value_serving.specs.Sending.{begun, left_for, with_sent};
 
-use crate::add::{Add, is_over, take_one, take_out};
+use crate::add::{Add, is_over, new_add, take_one, take_out};
 use crate::sending::Sending;
 use serving_wires::{Came, Intake};
 use std::alloc::{AllocError, Global};
+use tcf_values::Text;
 use tcf_wires::{WireRefusal, Wires};
 use value_node::{Side, ValueNode, ValueTurn};
 
@@ -159,6 +160,20 @@ fn begin_above(
     add.above = Some(channel);
     add.upper = Intake::new(alloc);
     Ok(())
+}
+
+/// A value-add of this peer, for a connection that came: what it has to send is queued.
+pub(crate) fn greet(
+    alloc: Global,
+    peer: &Text,
+    channel: u64,
+    sending: &mut Sending,
+) -> Result<Add, AllocError>
+    ensures { IfOk result (λ add. (any : _) → DoesAlone any (gathered (new_add peer.now channel)) add sending.old sending.new) }
+{
+    let mut add = new_add(alloc, peer, channel)?;
+    gather(alloc, &mut add, sending)?;
+    Ok(add)
 }
 
 /// Queues what the value-add has to send. Behind a side on which nothing more is said nothing more will be queued.

@@ -6,8 +6,8 @@ ghost use Rattle.value_serving.specs.Following.{Does, DoesPart};
 ghost use Rattle.value_serving.specs.Serving.{above_of, heard_at, kept_unless, new_serving, is_above_at, is_over_at, wire_of};
 ghost use Rattle.value_serving.specs.Turn.{Heeds, HeedsOn, HeedsOpening, HeedsPart, HeedsPartOn};
 
-use crate::add::{Add, is_over, new_add};
-use crate::passing::{gather, hear};
+use crate::add::{Add, is_over};
+use crate::passing::{greet, hear};
 use crate::sending::Sending;
 use serving_wires::{Came, END_OF_STREAM, Roster};
 use std::alloc::{AllocError, Global};
@@ -82,8 +82,7 @@ impl Serving {
             self.sending.close(channel);
             return Ok(());
         }
-        let mut add = new_add(self.alloc, &self.peer, channel)?;
-        gather(self.alloc, &mut add, &mut self.sending)?;
+        let add = greet(self.alloc, &self.peer, channel, &mut self.sending)?;
         self.adds.push(channel, add)
     }
 

@@ -1,5 +1,5 @@
 use Rattle.std.proofs.Common.{arith, refl}
-use Rattle.std.proofs.lemmas.Result.{err_from_is_err_and}
+use Rattle.value_serving.specs.Adds.{new_add}
 use Rattle.value_serving.proofs.Hearing.{opens, sends_away}
 use Rattle.value_serving.proofs.Results.{on_ok_same}
 use Rattle.value_serving.proofs.serving.Serving.open.Goals as goal
@@ -17,17 +17,6 @@ pub returns-clause-ok : goal.returns-clause-ok
 returns-clause-ok c =
     rw (← c.self.view_is)
     (on_ok_same c.push.result _ _
-    (λ pushed unused. opens c.self.inside.peer unused c.args.channel c.self.inside.adds c.push.new.self c.in_ok-add.add c.gather.new.add c.self.inside.sending c.begin.new.self c.gather.new.sending
-    (omega (arith, c.if-len-ge-MOST.false, c.len.ensures)) c.in_ok-begin.ensures c.in_ok-add.ensures (c.in_ok-gather.ensures c.self.inside.peer unused) pushed)
+    (λ pushed unused. opens c.self.inside.peer unused c.args.channel c.self.inside.adds c.push.new.self (new_add c.self.inside.peer c.args.channel) c.in_ok-add.add c.self.inside.sending c.begin.new.self c.greet.new.sending
+    (omega (arith, c.if-len-ge-MOST.false, c.len.ensures)) c.in_ok-begin.ensures refl (c.in_ok-add.ensures c.self.inside.peer unused) pushed)
     c.push.ensures.ok)
-
--- memory was wanting: nothing is to be shown
-pub returns-in_err-gather-clause-peer : goal.returns-in_err-gather-clause-peer
-returns-in_err-gather-clause-peer c =
-    let p = err_from_is_err_and c.from_residual-in_err-gather.result c.from_residual-in_err-gather.ensures.1 in
-    rw p.1 tt
-
-pub returns-in_err-gather-clause-ok : goal.returns-in_err-gather-clause-ok
-returns-in_err-gather-clause-ok c =
-    let p = err_from_is_err_and c.from_residual-in_err-gather.result c.from_residual-in_err-gather.ensures.1 in
-    rw p.1 tt

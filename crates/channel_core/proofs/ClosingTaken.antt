@@ -1,6 +1,6 @@
 -- An end is closed by what closes it.
-use Rattle.std.proofs.Common.{◌≡◌, ℕ, Bool, true, List, [], ◌∷◌, Option, Some, None, refl}
-use Rattle.std.specs.Prelude.{slice_get}
+use Rattle.std.proofs.Common.{◌≡◌, ℕ, Bool, true, List, [], ◌∷◌, Option, Some, None, Result, Ok, Err, refl, sym, ap, ◌∙◌}
+use Rattle.std.specs.Prelude.{IfOk, slice_get}
 use Rattle.std.proofs.lemmas.Bool.{false≢true}
 use Rattle.channel_core.specs.EndValue.{EndValue}
 use Rattle.channel_core.specs.Closing.{is_closed}
@@ -44,3 +44,9 @@ from_closes (arrived ∷ inbox) e h =
 
 pub next_closes : {T : Type 0} → (e : EndValue T) → closes (next_taken e).0 ≡ true → is_closed (next_taken e).1.state ≡ true
 next_closes e h = from_closes e.inbox e h
+
+-- the same of an answer, which may be want of memory
+pub when_it_closes : {T E : Type 0} → (answer : Result (Option (Taken T)) E) (e next : EndValue T) → IfOk answer (λ what. (what, next) ≡ next_taken e)
+    → IfOk answer (λ what. closes what ≡ true → is_closed next.state ≡ true)
+when_it_closes (Ok what) e next is = λ h. ap (λ t. is_closed t.1.state) is ∙ next_closes e (ap (λ t. closes t.0) (sym is) ∙ h)
+when_it_closes (Err error) e next is = tt

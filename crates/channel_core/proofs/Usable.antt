@@ -1,6 +1,6 @@
 -- No step spends an end: only want of memory does.
 use Rattle.std.proofs.Common.{◌≡◌, ℕ, ℤ, Bool, true, false, List, [], ◌∷◌, Option, Some, None, Result, Ok, Err, refl, ap, ◌∙◌}
-use Rattle.std.specs.Prelude.{if◌then◌else◌, length, ◌++◌, remove, slice_get, OnOk}
+use Rattle.std.specs.Prelude.{if◌then◌else◌, length, ◌++◌, remove, slice_get, IfOk, OnOk}
 use Rattle.stream_escape.specs.Fed.{fed}
 use Rattle.stream_escape.specs.declared.stream.Item.{Item}
 use Rattle.stream_escape.specs.declared.stream.Item.TheVariants as items
@@ -20,6 +20,7 @@ use Rattle.channel_core.specs.declared.held.Held.{Held}
 use Rattle.channel_core.specs.declared.held.Incoming.{Incoming}
 use Rattle.channel_core.specs.declared.states.Cause.{Cause}
 use Rattle.channel_core.specs.declared.states.EndState.TheVariants.{Live}
+use Rattle.channel_core.specs.declared.taking.Taken.{Taken}
 use Rattle.channel_core.specs.Judged.{Judged, TooEarly, Stray, Greets, Tells, Asks, GoesOn, Answers}
 
 abbrev IsKept : {T : Type 0} → EndValue T → EndValue T → Type 0
@@ -141,3 +142,9 @@ from_kept (arrived ∷ inbox) e = taken_as_kept arrived.number arrived.incoming 
 
 pub next_kept : {T : Type 0} → (e : EndValue T) → IsKept e (next_taken e).1
 next_kept e = from_kept e.inbox e
+
+-- an answer, which may be want of memory, leaves the end usable where it was so
+pub taken_usable : {T E : Type 0} → (answer : Result (Option (Taken T)) E) (e next : EndValue T) → e.is_spent ≡ false
+    → IfOk answer (λ what. (what, next) ≡ next_taken e) → OnOk answer (next.is_spent ≡ false)
+taken_usable (Ok what) e next fresh is = ap (λ t. t.1.is_spent) is ∙ next_kept e ∙ fresh
+taken_usable (Err error) e next fresh is = tt

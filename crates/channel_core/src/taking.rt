@@ -177,7 +177,6 @@ fn sent_token<T>(
 impl<T: Drop> End<T> {
     /// Takes the oldest entry of the inbox; `None` exactly where there is none. A last entry closes the end, and so does
     /// a message other than a Hello before the Hello, and an answer to a command that isn't pending or wasn't sent yet.
-    #[tactic(auto, using(crate::proofs::Usable::next_kept, crate::proofs::ClosingTaken::next_closes, crate::proofs::Idle::inbox_is_empty, crate::proofs::Idle::has_no_stop))]
     pub fn next_message(&mut self) -> Result<Option<Taken<T>>, AllocError>
         ensures taken { IfOk result (λ taken. (taken, self.new) ≡ next_taken self.old) }
         ensures nothing { IfOk result (λ taken. (taken ≡ None) ↔ (waiting_in self.old ≡ 0)) }
@@ -262,7 +261,8 @@ impl<T: Drop> End<T> {
 
     /// The verdict on a final answer under these digits. Whether a command is pending under them shows where it is taken out.
     fn judge_answer(&self, digits: &[u8], done: bool) -> Verdict
-        ensures { (number : ℕ) (incoming : Incoming) → ComesOf number incoming result self.now (taken_as number incoming (answer_judged done (sent_place digits.now self.now)) self.now) }
+        ensures { (number : ℕ) (incoming : Incoming)
+            → ComesOf number incoming result self.now (taken_as number incoming (answer_judged done (sent_place digits.now self.now)) self.now) }
     {
         match sent_number(digits, self.last(), &self.held) {
             Some(token) => Verdict::Answers(token, done),

@@ -211,19 +211,25 @@ impl Case {
         }
         Ok(())
     }
+
+    /// Adds what the lines of a case say to this one of its runs.
+    fn add_lines(&mut self, text: &str, run: u64) -> Result<(), Trouble> {
+        let alloc = *self.words.allocator();
+        let mut part = "";
+        let mut bytes = Octets::new(alloc);
+        for line in text.lines() {
+            if !push_line(line, &mut bytes)? {
+                self.add(part, mem::replace(&mut bytes, Octets::new(alloc)), run)?;
+                part = line;
+            }
+        }
+        self.add(part, bytes, run)
+    }
 }
 
 /// Reads the lines of a case, for this one of its runs, which are counted from 0.
 pub fn read_case(alloc: Global, text: &str, run: u64) -> Result<Case, Trouble> {
     let mut case = Case::new(alloc);
-    let mut part = "";
-    let mut bytes = Octets::new(alloc);
-    for line in text.lines() {
-        if !push_line(line, &mut bytes)? {
-            case.add(part, mem::replace(&mut bytes, Octets::new(alloc)), run)?;
-            part = line;
-        }
-    }
-    case.add(part, bytes, run)?;
+    case.add_lines(text, run)?;
     Ok(case)
 }

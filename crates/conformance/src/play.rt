@@ -141,9 +141,8 @@ fn status_difference(alloc: Global, exit: Exit, wanted: u64) -> Result<Option<St
     count_difference(alloc, u64::from(exit.status()), Some(wanted), "status")
 }
 
-/// Plays the case, and tells the first thing that isn't as wanted.
-pub fn difference(alloc: Global, mut case: Case) -> Result<Option<String>, AllocError> {
-    let exit = play(alloc, &mut case);
+/// How a case that was played differs, by the first thing that isn't as wanted.
+fn played_difference(alloc: Global, case: &Case, exit: Exit) -> Result<Option<String>, AllocError> {
     let wanted = &case.wanted;
     if let Some(found) = text_difference(alloc, case.out.told(), wanted.text.as_slice())? {
         return Ok(Some(found));
@@ -152,6 +151,12 @@ pub fn difference(alloc: Global, mut case: Case) -> Result<Option<String>, Alloc
         return Ok(Some(found));
     }
     outside_difference(alloc, &case.files, &case.wires, wanted)
+}
+
+/// Plays the case, and tells the first thing that isn't as wanted.
+pub fn difference(alloc: Global, mut case: Case) -> Result<Option<String>, AllocError> {
+    let exit = play(alloc, &mut case);
+    played_difference(alloc, &case, exit)
 }
 
 /// How the bytes that a wire took are no front of those that it takes where nothing fails.
@@ -181,15 +186,13 @@ fn text_with<'a>(exit: Exit, got: &'a [u8], whole: &'a [u8]) -> &'a [u8] {
     }
 }
 
-/// Plays the case, in which something fails that doesn't where it gives what is wanted of it. Tells how it isn't as it
-/// is to be then: it ends with this status, prints the line of a refusal alone or else a front of the text, and each
-/// wire takes a front of its bytes.
-pub fn failing_difference(
+/// How a case differs in which something failed when it was played, where it is to end with this status.
+fn failed_difference(
     alloc: Global,
-    mut case: Case,
+    case: &Case,
+    exit: Exit,
     status: u64,
 ) -> Result<Option<String>, AllocError> {
-    let exit = play(alloc, &mut case);
     let got = case.out.told();
     let text = text_with(exit, got, case.wanted.text.as_slice());
     if let Some(found) = text_difference(alloc, got, text)? {
@@ -199,4 +202,16 @@ pub fn failing_difference(
         return Ok(Some(found));
     }
     front_difference(alloc, &case.wires, case.wanted.taken.as_slice())
+}
+
+/// Plays the case, in which something fails that doesn't where it gives what is wanted of it. Tells how it isn't as it
+/// is to be then: it ends with this status, prints the line of a refusal alone or else a front of the text, and each
+/// wire takes a front of its bytes.
+pub fn failing_difference(
+    alloc: Global,
+    mut case: Case,
+    status: u64,
+) -> Result<Option<String>, AllocError> {
+    let exit = play(alloc, &mut case);
+    failed_difference(alloc, &case, exit, status)
 }

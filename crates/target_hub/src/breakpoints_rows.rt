@@ -35,25 +35,26 @@ pub(crate) fn change(
     ensures readable { AreReadable target.new.breakpoints }
 {
     let done = target.breakpoints.apply(channel, command)?;
-    told(alloc, &target.contexts, done)
+    told(alloc, &target.contexts, &done)
 }
 
 /// What a change of the list tells.
-fn told(alloc: Global, targets: &Targets, done: BpDone) -> Result<Effect, AllocError>
-    requires { IsKnown done }
-    ensures { IfOk result (λ effect. effect ≡ effect_of (attached_in targets.now.seen.processes) done) }
+fn told(alloc: Global, targets: &Targets, done: &BpDone) -> Result<Effect, AllocError>
+    requires { IsKnown done.now }
+    ensures { IfOk result (λ effect. effect ≡ effect_of (attached_in targets.now.seen.processes) done.now) }
 {
     match done {
-        BpDone::Failed(code) => Ok(Effect::gives(alloc, Answer::Failed(report(alloc, code)?))),
+        BpDone::Failed(code) => Ok(Effect::gives(alloc, Answer::Failed(report(alloc, *code)?))),
         BpDone::Changed {
             removed,
             added,
             changed,
         } => {
             let attached = attached(targets)?;
-            let mut events = removed_events(alloc, removed)?;
-            tell_added(&added, &mut events)?;
-            tell_changed(&changed, &mut events)?;
+            let mut events = Events::new(alloc);
+            tell_removed(removed, &mut events)?;
+            tell_added(added, &mut events)?;
+            tell_changed(changed, &mut events)?;
             tell_statuses(alloc, &attached, added.as_slice(), &mut events)?;
             tell_statuses(alloc, &attached, changed.as_slice(), &mut events)?;
             Ok(Effect::tells(alloc, events, Answer::Nothing))
@@ -62,14 +63,13 @@ fn told(alloc: Global, targets: &Targets, done: BpDone) -> Result<Effect, AllocE
 }
 
 /// contextRemoved of these breakpoints, where there are some.
-pub(crate) fn removed_events(alloc: Global, ids: Texts) -> Result<Events, AllocError>
-    ensures { IfOk result (λ events. events ≡ removed_events ids) }
+pub(crate) fn tell_removed(ids: &Texts, events: &mut Events) -> Result<(), AllocError>
+    ensures { OnOk result (events.new ≡ events.old ++ removed_events ids.now) }
 {
-    let mut events = Events::new(alloc);
-    if !ids.is_empty() {
-        events.push(EventData::BpRemoved { list: ids })?;
+    if ids.is_empty() {
+        return Ok(());
     }
-    Ok(events)
+    events.push(EventData::BpRemoved { list: ids.copy()? })
 }
 
 /// contextAdded of these breakpoints, where there are some.

@@ -11,7 +11,7 @@ ghost use Rattle.target_hub.specs.Limits.{AreEvents};
 ghost use Rattle.target_hub.specs.Sendable.{AreSendable, IsBounded, IsSendable};
 ghost use Rattle.target_hub.specs.Passing.{closed, closed_told, running_in, tick_told, ticked};
 
-use crate::breakpoints_rows::removed_events;
+use crate::breakpoints_rows::tell_removed;
 use crate::done::{Answered, Done};
 use crate::execution::execute;
 use crate::sendable::what_is_told_can_be_sent;
@@ -127,7 +127,8 @@ impl Hub {
         self.begin()?;
         what_is_told_can_be_sent();
         let ids = self.target.breakpoints.gone(channel)?;
-        let told = removed_events(self.alloc, ids)?;
+        let mut told = Events::new(self.alloc);
+        tell_removed(&ids, &mut told)?;
         self.spent = false;
         Ok(told)
     }

@@ -4,6 +4,7 @@ use Rattle.std.specs.Prelude.{if◌then◌else◌, map, option_map}
 use Rattle.std.specs.List.{flat_map}
 use Rattle.std.proofs.lemmas.List.{append-nil, append_assoc, map-append}
 use Rattle.std.proofs.lemmas.List.Concat.{flat_map-append}
+use Rattle.std.proofs.lemmas.Bool.{and_parts}
 use Rattle.channel_core.specs.Arrivals.{Spoken}
 use Rattle.channel_core.specs.Beginning.{new_end}
 use Rattle.channel_core.specs.QueueLaws.{sent_in}
@@ -29,7 +30,6 @@ use Rattle.value_node.proofs.OwnSilence.{IsPast, stands_past}
 use Rattle.value_node.proofs.OwnStays.{redirect_stays}
 use Rattle.value_node.proofs.Pasts.{after_both, sent_both, taken_in, taken_more}
 use Rattle.value_node.proofs.Steps.{called_whole, end_ran, relay_called, whole}
-use Rattle.list_laws.proofs.Flags.{and_parts}
 use Rattle.list_laws.proofs.Lists.{none_last as none_before, none_before as none_first}
 
 -- ---- what is asked, and what is sent

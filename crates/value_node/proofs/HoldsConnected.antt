@@ -2,6 +2,7 @@
 use Rattle.std.proofs.Common.{◌≡◌, ℕ, Bool, true, false, List, [], Option, Some, None, refl, ap, sym, ◌∙◌, subst, arith}
 use Rattle.std.specs.Prelude.{IsSome, if◌then◌else◌, option_map, option_to_list, unwrap_or}
 use Rattle.std.specs.List.{AllByRecursion, list_any}
+use Rattle.std.proofs.lemmas.Bool.{and_parts}
 use Rattle.channel_core.specs.Closing.{is_closed}
 use Rattle.channel_core.specs.Greeting.{is_greeting}
 use Rattle.value_node.specs.Passing.{Lower, Upper}
@@ -14,7 +15,6 @@ use Rattle.value_node.specs.declared.states.Bind.{Bind}
 use Rattle.value_node.specs.declared.states.Bind.TheVariants.{Unbound, Opening, Bound, Closed}
 use Rattle.value_node.proofs.Holding.{Holds}
 use Rattle.value_node.proofs.Steps.{relay_called}
-use Rattle.list_laws.proofs.Flags.{and_parts}
 use Rattle.list_laws.proofs.AllLists.{all_append}
 
 -- an Opening one isn't bound

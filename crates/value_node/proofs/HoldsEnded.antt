@@ -4,6 +4,7 @@ use Rattle.std.specs.Prelude.{option_map, unwrap_or}
 use Rattle.std.specs.List.{list_any}
 use Rattle.std.proofs.lemmas.List.{append-nil}
 use Rattle.std.proofs.lemmas.List.Folds.{list_any-append}
+use Rattle.std.proofs.lemmas.Bool.{and_parts}
 use Rattle.channel_core.specs.Beginning.{new_end}
 use Rattle.channel_core.specs.Closing.{closed_for, closed_own, is_closed}
 use Rattle.channel_core.specs.EndValue.{EndValue}
@@ -38,7 +39,6 @@ use Rattle.value_node.proofs.HoldsHello.{turn_or_not}
 use Rattle.value_node.proofs.Pasts.{taken_in, taken_more}
 use Rattle.value_node.proofs.Steps.{called_whole, relay, relay_called, whole}
 use Rattle.value_node.proofs.TakenAbove.{others_take}
-use Rattle.list_laws.proofs.Flags.{and_parts}
 
 -- ---- an end that took an ending is closed
 

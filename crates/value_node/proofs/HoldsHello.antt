@@ -3,6 +3,7 @@ use Rattle.std.proofs.Common.{◌≡◌, ◌⊎◌, inl, inr, ℕ, Bool, true, f
 use Rattle.std.specs.Prelude.{IfSome, if◌then◌else◌, option_map, unwrap_or}
 use Rattle.std.specs.List.{flat_map, list_any}
 use Rattle.std.proofs.lemmas.List.Folds.{list_any-append}
+use Rattle.std.proofs.lemmas.Bool.{or_parts}
 use Rattle.channel_core.specs.Closing.{is_closed}
 use Rattle.channel_core.specs.Greeting.{is_greeting}
 use Rattle.channel_core.specs.Laws.{listed}
@@ -38,7 +39,6 @@ use Rattle.value_node.proofs.Steps.{relay, relay_called}
 use Rattle.value_node.proofs.Taken.{IsFirstAny, next_first}
 use Rattle.value_node.proofs.StoreStays.{others_keep, redirect_store}
 use Rattle.value_node.proofs.TakenAbove.{others_take}
-use Rattle.list_laws.proofs.Flags.{neither}
 
 -- ---- what is taken before the Hello
 
@@ -239,18 +239,18 @@ none_done deeds more none nothing = ap (λ ds. ds ++ more) none ∙ nothing
 
 pub idle_kept : (call : Call) (v : Relay) (p : Past) (h : Holds v p) → (p.is_bound || is_binding (relay_called call v).bind) ≡ false → h.deeds ++ deeds_by call v ≡ []
 idle_kept call v p h off =
-    let parts = neither p.is_bound (is_binding (relay_called call v).bind) off in
+    let parts = or_parts p.is_bound (is_binding (relay_called call v).bind) off in
     none_done h.deeds (deeds_by call v) (h.idle parts.0) ((first_call call v p h parts.0).does parts.1)
 
 pub fresh_kept : (call : Call) (v : Relay) (p : Past) → Holds v p → (p.is_bound || is_binding (relay_called call v).bind) ≡ false → (relay_called call v).store ≡ no_store
 fresh_kept call v p h off =
-    let parts = neither p.is_bound (is_binding (relay_called call v).bind) off in
+    let parts = or_parts p.is_bound (is_binding (relay_called call v).bind) off in
     (first_call call v p h parts.0).keeps parts.1 ∙ h.fresh parts.0
 
 pub unbound_kept : (call : Call) (v : Relay) (p : Past) → Holds v p
     → (p.is_bound || is_binding (relay_called call v).bind) ≡ false → (with_calls call v (relay_called call v) p).since_bound ≡ []
 unbound_kept call v p h off =
-    let parts = neither p.is_bound (is_binding (relay_called call v).bind) off in
+    let parts = or_parts p.is_bound (is_binding (relay_called call v).bind) off in
     since_none p.is_bound p.since_bound (own_by call v) (passing_by call v) parts.0 (h.unbound parts.0) ((first_call call v p h parts.0).passes parts.1)
 
 waits_on : (connection : Option (List UpperCall)) → list_any is_greeting (upper_after (unwrap_or connection [])).past.taken ≡ false

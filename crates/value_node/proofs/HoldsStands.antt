@@ -2,6 +2,7 @@
 -- it is Bound.
 use Rattle.std.proofs.Common.{◌≡◌, ℕ, ◌+◌, Bool, true, false, ◌||◌, cond, List, length, Option, Some, None, Result, Ok, refl, ap, sym, ◌∙◌, subst}
 use Rattle.std.specs.Prelude.{IfSome, IsSome, if◌then◌else◌, option_map}
+use Rattle.std.proofs.lemmas.Bool.{and_parts}
 use Rattle.channel_core.specs.Closing.{closed_for, closed_own, is_closed}
 use Rattle.channel_core.specs.EndValue.{EndValue}
 use Rattle.channel_core.specs.QueueLaws.{may_close}
@@ -32,7 +33,7 @@ use Rattle.value_node.proofs.Asking.{asked_bound_is, store_asked}
 use Rattle.value_node.proofs.Holding.{Holds}
 use Rattle.value_node.proofs.HoldsEnds.{KeepsClosed, lower_facts, upper_facts}
 use Rattle.value_node.proofs.Steps.{relay, relay_called}
-use Rattle.list_laws.proofs.Flags.{or_false, or_true, and_parts}
+use Rattle.list_laws.proofs.Flags.{or_false, or_true}
 
 -- ---- an end of which something is sent, or which is closed
 

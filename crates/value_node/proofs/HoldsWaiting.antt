@@ -3,6 +3,7 @@ use Rattle.std.proofs.Common.{◌≡◌, ℕ, ◌+◌, Bool, true, false, ◌&&�
 use Rattle.std.specs.List.{flat_map, list_any}
 use Rattle.std.proofs.lemmas.List.Concat.{flat_map-append}
 use Rattle.std.proofs.lemmas.List.Folds.{list_any-append}
+use Rattle.std.proofs.lemmas.Bool.{or_parts}
 use Rattle.stream_escape.specs.Fed.{fed}
 use Rattle.stream_escape.specs.declared.stream.Item.{Item}
 use Rattle.stream_escape.specs.declared.stream.Item.TheVariants as items
@@ -34,7 +35,6 @@ use Rattle.channel_core.specs.declared.states.EndState.TheVariants.{Closed, Live
 use Rattle.channel_core.specs.declared.taking.Taken.{Taken}
 use Rattle.channel_core.proofs.TheLaws.{takes_nothing_closed}
 use Rattle.value_node.proofs.Holding.{WaitsOrIsClosed}
-use Rattle.list_laws.proofs.Flags.{neither}
 
 -- where the one waits or is closed the other does or is
 abbrev Stays : {T : Type 0} → EndValue T → EndValue T → Type 0
@@ -143,7 +143,7 @@ take_stays : {T : Type 0} → (r : Run T) → TakesNothingClosed r → OnlyWaits
 take_stays r none so =
     let what = listed (next_taken r.end).0 in
     λ off.
-    let parts = neither (list_any is_greeting r.past.taken) (list_any is_greeting what) (sym (list_any-append is_greeting r.past.taken what) ∙ off) in
+    let parts = or_parts (list_any is_greeting r.past.taken) (list_any is_greeting what) (sym (list_any-append is_greeting r.past.taken what) ∙ off) in
     let before = so parts.0 in
     let next = next_stays r.end.state r.end refl before.waits none parts.1 in
     record {

@@ -1,3 +1,4 @@
+pub mod AskedOfStore
 pub mod Fitting
 pub mod Pending
 pub mod Asking

@@ -97,6 +97,17 @@ asked_bound token service name body mark v =
     then asked_of_store (command_of service name body) token service name body mark v
     else forwarded_as (command_of service name body) token service name body mark v
 
+-- whether it is answered so, and the value-add then
+abbrev pub answered_by : Option (List ℕ) → List ℕ → Relay → Bool × Relay
+answered_by None token v = (false, v)
+answered_by (Some reply) token v = (true, with_lower (queued (final token reply) v.store.mark v.lower) v)
+
+abbrev pub answered_stored : List ℕ → Option Command → Relay → Bool × Relay
+answered_stored token known v =
+    if is_free_to_answer v.upper
+    then answered_by (answer_to known v.store) token (record v { store = used_by known v.store })
+    else (false, v)
+
 -- ---- taking from below
 
 abbrev pub asked_in : Bind → List ℕ → List ℕ → List ℕ → List ℕ → Option ℕ → Relay → ValueTurn × Relay

@@ -34,13 +34,15 @@ impl Relay {
         ensures new { IfOk result (λ relay. relay ≡ new_relay peer) }
         ensures usable { IfOk result IsUsable }
     {
+        let lower = End::new(alloc, HELLO, None)?;
+        let store = Store::new(alloc)?;
         Ok(Relay {
             peer,
             bind: Bind::Unbound,
-            lower: End::new(alloc, HELLO, None)?,
+            lower,
             upper: None,
             redirect: None,
-            store: Store::new(alloc)?,
+            store,
         })
     }
 

@@ -4,7 +4,7 @@ ghost use Rattle.tcf_message.specs.Message.{HasNoZero, IsToken, IsWellFormed, co
 ghost use Rattle.value_node.specs.Own.{Fits, IsSendable};
 ghost use Rattle.value_node.specs.Passing.{not_recognised};
 ghost use Rattle.value_node.specs.Usable.{IsUsable};
-ghost use Rattle.value_node.specs.Value.{TakesNothing, answered, asked, asked_bound, before_hello, command_of, ended_in, event_taken, final_taken, hello_taken, is_free_to_answer, progress_taken, redirect_answered, sent_above, takes_below, took_above, took_below, turned_above, turned_at, turned_below, unbound_again};
+ghost use Rattle.value_node.specs.Value.{TakesNothing, answered, answered_stored, asked, asked_bound, before_hello, command_of, ended_in, event_taken, final_taken, hello_taken, is_free_to_answer, progress_taken, redirect_answered, sent_above, takes_below, took_above, took_below, turned_above, turned_at, turned_below, unbound_again};
 ghost use Rattle.value_node.specs.declared.states.Side.TheVariants.{Above, Below};
 
 use crate::forwarded::Forwarded;
@@ -151,6 +151,7 @@ impl Relay {
     }
 
     /// Answers a command from the store, or sends it above.
+    #[tactic(auto, using(crate::proofs::AskedOfStore::asked_is))]
     fn ask_bound(
         &mut self,
         alloc: Global,
@@ -166,15 +167,36 @@ impl Relay {
         ensures usable { OnOk result (IsUsable self.new) }
     {
         let command = command_of(alloc, service, name, body)?;
-        if self.is_free_to_answer() {
-            if let Some(data) = self.store.answer(alloc, &command)? {
-                return self
-                    .lower
-                    .send_answer(token, data.as_slice(), self.store.mark());
-            }
+        if self.answer_stored(alloc, token, &command)? {
+            return Ok(());
         }
         let forwarded = Forwarded::new(alloc, token, command)?;
         self.forward(service, name, body, forwarded, mark)
+    }
+
+    /// Answers a command from the store, where that may answer and has all of it. Answers whether it did.
+    fn answer_stored(
+        &mut self,
+        alloc: Global,
+        token: &[u8],
+        command: &Option<Command>,
+    ) -> Result<bool, AllocError>
+        requires usable { IsUsable self.old }
+        requires token { IsToken token.now }
+        ensures answered { IfOk result (λ answered. (answered, self.new) ≡ answered_stored token.now command.now self.old) }
+        ensures usable { OnOk result (IsUsable self.new) }
+    {
+        if !self.is_free_to_answer() {
+            return Ok(false);
+        }
+        match self.store.answer(alloc, command)? {
+            Some(data) => {
+                self.lower
+                    .send_answer(token, data.as_slice(), self.store.mark())?;
+                Ok(true)
+            }
+            None => Ok(false),
+        }
     }
 
     /// Sends a command above. Where the upper end has no token left, both sides are closed.

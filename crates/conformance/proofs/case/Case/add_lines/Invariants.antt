@@ -1,7 +1,6 @@
-use Rattle.std.proofs.Common.{◌≡◌, ℕ, ◌+◌, ◌-◌, ◌*◌, ◌<◌, ◌≤◌, length}
 use denote.Text.{Utf8}
 use denote.Shadow.{shadow}
-use Rattle.conformance.proofs.case.read_case.Given as goal
+use Rattle.conformance.proofs.case.Case.add_lines.Given as goal
 
 -- the line that began the part is text
 abbrev pub invariant-loop-line : goal.invariant-loop-line

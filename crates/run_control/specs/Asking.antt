@@ -86,6 +86,10 @@ processes_fault id rows = first_fault (
     (not (is_empty id) && is_none (process_at_number (process_named id) rows), BadContext)
     ∷ [])
 
+-- the numbers of all, or of those that are attached
+abbrev pub listed_numbers : Bool → List (ℕ × ProcessValue) → List ℕ
+listed_numbers attached rows = if attached then attached_in rows else numbers_of rows
+
 abbrev pub processes_named : List ℕ → Bool → List (ℕ × ProcessValue) → List (List ℕ)
 processes_named id attached rows =
-    if is_empty id then map process_id (if attached then attached_in rows else numbers_of rows) else []
+    if is_empty id then map process_id (listed_numbers attached rows) else []

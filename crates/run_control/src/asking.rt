@@ -1,11 +1,11 @@
 //! The commands that ask: they change nothing and tell nothing.
-ghost use Rattle.std.specs.Prelude.{◌≡◌, ◌<◌, map, All, if◌then◌else◌, Some, None, IfErr, IfNone, IfOk, OnOk};
+ghost use Rattle.std.specs.Prelude.{◌≡◌, ◌<◌, map, All, Some, None, IfErr, IfNone, IfOk, OnOk};
 ghost use Rattle.target_contexts.specs.Refusals.{IsRefusalOf};
 ghost use Rattle.tcf_values.specs.Ids.{context_of};
-ghost use Rattle.target_contexts.specs.Live.{numbers_of, process_of};
-ghost use Rattle.target_contexts.specs.Named.{attached_in, thread_at_pair, thread_named};
+ghost use Rattle.target_contexts.specs.Live.{process_of};
+ghost use Rattle.target_contexts.specs.Named.{thread_at_pair, thread_named};
 ghost use Rattle.run_control.specs.Naming.{is_empty, process_id, process_named};
-ghost use Rattle.run_control.specs.Asking.{children_fault, children_named, children_of, context_answer, context_fault, data_named, process_answer, process_answer_of, process_fault, processes_fault, processes_named, run_state, state_answer, state_fault};
+ghost use Rattle.run_control.specs.Asking.{children_fault, children_named, children_of, context_answer, context_fault, data_named, listed_numbers, process_answer, process_answer_of, process_fault, processes_fault, processes_named, run_state, state_answer, state_fault};
 
 use crate::named::{live_process, live_thread};
 use crate::telling::{attached, process_id, thread_ids};
@@ -157,7 +157,7 @@ pub(crate) fn processes(
 
 /// The IDs of all processes, or of those that are attached.
 fn listed(alloc: Global, targets: &Targets, only_attached: bool) -> Result<Texts, AllocError>
-    ensures { IfOk result (λ ids. ids ≡ map process_id (if only_attached then attached_in targets.now.seen.processes else numbers_of targets.now.seen.processes)) }
+    ensures { IfOk result (λ ids. ids ≡ map process_id (listed_numbers only_attached targets.now.seen.processes)) }
 {
     process_ids(alloc, &numbers(targets, only_attached)?)
 }
@@ -165,7 +165,7 @@ fn listed(alloc: Global, targets: &Targets, only_attached: bool) -> Result<Texts
 /// The numbers of all processes, or of those that are attached.
 #[tactic(auto, using(crate::proofs::Positive::positive_numbers))]
 fn numbers(targets: &Targets, only_attached: bool) -> Result<Vec<u32>, AllocError>
-    ensures numbers { IfOk result (λ numbers. numbers.items ≡ (if only_attached then attached_in targets.now.seen.processes else numbers_of targets.now.seen.processes)) }
+    ensures numbers { IfOk result (λ numbers. numbers.items ≡ listed_numbers only_attached targets.now.seen.processes) }
     ensures positive { IfOk result (λ numbers. All (λ number. 0 < number) numbers.items) }
 {
     if only_attached {

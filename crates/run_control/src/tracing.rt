@@ -82,7 +82,8 @@ fn trace(
 ) -> Result<Effect, AllocError>
     requires process { 0 < number }
     requires thread { 0 < n }
-    ensures effect { IfOk result (λ effect. effect ≡ trace_given count (Some (number, n)) (target_of targets.old.seen bps.old) (target_of targets.new.seen bps.new)) }
+    ensures effect { IfOk result (λ effect. effect
+        ≡ trace_given count (Some (number, n)) (target_of targets.old.seen bps.old) (target_of targets.new.seen bps.new)) }
     ensures after { OnOk result (target_of targets.new.seen bps.new ≡ trace_after count number n (target_of targets.old.seen bps.old)) }
     ensures points { uncounted bps.new ≡ uncounted bps.old }
 {
@@ -139,7 +140,8 @@ fn execute_up_to(
     n: u32,
     count: u32,
 ) -> Result<(Numbers, Executed), AllocError>
-    ensures trace { IfOk result (λ done. trace_of bps.now number n count process.old.seen ≡ record { process = process.new.seen; addresses = done.0; stop = done.1 }) }
+    ensures trace { IfOk result (λ done. trace_of bps.now number n count process.old.seen
+        ≡ record { process = process.new.seen; addresses = done.0; stop = done.1 }) }
     ensures few { IfOk result (λ done. length done.0 ≤ count) }
 {
     let mut addresses = Numbers::new(alloc);

@@ -222,7 +222,7 @@ impl Knowledge {
         reason: &Text,
         hits: &Texts,
     ) -> Result<(), AllocError>
-        ensures { OnOk result (IsAfter (of_each hit_breakpoint hits.now ++ moved_for (context_of id.now) (RunState.Suspended pc reason.now hits.now)) self.old self.new) }
+        ensures { OnOk result (IsAfter (event_changes (EventData.Suspended id.now pc reason.now hits.now)) self.old self.new) }
     {
         self.drop_hits(hits.as_slice());
         self.stop_context(id, pc, reason, hits)

@@ -1,10 +1,10 @@
 -- Lists whose elements have numbers that differ.
 use Rattle.std.proofs.Common.{◌≡◌, ℕ, ◌==◌, Bool, false, ◌||◌, List, [], ◌∷◌, ◌++◌, map, refl, sym, ap, ◌∙◌, ne_eqb}
 use Rattle.std.specs.List.{AllByRecursion, list_any}
-use Rattle.std.proofs.lemmas.Bool.{eqb-false, or_parts}
+use Rattle.std.proofs.lemmas.Bool.{eqb-false, or_parts, or_from}
 use Rattle.std.proofs.lemmas.List.Folds.{list_any-append}
 use Rattle.list_laws.proofs.Numbers.{other_number}
-use Rattle.list_laws.proofs.Flags.{or_or_false, or_neither}
+use Rattle.list_laws.proofs.Flags.{or_or_false}
 
 abbrev pub has : {A : Type 0} → (A → ℕ) → ℕ → List A → Bool
 has number k xs = list_any (λ x. number x == k) xs
@@ -33,7 +33,7 @@ pub differ_more : {A : Type 0} → (number : A → ℕ) (xs : List A) (y : A) �
 differ_more number [] y none d = (refl, tt)
 differ_more number (x ∷ xs) y none d =
     let parts = or_parts (number x == number y) (has number (number y) xs) none in (
-      has_more number (number x) xs y ∙ or_neither (has number (number x) xs) (number y == number x) d.0 (other_number (number x) (number y) parts.0),
+      has_more number (number x) xs y ∙ or_from (has number (number x) xs) (number y == number x) d.0 (other_number (number x) (number y) parts.0),
       differ_more number xs y parts.1 d.1,
     )
 

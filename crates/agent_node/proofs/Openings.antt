@@ -2,7 +2,7 @@
 use Rattle.std.proofs.Common.{◌≡◌, ℕ, ◌+◌, ◌-◌, ◌^◌, ◌<◌, ◌≤◌, ◌==◌, ◌⊎◌, Bool, true, false, not, cond, ◌&&◌, ◌||◌, nat_le, List, [], ◌∷◌, ◌++◌, length, map, refl, sym, ap, ◌∙◌, subst, inl, inr, arith, append-nil, eqb-true, eq-eqb, leb-false, leb-true, le-leb}
 use Rattle.std.specs.Prelude.{Option, Some, None, Result, Ok, Err, count_by}
 use Rattle.std.specs.List.{AllByRecursion}
-use Rattle.std.proofs.lemmas.Bool.{or_parts}
+use Rattle.std.proofs.lemmas.Bool.{or_parts, or_cases, or_left, or_right}
 use Rattle.std.proofs.lemmas.List.Folds.{list_any-append}
 use Rattle.std.proofs.lemmas.List.{map-append}
 use Rattle.std.proofs.lemmas.List.Recursion.{is_count_by}
@@ -28,7 +28,7 @@ use Rattle.agent_node.proofs.Following.{Follows}
 use Rattle.agent_node.proofs.Holding.{on_number_keeps, on_open_keeps}
 use Rattle.agent_node.proofs.Standing.{Stands, forgotten, no_more, past_number, shown}
 use Rattle.agent_node.proofs.Truth.{HoldsRun, holds_all, holds_first}
-use Rattle.list_laws.proofs.Flags.{not_false, not_true, or_cases, or_left, or_right}
+use Rattle.list_laws.proofs.Flags.{not_false, not_true}
 
 abbrev numbers : List Past → List ℕ
 numbers pasts = map past_number pasts

@@ -1,5 +1,5 @@
 -- An agent has no channel that it didn't open.
-use Rattle.std.proofs.Common.{◌≡◌, ◌==◌, refl, ap, ◌∙◌}
+use Rattle.std.proofs.Common.{ap, ◌∙◌}
 use Rattle.agent_node.specs.Channels.{end_in}
 use Rattle.agent_node.specs.Runs.{after_all, no_calls}
 use Rattle.agent_node.specs.Strangers.{NoStrangersAfterAnyCalls}

@@ -1,14 +1,14 @@
 -- More calls of an agent: what they give out, how openings are answered, and that a channel is opened once.
 use Rattle.std.proofs.Common.{◌≡◌, ℕ, ◌==◌, ◌⊎◌, inl, inr, Bool, true, false, ◌||◌, nat_le, cond, List, [], ◌∷◌, ◌++◌, refl, sym, ap, ◌∙◌, append_assoc, append-nil}
 use Rattle.std.specs.List.{list_any}
-use Rattle.std.proofs.lemmas.Bool.{false≢true}
+use Rattle.std.proofs.lemmas.Bool.{false≢true, or_cases}
 use Rattle.std.proofs.lemmas.List.Folds.{list_any-append}
 use Rattle.target_contexts.specs.declared.process.Image.{Image}
 use Rattle.target_hub.specs.History.{opens as input_opens, was_opened}
 use Rattle.target_hub.specs.declared.input.Input.{Input}
 use Rattle.target_hub.specs.declared.input.Input.TheVariants.{Opened}
 use Rattle.list_laws.specs.Fronts.{IsFront}
-use Rattle.list_laws.proofs.Flags.{or_cases, or_true}
+use Rattle.list_laws.proofs.Flags.{or_true}
 use Rattle.agent_node.specs.Agent.{begun, is_full, new_agent, opened}
 use Rattle.agent_node.specs.AgentValue.{AgentValue}
 use Rattle.agent_node.specs.Channels.{live_count}

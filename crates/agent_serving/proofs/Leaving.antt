@@ -3,10 +3,10 @@ use Rattle.std.proofs.Common.{◌≡◌, ℕ, zero, suc, ◌≤◌, ◌+◌, ◌
 use Rattle.std.specs.Prelude.{IsTrue, fold, min}
 use Rattle.std.specs.List.{AllByRecursion, filter}
 use Rattle.std.proofs.Math.Nat.{zero-min}
-use Rattle.std.proofs.lemmas.Bool.{false≢true, or_parts}
+use Rattle.std.proofs.lemmas.Bool.{false≢true, or_parts, and_parts, false_from_ne_true}
 use Rattle.std.proofs.lemmas.Option.{none-some, same_Some}
 use Rattle.list_laws.proofs.AllLists.{all_filter, all_map_then, all_mapped, all_push}
-use Rattle.list_laws.proofs.Flags.{and_parts, never_true, not_both}
+use Rattle.list_laws.proofs.Flags.{not_both}
 use Rattle.target_contexts.specs.declared.process.Image.{Image}
 use Rattle.tcf_values.specs.declared.event.EventData.{EventData}
 use Rattle.tcf_values.specs.declared.ids.ContextId.{ContextId}
@@ -59,7 +59,7 @@ record IsStill (k : ℕ) (a b : AgentValue) : Type 0 where
   waits : is_full a ≡ true → waiting_on k b ≡ waiting_on k a
 
 wasnt_full : (a b : AgentValue) → (is_full a ≡ true → is_full b ≡ true) → is_full b ≡ false → is_full a ≡ false
-wasnt_full a b full isnt = never_true (is_full a) (λ is. not_both (full is) isnt)
+wasnt_full a b full isnt = false_from_ne_true (is_full a) (λ is. not_both (full is) isnt)
 
 line_still : (k : ℕ) (line : Line) (a b : AgentValue) → IsStill k a b → LineRests k line a → LineRests k line b
 line_still k line a b still old =

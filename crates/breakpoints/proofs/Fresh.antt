@@ -7,7 +7,7 @@ use Rattle.std.specs.Global.{Vec}
 use Rattle.std.specs.List.{AllByRecursion, IsDistinct, list_any}
 use Rattle.std.specs.Map.{keys_of, lookup, values_of}
 use Rattle.indexmap.specs.IndexMap.{insert_entry, insert_all}
-use Rattle.std.proofs.lemmas.Bool.{false_from_ne_true, le-ltb, lt-ltb, ltb-false}
+use Rattle.std.proofs.lemmas.Bool.{false_from_ne_true, le-ltb, lt-ltb, ltb-false, or_parts}
 use Rattle.std.proofs.lemmas.Slice.Eq.{bytes_eq-Decides}
 use Rattle.tcf_values.specs.declared.values.BpProps.{BpProps}
 use Rattle.breakpoints.specs.Changes.{clashes, has_no_place, has_twice, is_overfull}
@@ -16,7 +16,7 @@ use Rattle.breakpoints.specs.Keyed.{AreApart, AreKeyed, IsKept}
 use Rattle.breakpoints.specs.Rows.{ids_of, is_among, is_there, rows_for}
 use Rattle.breakpoints.proofs.Lookup.{key_there}
 use Rattle.list_laws.proofs.AllLists.{all_append, all_map}
-use Rattle.list_laws.proofs.Flags.{or_false, or_true, neither}
+use Rattle.list_laws.proofs.Flags.{or_false, or_true}
 use Rattle.breakpoints.specs.Placed.{Placed, row_for}
 
 -- ---- IDs that differ
@@ -94,13 +94,13 @@ same_key x y = bytes_eq x.items y.items
 pub insert_last : (k : Vec ℕ) (row : Placed) (es : List (Vec ℕ × Placed)) → absent k es ≡ false → insert_entry same_key es k row ≡ es ++ (k, row) ∷ []
 insert_last k row [] apart = refl
 insert_last k row (e ∷ es) apart =
-    let parts = neither _ _ apart in
+    let parts = or_parts _ _ apart in
     ap (λ b. cond b ((e.0, row) ∷ es) (e ∷ insert_entry same_key es k row)) parts.0 ∙ ap (λ rest. e ∷ rest) (insert_last k row es parts.1)
 
 absent_push : (k : Vec ℕ) (es : List (Vec ℕ × Placed)) (new : Vec ℕ × Placed) → absent k es ≡ false → bytes_eq k.items new.0.items ≡ false → absent k (es ++ new ∷ []) ≡ false
 absent_push k [] new apart other = ap (λ b. b || false) other
 absent_push k (e ∷ es) new apart other =
-    let parts = neither _ _ apart in
+    let parts = or_parts _ _ apart in
     ap (λ b. b || absent k (es ++ new ∷ [])) parts.0 ∙ absent_push k es new parts.1 other
 
 -- those that are apart from the list are apart from one more, from which they differ
@@ -130,7 +130,7 @@ pub apart_from : (channel : ℕ) (fresh es : List (Vec ℕ × Placed)) (list : L
 apart_from channel [] es list new keyed made none = tt
 apart_from channel (f ∷ fresh) es [] new keyed made none = cc
 apart_from channel (f ∷ fresh) es (props ∷ list) new keyed made none =
-    let parts = neither _ _ none in
+    let parts = or_parts _ _ none in
     let first : f.1 ≡ row_for channel props = cc in
     let rest : values_of fresh ≡ rows_for channel list = cc in
     let id : f.0.items ≡ props.id = new.0 ∙ ap (λ (row : Placed). row.props.id) first in
@@ -213,8 +213,8 @@ pub record HasPlace (list : List BpProps) (rows : List Placed) : Type 0 where
 
 pub a_place : (list : List BpProps) (rows : List Placed) → has_no_place list rows ≡ false → HasPlace list rows
 a_place list rows e =
-    let outer = neither (clashes list rows || has_twice (map (λ props. props.id) list)) (is_overfull list rows) e in
-    let inner = neither (clashes list rows) (has_twice (map (λ props. props.id) list)) outer.0 in
+    let outer = or_parts (clashes list rows || has_twice (map (λ props. props.id) list)) (is_overfull list rows) e in
+    let inner = or_parts (clashes list rows) (has_twice (map (λ props. props.id) list)) outer.0 in
     record { apart = inner.0; once = inner.1; room = outer.1 }
 
 -- nothing has hit new ones

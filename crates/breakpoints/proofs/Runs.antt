@@ -2,7 +2,7 @@
 use Rattle.std.proofs.Common.{◌≡◌, ◌≢◌, ℕ, ◌+◌, ◌≤◌, nat_eq, Bool, true, false, cond, not, List, [], ◌∷◌, ◌++◌, length, map, filter, refl, sym, ap, subst, ◌∙◌, arith, length-append}
 use Rattle.std.specs.Prelude.{bytes_eq}
 use Rattle.std.specs.List.{AllByRecursion, IsDistinct}
-use Rattle.std.proofs.lemmas.Bool.{ltb-false, ne_eqb}
+use Rattle.std.proofs.lemmas.Bool.{ltb-false, ne_eqb, or_parts}
 use Rattle.std.proofs.lemmas.List.{length-map, map-append}
 use Rattle.tcf_values.specs.declared.command.Command.{Command}
 use Rattle.tcf_values.specs.declared.command.Command.TheVariants.{BpSet, BpAdd, BpChange, BpEnable, BpDisable, BpRemove}
@@ -18,7 +18,7 @@ use Rattle.breakpoints.proofs.Filtered.{orderly_filter}
 use Rattle.breakpoints.proofs.Fresh.{eq_sym, fresh_counts, ids-rows_for, there_among}
 use Rattle.breakpoints.proofs.Written.{flag_keeps, orderly_map, props_keeps}
 use Rattle.list_laws.proofs.AllLists.{all_append}
-use Rattle.list_laws.proofs.Flags.{not_true, neither as or_parts}
+use Rattle.list_laws.proofs.Flags.{not_true}
 use Rattle.breakpoints.specs.Placed.{Placed, row_for}
 
 -- ---- new breakpoints that have a place

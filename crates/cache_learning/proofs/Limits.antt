@@ -10,7 +10,7 @@ use Rattle.knowledge.specs.Changes.{Change, all_gone, context_told, context_gone
 use Rattle.knowledge.specs.Facts.{AreSame, Facts, nothing}
 use Rattle.knowledge.specs.KnowledgeValue.{KnowledgeValue, empty, facts_of}
 use Rattle.knowledge.specs.Learning.{Message, answer_taken, event_taken, bad_event_taken, other_taken, changes_of, learn}
-use Rattle.knowledge.specs.Rows.{added_context, answer_changes, are_of_range, begun, begun_for, changed_context, changed_range, changed_register, event_changes, hit_breakpoint, is_outside, is_part, is_thread_of, joined, joined_for, memory_changes, memory_read, moved_for, parts_read, process_for, range_read, removed_context, removed_properties, stale_for, state_changes, state_of_thread, threads_listed, told_properties, unlisted_for, unsettled, unsettled_for, whole_read, word_read}
+use Rattle.knowledge.specs.Rows.{added_context, answer_changes, are_of_range, begun, begun_for, changed_context, changed_range, changed_register, event_changes, hit_breakpoint, is_outside, is_part, is_thread_of, joined, joined_for, memory_changes, memory_read, moved_for, parts_read, process_for, removed_context, removed_properties, stale_for, state_changes, state_of_thread, threads_listed, told_properties, unlisted_for, unsettled, unsettled_for, whole_read, word_read}
 use Rattle.reply_tables.specs.Answers.{IfKnown as IfKnownAnswer}
 use Rattle.reply_tables.specs.Events.{IfKnown as IfKnownEvent, IsEvent}
 use Rattle.reply_tables.specs.Limits.{IsAnswerTo}
@@ -32,7 +32,6 @@ use Rattle.tcf_values.specs.declared.values.Location.{Location}
 use Rattle.tcf_values.specs.declared.values.Range.{Range}
 use Rattle.tcf_values.specs.declared.values.RunState.{RunState}
 use Rattle.tcf_values.specs.declared.values.RunState.TheVariants as run
-use Rattle.cache_learning.specs.Kept.{Learns}
 use Rattle.cache_learning.specs.Within.{AreWithin}
 
 -- ---- one change

@@ -4,6 +4,7 @@ use Rattle.std.specs.Prelude.{IfSome, bytes_eq, cond, decimal}
 use Rattle.std.specs.List.{AllByRecursion, cons_option, flat_map}
 use Rattle.std.proofs.lemmas.List.Elements.{filter-append}
 use Rattle.std.proofs.lemmas.Slice.Eq.{bytes_eq-Decides}
+use Rattle.std.proofs.lemmas.Bool.{and_parts}
 use Rattle.channel_core.specs.Arrivals.{Spoken, comes_as}
 use Rattle.channel_core.specs.ReceivingLaws.{incoming_of}
 use Rattle.channel_core.specs.Wire.{hello, locator}
@@ -16,7 +17,6 @@ use Rattle.tcf_message.specs.Message.{MessageValue, command, event, final, flow,
 use Rattle.tcf_text.specs.Lines.{Accepted, mark_of}
 use Rattle.tcf_text.specs.declared.log.LogLine.{LogLine}
 use Rattle.tcf_text.specs.declared.log.LogLine.TheVariants as lines
-use Rattle.list_laws.proofs.Flags.{and_parts}
 use Rattle.chain_told.proofs.Doing.{IsReadable}
 
 -- ---- numbers

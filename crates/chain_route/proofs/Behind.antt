@@ -1,6 +1,7 @@
 -- Where a value-add waits for a connection, nothing is connected behind the hop above it.
 use Rattle.std.proofs.Common.{◌≡◌, ℕ, zero, suc, ◌+◌, ◌-◌, ◌<◌, Bool, false, List, [], ◌∷◌, length, Some, None, refl, subst, arith}
 use Rattle.std.specs.Prelude.{IsSome, slice_get}
+use Rattle.std.proofs.lemmas.Bool.{false_from_ne_true}
 use Rattle.channel_core.specs.Arrivals.{bytes_of}
 use Rattle.value_node.specs.Runs.{UpperCall}
 use Rattle.chain_route.specs.Carrying.{Made, end_above, end_below, past_of}
@@ -12,7 +13,6 @@ use Rattle.chain_route.proofs.Flows.{HopHolds, Tip, used}
 use Rattle.chain_route.proofs.Reaching.{Awaits, waits_unheard}
 use Rattle.chain_route.proofs.Unheard.{unheard_unconnected}
 use Rattle.chain_route.proofs.Ways.{Way, way_above}
-use Rattle.list_laws.proofs.Flags.{never_true}
 use Rattle.list_laws.specs.Fronts.{IsFront}
 
 abbrev pub Gave : Made → Made → Type 0
@@ -48,14 +48,14 @@ nothing_behind at lower (h ∷ []) made agent m there next more way = absurd (om
 nothing_behind at lower (h ∷ g ∷ []) made agent m there next more way = absurd (omega (arith, more))
 nothing_behind at lower (h ∷ g ∷ f ∷ hops) [] agent m there next more way = absurd cc
 nothing_behind zero lower (h ∷ g ∷ f ∷ hops) (x ∷ []) agent m there next more way = record {
-  unreached = never_true agent.is_used (λ is. let size = way.reached is in absurd (omega (arith, size)));
+  unreached = false_from_ne_true agent.is_used (λ is. let size = way.reached is in absurd (omega (arith, size)));
   dead = way.all.1.1;
 }
 nothing_behind zero lower (h ∷ g ∷ f ∷ []) (x ∷ y ∷ []) agent m there next more way =
-    let none : agent.is_used ≡ false = never_true agent.is_used (λ is. some_none y (next y refl) (way.connected.1 is)) in
+    let none : agent.is_used ≡ false = false_from_ne_true agent.is_used (λ is. some_none y (next y refl) (way.connected.1 is)) in
     record { unreached = none; dead = (way.unreached none, tt) }
 nothing_behind zero lower (h ∷ g ∷ f ∷ e ∷ hops) (x ∷ y ∷ []) agent m there next more way = record {
-  unreached = never_true agent.is_used (λ is. some_none y (next y refl) (way.connected.1 is));
+  unreached = false_from_ne_true agent.is_used (λ is. some_none y (next y refl) (way.connected.1 is));
   dead = way.all.1.1;
 }
 nothing_behind zero lower (h ∷ g ∷ f ∷ hops) (x ∷ y ∷ z ∷ made) agent m there next more way = absurd (some_none y (next y refl) way.connected.1.0)

@@ -1,5 +1,6 @@
 -- What happens on a hop: it carries on.
 use Rattle.std.proofs.Common.{◌≡◌, ℕ, Bool, true, false, not, ◌&&◌, cond, List, [], ◌++◌, refl, sym, ap, ◌∙◌, subst, append_assoc, append-nil}
+use Rattle.std.proofs.lemmas.Bool.{and_parts}
 use Rattle.channel_core.specs.Arrivals.{Marked, bytes_of}
 use Rattle.channel_core.specs.declared.held.Outgoing.{Outgoing}
 use Rattle.value_node.specs.declared.states.Side.{Side}
@@ -9,7 +10,7 @@ use Rattle.chain_route.specs.Hop.{arrived_at, connected, goes_up, lane_to, no_ho
 use Rattle.chain_route.specs.Lane.{arriving, staying}
 use Rattle.chain_route.specs.declared.hop.Hop.{Hop}
 use Rattle.chain_route.proofs.Bytes.{arrives_first, bytes_more}
-use Rattle.list_laws.proofs.Flags.{and_parts, not_both, not_true}
+use Rattle.list_laws.proofs.Flags.{not_both, not_true}
 use Rattle.list_laws.specs.Fronts.{IsFront}
 use Rattle.list_laws.proofs.Fronts.{front_more, front_same}
 

@@ -2,6 +2,7 @@
 use Rattle.std.proofs.Common.{◌≡◌, ℕ, zero, suc, ◌+◌, Bool, true, false, cond, List, [], ◌∷◌, ◌++◌, length, map, take, Option, Some, None, refl, sym, ap, ◌∙◌, subst, arith}
 use Rattle.std.specs.Prelude.{IfSome, IsSome, not, option_to_list, slice_get, slice_set, unwrap_or}
 use Rattle.std.specs.List.{AllByRecursion, list_any}
+use Rattle.std.proofs.lemmas.Bool.{and_parts}
 use Rattle.channel_core.specs.Arrivals.{bytes_of}
 use Rattle.channel_core.specs.Greeting.{is_greeting}
 use Rattle.channel_core.specs.ReceivingLaws.{SendsReadable}
@@ -22,7 +23,6 @@ use Rattle.chain_route.proofs.Adds.{call_run, facts_of, tip_above, tip_of, with_
 use Rattle.chain_route.proofs.Anew.{AreDeadBehind, dead_above}
 use Rattle.chain_route.proofs.Flows.{HopHolds, Tip, begun_carries, fresh_end, unused_tip, used}
 use Rattle.chain_route.proofs.Unsent.{unsent_above}
-use Rattle.list_laws.proofs.Flags.{and_parts as both_true}
 use Rattle.list_laws.specs.Fronts.{IsFront}
 
 -- ---- The value-add connects: below nothing changes, and above it begins anew
@@ -69,7 +69,7 @@ pub waits_unheard : (m : Made) → Awaits m → list_any is_greeting (above (pas
 waits_unheard m waits =
     let facts = facts_of m in
     let v = (value_of m).relay in
-    let opening = (both_true (is_opening v.bind) (is_free v.upper) waits).0 in
+    let opening = (and_parts (is_opening v.bind) (is_free v.upper) waits).0 in
     facts.heard ∙ unbound_by v.bind v (past_of m) opening facts.stands
 
 -- ---- What came to a channel of the agent that is given up

@@ -2,6 +2,7 @@
 -- while a call goes on.
 use Rattle.std.proofs.Common.{◌≡◌, ℕ, ◌+◌, ◌&&◌, Bool, true, false, cond, List, [], ◌∷◌, Option, Some, None, refl, sym, ap, ◌∙◌, subst}
 use Rattle.std.specs.Prelude.{option_map}
+use Rattle.std.proofs.lemmas.Bool.{and_parts}
 use Rattle.channel_core.specs.Receiving.{ended as end_ended, is_over, with_last}
 use Rattle.channel_core.specs.EndValue.{EndValue}
 use Rattle.channel_core.specs.Closing.{is_closed}
@@ -16,7 +17,6 @@ use Rattle.chain_route.specs.Passing.{carried, came, delivered, emptied, emptied
 use Rattle.chain_route.specs.Hop.{lane_to}
 use Rattle.chain_route.specs.Lane.{arriving}
 use Rattle.chain_route.specs.declared.hop.Hop.{Hop}
-use Rattle.list_laws.proofs.Flags.{and_parts as both_true}
 
 -- a value-add at a place of a way with so many hops: nothing is queued below it, unless it stands at the first place, nor above
 -- it, unless at the second, and it waits only for the agent, unless it stands at the third
@@ -163,7 +163,7 @@ connected_settled size low at v s = by_flag (awaits v.relay) refl
       unspent = s.unspent;
       below = s.below;
       above = λ apart. absurd (apart refl);
-      waits = λ _ waits. let never = (both_true (is_opening v.relay.bind) false waits).1 in absurd cc;
+      waits = λ _ waits. let never = (and_parts (is_opening v.relay.bind) false waits).1 in absurd cc;
     }
     by_flag false is = record {
       unspent = s.unspent;

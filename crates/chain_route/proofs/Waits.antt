@@ -1,6 +1,7 @@
 -- A value-add begins to wait for a connection only when it takes a redirect: nothing else that it does makes it wait.
 use Rattle.std.proofs.Common.{◌≡◌, ℕ, ◌+◌, ◌&&◌, Bool, true, false, cond, List, [], ◌∷◌, ◌++◌, length, Option, Some, None, refl, sym, ap, ◌∙◌, subst}
 use Rattle.std.specs.Prelude.{Err, Ok, Result, option_map}
+use Rattle.std.proofs.lemmas.Bool.{and_parts, and_from}
 use Rattle.channel_core.specs.Closing.{is_closed}
 use Rattle.channel_core.specs.Receiving.{delivered}
 use Rattle.channel_core.specs.Runs.{delivering}
@@ -34,7 +35,7 @@ use Rattle.chain_route.specs.Passing.{parts_came}
 use Rattle.channel_core.proofs.TheLaws.{closes_only_so}
 use Rattle.chain_route.proofs.Adds.{facts_of, with_call}
 use Rattle.chain_route.proofs.Moving.{call_value}
-use Rattle.list_laws.proofs.Flags.{and_parts, not_both, and_true}
+use Rattle.list_laws.proofs.Flags.{not_both}
 
 -- ---- How its upper end closes
 
@@ -206,7 +207,7 @@ on_keeps (Some e) v has so is = by_flag (is_closed e.state) refl
     waits = above_waits next.0 v.bind (with_upper next.1 v) is
 
     by_flag : (flag : Bool) → is_closed e.state ≡ flag → awaits v ≡ true
-    by_flag true closed = and_true (is_opening v.bind) (is_free v.upper) waits.opening (ap is_free has ∙ closed)
+    by_flag true closed = and_from (is_opening v.bind) (is_free v.upper) waits.opening (ap is_free has ∙ closed)
     by_flag false opened = absurd (not_both waits.free ((so e refl).by_taking opened ∙ waits.unclosed))
 
 above_keeps : (v : Relay) → ((e : Upper) → v.upper ≡ Some e → ClosesSo e) → awaits (turned_above v).1 ≡ true → awaits v ≡ true

@@ -1,9 +1,9 @@
--- An end to which a Hello and answers to its commands come closes by no fault of its other side, and neither does one to which a
+-- An end to which a Hello and answers to its commands come closes by no fault of its other side, and or_parts does one to which a
 -- Hello and commands come.
 use Rattle.std.proofs.Common.{◌≡◌, ℕ, zero, suc, ◌+◌, ◌-◌, ◌<◌, ◌≤◌, ◌==◌, ◌&&◌, ◌||◌, Bool, true, false, List, [], ◌∷◌, ◌++◌, length, map, take, Option, ⊎_elim, refl, sym, ap, ◌∙◌, subst, arith, eqb-true}
 use Rattle.std.specs.Prelude.{Contains, bytes_eq, decimal}
 use Rattle.std.specs.List.{AllByRecursion, flat_map, list_any, range_with_len}
-use Rattle.std.proofs.lemmas.Bool.{eqb-false}
+use Rattle.std.proofs.lemmas.Bool.{eqb-false, or_parts}
 use Rattle.tcf_message.specs.Message.{IsWellFormed, MessageValue, command, event, final, flow, not_known, progress}
 use Rattle.channel_core.specs.Arrivals.{AreSpoken, Spoken, arrived, bytes_of, queue_of}
 use Rattle.channel_core.specs.Beginning.{new_end}
@@ -29,7 +29,6 @@ use Rattle.channel_laws.proofs.TheLaws.{faults_are_there}
 use Rattle.tcf_message.proofs.TheLaws.{read_back}
 use Rattle.chain_through.proofs.Queues.{entering_formed}
 use Rattle.chain_through.proofs.Taking.{come_as}
-use Rattle.list_laws.proofs.Flags.{neither}
 use Rattle.list_laws.specs.Fronts.{IsFront}
 use Rattle.list_laws.proofs.Fronts.{front_each}
 
@@ -176,7 +175,7 @@ others_came : (number : ℕ) (before : List Spoken) → AreSpoken before → is_
     → AllByRecursion (λ i. list_any (is_its number) (token_in (said_in i.raw)) ≡ false) (map come_as before)
 others_came number [] formed none = tt
 others_came number (s ∷ before) formed none =
-    let both = neither (ends (decimal number) s.message) (is_ended (decimal number) before) none in
+    let both = or_parts (ends (decimal number) s.message) (is_ended (decimal number) before) none in
     (ap (λ what. list_any (is_its number) (token_in what)) (heard_as s formed.0) ∙ none_ends number s.message both.0, others_came number before formed.1 both.1)
 
 unanswered : {T : Type 0} → (number : ℕ) (entries : List (Taken T)) → AllByRecursion (λ i. list_any (is_its number) (token_in (said_in i.raw)) ≡ false) (flat_map incoming_of entries) → is_answered entries number ≡ false

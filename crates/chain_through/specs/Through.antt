@@ -1,5 +1,5 @@
 -- What goes up a way and comes down it, at one moment.
-use Rattle.std.specs.Prelude.{ℕ, ◌≡◌, ◌<◌, ◌^◌, true, Bool, List, [], ◌∷◌, ◌++◌, filter, length, map, Option, IsSome}
+use Rattle.std.specs.Prelude.{ℕ, ◌≡◌, ◌<◌, ◌^◌, Bool, List, [], ◌∷◌, ◌++◌, filter, length, map, Option, IsSome}
 use Rattle.std.specs.List.{AllByRecursion}
 use Rattle.channel_core.specs.Arrivals.{AreSpoken, Spoken, all_said, bytes_of, queue_of}
 use Rattle.channel_core.specs.QueueLaws.{is_message}

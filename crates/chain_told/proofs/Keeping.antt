@@ -2,6 +2,7 @@
 use Rattle.std.proofs.Common.{◌≡◌, ℕ, ◌==◌, Bool, true, false, cond, ◌&&◌, List, [], ◌∷◌, ◌++◌, length, take, drop, Option, Some, None, is_some, refl}
 use Rattle.std.specs.Prelude.{ℤ, bytes_eq, unsigned_abs}
 use Rattle.std.specs.List.{AllByRecursion, list_all}
+use Rattle.std.proofs.lemmas.Bool.{or_left}
 use Rattle.tcf_values.specs.Ids.{context_of, register_of}
 use Rattle.tcf_values.specs.declared.answer.Answer.{Answer}
 use Rattle.tcf_values.specs.declared.command.Command.{Command}
@@ -18,7 +19,6 @@ use Rattle.knowledge.specs.Changes.{Change, after, after_all, all_gone, at_regis
 use Rattle.knowledge.specs.Facts.{Facts, is_suspended}
 use Rattle.knowledge.specs.Learning.{learn}
 use Rattle.knowledge.specs.Rows.{answer_changes, are_of_range, children_answered, context_answered, is_part, is_thread_of, memory_answered, memory_read, parts_read, process_for, properties_answered, register_answered, registers_answered, state_answered, state_of_thread, status_answered, threads_listed, whole_read, word_read}
-use Rattle.list_laws.proofs.Flags.{or_left}
 
 -- what is known before is known after, if perhaps otherwise
 pub record Keeps (before now : Facts) : Type 0 where

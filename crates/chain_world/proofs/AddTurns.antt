@@ -1,6 +1,7 @@
 -- A value-add that takes an entry from a side has fewer there, or takes nothing from there any more.
 use Rattle.std.proofs.Common.{◌≡◌, ℕ, suc, ◌<◌, ◌≤◌, Bool, true, false, cond, List, Option, Some, None, ◌⊎◌, inl, inr, refl, sym, ap, ◌∙◌, subst, arith}
 use Rattle.std.specs.Prelude.{Err, Ok, Result, ◌+◌, ◌-◌, ◌^◌, length, option_map}
+use Rattle.std.proofs.lemmas.Bool.{and_parts}
 use Rattle.chain_route.specs.Passing.{emptied, emptied_on, without_queue}
 use Rattle.channel_core.specs.Closing.{closed_own}
 use Rattle.channel_core.specs.Sending.{queued, refusal_of}
@@ -28,7 +29,6 @@ use Rattle.value_node.specs.declared.states.ValueTurn.{ValueTurn}
 use Rattle.value_node.specs.declared.states.ValueTurn.TheVariants.{Nothing}
 use Rattle.chain_world.specs.Until.{TakesNoMore}
 use Rattle.chain_world.proofs.Inboxes.{TakesOne, closed_entries, counted, entries, next_one, queued_rest, same_entries}
-use Rattle.list_laws.proofs.Flags.{and_parts}
 
 -- ---- The entries that wait at a side
 

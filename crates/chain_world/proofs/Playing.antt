@@ -2,6 +2,7 @@
 use Rattle.std.proofs.Common.{◌≡◌, ℕ, zero, suc, ◌+◌, ◌-◌, ◌==◌, ◌&&◌, Bool, true, false, cond, nat_lt, List, [], ◌∷◌, length, Option, Some, None, refl, sym, ap, ◌∙◌, subst, inl, eq-eqb}
 use Rattle.std.specs.Prelude.{IfSome, slice_get}
 use Rattle.std.specs.List.{AllByRecursion, list_any}
+use Rattle.std.proofs.lemmas.Bool.{or_left, or_right}
 use Rattle.agent_node.specs.Agent.{ticked}
 use Rattle.agent_node.specs.AgentValue.{AgentValue}
 use Rattle.agent_node.specs.Runs.{AgentRun, Call as AgentCall, Past, no_calls, run_of}
@@ -34,7 +35,6 @@ use Rattle.chain_world.proofs.Numbers.{all_channels}
 use Rattle.chain_world.proofs.Opening.{add_stands, opened_stands}
 use Rattle.chain_world.proofs.Steps.{all_up_move, cut_move, over_move}
 use Rattle.chain_world.proofs.Worlds.{Standing, carried_stands, on_chain_stands, stands_so, tick_stands, turn_stands, with_agent_stands}
-use Rattle.list_laws.proofs.Flags.{or_left, or_right}
 use Rattle.list_laws.proofs.AllLists.{all_weaker as all_map}
 
 -- ---- A step of a schedule

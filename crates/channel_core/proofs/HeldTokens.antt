@@ -1,8 +1,7 @@
 -- The tokens of what is held don't fall, so only the first of them has to be looked at.
 use Rattle.std.proofs.Common.{◌≡◌, ℕ, ◌==◌, ◌+◌, ◌<◌, ◌≤◌, false, List, [], ◌∷◌, ◌++◌, length, drop, refl, ap, arith}
 use Rattle.std.specs.Prelude.{slice_index_or}
-use Rattle.std.proofs.lemmas.Bool.{eqb-true}
-use Rattle.list_laws.proofs.Flags.{never_true, or_neither}
+use Rattle.std.proofs.lemmas.Bool.{eqb-true, false_from_ne_true, or_from}
 use Rattle.channel_core.specs.Farewell.{AreRising, AreWithin}
 use Rattle.channel_core.specs.Taking.{is_held}
 use Rattle.channel_core.specs.declared.held.Held.{Held}
@@ -51,16 +50,16 @@ none_lower : (token low : ℕ) (held : List Held) → token < low → AreRising 
 none_lower token low [] below rising = refl
 none_lower token low (h ∷ held) below rising =
     let first = rising.0 in
-    or_neither (h.token == token) (is_held token held)
-    (never_true (h.token == token) (λ is. let same = eqb-true h.token token is in omega arith))
+    or_from (h.token == token) (is_held token held)
+    (false_from_ne_true (h.token == token) (λ is. let same = eqb-true h.token token is in omega arith))
     (none_lower token h.token held (omega arith) rising.1)
 
 pub none_below : (token : ℕ) (first : Held) (held : List Held) → first ≡ slice_index_or held 0 first → 0 < length held → token < first.token → AreRising 0 held → is_held token held ≡ false
 none_below token first [] is some below rising = absurd (omega arith)
 none_below token first (h ∷ held) is some below rising =
     let lower : token < h.token = (let same : first.token ≡ h.token = ap (λ x. x.token) is in omega arith) in
-    or_neither (h.token == token) (is_held token held)
-    (never_true (h.token == token) (λ is. let same = eqb-true h.token token is in omega arith))
+    or_from (h.token == token) (is_held token held)
+    (false_from_ne_true (h.token == token) (λ is. let same = eqb-true h.token token is in omega arith))
     (none_lower token h.token held lower rising.1)
 
 pub none_held : (token : ℕ) (held : List Held) → length held ≡ 0 → is_held token held ≡ false

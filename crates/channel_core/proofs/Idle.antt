@@ -1,5 +1,5 @@
 -- Nothing is taken exactly where no entry waits.
-use Rattle.std.proofs.Common.{◌≡◌, ℕ, Bool, List, [], ◌∷◌, length, Option, Some, None, refl, sym, ap, ◌∙◌, arith}
+use Rattle.std.proofs.Common.{◌≡◌, ℕ, List, [], ◌∷◌, length, Option, Some, None, refl, sym, ap, ◌∙◌, arith}
 use Rattle.std.specs.Prelude.{◌↔◌, IfOk, Result, Ok, Err, ◌+◌, ◌^◌, ◌-◌, min, if◌then◌else◌, is_some, slice_get}
 use Rattle.channel_core.specs.EndValue.{EndValue}
 use Rattle.channel_core.specs.Receiving.{waiting_in}

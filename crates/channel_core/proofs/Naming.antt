@@ -2,7 +2,7 @@
 use Rattle.std.proofs.Common.{◌≡◌, ◌≢◌, ℕ, zero, suc, ◌==◌, ◌+◌, ◌<◌, ◌≤◌, ◌^◌, Bool, true, false, cond, not, nat_lt, List, [], ◌∷◌, ◌++◌, length, drop, Some, None, inl, inr, refl, sym, ap, subst, ◌∙◌, arith, one-add}
 use Rattle.std.specs.Prelude.{bytes_eq, decimal, find, option_map, slice_get, Option, remove}
 use Rattle.std.specs.List.{AllByRecursion, position_or_len}
-use Rattle.std.proofs.lemmas.Bool.{cases_Bool, cond-true, eqb-true, eqb-false, lt-ltb}
+use Rattle.std.proofs.lemmas.Bool.{cases_Bool, cond-true, eqb-true, eqb-false, lt-ltb, false_from_ne_true}
 use Rattle.std.proofs.lemmas.Slice.Eq.{bytes_eq-Decides}
 use Rattle.std.specs.Prelude.{Result, Ok, IsUtf8}
 use Rattle.std.specs.Str.{IsAscii}
@@ -11,7 +11,6 @@ use Rattle.std.proofs.lemmas.Fmt.{IsAscii-decimal, parse-decimal}
 use Rattle.std.proofs.lemmas.List.Folds.{find_at}
 use Rattle.std.proofs.lemmas.Str.{IsUtf8-from_ascii}
 use Rattle.std.proofs.lemmas.Option.{slice_get_within}
-use Rattle.list_laws.proofs.Flags.{never_true}
 use Rattle.list_laws.proofs.Numbers.{other_decimals, same_number}
 use Rattle.link_pool.specs.Rows.{Absent, Distinct, item_at, without}
 use Rattle.channel_core.specs.EndValue.{EndValue}
@@ -78,7 +77,7 @@ module _ {T : Type 0} where
   pub next_unissued : (last token : ℕ) (rows : List (ℕ × T)) → token ≡ last + 1 → AreIssued last rows → item_at token rows ≡ None
   next_unissued last token [] next all = refl
   next_unissued last token (row ∷ rows) next all =
-      let other : (row.0 == token) ≡ false = never_true (row.0 == token) (λ is. let same = eqb-true row.0 token is in let first = all.0 in omega (arith, next)) in
+      let other : (row.0 == token) ≡ false = false_from_ne_true (row.0 == token) (λ is. let same = eqb-true row.0 token is in let first = all.0 in omega (arith, next)) in
       ap (λ flag. option_map (λ r. r.1) (cond flag (Some row) (find (λ r. r.0 == token) rows))) other ∙ next_unissued last token rows next all.1
 
   -- ---- digits name a row exactly where its token is theirs
@@ -190,7 +189,7 @@ module _ {T : Type 0} where
   absent_without : (token : ℕ) (rows : List (ℕ × T)) → Absent token rows → without token rows ≡ rows
   absent_without token [] absent = refl
   absent_without token (row ∷ rows) absent =
-      let other : (row.0 == token) ≡ false = never_true (row.0 == token) (λ is. absent.0 (eqb-true row.0 token is)) in
+      let other : (row.0 == token) ≡ false = false_from_ne_true (row.0 == token) (λ is. absent.0 (eqb-true row.0 token is)) in
       ap (λ flag. cond (not flag) (row ∷ without token rows) (without token rows)) other ∙ ap (λ rs. row ∷ rs) (absent_without token rows absent.1)
 
   abbrev with_token : ℕ → Option T → Option (ℕ × T)
@@ -203,7 +202,7 @@ module _ {T : Type 0} where
 
   other_key : (token place : ℕ) (row : ℕ × T) (rows : List (ℕ × T)) → Distinct (row ∷ rows) → number_at place rows ≡ Some token → (row.0 == token) ≡ false
   other_key token place row rows distinct is =
-      never_true (row.0 == token) (λ same. absent_at row.0 place token rows distinct.0 is (sym (eqb-true row.0 token same)))
+      false_from_ne_true (row.0 == token) (λ same. absent_at row.0 place token rows distinct.0 is (sym (eqb-true row.0 token same)))
 
   pub item_there : (place token : ℕ) (rows : List (ℕ × T)) → Distinct rows → number_at place rows ≡ Some token
       → slice_get rows place ≡ with_token token (item_at token rows)

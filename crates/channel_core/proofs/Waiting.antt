@@ -1,6 +1,6 @@
 -- No command is queued before a Hello is taken.
-use Rattle.std.proofs.Common.{◌≡◌, ℕ, ◌+◌, ◌==◌, Bool, true, false, cond, not, ◌&&◌, ◌||◌, List, [], ◌∷◌, ◌++◌, length, Option, Some, None, Result, Ok, Err, refl, sym, ap, ◌∙◌, subst, append-nil}
-use Rattle.std.specs.Prelude.{pos, int_lt, slice_get}
+use Rattle.std.proofs.Common.{◌≡◌, ℕ, ◌+◌, ◌==◌, Bool, true, false, cond, not, ◌&&◌, List, [], ◌∷◌, ◌++◌, length, Option, Some, None, Result, Ok, Err, refl, sym, ap, ◌∙◌, subst, append-nil}
+use Rattle.std.specs.Prelude.{pos, int_lt}
 use Rattle.std.specs.List.{filter, list_any}
 use Rattle.std.proofs.lemmas.Bool.{or_parts}
 use Rattle.std.proofs.lemmas.List.Folds.{list_any-append}
@@ -17,7 +17,7 @@ use Rattle.channel_core.specs.Greeting.{WaitsForHello, is_greeting}
 use Rattle.channel_core.specs.Holding.{is_free, is_live, let_out, released, sent_out}
 use Rattle.channel_core.specs.Laws.{listed}
 use Rattle.channel_core.specs.Level.{is_due, leveled, level_of}
-use Rattle.channel_core.specs.Receiving.{came_by, counted, delivered, ended, entered, heard, is_over, item_came, stopped_by, with_last}
+use Rattle.channel_core.specs.Receiving.{came_by, counted, delivered, entered, heard, is_over, item_came, stopped_by}
 use Rattle.channel_core.specs.RunLaws.{AfterAllCalls, is_command}
 use Rattle.channel_core.specs.Runs.{Call, Run, after_call, after_calls, begun, closing, commanding, delivering, draining, ending, message_of, putting_out, sending, taking, unless_refused}
 use Rattle.channel_core.specs.Sending.{commanded, made, sent_or_held, refusal_to}
@@ -36,7 +36,7 @@ use Rattle.channel_core.specs.Judged.{Judged, Greets, TooEarly}
 use Rattle.channel_core.specs.declared.taking.Taken.{Taken}
 use Rattle.channel_core.specs.declared.taking.Taken.TheVariants as taken
 use Rattle.channel_core.proofs.Commands.{farewell_none, none_more, taken_out, unheld_none}
-use Rattle.channel_core.proofs.Keeping.{IsTidy, either_keeps}
+use Rattle.channel_core.proofs.Keeping.{either_keeps}
 use Rattle.channel_core.proofs.Running.{Stands, stands_after, stands_at_first}
 
 abbrev pub IsUngreeted : EndState → Type 0

@@ -1,5 +1,5 @@
 -- The bytes that come to an end, and the messages that a queue of the other side says with them.
-use Rattle.std.specs.Prelude.{ℕ, ◌≡◌, ◌-◌, ℤ, nat_le, Bool, true, false, if◌then◌else◌, List, [], ◌∷◌, ◌++◌, length, map, filter, Option}
+use Rattle.std.specs.Prelude.{ℕ, ◌-◌, ℤ, nat_le, Bool, true, false, if◌then◌else◌, List, [], ◌∷◌, ◌++◌, length, map, filter, Option}
 use Rattle.std.specs.List.{AllByRecursion, flat_map}
 use Rattle.tcf_message.specs.Message.{MessageValue, flow, spelling, IsWellFormed}
 use Rattle.channel_core.specs.Farewell.{leaving_behind}

@@ -1,6 +1,6 @@
 -- What is shown of a cache is the same for the same facts.
 use Rattle.std.proofs.Common.{◌≡◌, ◌∙◌, refl, ap, List, Option, Some, None}
-use Rattle.std.specs.Prelude.{option_map, option_and_then, decimal, ℕ}
+use Rattle.std.specs.Prelude.{option_map, option_and_then, decimal}
 use Rattle.block_store.specs.declared.block.Block.{Block}
 use Rattle.cached_lines.specs.declared.what.CachedWhat.{CachedWhat}
 use Rattle.cached_lines.specs.declared.what.CachedWhat.TheVariants.{Context, State, Register, Properties, Status, Bytes}

@@ -1,5 +1,5 @@
 -- Where the accepted commands of a log stand.
-use Rattle.std.proofs.Common.{◌≡◌, ◌∙◌, ℕ, zero, suc, ◌+◌, refl, sym, ap, List, [], ◌∷◌, ◌++◌, length, append_assoc, arith, Option, Some, None, rules}
+use Rattle.std.proofs.Common.{◌≡◌, ℕ, zero, suc, ◌+◌, refl, sym, List, [], ◌∷◌, ◌++◌, length, append_assoc, arith, Option, Some, None}
 use Rattle.std.specs.Prelude.{slice_get, option_and_then}
 use Rattle.std.proofs.lemmas.List.{append-nil, length_push}
 use Rattle.tcf_text.specs.Lines.{Accepted, accepted, accepted_by}

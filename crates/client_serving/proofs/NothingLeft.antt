@@ -1,8 +1,7 @@
 -- Nothing is left to do for a client whose run has no end.
 use Rattle.std.proofs.Common.{◌≡◌, ℕ, zero, suc, ◌+◌, ◌<◌, ◌≤◌, ◌==◌, Bool, true, false, ◌&&◌, ◌||◌, List, [], ◌∷◌, length, Option, Some, None, Result, Ok, refl, ap, sym, subst, arith, nat_lt, nat_le}
 use Rattle.std.specs.Prelude.{if◌then◌else◌, IsTrue}
-use Rattle.std.proofs.lemmas.Bool.{leb-true, ltb-true}
-use Rattle.list_laws.proofs.Flags.{and_parts}
+use Rattle.std.proofs.lemmas.Bool.{leb-true, ltb-true, and_parts}
 use Rattle.list_laws.proofs.Numbers.{above_zero}
 use Rattle.channel_laws.proofs.Entries.{Fewer, all_counted, closed_entries, commanded_entries, delivered_entries, ended_entries, entries, next_fewer, none_counted, none_next, queued_entries}
 use Rattle.channel_core.specs.Closing.{closed_own, is_closed}

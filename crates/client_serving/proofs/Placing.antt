@@ -2,7 +2,7 @@
 use Rattle.std.proofs.Common.{◌≡◌, ◌⊎◌, Bool, false, List, [], ◌∷◌, ◌++◌, refl, ap, ◌∙◌, inl, inr, append-nil}
 use Rattle.std.specs.List.{list_any}
 use Rattle.std.proofs.lemmas.List.Folds.{list_any-append}
-use Rattle.list_laws.proofs.Flags.{or_neither}
+use Rattle.std.proofs.lemmas.Bool.{or_from}
 use Rattle.list_laws.proofs.Lists.{nothing_there}
 
 -- each element of a list, with the elements before it, is as P says; and each of those behind the first ones
@@ -48,4 +48,4 @@ each_one P x here = one_behind P [] x here
 -- ---- a test that nothing passes
 
 pub none_of_both : {A : Type 0} → (p : A → Bool) (xs ys : List A) → list_any p xs ≡ false → list_any p ys ≡ false → list_any p (xs ++ ys) ≡ false
-none_of_both p xs ys first second = list_any-append p xs ys ∙ or_neither (list_any p xs) (list_any p ys) first second
+none_of_both p xs ys first second = list_any-append p xs ys ∙ or_from (list_any p xs) (list_any p ys) first second

@@ -2,7 +2,7 @@
 use Rattle.std.proofs.Common.{◌≡◌, ◌≢◌, ℕ, ℤ, pos, negsuc, ◌+◌, ◌≤◌, ◌<◌, nat_eq, nat_lt, unsigned_abs, Bool, true, false, not, ◌&&◌, cond, is_none, List, [], ◌∷◌, ◌++◌, length, get_or, slice_set, take, drop, Option, Some, None, option_map, option_and_then, refl, sym, ◌∙◌, ap, arith, eqb-true}
 use Rattle.std.specs.List.{list_any}
 use Rattle.std.specs.Int.{w32, from_le_bytes}
-use Rattle.std.proofs.lemmas.Bool.{eq-eqb, ltb-false, ltb-true, ne_eqb}
+use Rattle.std.proofs.lemmas.Bool.{eq-eqb, ltb-false, ltb-true, ne_eqb, or_parts}
 use Rattle.std.proofs.lemmas.List.{drop_at, get_or-set_same, length-take-le, take_at}
 use Rattle.std.proofs.lemmas.Nat.{le_bytes_4}
 use Rattle.rv32i_core.specs.declared.registers.Cpu.{Cpu}
@@ -35,7 +35,7 @@ use Rattle.tcf_values.specs.declared.faults.Fault.{Fault}
 use Rattle.tcf_values.specs.declared.faults.Fault.TheVariants.{BadAddress, BadContext, IsRunning, BadSize}
 use Rattle.data_services.specs.declared.parts.Part.{Part}
 use Rattle.data_services.proofs.PartSteps.{changed_process, changed_thread}
-use Rattle.list_laws.proofs.Flags.{not_false, neither}
+use Rattle.list_laws.proofs.Flags.{not_false}
 
 -- ---- failures
 
@@ -98,7 +98,7 @@ stays_register (Some register) word number targets other = stays_but (with_regis
 stays_parts : (parts : List Part) (bytes : List ℕ) (number : ℕ) (targets : TargetsValue) → list_any (λ part. nat_eq part.register.process number) parts ≡ false → Stays number targets (with_parts parts bytes targets)
 stays_parts [] bytes number targets other = refl
 stays_parts (part ∷ parts) bytes number targets other =
-    let both = neither (nat_eq part.register.process number) (list_any (λ p. nat_eq p.register.process number) parts) other in
+    let both = or_parts (nat_eq part.register.process number) (list_any (λ p. nat_eq p.register.process number) parts) other in
     stays_parts parts (drop part.size bytes) number (with_change (with_part_bytes part (take part.size bytes)) part.register.process targets) both.1
     ∙ stays_but (with_part_bytes part (take part.size bytes)) part.register.process number targets both.0
 
@@ -136,7 +136,7 @@ thread_register (Some register) word number n targets other = thread_but (with_w
 thread_parts : (parts : List Part) (bytes : List ℕ) (number n : ℕ) (targets : TargetsValue) → list_any (λ part. is_thread number n part.register) parts ≡ false → ThreadStays number n targets (with_parts parts bytes targets)
 thread_parts [] bytes number n targets other = refl
 thread_parts (part ∷ parts) bytes number n targets other =
-    let both = neither (is_thread number n part.register) (list_any (λ p. is_thread number n p.register) parts) other in
+    let both = or_parts (is_thread number n part.register) (list_any (λ p. is_thread number n p.register) parts) other in
     thread_parts parts (drop part.size bytes) number n (with_change (with_part_bytes part (take part.size bytes)) part.register.process targets) both.1
     ∙ thread_but (with_bytes part (take part.size bytes)) part.register number n targets both.0
 
@@ -177,7 +177,7 @@ no_fault None given e = refl
 no_fault (Some fault) given e = cc
 
 inside : (addr size : ℤ) → is_no_size size ≡ false → is_outside addr size ≡ false → unsigned_abs addr ≤ 65536
-inside (pos a) (pos n) size addr = omega (arith, ltb-false 65536 (a + n) (neither (nat_lt a 0) (nat_lt 65536 (a + n)) addr).1)
+inside (pos a) (pos n) size addr = omega (arith, ltb-false 65536 (a + n) (or_parts (nat_lt a 0) (nat_lt 65536 (a + n)) addr).1)
 inside (pos a) (negsuc n) size addr = cc
 inside (negsuc a) size ok addr = cc
 

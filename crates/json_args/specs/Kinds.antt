@@ -4,7 +4,7 @@ use Rattle.std.specs.Option.{ok_or}
 use Rattle.std.specs.Str.{is_utf8}
 use Rattle.base64.specs.GeneralPurpose.{decoded_of}
 use Rattle.base64.specs.Engines.{standard}
-use Rattle.serde_json.specs.Data.{Data, null, boolean, number, string, array, object, Items, no_items, item}
+use Rattle.serde_json.specs.Data.{Data, null, boolean, number, string, array, Items, no_items, item}
 use Rattle.serde_json.specs.Find.{as_integer, as_str}
 use Rattle.serde_json.specs.Read.{read}
 use Rattle.json_args.specs.declared.fault.ArgFault.{ArgFault}

@@ -1,6 +1,6 @@
 -- Numbers of 32 bits, and values that stand for objects.
 use Rattle.std.specs.Prelude.{ℕ, ◌^◌, Bool, true, false, nat_lt, Option, Some, None, option_and_then, if◌then◌else◌}
-use Rattle.serde_json.specs.Data.{Data, null, boolean, number, string, array, object, unsigned}
+use Rattle.serde_json.specs.Data.{Data, null, number, object, unsigned}
 use Rattle.serde_json.specs.Find.{as_number, as_u64}
 
 abbrev pub word_json : ℕ → Data

@@ -3,7 +3,7 @@ use Rattle.std.proofs.Common.{◌≡◌, ℕ, ◌+◌, ◌-◌, ◌<◌, ◌≤�
 use Rattle.std.specs.Prelude.{IfSome}
 use Rattle.std.specs.Borrow.{Bor}
 use Rattle.std.specs.List.{list_any}
-use Rattle.std.proofs.lemmas.Bool.{and_from, and_parts, both_ways, eqb-true, eq-eqb, false_from_ne_true, leb-true, le-leb, lt-ltb, ltb-true, not-true}
+use Rattle.std.proofs.lemmas.Bool.{and_from, and_parts, both_ways, eqb-true, eq-eqb, false_from_ne_true, leb-true, le-leb, lt-ltb, ltb-true, not-true, or_left, or_right}
 use Rattle.block_store.specs.Blocks.{end_of, has_range, is_same, overlaps, part}
 use Rattle.block_store.specs.Store.{added, covered, without_process, without_range}
 use Rattle.block_store.specs.declared.block.Block.{Block}
@@ -12,7 +12,6 @@ use Rattle.knowledge.specs.Facts.{Facts}
 use Rattle.knowledge.specs.KnowledgeValue.{blocks_after, blocks_after_all, has_block_byte}
 use Rattle.knowledge.specs.Laws.{AreKnown, BlocksAreLearned, ReadIsKnown}
 use Rattle.knowledge.specs.Learning.{changes_of}
-use Rattle.list_laws.proofs.Flags.{or_left, or_right}
 
 -- the block is of the process, and has the byte
 abbrev pub holds : ℕ → ℕ → ℕ → Block → Bool

@@ -2,7 +2,7 @@
 use Rattle.std.proofs.Common.{◌≡◌, ℕ, ◌+◌, ◌<◌, zero, suc, nat_lt, Bool, true, false, cond, List, [], ◌∷◌, ◌++◌, length, take, drop, find, position, slice_get, Option, Some, None, option_map, refl, sym, ap, ◌∙◌, append_assoc, arith, subst}
 use Rattle.std.specs.Prelude.{OnErr, OnOk, Result, Ok, Err}
 use Rattle.std.specs.List.{list_any, position_or_len, remove}
-use Rattle.std.proofs.lemmas.Bool.{ltb-true}
+use Rattle.std.proofs.lemmas.Bool.{ltb-true, or_right}
 use Rattle.std.proofs.lemmas.List.Folds.{find_at, list_any-append}
 use Rattle.block_store.specs.Blocks.{has_range, part}
 use Rattle.block_store.specs.Store.{covered, moved_first}
@@ -14,7 +14,6 @@ use Rattle.knowledge.specs.Learning.{Message}
 use Rattle.knowledge.specs.Reply.{bytes_or_none, memory_used, part_known, parts_bytes}
 use Rattle.knowledge.specs.declared.span.Asked.{Asked}
 use Rattle.knowledge.proofs.Blocks.{any_take, holds, or_cases}
-use Rattle.list_laws.proofs.Flags.{or_right}
 
 -- ---- a block that is used
 

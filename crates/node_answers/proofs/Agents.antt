@@ -1,4 +1,3 @@
-pub mod Lists
 pub mod Refusing
 pub mod Telling
 pub mod Numbered

@@ -1,5 +1,5 @@
 -- An event is found exactly by its service and its name.
-use Rattle.std.proofs.Common.{◌≡◌, ℕ, List, [], ◌∷◌, cond, refl, sym, ◌∙◌, ap, inl, inr}
+use Rattle.std.proofs.Common.{◌≡◌, ℕ, List, cond, refl, sym, ◌∙◌, ap, inl, inr}
 use Rattle.std.specs.Prelude.{Option, Some, None, bytes_eq, codes}
 use Rattle.std.specs.List.{AllByRecursion}
 use Rattle.std.proofs.lemmas.Bool.{cases_Bool, cond-true, cond-false}

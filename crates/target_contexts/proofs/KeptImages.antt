@@ -1,5 +1,5 @@
 -- The bytes of an image as they are kept, and what a process begins with.
-use Rattle.std.proofs.Common.{◌≡◌, ◌≢◌, ℕ, ◌<◌, ◌≤◌, true, false, cond, not, ◌&&◌, nat_lt, List, length, take, Some, None, is_some, refl, sym, ◌∙◌, ap, subst, arith}
+use Rattle.std.proofs.Common.{◌≡◌, ℕ, ◌<◌, ◌≤◌, true, false, cond, not, ◌&&◌, nat_lt, List, length, take, Some, None, is_some, refl, sym, ◌∙◌, ap, subst, arith}
 use Rattle.std.proofs.lemmas.Bool.{and_from, and_parts, le-ltb, lt-ltb}
 use Rattle.std.proofs.lemmas.List.{take_at}
 use Rattle.list_laws.proofs.Lists.{take_most}

@@ -1,5 +1,5 @@
 -- A start of an image of bytes makes a whole process.
-use Rattle.std.proofs.Common.{◌≡◌, ℕ, zero, suc, ◌+◌, ◌-◌, ◌*◌, ◌^◌, ◌<◌, ◌≤◌, Bool, true, false, cond, not, ◌&&◌, nat_lt, List, [], ◌∷◌, ◌++◌, length, take, drop, replicate, slice_index, Option, Some, None, is_some, IfSome, refl, ◌∙◌, arith}
+use Rattle.std.proofs.Common.{◌≡◌, ℕ, zero, suc, ◌+◌, ◌-◌, ◌<◌, ◌≤◌, Bool, true, false, cond, not, ◌&&◌, nat_lt, List, [], ◌∷◌, ◌++◌, length, take, drop, replicate, slice_index, Option, Some, None, is_some, IfSome, refl, ◌∙◌, arith}
 use Rattle.std.specs.List.{AllByRecursion, cons_option, filter_map}
 use Rattle.std.proofs.lemmas.Bool.{ltb-false}
 use Rattle.std.proofs.lemmas.List.{length-append, length-replicate}
@@ -15,10 +15,9 @@ use Rattle.elf_image.proofs.TheLaws.{parts_are_loaded}
 use Rattle.rv32i_core.specs.Bytes.{image_memory}
 use Rattle.rv32i_core.specs.Laws.{IsCpu, IsMemory, IsWord}
 use Rattle.rv32i_core.proofs.TheLaws.{beginnings_are_within}
-use Rattle.target_contexts.specs.Loading.{entry_in, is_bad, is_elf, is_long, memory_in}
+use Rattle.target_contexts.specs.Loading.{is_bad, is_elf, is_long}
 use Rattle.target_contexts.specs.ProcessValue.{ProcessValue}
 use Rattle.target_contexts.specs.Spawning.{begun_thread, can_begin}
-use Rattle.target_contexts.specs.Starting.{bytes_refusal}
 use Rattle.target_contexts.specs.Whole.{BeginStaysWhole, IsWhole, StartIsWhole, StartStands}
 use Rattle.target_contexts.specs.declared.threads.Thread.{Thread}
 use Rattle.target_contexts.specs.declared.targets.StartRefusal.TheVariants as refusals

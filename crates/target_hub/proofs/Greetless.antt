@@ -1,5 +1,5 @@
 -- The target tells no Hello: it tells of its processes, its breakpoints, its memory and its registers.
-use Rattle.std.proofs.Common.{ℕ, ℤ, pos, ◌==◌, Bool, true, false, cond, List, [], ◌∷◌, ◌++◌, Option, Some, None, option_map}
+use Rattle.std.proofs.Common.{ℕ, ℤ, pos, Bool, true, false, cond, List, [], ◌∷◌, ◌++◌, Option, Some, None, option_map}
 use Rattle.std.specs.List.{flat_map}
 use Rattle.std.specs.Prelude.{IfSome, int_lt, slice_get, unsigned_abs}
 use Rattle.tcf_values.specs.declared.values.ContextData.{ContextData}

@@ -1,5 +1,5 @@
 -- The answer to each command is one of its row.
-use Rattle.std.proofs.Common.{◌≡◌, ℕ, ◌<◌, ◌^◌, Bool, true, false, cond, List, [], ◌∷◌, Option, Some, None, option_map, option_and_then, IfSome, refl, bytes_eq, length, ◌==◌, lit<}
+use Rattle.std.proofs.Common.{◌≡◌, ℕ, ◌<◌, ◌^◌, Bool, true, false, cond, List, [], ◌∷◌, Option, Some, None, option_map, option_and_then, IfSome, refl, bytes_eq, length, lit<}
 use Rattle.std.specs.Prelude.{is_none, unsigned_abs}
 use Rattle.json_values.specs.Contexts.{IsContext}
 use Rattle.json_values.specs.Props.{is_bp}

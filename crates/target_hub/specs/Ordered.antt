@@ -1,5 +1,5 @@
 -- What a client heard of the target is what its one history says.
-use Rattle.std.specs.Prelude.{ℕ, ◌≡◌, ◌+◌, ◌≤◌, ◌⊎◌, List, [], ◌∷◌, ◌++◌, Option, None, Some, true, false, Bool, not, ◌&&◌, map, length, ◌==◌}
+use Rattle.std.specs.Prelude.{ℕ, ◌≡◌, ◌+◌, ◌≤◌, List, [], ◌∷◌, ◌++◌, Option, None, Some, true, false, Bool, not, ◌&&◌, map, length, ◌==◌}
 use Rattle.std.specs.Option.{IsSomeAnd}
 use Rattle.std.specs.List.{flat_map, filter, list_any, Contains}
 use Rattle.tcf_text.specs.declared.log.LogLine.{LogLine}

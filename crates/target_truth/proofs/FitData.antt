@@ -1,6 +1,6 @@
 -- What the commands of Memory and Registers leave is fit.
 use Rattle.std.proofs.Common.{◌≡◌, ℕ, ℤ, pos, negsuc, ◌+◌, ◌<◌, ◌≤◌, ◌==◌, nat_lt, unsigned_abs, Bool, true, false, not, cond, is_none, List, [], ◌∷◌, ◌++◌, length, take, drop, Option, Some, None, refl, ◌∙◌, arith, length-append, length-take, length-drop}
-use Rattle.std.proofs.lemmas.Bool.{eqb-true, ltb-false}
+use Rattle.std.proofs.lemmas.Bool.{eqb-true, ltb-false, or_parts}
 use Rattle.command_tables.specs.Canonical.{AreBytes, IsReadable}
 use Rattle.data_services.specs.Bytes.{with_part, word_bytes, word_of}
 use Rattle.data_services.specs.Commands.{data_after, data_fault, data_left}
@@ -27,7 +27,7 @@ use Rattle.tcf_values.specs.declared.command.Command.TheVariants.{MemSet, RegSet
 use Rattle.tcf_values.specs.declared.faults.Fault.TheVariants.{BadAddress, BadContext, BadSize}
 use Rattle.tcf_values.specs.declared.ids.RegisterId.{RegisterId}
 use Rattle.list_laws.proofs.AllLists.{all_append, all_drop, all_take}
-use Rattle.list_laws.proofs.Flags.{not_false, neither}
+use Rattle.list_laws.proofs.Flags.{not_false}
 
 -- ---- bytes
 
@@ -69,7 +69,7 @@ checked false false false false none = (refl, refl, refl)
 
 -- a range that isn't outside ends within memory
 range_within : (addr size : ℤ) → is_no_size size ≡ false → is_outside addr size ≡ false → unsigned_abs addr + unsigned_abs size ≤ 65536
-range_within (pos a) (pos n) sized inside = omega (arith, ltb-false 65536 (a + n) (neither (nat_lt a 0) (nat_lt 65536 (a + n)) inside).1)
+range_within (pos a) (pos n) sized inside = omega (arith, ltb-false 65536 (a + n) (or_parts (nat_lt a 0) (nat_lt 65536 (a + n)) inside).1)
 range_within (pos a) (negsuc n) sized inside = absurd cc
 range_within (negsuc a) size sized inside = absurd cc
 

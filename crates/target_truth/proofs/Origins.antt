@@ -2,13 +2,12 @@
 use Rattle.std.proofs.Common.{◌≡◌, ℕ, ◌==◌, ◌&&◌, ◌||◌, ◌⊎◌, Bool, true, false, true≢false, cond, not, List, [], ◌∷◌, ◌++◌, Option, Some, None, option_map, inl, inr, refl, sym, ap, ◌∙◌}
 use Rattle.std.specs.Prelude.{bytes_eq}
 use Rattle.std.specs.List.{AllByRecursion, list_any}
-use Rattle.std.proofs.lemmas.Bool.{and_parts, both_ways, cond-false, eqb-true, ne_eqb, or_parts}
+use Rattle.std.proofs.lemmas.Bool.{and_parts, both_ways, cond-false, eqb-true, ne_eqb, or_parts, or_cases}
 use Rattle.std.proofs.lemmas.Option.{none-some}
 use Rattle.std.proofs.lemmas.Slice.Eq.{bytes_eq-Decides}
 use Rattle.knowledge.specs.Changes.{Change, after, after_all, all_gone, at_register, context_told, context_gone, threads_told, thread_joined, threads_gone, threads_stale, state_told, state_gone, register_read, register_gone, thread_registers_gone, registers_gone, bytes_read, bytes_gone, range_gone, properties_told, properties_gone, status_told, status_gone, statuses_gone, has_byte, is_still, is_within, with_id}
 use Rattle.knowledge.specs.Facts.{Fact, Facts, IsPart, Knows, context_is, threads_are, state_is, register_is, byte_is, properties_are, status_is, is_suspended}
 use Rattle.target_truth.proofs.Based.{dropped, hidden}
-use Rattle.list_laws.proofs.Flags.{or_cases}
 use Rattle.knowledge.proofs.Monotone.{cond_at, still_then}
 
 -- what a change tells is among the facts, but for a list of threads

@@ -5,6 +5,7 @@ use Rattle.std.specs.Prelude.{nat_le, option_and_then, option_map, if◌then◌e
 use Rattle.std.specs.List.{list_all, range_with_len}
 use Rattle.std.proofs.lemmas.Bool.{and_from, and_parts, cond-true, cond-false, cases_Bool, eq-eqb, eqb-true, le-leb, leb-true, ltb-true, ne_eqb}
 use Rattle.std.proofs.lemmas.List.{length-map}
+use Rattle.std.proofs.lemmas.List.FromFn.{length-range_with_len}
 use Rattle.std.proofs.lemmas.Option.{none-some, same_Some, slice_get_within}
 use Rattle.breakpoints.specs.Rows.{props_of}
 use Rattle.breakpoints.specs.Status.{status_of}
@@ -145,12 +146,8 @@ each_suspended known number a (suc count) (suc place) all low =
     let same : a + suc place ≡ a + 1 + place = omega arith in
     ap (λ n. is_suspended (state_of (thread_id number n) known)) same ∙ each_suspended known number (a + 1) count place (and_parts _ _ all).1 (omega (arith, low))
 
-range_length : (a count : ℕ) → length (range_with_len a count) ≡ count
-range_length a zero = refl
-range_length a (suc count) = ap suc (range_length (a + 1) count)
-
 ids_length : (number count : ℕ) → length (thread_ids number count) ≡ count
-ids_length number count = length-map (range_with_len 1 count) (thread_id number) ∙ range_length 1 count
+ids_length number count = length-map (range_with_len 1 count) (thread_id number) ∙ length-range_with_len 1 count
 
 -- the state at a place of the list is that of the thread with the number one above
 at_place : (process : ProcessValue) (place : ℕ) (state : ThreadState) → slice_get (states_of process) place ≡ Some state

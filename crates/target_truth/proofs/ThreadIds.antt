@@ -2,10 +2,9 @@
 use Rattle.std.proofs.Common.{◌≡◌, ℕ, zero, suc, ◌+◌, ◌≤◌, ◌<◌, ◌^◌, false, List, [], ◌∷◌, ◌++◌, map, Some, refl, sym, ap, ◌∙◌, arith}
 use Rattle.std.specs.Prelude.{bytes_eq}
 use Rattle.std.specs.List.{list_any, range_with_len}
-use Rattle.std.proofs.lemmas.Bool.{cond-false, or_from}
+use Rattle.std.proofs.lemmas.Bool.{cond-false, or_from, false_from_ne_true}
 use Rattle.std.proofs.lemmas.List.{map-append}
 use Rattle.knowledge.specs.Changes.{with_id}
-use Rattle.list_laws.proofs.Flags.{never_true}
 use Rattle.list_laws.proofs.Lists.{equal_by}
 use Rattle.run_control.specs.Naming.{process_id, thread_id, thread_ids}
 use Rattle.tcf_values.proofs.TheLaws.{context_round_trip}
@@ -33,7 +32,7 @@ same_thread number a b is = cc
 
 other_id : (number a b : ℕ) → IsNumber number → IsNumber a → IsNumber b → (a ≡ b → ⊥) → bytes_eq (thread_id number a) (thread_id number b) ≡ false
 other_id number a b is one two differ =
-    never_true (bytes_eq (thread_id number a) (thread_id number b)) (λ same.
+    false_from_ne_true (bytes_eq (thread_id number a) (thread_id number b)) (λ same.
     differ (same_thread number a b
     (sym (thread_named number a is one) ∙ ap context_of (equal_by (thread_id number a) (thread_id number b) same) ∙ thread_named number b is two)))
 

@@ -1,7 +1,7 @@
 -- The threads of a process: by their numbers, and by their states.
 use Rattle.std.proofs.Common.{◌≡◌, ℕ, zero, suc, ◌-◌, ◌≤◌, ◌<◌, ◌==◌, nat_lt, Bool, true, false, true≢false, cond, not, ◌&&◌, List, [], ◌∷◌, length, map, slice_get, slice_set, Option, Some, None, is_some, option_map, refl, sym, ap, ◌∙◌, arith}
 use Rattle.std.specs.List.{list_all}
-use Rattle.std.proofs.lemmas.Bool.{and_from, cond-false, lt-ltb, ne_eqb}
+use Rattle.std.proofs.lemmas.Bool.{and_from, cond-false, lt-ltb, ne_eqb, and_right}
 use Rattle.std.proofs.lemmas.List.{length-map}
 use Rattle.std.proofs.lemmas.Option.{none-some, same_Some, slice_get-map, slice_get_past, slice_get_within}
 use Rattle.knowledge.specs.declared.state.StateFact.{StateFact}
@@ -123,15 +123,11 @@ same_count old new same = sym (length-map new.threads (λ (t : Thread). t.state)
 abbrev pub stands : List ThreadState → Bool
 stands states = nat_lt 0 (length states) && list_all (λ state. not (runs state)) states
 
-and_false : (a b : Bool) → b ≡ false → (a && b) ≡ false
-and_false true b is = is
-and_false false b is = refl
-
 one_runs : (states : List ThreadState) (place : ℕ) (state : ThreadState) → slice_get states place ≡ Some state → runs state ≡ true → list_all (λ s. not (runs s)) states ≡ false
 one_runs [] place state is on = absurd (none-some state is)
 one_runs (first ∷ states) zero state is on =
     ap (λ (r : Bool). not r && list_all (λ s. not (runs s)) states) (ap runs (same_Some first state is) ∙ on)
-one_runs (first ∷ states) (suc place) state is on = and_false (not (runs first)) _ (one_runs states place state is on)
+one_runs (first ∷ states) (suc place) state is on = and_right (not (runs first)) _ (one_runs states place state is on)
 
 listed_there : (is_zero : Bool) (states : List ThreadState) (place : ℕ) (state : ThreadState) → cond is_zero None (slice_get states place) ≡ Some state → slice_get states place ≡ Some state
 listed_there true states place state is = absurd (none-some state is)
@@ -142,7 +138,7 @@ pub not_standing : (n : ℕ) (process : ProcessValue) (thread : Thread) → thre
 not_standing n process thread there on =
     let at : slice_get (states_of process) (n - 1) ≡ Some thread.state =
     listed_there (n == 0) (states_of process) (n - 1) thread.state (sym (state_listed n process) ∙ ap (option_map (λ (t : Thread). t.state)) there) in
-    and_false (nat_lt 0 (length (states_of process))) _ (one_runs (states_of process) (n - 1) thread.state at on)
+    and_right (nat_lt 0 (length (states_of process))) _ (one_runs (states_of process) (n - 1) thread.state at on)
 
 each_stands : (states : List ThreadState) → ((place : ℕ) (state : ThreadState) → slice_get states place ≡ Some state → runs state ≡ false) → list_all (λ s. not (runs s)) states ≡ true
 each_stands [] each = refl

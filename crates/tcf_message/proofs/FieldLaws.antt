@@ -1,12 +1,11 @@
 -- A field that is read is the field that stands there, and what stands there is read.
 use Rattle.std.proofs.Common.{◌≡◌, ℕ, suc, ◌<◌, ◌⊎◌, inl, inr, Bool, true, false, ◌&&◌, cond, ltb, leb, List, [], ◌∷◌, length, take, drop, eqb, Result, Ok, Err, refl, sym, ap, subst, ◌∙◌, arith, length-append, add-one}
 use Rattle.std.specs.List.{list_any, position_or_len}
-use Rattle.std.proofs.lemmas.Bool.{cases_Bool, eqb-true, or_parts, ltb-true, ltb-false, lt-ltb, le-ltb, leb-true, leb-false, le-leb, lt-leb, and_from, and_parts, and_cases, and_left, and_right}
+use Rattle.std.proofs.lemmas.Bool.{cases_Bool, eqb-true, or_parts, ltb-true, ltb-false, lt-ltb, le-ltb, leb-true, leb-false, le-leb, lt-leb, and_from, and_parts, and_cases, and_left, and_right, or_from}
 use Rattle.std.proofs.lemmas.List.{take_at}
 use Rattle.tcf_message.specs.declared.message.MessageFault.{MessageFault}
 use Rattle.tcf_message.specs.declared.message.MessageFault.TheVariants.{Unended, Token}
 use Rattle.tcf_message.specs.Message.{most_token, ◌•◌, ◌>>=◌, is_zero, HasNoZero, IsToken, field_at, token_at}
-use Rattle.list_laws.proofs.Flags.{or_neither}
 
 -- ---- Results
 
@@ -70,8 +69,8 @@ zero_cases (b ∷ bytes) =
     elim (cases_Bool (eqb b 0)) [
       | inl zero_here ↦ inr ([], bytes, record { no_zero = refl; parts = ap (λ (n : ℕ). n ∷ bytes) (eqb-true b 0 zero_here) })
       | inr other ↦ elim (zero_cases bytes) [
-        | inl none ↦ inl (or_neither (eqb b 0) (list_any is_zero bytes) other none)
-        | inr h ↦ inr (b ∷ h.0, h.1, record { no_zero = or_neither (eqb b 0) (list_any is_zero h.0) other h.2.no_zero; parts = ap (λ (x : List ℕ). b ∷ x) h.2.parts })
+        | inl none ↦ inl (or_from (eqb b 0) (list_any is_zero bytes) other none)
+        | inr h ↦ inr (b ∷ h.0, h.1, record { no_zero = or_from (eqb b 0) (list_any is_zero h.0) other h.2.no_zero; parts = ap (λ (x : List ℕ). b ∷ x) h.2.parts })
       ]
     ]
 

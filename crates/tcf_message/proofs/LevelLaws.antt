@@ -4,12 +4,11 @@ use Rattle.std.specs.Prelude.{ℤ, pos, negsuc}
 use Rattle.std.specs.List.{list_any}
 use Rattle.std.specs.Fmt.{decimal, signed_decimal}
 use Rattle.std.proofs.lemmas.Int.{ints}
-use Rattle.std.proofs.lemmas.Bool.{cases_lt, cases_Bool, eqb-true, ne_eqb, leb-true, le-leb, and_from, and_parts, or_parts}
+use Rattle.std.proofs.lemmas.Bool.{cases_lt, cases_Bool, eqb-true, ne_eqb, leb-true, le-leb, and_from, and_parts, or_parts, or_from}
 use Rattle.std.proofs.lemmas.Option.{cond_some}
 use Rattle.std.proofs.lemmas.Fmt.{decimal_digit, decimal_step, decimal_by_steps, decimal_nonempty, length-decimal-le}
 use Rattle.tcf_message.specs.Message.{is_zero, HasNoZero, IsLevel, is_first, is_digit, number_of, below_zero, from_zero, level_of}
 use Rattle.tcf_message.specs.Fault.{IsDecimalToken}
-use Rattle.list_laws.proofs.Flags.{or_neither as or_from_false}
 
 -- ---- Numbers
 
@@ -144,17 +143,17 @@ no_level text h = go (level_of text) refl
 -- ---- The text has no zero
 
 no_zero_push : (text : List ℕ) (b : ℕ) → HasNoZero text → eqb b 0 ≡ false → HasNoZero (text ++ b ∷ [])
-no_zero_push [] b h e = or_from_false (eqb b 0) false e refl
+no_zero_push [] b h e = or_from (eqb b 0) false e refl
 no_zero_push (a ∷ text) b h e =
     let p = or_parts (eqb a 0) (list_any is_zero text) h in
-    or_from_false (eqb a 0) (list_any is_zero (text ++ b ∷ [])) p.0 (no_zero_push text b p.1 e)
+    or_from (eqb a 0) (list_any is_zero (text ++ b ∷ [])) p.0 (no_zero_push text b p.1 e)
 
 glyph_no_zero : (n : ℕ) → eqb (48 + n) 0 ≡ false
 glyph_no_zero n = ne_eqb (48 + n) 0 (λ e. omega arith)
 
 pub decimal_no_zero : (n : ℕ) → n < 2 ^ 64 → HasNoZero (decimal n)
 decimal_no_zero n h =
-    let one : (m : ℕ) → m < 10 → HasNoZero ((48 + m) ∷ []) = λ m lt. or_from_false (eqb (48 + m) 0) false (glyph_no_zero m) refl in
+    let one : (m : ℕ) → m < 10 → HasNoZero ((48 + m) ∷ []) = λ m lt. or_from (eqb (48 + m) 0) false (glyph_no_zero m) refl in
     let more : (m : ℕ) (ds : List ℕ) → 10 ≤ m → HasNoZero ds → HasNoZero (ds ++ ((48 + m % 10) ∷ [])) = λ m ds le none. no_zero_push ds (48 + m % 10) none (glyph_no_zero (m % 10)) in
     decimal_by_steps (λ (m : ℕ) (ds : List ℕ). HasNoZero ds) one more n h
 

@@ -3,7 +3,7 @@ use Rattle.std.proofs.Common.{◌≡◌, ℕ, ◌+◌, ◌<◌, ◌⊎◌, inl, 
 use Rattle.std.specs.Prelude.{codes, slice_get, IfOk, IfErr}
 use Rattle.std.specs.List.{list_any}
 use Rattle.std.specs.Fmt.{signed_decimal}
-use Rattle.std.proofs.lemmas.Bool.{cases_Bool, eqb-true, or_parts}
+use Rattle.std.proofs.lemmas.Bool.{cases_Bool, eqb-true, or_parts, or_from}
 use Rattle.tcf_message.specs.declared.message.Message.{Message}
 use Rattle.tcf_message.specs.declared.message.MessageFault.{MessageFault}
 use Rattle.tcf_message.specs.declared.message.MessageFault.TheVariants.{Empty, Unended, Kind, Token, Level, Trailing, Body}
@@ -12,7 +12,6 @@ use Rattle.tcf_message.specs.Fault.{IsAmong, Front, start, kind, command_token, 
 use Rattle.tcf_message.proofs.FieldLaws.{bind_ok, bind_err, ok_is, err_is, field_takes, field_again, field_faults, field_none, token_none, token_again, token_bad, IsWrongLength}
 use Rattle.tcf_message.proofs.LevelLaws.{no_level}
 use Rattle.tcf_message.proofs.MessageLaws.{limited_again, limited_bad, ended_bad, command_takes, command_again, command_faults, final_takes, final_again, final_faults, progress_takes, progress_again, progress_faults, not_known_takes, not_known_again, not_known_faults, event_takes, event_again, event_faults, flow_takes, flow_again, flow_faults}
-use Rattle.list_laws.proofs.Flags.{or_neither as or_from_false}
 
 -- ---- By the letter
 
@@ -95,7 +94,7 @@ letter_faults first l rest d some same e =
     (λ is h. subst P (sym is) (flow_faults rest d h))
     (λ none h.
     let other : (letter : ℕ) → l ∷ [] ≡ letter ∷ [] → list_any (λ x. eqb letter x) (codes "CRPNEF") ≡ false = λ letter e. let at : l ≡ letter = cc in subst (λ (k : ℕ). list_any (λ x. eqb k x) (codes "CRPNEF") ≡ false) at none in
-    let is : IsFault (Kind first) ((l ∷ []) • rest) = (l ∷ [], rest, or_from_false (eqb l 0) false some refl, refl, other, ap (λ (n : ℕ). Some n) same) in
+    let is : IsFault (Kind first) ((l ∷ []) • rest) = (l ∷ [], rest, or_from (eqb l 0) false some refl, refl, other, ap (λ (n : ℕ). Some n) same) in
     subst (λ (x : MessageFault). IsFault x ((l ∷ []) • rest)) (err_is {A = MessageValue} (Kind first) d h) is)
 
 kind_faults : (first : ℕ) (text rest : List ℕ) (d : MessageFault) → HasNoZero text → slice_get (text • rest) 0 ≡ Some first → by_kind first text rest ≡ Err d → IsFault d (text • rest)
@@ -136,7 +135,7 @@ reading_faults (first ∷ bytes) d e =
 
 at_letter : (l : ℕ) (rest : List ℕ) → eqb l 0 ≡ false → reading (l ∷ 0 ∷ rest) ≡ by_letter l l rest
 unfolding reading by_kind
-at_letter l rest some = rw (field_again 0 (l ∷ []) rest (or_from_false (eqb l 0) false some refl)) refl
+at_letter l rest some = rw (field_again 0 (l ∷ []) rest (or_from (eqb l 0) false some refl)) refl
 
 -- a message whose fields are right is read, or its body is too long
 pub reading_again : (m : MessageValue) → HasFields m → reading (spelling m) ≡ limited m

@@ -2,9 +2,8 @@
 use Rattle.std.proofs.Common.{◌≡◌, ℕ, Bool, true, false, List, [], ◌∷◌, ◌++◌, length, nat_le, nat_lt, Option, Some, None, refl, sym, ap, subst}
 use Rattle.std.specs.Prelude.{IsTrue, fold}
 use Rattle.std.specs.List.{AllByRecursion}
-use Rattle.std.proofs.lemmas.Bool.{leb-true}
+use Rattle.std.proofs.lemmas.Bool.{leb-true, and_parts}
 use Rattle.list_laws.proofs.AllLists.{all_append, all_at, all_left, all_push, all_right, all_weaker}
-use Rattle.list_laws.proofs.Flags.{and_parts}
 use Rattle.serving_wires.specs.Row.{Row}
 use Rattle.serving_wires.specs.Rows.{item_at, with_item_at}
 use Rattle.serving_wires.specs.declared.intake.Came.{Came}

@@ -1,9 +1,10 @@
 -- The rows of a cache say what the cache knows.
-use Rattle.std.proofs.Common.{◌≡◌, ◌≢◌, ℕ, suc, zero, ◌+◌, ◌≤◌, Bool, true, false, cond, ◌&&◌, ◌==◌, List, [], ◌∷◌, length, map, Option, Some, None, refl, sym, ap, ap₂, ◌∙◌, arith}
-use Rattle.std.specs.Prelude.{bytes_eq, option_and_then, slice_get}
+use Rattle.std.proofs.Common.{◌≡◌, ◌≢◌, ℕ, suc, zero, ◌+◌, ◌≤◌, Bool, true, false, cond, ◌==◌, List, [], ◌∷◌, length, map, Option, Some, None, refl, sym, ap, ap₂, ◌∙◌, arith}
+use Rattle.std.specs.Prelude.{bytes_eq, option_and_then}
 use Rattle.std.specs.FinMap as finite
 use Rattle.std.specs.List.{flat_map, range_with_len}
-use Rattle.std.proofs.lemmas.Bool.{and_parts, eqb-true}
+use Rattle.std.proofs.lemmas.Bool.{eqb-true}
+use Rattle.std.proofs.lemmas.Option.{slice_get_past}
 use Rattle.std.proofs.lemmas.Slice.Eq.{bytes_eq-Decides}
 use Rattle.knowledge.specs.Facts.{AreSame}
 use Rattle.knowledge.specs.Keyed.{at_index, of_number, of_thread, register_in, under}
@@ -68,11 +69,6 @@ beyond low (suc count) process thread index none from =
     let rest : (low + 1) + count ≤ index = beyond (low + 1) count process thread index (not_rest (process ∷ thread ∷ index ∷ []) key others none) (omega (arith, from, differs)) in
     omega (arith, rest)
 
-past_end : {A : Type 0} (values : List A) (index : ℕ) → length values ≤ index → slice_get values index ≡ None
-past_end [] index long = refl
-past_end (v ∷ values) zero long = absurd (omega (arith, long))
-past_end (v ∷ values) (suc index) long = past_end values index (omega (arith, long))
-
 -- a register of a thread
 index_none : (process thread index : ℕ) (row : ℕ × List (Option ℕ)) → thread ≡ row.0 → is_among (process ∷ thread ∷ index ∷ []) (index_keys process row) ≡ false
     → at_index index row.1 ≡ None
@@ -80,7 +76,7 @@ index_none process thread index row same none =
     let keys : index_keys process row ≡ map (λ i. process ∷ thread ∷ i ∷ []) (range_with_len 0 (length row.1)) =
     ap (λ t. map (λ i. process ∷ t ∷ i ∷ []) (range_with_len 0 (length row.1))) (sym same) in
     let long : 0 + length row.1 ≤ index = beyond 0 (length row.1) process thread index (sym (ap (is_among (process ∷ thread ∷ index ∷ [])) keys) ∙ none) (omega arith) in
-    ap (λ value. option_and_then (λ v. v) value) (past_end row.1 index (omega (arith, long)))
+    ap (λ value. option_and_then (λ v. v) value) (slice_get_past row.1 index (omega (arith, long)))
 
 -- of the threads of a process
 registers_none : (process thread index : ℕ) (rows : List (ℕ × List (Option ℕ))) → is_among (process ∷ thread ∷ index ∷ []) (flat_map (index_keys process) rows) ≡ false

@@ -1,5 +1,5 @@
 -- What the laws say of an end alone.
-use Rattle.std.proofs.Common.{List, refl, sym}
+use Rattle.std.proofs.Common.{List, sym}
 use Rattle.std.specs.Prelude.{Bool}
 use Rattle.channel_core.specs.Arrivals.{AreSpoken, Spoken, arrived, bytes_of, marked, messages_in, queue_of}
 use Rattle.channel_core.specs.ReceivingLaws.{received}

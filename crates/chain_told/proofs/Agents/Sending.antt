@@ -4,6 +4,7 @@ use Rattle.std.specs.Prelude.{Option, Some, None, IfSome, bytes_eq}
 use Rattle.std.specs.List.{AllByRecursion}
 use Rattle.std.proofs.lemmas.List.{append_assoc, append-nil}
 use Rattle.std.proofs.lemmas.List.Folds.{list_any-append}
+use Rattle.std.proofs.lemmas.Bool.{or_from}
 use Rattle.channel_core.specs.Wire.{hello, locator}
 use Rattle.command_tables.specs.declared.reading.Reading.{Reading}
 use Rattle.service_names.specs.Events.{name_of, service_of, told_as}
@@ -22,7 +23,7 @@ use Rattle.target_hub.specs.declared.input.Input.{Input}
 use Rattle.target_hub.specs.declared.input.Input.TheVariants.{Opened, Executed, Ticked, Closed}
 use Rattle.target_hub.proofs.TheLaws.{closings_tell_no_hello, commands_tell_no_hello, ticks_tell_no_hello}
 use Rattle.target_hub.specs.Laws.{AreNoHello, IsNoHello}
-use Rattle.list_laws.proofs.Flags.{or_neither, second_false, or_false as or_none}
+use Rattle.list_laws.proofs.Flags.{second_false, or_false as or_none}
 use Rattle.list_laws.proofs.AllLists.{all_append, all_each, all_map_then, all_test}
 
 -- ---- after the Hello
@@ -152,7 +153,7 @@ pub passed : (k : ℕ) (before : List Input) (target : TargetValue) (inputs rest
 passed k before target [] rest unopened none = ap (λ xs. sent_after k xs target rest) (sym (append-nil before))
 passed k before target (input ∷ inputs) rest unopened none =
     let still : was_opened k (before ++ input ∷ []) ≡ false =
-    opened_push k before input ∙ or_neither (was_opened k before) (opens k input) unopened (first_false (opens k input) (was_opened k inputs) none) in
+    opened_push k before input ∙ or_from (was_opened k before) (opens k input) unopened (first_false (opens k input) (was_opened k inputs) none) in
     ap (λ told. told ++ sent_after k (before ++ input ∷ []) (input_after input target) (inputs ++ rest)) (silent_before k before target input still)
     ∙ passed k (before ++ input ∷ []) (input_after input target) inputs rest still (second_false (opens k input) (was_opened k inputs) none)
     ∙ ap (λ xs. sent_after k xs (inputs_after inputs (input_after input target)) rest) (append_assoc before (input ∷ []) inputs)
@@ -181,7 +182,7 @@ unclosed k images history before [] rest legal split none = refl
 unclosed k images history before (input ∷ inputs) rest legal split none =
     let allowed = legal before input (inputs ++ rest) split in
     let together = append_assoc before (input ∷ []) inputs in
-    or_neither (closes k input) (was_closed k inputs)
+    or_from (closes k input) (was_closed k inputs)
     (no_closing k before (inputs_after before (new_target images)) input allowed (front_opened k before (input ∷ inputs) none))
     (unclosed k images history (before ++ input ∷ []) inputs rest legal (split ∙ sym (append_assoc before (input ∷ []) (inputs ++ rest)))
     (ap (was_opened k) together ∙ none))
@@ -200,7 +201,7 @@ opened_once : (k : ℕ) (images : List Image) (history before inputs : List Inpu
     → was_opened k before ≡ true → was_opened k inputs ≡ false
 opened_once k images history before [] legal split was = refl
 opened_once k images history before (input ∷ inputs) legal split was =
-    or_neither (opens k input) (was_opened k inputs)
+    or_from (opens k input) (was_opened k inputs)
     (no_opening k before (inputs_after before (new_target images)) input (legal before input inputs split) was)
     (opened_once k images history (before ++ input ∷ []) inputs legal (split ∙ sym (append_assoc before (input ∷ []) inputs))
     (opened_push k before input ∙ ap (λ b. b || opens k input) was))

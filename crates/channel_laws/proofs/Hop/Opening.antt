@@ -2,7 +2,7 @@
 use Rattle.std.proofs.Common.{◌≡◌, ℕ, Bool, true, false, ◌||◌, List, [], ◌∷◌, ◌++◌, Option, refl, sym, ap, ◌∙◌, subst}
 use Rattle.std.specs.Prelude.{bytes_eq}
 use Rattle.std.specs.List.{filter, flat_map}
-use Rattle.std.proofs.lemmas.Bool.{or_left}
+use Rattle.std.proofs.lemmas.Bool.{or_left, and_from}
 use Rattle.std.proofs.lemmas.Slice.Eq.{bytes_eq-Decides}
 use Rattle.tcf_message.specs.Message.{MessageValue, command, event, final, flow, not_known, progress, spelling, IsWellFormed}
 use Rattle.channel_core.specs.Arrivals.{AreSpoken, Spoken, queue_of, all_heard}
@@ -24,14 +24,13 @@ use Rattle.channel_laws.proofs.Rest.Answering.{hello_heard}
 use Rattle.channel_laws.proofs.Rest.Meeting.{entering, entering_formed, readable, said_as}
 use Rattle.channel_laws.proofs.Rest.Spelling.{framed_one}
 use Rattle.channel_laws.proofs.Hop.Coming.{Way}
-use Rattle.list_laws.proofs.Flags.{and_true}
 
 -- ---- The Hello
 
 hello_greets : (m : MessageValue) (body : List ℕ) → m ≡ event locator hello_word body → is_hello (said_by m) ≡ true
 hello_greets m body is =
     ap (λ x. is_hello (said_by x)) is
-    ∙ ap (λ b. is_hello (event_said b)) (and_true (bytes_eq locator locator) (bytes_eq hello_word hello_word) ((bytes_eq-Decides locator locator).1 refl) ((bytes_eq-Decides hello_word hello_word).1 refl))
+    ∙ ap (λ b. is_hello (event_said b)) (and_from (bytes_eq locator locator) (bytes_eq hello_word hello_word) ((bytes_eq-Decides locator locator).1 refl) ((bytes_eq-Decides hello_word hello_word).1 refl))
 
 -- a message that is said as a Hello is one
 says_hello : (m : MessageValue) (mark other : Option ℕ) (body : List ℕ) → IsWellFormed m → IsWellFormed (event locator hello_word body) → said m mark ≡ said (event locator hello_word body) other

@@ -1,6 +1,7 @@
 -- The two ends of a live hop stand so, at any moment.
 use Rattle.std.proofs.Common.{◌≡◌, Bool, true, false, not, ◌&&◌, ◌||◌, List, ap, ◌∙◌, subst}
 use Rattle.std.specs.Prelude.{pos, int_lt}
+use Rattle.std.proofs.lemmas.Bool.{or_cases}
 use Rattle.channel_core.specs.Arrivals.{Marked}
 use Rattle.channel_core.specs.Closing.{is_closed}
 use Rattle.channel_core.specs.Holding.{is_live}
@@ -18,7 +19,6 @@ use Rattle.channel_laws.proofs.Hop.Closing.{closes_too}
 use Rattle.channel_laws.proofs.Hop.Coming.{Way, way}
 use Rattle.channel_laws.proofs.Hop.Opening.{hello_comes}
 use Rattle.channel_laws.proofs.Hop.Waiting.{somewhere}
-use Rattle.list_laws.proofs.Flags.{or_cases}
 
 both_open : {T U : Type 0} → (is_marked others_are : Bool) (s : Side T) (other : Side U) (falling rising : List Marked) → IsLasting s → IsLasting other → Carries is_marked s other falling
     → Carries others_are other s rising → is_closed (run_of s).end.state ≡ false → is_closed (run_of other).end.state ≡ false → BothOpen is_marked others_are s other

@@ -3,7 +3,7 @@
 use Rattle.std.proofs.Common.{◌≡◌, ℕ, ◌+◌, ◌^◌, ◌≤◌, Bool, true, false, not, ◌&&◌, ◌||◌, List, [], ◌∷◌, ◌++◌, length, Option, Result, Ok, Err, refl, sym, ap, ◌∙◌, arith, append_assoc, length-append}
 use Rattle.std.specs.Prelude.{bytes_eq, decimal}
 use Rattle.std.specs.List.{AllByRecursion, list_any}
-use Rattle.std.proofs.lemmas.Bool.{and_parts, or_parts}
+use Rattle.std.proofs.lemmas.Bool.{and_parts, or_parts, false_from_ne_true}
 use Rattle.tcf_message.specs.Message.{MessageValue, command, event, final, flow, not_known, progress, reading}
 use Rattle.tcf_message.specs.declared.message.MessageFault.{MessageFault}
 use Rattle.channel_core.specs.Arrivals.{Spoken}
@@ -21,7 +21,6 @@ use Rattle.node_answers.proofs.Adds.BoundAnswered.{of_one, sent_same, sent_then}
 use Rattle.node_answers.proofs.Adds.BoundTokens.{RedirectsWhereNamed, issued_at}
 use Rattle.node_answers.proofs.Adds.BoundTold.{any_behind, hello_told, passed_as, tells_from}
 use Rattle.node_answers.proofs.Adds.BoundUnstored.{redirect_unstored}
-use Rattle.list_laws.proofs.Flags.{never_true}
 use Rattle.list_laws.proofs.AllLists.{all_append}
 
 -- ---- Flags
@@ -100,7 +99,7 @@ module _ (tokens : List (List ℕ)) (all : List Asked) (few : 1 + length all ≤
   told_greeted before (answers c reply mark ∷ deeds) sent are whole right each named none =
       let rightly = right.0 in
       let isnt : does_one tokens (answers_said c.token (is_done reply)) ≡ false =
-      never_true (does_one tokens (answers_said c.token (is_done reply)))
+      false_from_ne_true (does_one tokens (answers_said c.token (is_done reply)))
       (λ so. redirect_unstored c rightly.command (each.0 (and_parts (is_done reply) (list_any (λ text. bytes_eq c.token text) tokens) so).1) rightly.read rightly.storable) in
       ap (λ b. (b && not (hello_behind (tells_from sent deeds))) || lacks_hello_behind tokens (tells_from sent deeds)) isnt
       ∙ told_greeted (before ++ answers c reply mark ∷ []) deeds sent (sent_same before (answers c reply mark) sent refl are) whole right.1 each.1 named none

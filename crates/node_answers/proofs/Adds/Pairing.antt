@@ -3,12 +3,12 @@ use Rattle.std.proofs.Common.{◌≡◌, Bool, true, false, List, [], ◌∷◌,
 use Rattle.std.specs.Prelude.{bytes_eq}
 use Rattle.std.specs.List.{AllByRecursion, list_any}
 use Rattle.std.proofs.lemmas.Slice.Eq.{bytes_eq-Decides}
+use Rattle.std.proofs.lemmas.Bool.{or_left, or_right}
 use Rattle.channel_core.specs.Arrivals.{Spoken}
 use Rattle.channel_core.specs.RunLaws.{token_in}
 use Rattle.channel_core.specs.Wire.{Said, answers, is_redirect, said_by}
 use Rattle.channel_laws.specs.Meeting.{answers_among}
 use Rattle.value_node.specs.Asked.{Asked}
-use Rattle.list_laws.proofs.Flags.{or_left, or_right}
 use Rattle.list_laws.proofs.AllLists.{all_then}
 
 -- it answers the command, and others are said behind it; where the flag is set the last one may do a redirect

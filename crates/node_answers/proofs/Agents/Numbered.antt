@@ -3,11 +3,11 @@ use Rattle.std.proofs.Common.{◌≡◌, ℕ, ◌+◌, ◌^◌, ◌<◌, ◌≤�
 use Rattle.std.specs.Prelude.{bytes_eq, decimal}
 use Rattle.std.specs.List.{AllByRecursion, flat_map, list_any}
 use Rattle.std.proofs.lemmas.List.Folds.{list_any-append}
+use Rattle.std.proofs.lemmas.Bool.{or_from}
 use Rattle.agent_node.specs.AgentLaws.{Asked, tokens}
 use Rattle.channel_core.specs.Wire.{is_redirect}
 use Rattle.channel_laws.specs.Numbering.{tokens_from}
 use Rattle.list_laws.proofs.Numbers.{other_decimals}
-use Rattle.list_laws.proofs.Flags.{or_neither}
 
 -- the token of a redirect
 abbrev pub redirect_of : Asked → List (List ℕ)
@@ -24,7 +24,7 @@ among_first : (token : List ℕ) (c : Asked) (names : List (List ℕ)) → bytes
 among_first token c names other none = by_flag (is_redirect c.service c.name)
   where
     by_flag : (flag : Bool) → is_among token (cond flag (c.token ∷ []) [] ++ names) ≡ false
-    by_flag true = or_neither (bytes_eq token c.token) (is_among token names) other none
+    by_flag true = or_from (bytes_eq token c.token) (is_among token names) other none
     by_flag false = none
 
 less_differs : (m n : ℕ) → m < n → m ≡ n → ⊥
@@ -53,10 +53,10 @@ before_more next names c is high before n low small =
     let there : next ≤ n = omega arith in
     let other : bytes_eq (decimal n) c.token ≡ false = ap (bytes_eq (decimal n)) is ∙ other_decimals n next small high (λ same. less_differs next n less (sym same)) in
     list_any-append (λ text. bytes_eq (decimal n) text) names (redirect_of c)
-    ∙ or_neither (is_among (decimal n) names) (is_among (decimal n) (redirect_of c)) (before n there small) (by_flag (is_redirect c.service c.name) other)
+    ∙ or_from (is_among (decimal n) names) (is_among (decimal n) (redirect_of c)) (before n there small) (by_flag (is_redirect c.service c.name) other)
   where
     by_flag : (flag : Bool) → bytes_eq (decimal n) c.token ≡ false → is_among (decimal n) (cond flag (c.token ∷ []) []) ≡ false
-    by_flag true other = or_neither (bytes_eq (decimal n) c.token) false other refl
+    by_flag true other = or_from (bytes_eq (decimal n) c.token) false other refl
     by_flag false other = refl
 
 none_first : (token : List ℕ) (c : Asked) (names : List (List ℕ)) → is_redirect c.service c.name ≡ false → is_among token names ≡ false → is_among token (redirect_of c ++ names) ≡ false
@@ -75,7 +75,7 @@ each_apart earlier next (c ∷ commands) before are few =
     let names = flat_map redirect_of commands in
     let is_apart : is_redirect c.service c.name ≡ false → is_among (decimal next) (earlier ++ (redirect_of c ++ names)) ≡ false =
     λ plain. list_any-append (λ text. bytes_eq (decimal next) text) earlier (redirect_of c ++ names)
-    ∙ or_neither (is_among (decimal next) earlier) (is_among (decimal next) (redirect_of c ++ names)) (before next same high)
+    ∙ or_from (is_among (decimal next) earlier) (is_among (decimal next) (redirect_of c ++ names)) (before next same high)
     (none_first (decimal next) c names plain (later_apart next (next + 1) commands rest more fits)) in (
       (λ plain. ap (λ token. is_among token (earlier ++ (redirect_of c ++ names))) first ∙ is_apart plain),
       subst (λ all. AllByRecursion (IsApart all) commands) (append_assoc earlier (redirect_of c) names)

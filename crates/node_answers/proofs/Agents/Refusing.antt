@@ -2,6 +2,7 @@
 use Rattle.std.proofs.Common.{◌≡◌, ℕ, true, false, List, Some, refl, sym, ◌∙◌, subst}
 use Rattle.std.specs.Prelude.{bytes_eq, Option}
 use Rattle.std.proofs.lemmas.Slice.Eq.{bytes_eq-Decides}
+use Rattle.std.proofs.lemmas.Bool.{and_parts}
 use Rattle.channel_core.specs.Wire.{is_done, is_redirect, locator, redirect_name}
 use Rattle.command_tables.specs.Reading.{IsReading}
 use Rattle.command_tables.specs.declared.reading.Reading.{Reading}
@@ -20,7 +21,6 @@ use Rattle.target_hub.specs.declared.done.Answered.{Answered}
 use Rattle.target_hub.specs.declared.done.Answered.TheVariants.{Result, Unknown}
 use Rattle.target_hub.specs.HubValue.{TargetValue}
 use Rattle.command_tables.proofs.TheLaws.{known_are_readable}
-use Rattle.list_laws.proofs.Flags.{and_parts}
 use Rattle.service_names.proofs.TheLaws.{names_are_exact}
 
 -- an answer with data has an error

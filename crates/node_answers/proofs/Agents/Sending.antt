@@ -1,6 +1,7 @@
 -- An agent sends no command, and what it sends can be read; its history is shorter than a number of 64 bits.
 use Rattle.std.proofs.Common.{◌≡◌, ℕ, ◌+◌, ◌-◌, ◌^◌, ◌<◌, ◌≤◌, ◌==◌, Bool, true, false, cond, ◌||◌, List, [], ◌∷◌, ◌++◌, length, map, Option, Some, None, IfSome, Result, Ok, Err, refl, sym, ap, ◌∙◌, subst, arith, length-append, eq-eqb}
 use Rattle.std.specs.List.{AllByRecursion, list_any}
+use Rattle.std.proofs.lemmas.Bool.{or_right}
 use Rattle.channel_core.specs.QueueLaws.{is_commanding}
 use Rattle.channel_core.specs.ReceivingLaws.{SaysReadable, SendsReadable}
 use Rattle.channel_core.specs.Runs.{Call as EndCall, delivering, ending, putting_out, sending, taking}
@@ -34,7 +35,6 @@ use Rattle.target_hub.proofs.TheLaws.{answers_are_sendable, closings_tell_sendab
 use Rattle.tcf_message.proofs.TheLaws.{read_back}
 use Rattle.node_answers.proofs.Agents.Pasts.{each_called, number_called, open_called, opened_called, unless_called, with_called}
 use Rattle.node_answers.proofs.Agents.Telling.{progress_size}
-use Rattle.list_laws.proofs.Flags.{or_right as or_second}
 
 -- a call of the agent's end
 abbrev pub IsPlain : EndCall Unit → Type 0
@@ -84,7 +84,7 @@ ticked_none false thread a other is = absurd cc
 
 no_input : (call : Call) (a : AgentValue) → is_full a ≡ true → input_by call a ≡ []
 unfolding opened turned ticked
-no_input (opens k) a full = opened_none (is_refused k a) k a _ (or_second _ _ (or_second _ (is_full a) full))
+no_input (opens k) a full = opened_none (is_refused k a) k a _ (or_right _ _ (or_right _ (is_full a) full))
 no_input (comes k piece) a full = refl
 no_input (bytes_end k) a full = refl
 no_input (turns k) a full = turned_none (is_full a) a _ full

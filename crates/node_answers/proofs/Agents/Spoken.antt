@@ -3,17 +3,16 @@ use Rattle.std.proofs.Common.{◌≡◌, ℕ, ◌≤◌, Bool, true, false, not,
 use Rattle.std.specs.Prelude.{bytes_eq}
 use Rattle.std.specs.List.{AllByRecursion}
 use Rattle.std.proofs.lemmas.Slice.Eq.{bytes_eq-Decides}
+use Rattle.std.proofs.lemmas.Bool.{or_left, or_from, or_right, and_left, and_right}
 use Rattle.agent_node.specs.AgentLaws.{Asked, all_said, messages_told, read, tokens}
 use Rattle.channel_core.specs.Arrivals.{AreSpoken, Spoken, all_said as all_spoken}
 use Rattle.channel_core.specs.Wire.{event_said, hello, is_done, is_redirect, locator, said}
 use Rattle.channel_laws.specs.Meeting.{answers_among, does_one, hello_behind, lacks_hello_behind}
 use Rattle.target_hub.specs.Sent.{Told, event_at, final_at, hello_at, progress_at, unknown_at}
 use Rattle.tcf_message.specs.Message.{IsToken, MessageValue, event, final, most_body, not_known, progress}
-use Rattle.node_answers.proofs.Agents.Lists.{and_first, and_second}
 use Rattle.node_answers.proofs.Agents.Numbered.{IsApart, is_among}
 use Rattle.node_answers.proofs.Agents.Telling.{Come}
 use Rattle.list_laws.proofs.AllLists.{all_weaker}
-use Rattle.list_laws.proofs.Flags.{or_left as or_first, or_neither, or_right as or_second}
 
 abbrev pub spoken_of : List (MessageValue × Option ℕ) → List Spoken
 spoken_of messages = map (λ m. record { message = m.0; mark = m.1 }) messages
@@ -43,14 +42,14 @@ told_formed (c ∷ commands) (unknown_at position through ∷ told) named come =
 -- ---- Each command is answered
 
 own_token : (token : List ℕ) → (bytes_eq token token || false) ≡ true
-own_token token = or_first (bytes_eq token token) false ((bytes_eq-Decides token token).1 refl)
+own_token token = or_left (bytes_eq token token) false ((bytes_eq-Decides token token).1 refl)
 
 abbrev pub AreAnswered : List Spoken → List Asked → Type 0
 AreAnswered spoken commands = AllByRecursion (λ c. answers_among c.token spoken ≡ true) commands
 
 answered_behind : (s : Spoken) (spoken : List Spoken) (commands : List Asked) → AreAnswered spoken commands → AreAnswered (s ∷ spoken) commands
 answered_behind s spoken commands each =
-    all_weaker (λ c. answers_among c.token spoken ≡ true) (λ c. answers_among c.token (s ∷ spoken) ≡ true) commands (λ c is. or_second _ (answers_among c.token spoken) is) each
+    all_weaker (λ c. answers_among c.token spoken ≡ true) (λ c. answers_among c.token (s ∷ spoken) ≡ true) commands (λ c is. or_right _ (answers_among c.token spoken) is) each
 
 pub told_answered : (commands : List Asked) (told : List Told) → Come (map read commands) told → AreAnswered (told_to commands told) commands
 told_answered [] told come = tt
@@ -62,11 +61,11 @@ told_answered (c ∷ commands) (event_at position service name body ∷ told) co
 told_answered (c ∷ commands) (progress_at position body ∷ told) come =
     answered_behind (record { message = progress c.token body; mark = Some position }) (told_to (c ∷ commands) told) (c ∷ commands) (told_answered (c ∷ commands) told come.1)
 told_answered (c ∷ commands) (final_at position through body ∷ told) come = (
-  or_first _ (answers_among c.token (told_to commands told)) (own_token c.token),
+  or_left _ (answers_among c.token (told_to commands told)) (own_token c.token),
   answered_behind (record { message = final c.token body; mark = Some position }) (told_to commands told) commands (told_answered commands told come.1),
 )
 told_answered (c ∷ commands) (unknown_at position through ∷ told) come = (
-  or_first _ (answers_among c.token (told_to commands told)) (own_token c.token),
+  or_left _ (answers_among c.token (told_to commands told)) (own_token c.token),
   answered_behind (record { message = not_known c.token; mark = Some position }) (told_to commands told) commands (told_answered commands told come.1),
 )
 
@@ -77,14 +76,14 @@ event_does_none redirects true = refl
 event_does_none redirects false = refl
 
 none_lacks : (does greeted lacks : Bool) → does ≡ false → lacks ≡ false → ((does && not greeted) || lacks) ≡ false
-none_lacks does greeted lacks one two = or_neither (does && not greeted) lacks (and_first does (not greeted) one) two
+none_lacks does greeted lacks one two = or_from (does && not greeted) lacks (and_left does (not greeted) one) two
 
 answer_does_none : (redirects : List (List ℕ)) (c : Asked) (body : List ℕ) → IsApart redirects c → (is_redirect c.service c.name ≡ true → is_done body ≡ false) → (is_done body && is_among c.token redirects) ≡ false
 answer_does_none redirects c body apart undone = by_flag (is_redirect c.service c.name) refl
   where
     by_flag : (flag : Bool) → is_redirect c.service c.name ≡ flag → (is_done body && is_among c.token redirects) ≡ false
-    by_flag true is = and_first (is_done body) (is_among c.token redirects) (undone is)
-    by_flag false is = and_second (is_done body) (is_among c.token redirects) (apart is)
+    by_flag true is = and_left (is_done body) (is_among c.token redirects) (undone is)
+    by_flag false is = and_right (is_done body) (is_among c.token redirects) (apart is)
 
 pub told_does_none : (redirects : List (List ℕ)) (commands : List Asked) (told : List Told) → AllByRecursion (IsApart redirects) commands → Come (map read commands) told
     → lacks_hello_behind redirects (told_to commands told) ≡ false

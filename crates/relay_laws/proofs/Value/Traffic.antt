@@ -5,6 +5,7 @@ use Rattle.std.specs.List.{AllByRecursion, flat_map, list_any}
 use Rattle.std.proofs.lemmas.List.{map-append}
 use Rattle.std.proofs.lemmas.List.Concat.{flat_map-append}
 use Rattle.std.proofs.lemmas.List.Folds.{list_any-append}
+use Rattle.std.proofs.lemmas.Bool.{and_parts}
 use Rattle.channel_core.specs.Arrivals.{Spoken, all_said}
 use Rattle.channel_core.specs.QueueLaws.{is_message}
 use Rattle.channel_core.specs.Runs.{Run}
@@ -38,7 +39,6 @@ use Rattle.relay_laws.proofs.Value.Few.{deeds_more, few_sent, run_more}
 use Rattle.relay_laws.proofs.Value.Readable.{IsWhole, above_reads}
 use Rattle.relay_laws.proofs.Value.Rows.{rows_sent}
 use Rattle.relay_laws.proofs.Value.Steps.{At, Goes, at_first, goes_back, goes_heard, goes_up, kept_by, order_of}
-use Rattle.list_laws.proofs.Flags.{and_parts}
 
 -- ---- All deeds
 

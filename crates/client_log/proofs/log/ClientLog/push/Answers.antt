@@ -1,4 +1,4 @@
-use Rattle.std.proofs.Common.{◌≡◌, ◌∙◌, sym}
+use Rattle.std.proofs.Common.{◌∙◌, sym}
 use Rattle.client_log.proofs.Keeping.{kept_behind}
 use Rattle.client_log.proofs.Standing.{places_kept}
 use Rattle.client_log.proofs.log.ClientLog.push.Goals as goal

@@ -3,20 +3,32 @@ use std::fs;
 use std::test::Fail;
 use tcf_outside::{Files, RealFiles, RealSink, SinkRefusal, put_all};
 
-/// What is read of a file of the system, as it shows itself.
-fn read_text(rt: &HostRuntime, name: &str, limit: usize) -> Result<String, Fail> {
-    let came = RealFiles::new(rt, rt.alloc()).read(name, limit);
+/// What is read of a file, as it shows itself.
+fn read_text(
+    rt: &impl AllocGlobal,
+    files: &mut impl Files,
+    name: &str,
+    limit: usize,
+) -> Result<String, Fail> {
+    let came = files.read(name, limit);
     Ok(format!(in rt.alloc(); "{came:?}")?)
 }
 
 #[test]
 fn the_files_of_the_system_are_read(rt: HostRuntime) -> Result<(), Fail> {
     fs::write(&rt, "five_bytes", b"12345".as_slice())?;
+    let mut files = RealFiles::new(&rt, rt.alloc());
     let five = "Ok(Whole(Sequence { inner: [49, 50, 51, 52, 53] }))";
-    assert_eq!(rt; read_text(&rt, "five_bytes", 5)?.as_str(), five);
-    assert_eq!(rt; read_text(&rt, "five_bytes", 4)?.as_str(), "Ok(Longer)");
-    assert_eq!(rt; read_text(&rt, "no_such_file", 5)?.as_str(), "Err(Failed)");
-    assert_eq!(rt; read_text(&rt, "/", 5)?.as_str(), "Err(Failed)");
+    assert_eq!(rt; read_text(&rt, &mut files, "five_bytes", 5)?.as_str(), five);
+    assert_eq!(rt;
+        read_text(&rt, &mut files, "five_bytes", 4)?.as_str(),
+        "Ok(Longer)"
+    );
+    assert_eq!(rt;
+        read_text(&rt, &mut files, "no_such_file", 5)?.as_str(),
+        "Err(Failed)"
+    );
+    assert_eq!(rt; read_text(&rt, &mut files, "/", 5)?.as_str(), "Err(Failed)");
     fs::remove_file(&rt, "five_bytes")?;
     Ok(())
 }

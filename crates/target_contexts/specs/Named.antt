@@ -1,7 +1,7 @@
 -- What an ID names among the live processes (TCF services RunControl, Memory and Registers, where the agent chooses
 -- IDs), and what is asked of a live process.
 use Rattle.std.specs.Prelude.{ℕ, Bool, true, false, not, List, [], filter, length, map, Option, Some, None, option_and_then, option_map}
-use Rattle.std.specs.List.{flat_map}
+use Rattle.std.specs.List.{flat_map, list_any}
 use Rattle.tcf_values.specs.Ids.{context_of}
 use Rattle.tcf_values.specs.declared.ids.ContextId.{ContextId}
 use Rattle.tcf_values.specs.declared.ids.ContextId.TheVariants as ids
@@ -93,6 +93,14 @@ running_row number threads =
 
 abbrev pub running_rows : List (ℕ × ProcessValue) → List ContextId
 running_rows rows = flat_map (λ row. running_row row.0 row.1.threads) rows
+
+-- a thread of a process runs
+abbrev pub some_runs : List Thread → Bool
+some_runs threads = list_any (λ thread. runs thread.state) threads
+
+-- a thread of one of the processes runs
+abbrev pub has_running : List (ℕ × ProcessValue) → Bool
+has_running rows = list_any (λ row. some_runs row.1.threads) rows
 
 -- the numbers of the attached processes, in order
 abbrev pub attached_in : List (ℕ × ProcessValue) → List ℕ

@@ -7,7 +7,7 @@ ghost use Rattle.target_contexts.specs.Kept.{AddsNoOwn, kinds_at, place_in, remo
 ghost use Rattle.target_contexts.specs.Live.{IsLive, IsOrderly, numbers_of, place_of, process_of, without};
 ghost use Rattle.target_contexts.specs.Contexts.{IsThere, context_of, whole_of};
 ghost use Rattle.target_contexts.specs.Changes.{with_change};
-ghost use Rattle.target_contexts.specs.Named.{is_running, is_suspended, running_row, running_rows, running_threads, stood_in, stood_numbers};
+ghost use Rattle.target_contexts.specs.Named.{has_running, is_running, is_suspended, running_row, running_rows, running_threads, stood_in, stood_numbers};
 ghost use Rattle.target_contexts.specs.Spawning.{added_number, with_begun};
 ghost use Rattle.target_contexts.specs.ThreadList.{numbered};
 ghost use Rattle.target_contexts.specs.Threads.{count_in, thread_of};
@@ -245,6 +245,13 @@ impl Targets {
         running_in(self.alloc, &self.live)
     }
 
+    /// Whether a thread runs. The look ends at the first one that does.
+    pub fn has_running(&self) -> bool
+        ensures { result ≡ has_running self.now.seen.processes }
+    {
+        has_running_in(&self.live)
+    }
+
     /// What always holds of the processes: at most 64 live, under numbers from 1 on that rise strictly and lie below the
     /// next one, which is at most 2^32. The call does nothing.
     pub fn are_orderly(&self)
@@ -357,6 +364,18 @@ fn running_in(alloc: Global, live: &[(u32, Process)]) -> Result<Vec<ContextId>, 
         add_running(&mut running, row.0, &row.1.threads)?;
     }
     Ok(running)
+}
+
+/// Whether a thread of one of the processes runs.
+fn has_running_in(live: &[(u32, Process)]) -> bool
+    ensures { result ≡ has_running (seen_rows live.now) }
+{
+    for row in live {
+        if row.1.threads.has_running() {
+            return true;
+        }
+    }
+    false
 }
 
 /// Puts those threads of a process last that run.

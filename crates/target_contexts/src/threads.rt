@@ -1,7 +1,7 @@
 //! The threads of a process.
 ghost use Rattle.std.specs.Borrow.{sem};
 ghost use Rattle.std.specs.Prelude.{[], ◌∷◌, ◌++◌, ◌≡◌, ◌<◌, is_some, length, option_map, IfOk, OnErr, OnOk};
-ghost use Rattle.target_contexts.specs.Named.{is_running};
+ghost use Rattle.target_contexts.specs.Named.{is_running, some_runs};
 ghost use Rattle.target_contexts.specs.ThreadList.{AreFew, numbered};
 
 use crate::process::ThreadState;
@@ -98,6 +98,13 @@ impl Threads {
             Some(thread) => thread.state.runs(),
             None => false,
         }
+    }
+
+    /// Whether one of the threads runs.
+    pub fn has_running(&self) -> bool
+        ensures { result ≡ some_runs self.now }
+    {
+        self.list.iter().any(|thread| thread.state.runs())
     }
 
     /// Puts a thread last. After want of memory nothing has changed.

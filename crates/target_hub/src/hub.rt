@@ -4,6 +4,7 @@ ghost use Rattle.command_tables.specs.Canonical.{IsReadable};
 ghost use Rattle.command_tables.specs.Reading.{IsReading};
 ghost use Rattle.reply_tables.specs.Written.{IsRefusal};
 ghost use Rattle.service_names.specs.Commands.{name_in};
+ghost use Rattle.target_contexts.specs.Named.{has_running};
 ghost use Rattle.target_hub.specs.Answering.{after_reading, executed, only, refusal, written};
 ghost use Rattle.target_hub.specs.Execution.{exec_after, exec_effect};
 ghost use Rattle.target_hub.specs.HubValue.{new_target, usable};
@@ -142,6 +143,13 @@ impl Hub {
             return Err(AllocError);
         }
         self.target.contexts.running()
+    }
+
+    /// Whether a thread runs. The look ends at the first one that does.
+    pub fn has_running(&self) -> bool
+        ensures { result ≡ has_running self.now.target.contexts.processes }
+    {
+        self.target.contexts.has_running()
     }
 
     /// Begins a call that may meet want of memory: the hub is spent until the call is done.

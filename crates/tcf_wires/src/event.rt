@@ -15,7 +15,7 @@ pub enum WireEvent {
     Ended(u64),
     /// The connection of a channel broke, and nothing more comes on it.
     Lost(u64),
-    /// Nothing came for a while.
+    /// Nothing is there: nothing came for a while, or the wires don't wait and each connection has had its turn.
     Idle,
     /// Nothing more is to be served.
     Stop,

@@ -1,5 +1,5 @@
 //! The real wires: connections of the system's. They tell nothing of what comes or goes.
-ghost use Rattle.std.specs.Prelude.{◌≡◌, ℕ, None, Ok, Err, IfOk, IsTrue};
+ghost use Rattle.std.specs.Prelude.{◌≡◌, ◌<◌, ℕ, None, Ok, Err, IfOk, IsTrue};
 ghost use Rattle.std.specs.Net.Grammar.{IsSocketText};
 ghost use Rattle.std.specs.declared.net.socket_addr.SocketAddr.{SocketAddr};
 ghost use Rattle.tcf_wires.specs.Event.{can_come, faults_after, unused_after_next, unused_after_connect};
@@ -13,7 +13,7 @@ use std::alloc::{AllocError, Global};
 use std::io;
 use std::io::{ErrorKind, Read, Write};
 use std::net::{Net, Shutdown, SocketAddr};
-use std::time::Duration;
+use std::time::{Clock, Duration, Instant};
 use tcf_outside::Octets;
 
 /// The most bytes of one piece.
@@ -31,13 +31,11 @@ const PEERS: Token = Token(usize::MAX);
 /// The most connections that are kept once they are shut.
 const MOST_ENDING: usize = 64;
 
-/// How long such a connection is kept at most, in turns of `next`. A wait that brought nothing, and a read that brought
-/// something on it, count as `LONG` turns each: so it is kept for 2 seconds where nothing comes at all, and 13 MB are
-/// read on it at most.
-const PATIENCE: u64 = 20_000;
+/// How long such a connection is kept at most, in seconds.
+const PATIENCE: u64 = 2;
 
-/// What a wait that brought nothing counts, in turns.
-const LONG: u64 = 100;
+/// How often something is read on it at most, 13 MB in all.
+const MOST_READS: u32 = 200;
 
 /// What may be there on a connection that wasn't read yet.
 #[derive(Clone, Copy)]
@@ -46,8 +44,8 @@ enum Input {
     Told,
     /// The end of the peer's stream, or a failure, is there, perhaps behind other bytes.
     End,
-    /// The last read brought less than it could, so most likely nothing is there. It is tried again once a wait brought
-    /// nothing.
+    /// The last read brought less than it could, so most likely nothing is there. It is tried again once a whole wait
+    /// brought nothing.
     Little,
     /// A read found nothing.
     Nothing,
@@ -71,14 +69,15 @@ struct Ending {
     stream: TcpStream,
     /// Whether something may be there that wasn't read.
     is_ready: bool,
-    /// The turn at which it is closed at the latest.
-    until: u64,
+    /// How often something may still be read on it.
+    reads: u32,
+    since: Instant,
 }
 
 /// The connections that the runtime reaches. A peer that is gone is told by `Lost`, and never ends the program. An
 /// address is an IP address, `:` and a port. Of several addresses the last is listened on.
 #[derive(Drop)]
-pub struct RealWires<R: Net + Drop> {
+pub struct RealWires<R: Net + Clock + Drop> {
     runtime: R,
     alloc: Global,
     poll: Poll,
@@ -89,13 +88,13 @@ pub struct RealWires<R: Net + Drop> {
     lines: Vec<Line>,
     /// Connections that were shut, the earliest first.
     ending: Vec<Ending>,
-    /// The turns so far, by which those are closed in the end.
-    now: u64,
     /// Into which all pieces are read. Each is given out at its own size, so that many small ones that wait take little
     /// room.
     room: Vec<u8>,
     /// The place that is looked at first, so that each connection has its turn.
     turn: usize,
+    /// Whether `next` doesn't wait.
+    is_nonblocking: bool,
     unused: u64,
     faults: u64,
 }
@@ -108,7 +107,7 @@ fn is_passing(error: &io::Error) -> bool {
     }
 }
 
-impl<R: Net + Drop> RealWires<R> {
+impl<R: Net + Clock + Drop> RealWires<R> {
     /// No connection, and nothing that is listened on. It fails where the system lends no means to wait.
     pub fn new(runtime: R, alloc: Global) -> io::Result<Self>
         ensures faults { IfOk result (λ wires. wires.faults ≡ 0) }
@@ -124,9 +123,9 @@ impl<R: Net + Drop> RealWires<R> {
             has_peer: false,
             lines: Vec::new(alloc),
             ending: Vec::new(alloc),
-            now: 0,
             room: Vec::new(alloc),
             turn: 0,
+            is_nonblocking: false,
             unused: 0,
             faults: 0,
         })
@@ -281,15 +280,22 @@ impl<R: Net + Drop> RealWires<R> {
         }
     }
 
-    /// What is there now, each place in its turn; `Idle` where there is nothing.
-    fn ready(&mut self) -> Result<WireEvent, WireRefusal>
+    /// How many places are looked at: one for each connection, and one for peers that wait to be let in.
+    fn places(&self) -> usize
+        ensures { 0 < result }
+    {
+        self.lines.len().saturating_add(1)
+    }
+
+    /// What is there now at so many places, each in its turn; `Idle` where there is nothing.
+    fn ready(&mut self, count: usize) -> Result<WireEvent, WireRefusal>
         ensures can { IfOk result (λ event. IsTrue (can_come self.old.unused event)) }
         ensures goes_on { result ≡ Ok WireEvent.Stop → ⊥ }
         ensures numbers { self.new.unused ≡ unused_after_next result self.old.unused }
         ensures cause { self.new.faults ≡ faults_after result self.old.faults }
     {
-        let places = self.lines.len().saturating_add(1);
-        for step in 0..places {
+        let places = self.places();
+        for step in 0..count {
             let at = self.turn.wrapping_add(step) % places;
             let event = if at < self.lines.len() {
                 self.hear(at)?
@@ -307,12 +313,51 @@ impl<R: Net + Drop> RealWires<R> {
         Ok(WireEvent::Idle)
     }
 
-    /// Waits until something may have come, and says whether it may. An interrupted wait brought nothing.
-    fn wait(&mut self) -> Result<bool, WireRefusal>
+    /// What is there now, without a wait. The system is asked once what has come, then each place has its turn, and then
+    /// comes `Idle`, however much there is.
+    fn next_at_once(&mut self) -> Result<WireEvent, WireRefusal>
+        ensures can { IfOk result (λ event. IsTrue (can_come self.old.unused event)) }
+        ensures goes_on { result ≡ Ok WireEvent.Stop → ⊥ }
+        ensures numbers { self.new.unused ≡ unused_after_next result self.old.unused }
+        ensures cause { self.new.faults ≡ faults_after result self.old.faults }
+    {
+        if self.turn == 0 {
+            self.wait(Duration::ZERO)?;
+        }
+        let left = self.places().saturating_sub(self.turn);
+        let event = self.ready(left)?;
+        if let WireEvent::Idle = event {
+            self.turn = 0;
+        }
+        Ok(event)
+    }
+
+    /// What is there, for which it may wait.
+    fn next_in_time(&mut self) -> Result<WireEvent, WireRefusal>
+        ensures can { IfOk result (λ event. IsTrue (can_come self.old.unused event)) }
+        ensures goes_on { result ≡ Ok WireEvent.Stop → ⊥ }
+        ensures numbers { self.new.unused ≡ unused_after_next result self.old.unused }
+        ensures cause { self.new.faults ≡ faults_after result self.old.faults }
+    {
+        let most = self.places().saturating_add(1);
+        for _ in 0..most {
+            match self.ready(self.places())? {
+                WireEvent::Idle => {}
+                event => return Ok(event),
+            }
+            if !self.wait(Duration::from_millis(WAIT))? {
+                look_again(&mut self.lines);
+                break;
+            }
+        }
+        Ok(WireEvent::Idle)
+    }
+
+    /// Waits so long at most until something may have come, and says whether it may. An interrupted wait brought nothing.
+    fn wait(&mut self, time: Duration) -> Result<bool, WireRefusal>
         ensures numbers { self.new.unused ≡ self.old.unused }
         ensures cause { self.new.faults ≡ faults_after result self.old.faults }
     {
-        let time = Duration::from_millis(WAIT);
         match self.poll.poll(&mut self.events, Some(time)) {
             Ok(()) => {
                 for event in self.events.iter() {
@@ -322,12 +367,7 @@ impl<R: Net + Drop> RealWires<R> {
                     wake(&mut self.lines, event);
                     wake_ending(&mut self.ending, event);
                 }
-                let has_come = !self.events.is_empty();
-                if !has_come {
-                    self.now = self.now.saturating_add(LONG);
-                    look_again(&mut self.lines);
-                }
-                Ok(has_come)
+                Ok(!self.events.is_empty())
             }
             Err(error) if is_passing(&error) => Ok(false),
             Err(error) => Err(self.refused(&error)),
@@ -335,7 +375,7 @@ impl<R: Net + Drop> RealWires<R> {
     }
 
     /// Ends the stream of a connection that is shut. It is kept until its peer has ended too, unless nothing can be
-    /// had of it any more or there is no memory for it.
+    /// had of it any more, or there is no memory for it or no clock.
     fn end(&mut self, line: Line)
         ensures numbers { self.new.unused ≡ self.old.unused }
         ensures cause { self.new.faults ≡ self.old.faults }
@@ -346,6 +386,9 @@ impl<R: Net + Drop> RealWires<R> {
         if line.stream.shutdown(Shutdown::Write).is_err() || self.room.resize(MOST, 0).is_err() {
             return;
         }
+        let Ok(since) = Instant::now(&self.runtime) else {
+            return;
+        };
         if self.ending.len() >= MOST_ENDING {
             make_room(&mut self.ending);
         }
@@ -353,9 +396,24 @@ impl<R: Net + Drop> RealWires<R> {
             channel: line.channel,
             stream: line.stream,
             is_ready: true,
-            until: self.now.saturating_add(PATIENCE),
+            reads: MOST_READS,
+            since,
         };
         drop(self.ending.push(ending));
+    }
+
+    /// Drops what came on connections that were shut, and closes those whose peer has ended or that were kept long enough.
+    fn drain(&mut self)
+        ensures numbers { self.new.unused ≡ self.old.unused }
+        ensures cause { self.new.faults ≡ self.old.faults }
+    {
+        if self.ending.is_empty() {
+            return;
+        }
+        match Instant::now(&self.runtime) {
+            Ok(now) => drain(&mut self.ending, &mut self.room, now),
+            Err(_) => self.ending.clear(),
+        }
     }
 }
 
@@ -378,21 +436,26 @@ impl Ending {
         }
         let mut reader = &self.stream;
         match reader.read(room) {
-            Ok(0) => self.until = 0,
-            Ok(_) => self.until = self.until.saturating_sub(LONG),
+            Ok(0) => self.reads = 0,
+            Ok(_) => self.reads = self.reads.saturating_sub(1),
             Err(error) if error.kind() == ErrorKind::WouldBlock => self.is_ready = false,
             Err(error) if is_passing(&error) => {}
-            Err(_) => self.until = 0,
+            Err(_) => self.reads = 0,
         }
+    }
+
+    /// Whether something may still be read on it.
+    fn is_kept(&self, now: Instant) -> bool {
+        self.reads > 0 && now.duration_since(self.since) < Duration::from_secs(PATIENCE)
     }
 }
 
-/// Drops what came on connections that were shut, and closes those whose peer has ended or that were kept long enough.
-fn drain(ending: &mut Vec<Ending>, room: &mut [u8], now: u64) {
+/// Drops what came on these connections, and closes those whose peer has ended or that were kept long enough.
+fn drain(ending: &mut Vec<Ending>, room: &mut [u8], now: Instant) {
     for one in ending.iter_mut() {
         one.drain(room);
     }
-    ending.retain(|one| now < one.until);
+    ending.retain(|one| one.is_kept(now));
 }
 
 /// Closes the connection that was shut first.
@@ -434,7 +497,7 @@ fn look_again(lines: &mut [Line]) {
     }
 }
 
-impl<R: Net + Drop> Wires for RealWires<R> {
+impl<R: Net + Clock + Drop> Wires for RealWires<R> {
     ghost seen = { λ wires. record { told = None; faults = wires.faults } };
 
     ghost script = { λ _. None };
@@ -478,26 +541,24 @@ impl<R: Net + Drop> Wires for RealWires<R> {
         }
     }
 
-    /// `Idle` comes where 10 milliseconds brought nothing, and `Stop` never.
+    /// `Idle` comes where 10 milliseconds brought nothing; without a wait, once each connection has had its turn. `Stop`
+    /// never comes.
     fn next(&mut self) -> Result<WireEvent, WireRefusal>
         ensures can { IfOk result (λ event. IsTrue (can_come self.old.unused event)) }
         ensures goes_on { result ≡ Ok WireEvent.Stop → ⊥ }
         ensures numbers { self.new.unused ≡ unused_after_next result self.old.unused }
         ensures cause { self.new.faults ≡ faults_after result self.old.faults }
     {
-        self.now = self.now.saturating_add(1);
-        drain(&mut self.ending, &mut self.room, self.now);
-        let most = self.lines.len().saturating_add(2);
-        for _ in 0..most {
-            match self.ready()? {
-                WireEvent::Idle => {}
-                event => return Ok(event),
-            }
-            if !self.wait()? {
-                break;
-            }
+        self.drain();
+        if self.is_nonblocking {
+            self.next_at_once()
+        } else {
+            self.next_in_time()
         }
-        Ok(WireEvent::Idle)
+    }
+
+    fn set_nonblocking(&mut self, is_nonblocking: bool) {
+        self.is_nonblocking = is_nonblocking;
     }
 
     fn put(&mut self, channel: u64, piece: &[u8]) -> Put {
@@ -518,8 +579,7 @@ impl<R: Net + Drop> Wires for RealWires<R> {
         }
     }
 
-    /// The peer is sent what was put and then the end. What it still sends is dropped, for 2 seconds at most where
-    /// nothing else comes.
+    /// The peer is sent what was put and then the end. What it still sends is dropped, for 2 seconds at most.
     fn shut(&mut self, channel: u64) -> Result<(), AllocError> {
         if let Some(at) = self.lines.iter().position(|line| line.channel == channel) {
             let line = self.lines.remove(at);

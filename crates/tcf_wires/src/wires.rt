@@ -47,6 +47,14 @@ pub trait Wires {
         ensures numbers { unused self.new ≡ unused_after_next result (unused self.old) }
         ensures cause { (seen self.new).faults ≡ faults_after result (seen self.old).faults };
 
+    /// Says whether `next` gives `Idle` at once where nothing is there, and lets each connection have its turn once between
+    /// two of them; at first it may wait for what comes. Wires that never wait needn't care.
+    fn set_nonblocking(&mut self, _is_nonblocking: bool)
+        ensures seen { seen self.new ≡ seen self.old }
+        ensures script { script self.new ≡ script self.old }
+        ensures numbers { unused self.new ≡ unused self.old }
+    {}
+
     /// Takes some of the piece's first bytes to send them on the channel. `Lost` where the channel takes nothing any
     /// more, as one whose connection broke or that there never was.
     fn put(&mut self, channel: u64, piece: &[u8]) -> Put

@@ -10,7 +10,7 @@ use Rattle.agent_node.specs.AgentLaws.{Asked, FollowsHistory, all_said, asked, m
 use Rattle.agent_node.specs.Apart.{EachIsToldItsOwn, IsToldItsOwn, OneHistoryTellsTheSame, asked_on}
 use Rattle.agent_node.specs.Openings.{lives}
 use Rattle.agent_node.specs.Runs.{AgentRun, Past, after_all, no_calls, run_of}
-use Rattle.agent_node.proofs.Differing.{Differ, has}
+use Rattle.channel_list.proofs.Differing.{Differ, has}
 use Rattle.agent_node.proofs.Histories.{nothing_sent}
 use Rattle.agent_node.proofs.Standing.{past_number}
 use Rattle.agent_node.proofs.Truth.{HoldsRun, holds_all, holds_first, tells_the_truth}

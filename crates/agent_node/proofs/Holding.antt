@@ -13,13 +13,13 @@ use Rattle.target_hub.specs.declared.input.Input.{Input}
 use Rattle.target_hub.specs.declared.input.Input.TheVariants.{Opened}
 use Rattle.agent_node.specs.AgentValue.{AgentValue}
 use Rattle.agent_node.specs.Channels.{is_kept, new_channel}
-use Rattle.agent_node.specs.Numbers.{has_number, with_number}
+use Rattle.channel_list.specs.Numbers.{has_number, with_number}
 use Rattle.agent_node.specs.Runs.{Past, on_number, on_open, run_of, unless_over, with_calls}
-use Rattle.agent_node.specs.declared.channel.Channel.{Channel}
-use Rattle.agent_node.proofs.Differing.{Differ, all_apart, differ_mapped, differ_more, has, has_mapped, has_more}
+use Rattle.channel_list.specs.declared.channel.Channel.{Channel}
+use Rattle.channel_list.proofs.Differing.{Differ, all_apart, differ_mapped, differ_more, has, has_mapped, has_more}
 use Rattle.agent_node.proofs.Following.{Follows, first_said, follows_heard}
 use Rattle.agent_node.proofs.Histories.{closed_more, executed_more, inputs_more, legal_more, length_more, live_same, nothing_sent, opened_more, opens_last, sent_more, told_live}
-use Rattle.agent_node.proofs.Numbering.{IsOrdered, with_number_has, with_number_ordered}
+use Rattle.channel_list.proofs.Numbering.{IsOrdered, with_number_has, with_number_ordered}
 use Rattle.agent_node.proofs.Standing.{Stands, past_number, stand_kept, stand_more}
 use Rattle.agent_node.proofs.Tokens.{Uses, as_messages, hello_messages, uses_hello}
 use Rattle.list_laws.proofs.Flags.{or_false, or_true}

@@ -16,7 +16,7 @@ use Rattle.agent_node.specs.AgentValue.{AgentValue}
 use Rattle.agent_node.specs.Channels.{End, channel_at, place_of, with_end}
 use Rattle.agent_node.specs.declared.agent.Turned.{Turned}
 use Rattle.agent_node.specs.declared.agent.Turned.TheVariants.{Nothing}
-use Rattle.agent_node.specs.declared.channel.Channel.{Channel}
+use Rattle.channel_list.specs.declared.channel.Channel.{Channel}
 
 -- ---- what is taken is something
 

@@ -1,16 +1,13 @@
 pub mod Histories
 pub mod Tokens
 pub mod Calls
-pub mod Differing
 pub mod Places
 pub mod Standing
 pub mod Following
-pub mod Numbering
 pub mod Matching
 pub mod Holding
 pub mod Turning
 pub mod Truth
-pub mod Told
 pub mod Strangers
 pub mod Openings
 pub mod Apart

@@ -11,7 +11,7 @@ use Rattle.target_hub.specs.declared.done.Done.{Done}
 use Rattle.tcf_values.specs.declared.event.EventData.{EventData}
 use Rattle.agent_node.specs.Channels.{End, answer_message, answer_queued, event_message, event_queued, progress_queued, told_all, unless_closed, with_end}
 use Rattle.agent_node.specs.Runs.{Past, answer_calls, answer_of, event_call, on_number, on_open, progress_call, run_of, unless_over, with_calls}
-use Rattle.agent_node.specs.declared.channel.Channel.{Channel}
+use Rattle.channel_list.specs.declared.channel.Channel.{Channel}
 use Rattle.agent_node.proofs.Calls.{end_more, ends, ends_append, sendings_none}
 use Rattle.agent_node.proofs.Following.{answers_calls, events_calls}
 use Rattle.agent_node.proofs.Places.{at, next_end}

@@ -19,11 +19,11 @@ use Rattle.tcf_values.specs.declared.event.EventData.{EventData}
 use Rattle.agent_node.specs.Agent.{begun, done_by, going_tells, instruction_tells, is_full, is_refused, opened, read_as}
 use Rattle.agent_node.specs.AgentValue.{AgentValue}
 use Rattle.agent_node.specs.Channels.{is_open, live_count}
-use Rattle.agent_node.specs.Numbers.{has_number}
+use Rattle.channel_list.specs.Numbers.{has_number}
 use Rattle.agent_node.specs.Openings.{AtMost64AreLive, EachOpensWhereItMay, MayNotOpen, live_now, lives}
 use Rattle.agent_node.specs.Runs.{AgentRun, Call, Past, after_all, after_call, answer_calls, asked_by, bytes_end, comes, event_call, gives, hearing, input_by, next_of, no_calls, on_number, on_open, on_one, opened_by, opens, pasts_by, ticked_by, ticks, took_by, turns, with_calls}
-use Rattle.agent_node.specs.declared.channel.Channel.{Channel}
-use Rattle.agent_node.proofs.Differing.{has}
+use Rattle.channel_list.specs.declared.channel.Channel.{Channel}
+use Rattle.channel_list.proofs.Differing.{has}
 use Rattle.agent_node.proofs.Following.{Follows}
 use Rattle.agent_node.proofs.Holding.{on_number_keeps, on_open_keeps}
 use Rattle.agent_node.proofs.Standing.{Stands, forgotten, no_more, past_number, shown}

@@ -18,7 +18,7 @@ use Rattle.tcf_values.specs.declared.event.EventData.{EventData}
 use Rattle.tcf_values.specs.declared.ids.ContextId.{ContextId}
 use Rattle.agent_node.specs.Agent.{asked as agent_asked, done_by, executed, going_tells, gone, instruction_tells, is_full, opened, read_as, ticked, ticked_by as agent_ticked, took, took_any, turned}
 use Rattle.agent_node.specs.AgentValue.{AgentValue}
-use Rattle.agent_node.specs.Numbers.{no_numbers}
+use Rattle.channel_list.specs.Numbers.{no_numbers}
 use Rattle.agent_node.specs.Runs.{AgentRun, Call, Past, after_all, after_call, answer_calls, answered_by, asked_by, bytes_end, called, comes, event_call, gives, hearing, input_by, input_if, input_of, next_of, no_calls, on_number, on_one, on_open, opened_by, opens, run_of, ticked_by, ticks, took_by, turned_by, turns, unless_over, with_calls}
 use Rattle.agent_node.specs.Sights.{SeesNothingElse, Sight, elsewhere, is_on, own, seen_by, seen_of}
 use Rattle.agent_node.specs.declared.agent.Turned.{Turned}

@@ -11,9 +11,9 @@ use Rattle.target_hub.specs.Sent.{agent_services}
 use Rattle.agent_node.specs.AgentLaws.{IsEndOf}
 use Rattle.agent_node.specs.Channels.{channel_end, end_in, is_kept, is_open}
 use Rattle.agent_node.specs.Runs.{Past, next_of, run_of}
-use Rattle.agent_node.specs.declared.channel.Channel.{Channel}
+use Rattle.channel_list.specs.declared.channel.Channel.{Channel}
 use Rattle.channel_core.proofs.TheLaws.{closes_only_so, spends_nothing, takes_nothing_closed}
-use Rattle.agent_node.proofs.Differing.{Differ, all_apart, has}
+use Rattle.channel_list.proofs.Differing.{Differ, all_apart, has}
 use Rattle.agent_node.proofs.Places.{channel_number, found, none_found, place_found, taken_of}
 use Rattle.list_laws.proofs.Flags.{not_false}
 use Rattle.list_laws.proofs.AllLists.{all_then}

@@ -20,11 +20,11 @@ use Rattle.agent_node.specs.Agent.{after_giving, after_input, begun, delivered, 
 use Rattle.agent_node.specs.AgentLaws.{AgentTellsTheTruth, FollowsHistory, asked}
 use Rattle.agent_node.specs.AgentValue.{AgentValue}
 use Rattle.agent_node.specs.Channels.{End, changed, is_kept, new_channel, told_all, unless_closed}
-use Rattle.agent_node.specs.Numbers.{has_number, with_number}
+use Rattle.channel_list.specs.Numbers.{has_number, with_number}
 use Rattle.agent_node.specs.Runs.{AgentRun, Call, Past, after_all, after_call, bytes_end, comes, event_call, gives, hearing, input_if, no_calls, on_number, on_one, on_open, opened_by, opens, run_of, ticked_by as pasts_ticked, ticks, turns, unless_over, with_calls}
-use Rattle.agent_node.specs.declared.channel.Channel.{Channel}
+use Rattle.channel_list.specs.declared.channel.Channel.{Channel}
 use Rattle.channel_core.proofs.TheLaws.{queues_its_messages}
-use Rattle.agent_node.proofs.Differing.{all_mapped}
+use Rattle.channel_list.proofs.Differing.{all_mapped}
 use Rattle.agent_node.proofs.Following.{Follows, first_said, follows_heard, follows_quiet}
 use Rattle.agent_node.proofs.Histories.{legal_none, live_same}
 use Rattle.agent_node.proofs.Holding.{Holds, holds_input, holds_opened, holds_quiet, namesakes, on_number_keeps, on_open_keeps}

@@ -29,10 +29,10 @@ use Rattle.agent_node.specs.Channels.{answer_queued, changed, told_all}
 use Rattle.agent_node.specs.Runs.{Past, answer_calls, answered_by, asked_by as pasts_asked_by, event_call, hearing, input_of, next_of, on_number, on_one, run_of, took_by, turned_by, with_calls}
 use Rattle.agent_node.specs.declared.agent.Turned.{Turned}
 use Rattle.agent_node.specs.declared.agent.Turned.TheVariants.{Nothing}
-use Rattle.agent_node.specs.declared.channel.Channel.{Channel}
+use Rattle.channel_list.specs.declared.channel.Channel.{Channel}
 use Rattle.command_tables.proofs.TheLaws.{readings_are_legal}
 use Rattle.agent_node.proofs.Calls.{sent_of}
-use Rattle.agent_node.proofs.Differing.{all_both, all_mapped}
+use Rattle.channel_list.proofs.Differing.{all_both, all_mapped}
 use Rattle.agent_node.proofs.Following.{Follows, asked_next, follows_answered, follows_heard, follows_taking, taking_asked, taking_open, taking_plain, taking_sent, told_same, with_taking}
 use Rattle.agent_node.proofs.Histories.{live_closed, live_same}
 use Rattle.agent_node.proofs.Holding.{AreNamesakes, Holds, holds_input, holds_quiet, namesakes, namesakes_then, on_number_keeps}

@@ -20,10 +20,10 @@ use Rattle.target_hub.specs.declared.done.Done.{Done}
 use Rattle.target_hub.specs.declared.input.Input.TheVariants as inputs
 use Rattle.agent_node.specs.AgentValue.{AgentValue}
 use Rattle.agent_node.specs.Channels.{unless_closed, answer_queued, changed, channel_at, is_kept, live_count, new_channel, place_of, told_all, with_end}
-use Rattle.agent_node.specs.Numbers.{has_number, no_numbers, with_number}
+use Rattle.channel_list.specs.Numbers.{has_number, no_numbers, with_number}
 use Rattle.agent_node.specs.declared.agent.Turned.{Turned}
 use Rattle.agent_node.specs.declared.agent.Turned.TheVariants.{Nothing, Took}
-use Rattle.agent_node.specs.declared.channel.Channel.{Channel}
+use Rattle.channel_list.specs.declared.channel.Channel.{Channel}
 
 -- ---- what the hub does, under words of its own
 

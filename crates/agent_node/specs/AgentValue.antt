@@ -1,7 +1,7 @@
 -- The node of an agent as contracts see it.
 use Rattle.std.specs.Prelude.{ℕ, Bool, List}
-use Rattle.agent_node.specs.NumbersValue.{NumbersValue}
-use Rattle.agent_node.specs.declared.channel.Channel.{Channel}
+use Rattle.channel_list.specs.NumbersValue.{NumbersValue}
+use Rattle.channel_list.specs.declared.channel.Channel.{Channel}
 use Rattle.target_hub.specs.HubValue.{TargetValue}
 
 -- an agent: the target, how many inputs it has had, the numbers that were given to channels, and the channels that are

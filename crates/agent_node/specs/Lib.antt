@@ -1,5 +1,3 @@
-pub mod NumbersValue
-pub mod Numbers
 pub mod AgentValue
 pub mod Channels
 pub mod Agent

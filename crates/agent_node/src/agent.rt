@@ -2,17 +2,18 @@
 ghost use Rattle.std.specs.Prelude.{◌≡◌, ◌↔◌, ◌+◌, ◌++◌, ◌∷◌, [], true, false, None, Some, Ok, filter, IfOk, IfSome, IsSome, OnErr, OnOk, length, slice_get};
 ghost use Rattle.channel_core.specs.EndValue.{unless_spent};
 ghost use Rattle.tcf_message.specs.Message.{IsToken, reading};
+ghost use Rattle.target_contexts.specs.Named.{has_running};
 ghost use Rattle.target_hub.specs.Passing.{running_in};
 ghost use Rattle.target_hub.specs.Limits.{AreEvents};
 ghost use Rattle.target_hub.specs.Sendable.{AreSendable, IsSendable};
 ghost use Rattle.agent_node.specs.Agent.{IsIdle, IsRead, TakesNothing, after_giving, after_input, answered_to, asked, begun, channel_of, delivered, ended, executed, executed_read, given, gone, heard, is_full, is_refused, new_agent, opened, ticked, took, took_any, turned, waiting_at};
 ghost use Rattle.agent_node.specs.Channels.{changed, is_kept, is_open, live_count, new_channel, place_of, told_all, with_end};
 
-use crate::channel::{Channel, new_channel};
-use crate::numbers::Numbers;
+use crate::channel::new_channel;
 use crate::target::{close, execute, new_hub, read_data, tick};
-use crate::telling::{answer, place_of, tell_all};
+use crate::telling::{answer, tell_all};
 use channel_core::{Incoming, Outgoing, Taken};
+use channel_list::{Channels, Numbers};
 use command_tables::Reading;
 use std::alloc::{AllocError, Global};
 use std::marker::Model;
@@ -43,7 +44,7 @@ pub struct AgentNode {
     hub: Hub,
     position: u64,
     numbers: Numbers,
-    channels: Vec<Channel>,
+    channels: Channels,
     spent: bool,
 }
 
@@ -52,7 +53,7 @@ impl Model for AgentNode {
 
     ghost Value = { AgentValue };
 
-    ghost view = { λ a. record { target = a.hub.target; position = a.position; numbers = a.numbers; channels = a.channels.items; is_spent = a.spent } };
+    ghost view = { λ a. record { target = a.hub.target; position = a.position; numbers = a.numbers; channels = a.channels; is_spent = a.spent } };
 }
 
 impl AgentNode {
@@ -65,7 +66,7 @@ impl AgentNode {
             hub: new_hub(alloc, images)?,
             position: 0,
             numbers: Numbers::new(alloc),
-            channels: Vec::new(alloc),
+            channels: Channels::new(alloc),
             spent: false,
         })
     }
@@ -107,17 +108,16 @@ impl AgentNode {
         requires { is_full self.old ≡ false }
         ensures { OnOk result (self.new ≡ begun k self.old) }
     {
-        forget_done(&mut self.channels);
         self.position += 1;
         self.channels
-            .push(new_channel(self.alloc, k, self.position)?)?;
+            .open(new_channel(self.alloc, k, self.position)?)?;
         self.numbers.add(k)
     }
 
     fn is_refused(&self, k: u64) -> bool
         ensures { result ≡ is_refused k self.now }
     {
-        self.numbers.has(k) || live_count(&self.channels) >= MOST_LIVE || self.position == u64::MAX
+        self.numbers.has(k) || self.channels.live_count() >= MOST_LIVE || self.position == u64::MAX
     }
 
     /// Gives the channel the next bytes that came. Where it isn't live nothing happens.
@@ -140,10 +140,8 @@ impl AgentNode {
     fn try_deliver(&mut self, k: u64, piece: &[u8]) -> Result<(), AllocError>
         ensures delivered { OnOk result (self.new ≡ delivered k piece.now self.old) }
     {
-        if let Some(place) = place_of(&self.channels, k) {
-            if let Some(channel) = self.channels.get_mut(place) {
-                channel.come(piece)?;
-            }
+        if let Some(channel) = self.channels.find_mut(k) {
+            channel.come(piece, None)?;
         }
         Ok(())
     }
@@ -153,10 +151,8 @@ impl AgentNode {
     pub fn ended(&mut self, k: u64)
         ensures { self.new ≡ ended k self.old }
     {
-        if let Some(place) = place_of(&self.channels, k) {
-            if let Some(channel) = self.channels.get_mut(place) {
-                channel.end.ended();
-            }
+        if let Some(channel) = self.channels.find_mut(k) {
+            channel.end.ended();
         }
     }
 
@@ -192,10 +188,7 @@ impl AgentNode {
         if self.position == u64::MAX {
             return Ok(Turned::Nothing);
         }
-        let Some(place) = place_of(&self.channels, k) else {
-            return Ok(Turned::Nothing);
-        };
-        let Some(channel) = self.channels.get_mut(place) else {
+        let Some(channel) = self.channels.find_mut(k) else {
             return Ok(Turned::Nothing);
         };
         match channel.end.next_message()? {
@@ -310,10 +303,8 @@ impl AgentNode {
         requires fits { IsSendable done.now.answer }
         ensures { OnOk result (self.new ≡ answered_to k token.now done.now self.old) }
     {
-        if let Some(place) = place_of(&self.channels, k) {
-            if let Some(channel) = self.channels.get_mut(place) {
-                answer(self.alloc, &mut channel.end, token, done, self.position)?;
-            }
+        if let Some(channel) = self.channels.find_mut(k) {
+            answer(self.alloc, &mut channel.end, token, done, self.position)?;
         }
         Ok(())
     }
@@ -373,8 +364,7 @@ impl AgentNode {
         ensures given { result ≡ given k self.old }
         ensures after { self.new ≡ after_giving k self.old }
     {
-        let place = place_of(&self.channels, k)?;
-        let channel = self.channels.get_mut(place)?;
+        let channel = self.channels.find_mut(k)?;
         channel.end.take_out()
     }
 
@@ -389,10 +379,7 @@ impl AgentNode {
     pub fn waiting(&self, k: u64) -> usize
         ensures { result ≡ waiting_at (channel_of k self.now) }
     {
-        let Some(place) = place_of(&self.channels, k) else {
-            return 0;
-        };
-        match self.channels.get(place) {
+        match self.channels.find(k) {
             Some(channel) => channel.end.waiting(),
             None => 0,
         }
@@ -407,6 +394,13 @@ impl AgentNode {
             return Err(AllocError);
         }
         self.hub.running()
+    }
+
+    /// Whether a thread runs. The look ends at the first one that does.
+    pub fn has_running(&self) -> bool
+        ensures { result ≡ has_running self.now.target.contexts.processes }
+    {
+        self.hub.has_running()
     }
 
     /// Memory was wanting: the agent is spent, and its channels are gone.
@@ -430,24 +424,4 @@ impl AgentNode {
         }
         Ok(())
     }
-}
-
-/// Forgets the channels that are closed and of which nothing is still to be sent.
-fn forget_done(channels: &mut Vec<Channel>)
-    ensures { channels.new.items ≡ filter is_kept channels.old.items }
-{
-    channels.retain(|channel| channel.is_kept());
-}
-
-/// How many of these channels are live.
-fn live_count(channels: &[Channel]) -> usize
-    ensures { result ≡ live_count channels.now }
-{
-    let mut live = 0;
-    for channel in channels {
-        if channel.is_open() {
-            live += 1;
-        }
-    }
-    live
 }

@@ -1,26 +1,19 @@
 //! What the target tells goes to the channels: events to all, progress and the answer to the caller.
-ghost use Rattle.std.specs.Prelude.{◌≡◌, ◌≤◌, ◌+◌, ◌++◌, ◌∷◌, [], Some, None, IfOk, OnOk, decimal, length, map, false};
+ghost use Rattle.std.specs.Prelude.{◌≡◌, ◌≤◌, ◌++◌, ◌∷◌, [], Some, IfOk, OnOk, decimal, length};
 ghost use Rattle.channel_core.specs.Sending.{queued};
 ghost use Rattle.tcf_message.specs.Message.{IsToken, IsWellFormed, event, final, not_known, progress};
 ghost use Rattle.target_hub.specs.Sent.{progress_data};
 ghost use Rattle.target_hub.specs.Limits.{AreEvents};
 ghost use Rattle.target_hub.specs.Sendable.{AreSendable, IsSendable, IsSendableEvent};
-ghost use Rattle.agent_node.specs.Channels.{answer_message, answer_queued, changed, event_message, event_queued, place_of, progress_queued, told_all, with_end};
+ghost use Rattle.agent_node.specs.Channels.{answer_message, answer_queued, event_message, event_queued, progress_queued, told_all};
 
-use crate::channel::Channel;
 use channel_core::End;
-use reply_tables::{WrittenEvent, write_event};
+use channel_list::Channels;
+use reply_tables::write_event;
 use std::alloc::{AllocError, Global};
 use target_hub::{Answered, Done, Events};
 use tcf_message::decimal_token;
 use tcf_outside::Octets;
-
-/// The place of the channel of this number.
-pub fn place_of(channels: &[Channel], number: u64) -> Option<usize>
-    ensures { result ≡ place_of number channels.now }
-{
-    channels.iter().position(|channel| channel.number == number)
-}
 
 /// Every live channel hears these events, in order.
 #[tactic(auto, unfolding(crate::specs::Channels::event_message))]
@@ -28,48 +21,22 @@ pub fn tell_all(
     alloc: Global,
     events: &Events,
     position: u64,
-    channels: &mut Vec<Channel>,
+    channels: &mut Channels,
 ) -> Result<(), AllocError>
     requires events { AreEvents events.now }
     requires sendable { AreSendable events.now }
-    ensures { OnOk result (channels.new.items ≡ told_all events.now position channels.old.items) }
+    ensures { OnOk result (channels.new ≡ told_all events.now position channels.old) }
 {
     for event in events {
         let written = write_event(alloc, event)?;
-        tell(&written, position, channels)?;
+        channels.tell(
+            written.service.as_bytes(),
+            written.name.as_bytes(),
+            written.body.as_slice(),
+            Some(position),
+        )?;
     }
     Ok(())
-}
-
-/// Every live channel hears this event.
-#[tactic(auto, using(crate::proofs::Told::one_more))]
-fn tell(
-    written: &WrittenEvent,
-    position: u64,
-    channels: &mut Vec<Channel>,
-) -> Result<(), AllocError>
-    requires { IsWellFormed (event written.now.service written.now.name written.now.body) }
-    ensures { OnOk result (channels.new.items
-        ≡ map (λ channel. with_end (queued (event written.now.service written.now.name written.now.body) (Some position) channel.end) channel) channels.old.items) }
-{
-    for channel in channels.iter_mut() {
-        hear(channel, written, position)?;
-    }
-    Ok(())
-}
-
-/// A channel hears an event, if it is live.
-fn hear(channel: &mut Channel, written: &WrittenEvent, position: u64) -> Result<(), AllocError>
-    requires { IsWellFormed (event written.now.service written.now.name written.now.body) }
-    ensures { OnOk result (channel.new
-        ≡ with_end (queued (event written.now.service written.now.name written.now.body) (Some position) channel.old.end) channel.old) }
-{
-    channel.end.send_event(
-        written.service.as_bytes(),
-        written.name.as_bytes(),
-        written.body.as_slice(),
-        Some(position),
-    )
 }
 
 /// The caller hears the progress of its command, and then the answer, under the command's token.

@@ -12,7 +12,7 @@ use Rattle.agent_node.specs.AgentLaws.{Asked, all_said, asked, messages_told, to
 use Rattle.agent_node.specs.Apart.{asked_on}
 use Rattle.agent_node.specs.Runs.{Call, Past, no_calls, run_of}
 use Rattle.agent_node.proofs.Apart.{Named, just_one, named, no_one}
-use Rattle.agent_node.proofs.Differing.{has}
+use Rattle.channel_list.proofs.Differing.{has}
 use Rattle.agent_node.proofs.Histories.{nothing_sent}
 use Rattle.agent_node.proofs.Standing.{past_number}
 use Rattle.agent_node.proofs.TheLaws.{one_history_one_telling}

@@ -12,7 +12,7 @@ use Rattle.list_laws.proofs.Flags.{or_true}
 use Rattle.agent_node.specs.Agent.{begun, is_full, new_agent, opened}
 use Rattle.agent_node.specs.AgentValue.{AgentValue}
 use Rattle.agent_node.specs.Channels.{live_count}
-use Rattle.agent_node.specs.Numbers.{has_number}
+use Rattle.channel_list.specs.Numbers.{has_number}
 use Rattle.agent_node.specs.Runs.{AgentRun, Call, after_all, after_call, bytes_end, called, comes, gives, input_by, input_if, no_calls, opens, ticks, turns}
 use Rattle.agent_node.proofs.Truth.{holds_all, holds_first}
 use Rattle.agent_serving.specs.Served.{answered_by, answers, given_by, given_out, run_by}

@@ -25,9 +25,9 @@ use Rattle.agent_node.specs.Agent.{done_by, first_of, given, going_tells, instru
 use Rattle.agent_node.specs.AgentLaws.{FollowsHistory}
 use Rattle.agent_node.specs.AgentValue.{AgentValue}
 use Rattle.agent_node.specs.Runs.{AgentRun, Call, Past, after_all, after_call, answer_calls, answer_of, asked_by, bytes_end, comes, event_call, gives, hearing, next_of, no_calls, on_all, on_number, on_one, on_open, opened_by, opens, pasts_by, progress_call, run_of, ticked_by, ticks, took_by, turns, unless_over, with_calls}
-use Rattle.agent_node.specs.declared.channel.Channel.{Channel}
+use Rattle.channel_list.specs.declared.channel.Channel.{Channel}
 use Rattle.agent_node.proofs.Calls.{run_more}
-use Rattle.agent_node.proofs.Differing.{Differ, all_apart, has}
+use Rattle.channel_list.proofs.Differing.{Differ, all_apart, has}
 use Rattle.agent_node.proofs.Holding.{on_number_keeps, on_open_keeps}
 use Rattle.agent_node.proofs.Places.{found, none_found, place_found}
 use Rattle.agent_node.proofs.Standing.{Stands, forgotten, no_more, none_stands, past_number, run_unspent, shown}

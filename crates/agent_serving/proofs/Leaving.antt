@@ -16,10 +16,10 @@ use Rattle.tcf_wires.specs.declared.event.WireEvent.TheVariants as events
 use Rattle.agent_node.specs.Agent.{after_input, begun, instruction_tells, is_full, is_refused, opened, ticked, ticked_by, turned}
 use Rattle.agent_node.specs.AgentValue.{AgentValue}
 use Rattle.agent_node.specs.Channels.{End, end_in, is_kept, live_count, new_channel}
-use Rattle.agent_node.specs.Numbers.{has_number}
+use Rattle.channel_list.specs.Numbers.{has_number}
 use Rattle.agent_node.specs.declared.agent.Turned.{Turned}
 use Rattle.agent_node.specs.declared.agent.Turned.TheVariants.{Nothing}
-use Rattle.agent_node.specs.declared.channel.Channel.{Channel}
+use Rattle.channel_list.specs.declared.channel.Channel.{Channel}
 use Rattle.agent_node.proofs.Places.{found as channel_found, place_found}
 use Rattle.serving_wires.specs.Intake.{next_for}
 use Rattle.serving_wires.specs.Row.{Row}

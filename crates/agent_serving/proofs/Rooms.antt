@@ -20,7 +20,7 @@ use Rattle.agent_node.specs.AgentValue.{AgentValue}
 use Rattle.agent_node.specs.Channels.{End, answer_message, answer_queued, changed, changed_at, channel_at, event_message, event_queued, place_of, progress_queued, put_at, told_all, unless_closed}
 use Rattle.agent_node.specs.declared.agent.Turned.{Turned}
 use Rattle.agent_node.specs.declared.agent.Turned.TheVariants.{Nothing}
-use Rattle.agent_node.specs.declared.channel.Channel.{Channel}
+use Rattle.channel_list.specs.declared.channel.Channel.{Channel}
 use Rattle.agent_node.proofs.Places.{found, next_end, place_found, taken_of}
 use Rattle.serving_wires.specs.Intake.{next_for}
 use Rattle.serving_wires.specs.declared.intake.Came.{Came}

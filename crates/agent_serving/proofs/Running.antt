@@ -79,7 +79,7 @@ no_listener images address turns =
       fronts = λ channel. ((served_by images).served [] channel, refl);
       settled = λ other some. absurd (some refl);
       agent = behind_wires images (listened address (Err refusals.Failed)) (λ channel. ((served_by images).served [] channel, refl));
-      ends = record { earlier = []; last = Listened address (Err refusals.Failed); split = refl; fails_last = no_listening address refl; goes_on = refl; sound = refl };
+      ends = record { earlier = []; last = Listened address (Err refusals.Failed); split = refl; fails_last = no_listening address refl refl; goes_on = refl; sound = refl };
     }
 
 pub starts : (images : List Image) (address : List ℕ) (real : ServingValue) (unused : ℕ) (answer : Unit) → real ≡ new_serving images

@@ -1,6 +1,9 @@
 //! The run of a served agent.
-ghost use Rattle.std.specs.Prelude.{◌≡◌};
+ghost use Rattle.std.specs.Prelude.{◌≡◌, IfOk, IsTrue};
 ghost use Rattle.tcf_outside.specs.Faults.{Rose};
+ghost use Rattle.tcf_wires.specs.Event.{can_come, faults_after, unused_after_next};
+ghost use Rattle.tcf_wires.specs.Told.{noted};
+ghost use Rattle.tcf_wires.specs.declared.call.WireCall.TheVariants.{Gave};
 ghost use Rattle.serving_wires.specs.Calls.{Makes};
 ghost use Rattle.serving_wires.specs.Ends.{end_of};
 ghost use Rattle.agent_serving.specs.Serve.{ServesAgent};
@@ -10,7 +13,7 @@ use crate::serving::Serving;
 use agent_node::Image;
 use serving_wires::{ServeEnd, each_wire_is_carried, end_of, is_stop};
 use std::alloc::Global;
-use tcf_wires::{WireRefusal, Wires};
+use tcf_wires::{WireEvent, WireRefusal, Wires};
 
 /// Listens on the address, and serves an agent whose processes are started from these images. In each of the turns, of
 /// which there are 1 to 1,000,000,000, one event is taken and goes to the agent; all messages that can be taken are
@@ -64,9 +67,20 @@ fn take_turn<W: Wires>(serving: &mut Serving, wires: &mut W) -> Result<bool, Wir
     ensures turn { Makes (TakesTurn serving.old serving.new (W.unused wires.old) (W.unused wires.new) result)
         (W.seen wires.old) (W.seen wires.new) }
 {
-    let event = wires.next()?;
+    let event = next_event(serving, wires)?;
     let is_last = is_stop(&event);
     serving.heed(event)?;
     serving.flush(wires)?;
     Ok(is_last)
+}
+
+/// What comes next. While a thread of the target runs it isn't waited for.
+fn next_event<W: Wires>(serving: &Serving, wires: &mut W) -> Result<WireEvent, WireRefusal>
+    ensures can { IfOk result (λ event. IsTrue (can_come (W.unused wires.old) event)) }
+    ensures told { (W.seen wires.new).told ≡ noted result (Gave result) (W.seen wires.old).told }
+    ensures numbers { W.unused wires.new ≡ unused_after_next result (W.unused wires.old) }
+    ensures cause { (W.seen wires.new).faults ≡ faults_after result (W.seen wires.old).faults }
+{
+    wires.set_nonblocking(serving.has_running());
+    wires.next()
 }

@@ -1,5 +1,6 @@
 //! An agent with the lines of its connections, and what each event makes of them.
 ghost use Rattle.std.specs.Prelude.{◌≡◌, IfOk, OnErr, OnOk};
+ghost use Rattle.target_contexts.specs.Named.{has_running};
 ghost use Rattle.serving_wires.specs.Calls.{Makes};
 ghost use Rattle.serving_wires.specs.Flushing.{FlushesKept, GivesUpAll};
 ghost use Rattle.agent_serving.specs.Lines.{of_line};
@@ -82,6 +83,13 @@ impl Serving {
             }
         }
         Ok(())
+    }
+
+    /// Whether a thread of the target runs.
+    pub fn has_running(&self) -> bool
+        ensures { result ≡ has_running self.now.agent.target.contexts.processes }
+    {
+        self.agent.has_running()
     }
 
     /// Queues what the agent tells.

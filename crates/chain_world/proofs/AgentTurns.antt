@@ -6,7 +6,7 @@ use Rattle.agent_node.specs.AgentValue.{AgentValue}
 use Rattle.agent_node.specs.Channels.{End, answer_message, answer_queued, changed, changed_at, channel_at, event_message, event_queued, place_of, progress_queued, put_at, told_all, with_end}
 use Rattle.agent_node.specs.declared.agent.Turned.{Turned}
 use Rattle.agent_node.specs.declared.agent.Turned.TheVariants.{Nothing}
-use Rattle.agent_node.specs.declared.channel.Channel.{Channel}
+use Rattle.channel_list.specs.declared.channel.Channel.{Channel}
 use Rattle.agent_node.proofs.Places.{found, next_end, taken_of}
 use Rattle.channel_core.specs.Sending.{queued}
 use Rattle.channel_core.specs.Taking.{next_taken}

@@ -6,7 +6,7 @@ use Rattle.std.proofs.lemmas.List.Sums.{sum_by-cons}
 use Rattle.agent_node.specs.Agent.{channel_of, is_full, turned, waiting_at}
 use Rattle.agent_node.specs.AgentValue.{AgentValue}
 use Rattle.agent_node.specs.declared.agent.Turned.{Turned}
-use Rattle.agent_node.specs.declared.channel.Channel.{Channel}
+use Rattle.channel_list.specs.declared.channel.Channel.{Channel}
 use Rattle.agent_node.proofs.Places.{found, place_found}
 use Rattle.target_hub.specs.declared.input.Input.{Input}
 use Rattle.chain_world.specs.Chain.{agent_emptied, all_dropped, carried_down, carried_from, channels_of, emptied, turned_on, turning, turning_or, waiting_for, waiting_up, waits_at}

@@ -15,7 +15,7 @@ use Rattle.agent_node.specs.AgentLaws.{IsEndOf}
 use Rattle.agent_node.specs.Channels.{End, channel_end, end_in}
 use Rattle.agent_node.specs.Runs.{AgentRun, Call, Past, after_all, after_call, bytes_end, comes, gives, no_calls, on_number, on_open, run_of, with_calls}
 use Rattle.agent_node.specs.Strangers.{HasNoStranger}
-use Rattle.agent_node.specs.declared.channel.Channel.{Channel}
+use Rattle.channel_list.specs.declared.channel.Channel.{Channel}
 use Rattle.chain_world.specs.Chain.{agent_emptied, emptied, parts_delivered, queue_of}
 use Rattle.chain_world.specs.Past.{coming_to, giving_to}
 use Rattle.chain_world.specs.Standing.{past_at, unmarked}

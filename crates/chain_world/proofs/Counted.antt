@@ -4,7 +4,7 @@ use Rattle.std.specs.Prelude.{◌^◌, sum_by}
 use Rattle.std.proofs.lemmas.List.Sums.{sum_by-cons}
 use Rattle.agent_node.specs.Agent.{channel_of, waiting_at}
 use Rattle.agent_node.specs.AgentValue.{AgentValue}
-use Rattle.agent_node.specs.declared.channel.Channel.{Channel}
+use Rattle.channel_list.specs.declared.channel.Channel.{Channel}
 
 few_at : (there : Option Channel) → waiting_at there ≤ 18446744073709551615
 few_at None = omega arith

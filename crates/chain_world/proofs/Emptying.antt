@@ -3,7 +3,7 @@ use Rattle.std.proofs.Common.{◌≡◌, ℕ, ◌==◌, Bool, true, false, cond,
 use Rattle.channel_core.specs.EndValue.{unless_spent}
 use Rattle.channel_core.specs.declared.held.Outgoing.{Outgoing}
 use Rattle.agent_node.specs.Channels.{End, with_end}
-use Rattle.agent_node.specs.declared.channel.Channel.{Channel}
+use Rattle.channel_list.specs.declared.channel.Channel.{Channel}
 use Rattle.chain_world.specs.Chain.{emptied}
 use Rattle.chain_world.proofs.Queued.{first_same, first_twice, found_changed, in_first, mapped}
 use Rattle.agent_node.proofs.Places.{found}

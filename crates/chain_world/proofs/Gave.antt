@@ -6,7 +6,7 @@ use Rattle.std.specs.List.{AllByRecursion}
 use Rattle.agent_node.specs.Agent.{delivered as agent_delivered, ended as agent_ended, opened as agent_opened}
 use Rattle.agent_node.specs.AgentValue.{AgentValue}
 use Rattle.agent_node.specs.Channels.{End, changed, channel_end, end_in}
-use Rattle.agent_node.specs.declared.channel.Channel.{Channel}
+use Rattle.channel_list.specs.declared.channel.Channel.{Channel}
 use Rattle.cached_lines.specs.declared.what.CachedWhat.{CachedWhat}
 use Rattle.channel_core.specs.EndValue.{EndValue, unless_spent}
 use Rattle.channel_core.specs.Receiving.{ended as bytes_ended, is_over, with_last}

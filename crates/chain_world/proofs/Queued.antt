@@ -9,7 +9,7 @@ use Rattle.channel_core.specs.declared.held.Outgoing.{Outgoing}
 use Rattle.agent_node.specs.AgentValue.{AgentValue}
 use Rattle.agent_node.specs.Agent.{after_giving, channel_of, first_of, given}
 use Rattle.agent_node.specs.Channels.{End, changed, changed_at, channel_at, end_in, place_of, with_end}
-use Rattle.agent_node.specs.declared.channel.Channel.{Channel}
+use Rattle.channel_list.specs.declared.channel.Channel.{Channel}
 use Rattle.chain_world.specs.Chain.{agent_emptied, all_dropped, emptied, queue_of}
 use Rattle.list_laws.proofs.Numbers.{lt_more}
 use Rattle.agent_node.proofs.Places.{found, first_place, within, place_found, changed_behind}

@@ -6,7 +6,7 @@ use Rattle.std.specs.List.{AllByRecursion, filter, list_any}
 use Rattle.agent_node.specs.AgentLaws.{AgentFollowsHistory, IsEndOf}
 use Rattle.agent_node.specs.Channels.{channel_end}
 use Rattle.agent_node.specs.Runs.{AgentRun, Past, run_of}
-use Rattle.agent_node.specs.declared.channel.Channel.{Channel}
+use Rattle.channel_list.specs.declared.channel.Channel.{Channel}
 use Rattle.node_answers.specs.AgentAnswering.{ServesAll}
 use Rattle.chain_route.proofs.Unheard.{value_hello}
 use Rattle.chain_route.specs.Carrying.{IsGoneBy}

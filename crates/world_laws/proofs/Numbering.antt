@@ -13,7 +13,7 @@ use Rattle.agent_node.specs.Runs.{AgentRun, Call, after_all, after_call, bytes_e
 use Rattle.agent_node.proofs.Places.{found, place_found, channel_number}
 use Rattle.agent_node.specs.declared.agent.Turned.{Turned}
 use Rattle.agent_node.specs.declared.agent.Turned.TheVariants.{Nothing}
-use Rattle.agent_node.specs.declared.channel.Channel.{Channel}
+use Rattle.channel_list.specs.declared.channel.Channel.{Channel}
 use Rattle.channel_core.specs.Taking.{next_taken}
 use Rattle.channel_core.specs.declared.taking.Taken.{Taken}
 use Rattle.channel_core.specs.declared.taking.Taken.TheVariants as taken

@@ -4,7 +4,7 @@ use Rattle.agent_node.specs.Agent.{channel_of, waiting_at}
 use Rattle.agent_node.specs.AgentLaws.{AgentFollowsHistory, IsEndOf}
 use Rattle.agent_node.specs.Channels.{channel_end, end_in}
 use Rattle.agent_node.specs.Runs.{AgentRun, Past, run_of}
-use Rattle.agent_node.specs.declared.channel.Channel.{Channel}
+use Rattle.channel_list.specs.declared.channel.Channel.{Channel}
 use Rattle.chain_quiet.specs.Hops.{IsAgentSide}
 use Rattle.chain_quiet.specs.Stuck.{IsServedOrRefused, IsStill}
 use Rattle.chain_route.specs.Runs.{Talk}

@@ -5,7 +5,7 @@ use Rattle.agent_node.specs.AgentLaws.{AgentFollowsHistory, IsEndOf}
 use Rattle.agent_node.specs.Channels.{channel_end}
 use Rattle.agent_node.specs.Strangers.{HasNoStranger}
 use Rattle.agent_node.specs.Runs.{AgentRun, Past, run_of as run_of_past}
-use Rattle.agent_node.specs.declared.channel.Channel.{Channel}
+use Rattle.channel_list.specs.declared.channel.Channel.{Channel}
 use Rattle.node_answers.specs.AgentAnswering.{ServesAll}
 use Rattle.chain_quiet.specs.Stuck.{AddIsStill, HopIsStill, IsFreeAbove, IsStill, IsUnstuck, IsWayStill}
 use Rattle.chain_route.specs.Carrying.{Carries, GivesAll, Made, past_of, value_of}

@@ -9,14 +9,14 @@ pub returns-in_err-event : goal.returns-in_err-event
 returns-in_err-event g c =
     let p = err_from_is_err_and c.from_residual.result c.from_residual.ensures.1 in
     rw (p.1, p.2)
-    (record { turn = not_given c.in_err-event.field-0.0 (TakesTurn c.args.serving.now c.args.serving.now _ (g.W.Wires.unused c.next.new.self)) _ _ refl (before_event refl) c.in_err-event.ensures.told c.in_err-event.ensures.cause })
+    (record { turn = not_given c.in_err-event.field-0.0 (TakesTurn c.args.serving.now c.args.serving.now _ (g.W.Wires.unused c.next_event.new.wires)) _ _ refl (before_event refl) c.in_err-event.ensures.told c.in_err-event.ensures.cause })
 
 pub returns-in_err-heed : goal.returns-in_err-heed
 returns-in_err-heed g c =
     let p = err_from_is_err_and c.from_residual-in_err-heed.result c.from_residual-in_err-heed.ensures.1 in
     rw (p.1, p.2)
     (record {
-      turn = not_heeded c.in_ok-event.event c.args.serving.now c.heed.new.self _ (g.W.Wires.unused c.next.new.self) _ _ c.in_ok-event.ensures.can c.in_ok-event.ensures.told c.in_ok-event.ensures.cause;
+      turn = not_heeded c.in_ok-event.event c.args.serving.now c.heed.new.self _ (g.W.Wires.unused c.next_event.new.wires) _ _ c.in_ok-event.ensures.can c.in_ok-event.ensures.told c.in_ok-event.ensures.cause;
     })
 
 pub returns-in_err-flush : goal.returns-in_err-flush

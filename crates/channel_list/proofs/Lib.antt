@@ -1,0 +1,4 @@
+pub mod Differing
+pub mod Places
+pub mod Numbering
+pub mod Told

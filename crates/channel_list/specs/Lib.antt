@@ -1,0 +1,4 @@
+pub mod NumbersValue
+pub mod Numbers
+pub mod Channels
+pub mod Lending

@@ -1,0 +1,14 @@
+pub mod Keys
+pub mod Idle
+pub mod Redirecting
+pub mod EndRuns
+pub mod Lowers
+pub mod Stepping
+pub mod Upper
+pub mod Named
+pub mod Holding
+pub mod Issuing
+pub mod Untaken
+pub mod Owning
+pub mod Shutting
+pub mod TheLaws

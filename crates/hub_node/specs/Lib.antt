@@ -1,0 +1,12 @@
+pub mod WaitingValue
+pub mod BoardValue
+pub mod Board
+pub mod Redirects
+pub mod RelayValue
+pub mod Relay
+pub mod HubValue
+pub mod Hub
+pub mod Calls
+pub mod Deeds
+pub mod Runs
+pub mod HubLaws

@@ -1,0 +1,20 @@
+//! The laws of a hub, over any calls and whatever bytes come.
+ghost use Rattle.hub_node.specs.HubLaws.{AfterAllCalls, ClosesWithTheHub, EndsAreRuns, SendsItsCommands};
+
+/// The law that each end of a hub is what the calls made of it that its own calls are said to be; a lower end that is closed
+/// and has nothing to send may be forgotten.
+pub fn the_ends_are_runs()
+    ensures { AfterAllCalls EndsAreRuns }
+{}
+
+/// The law that for each lower channel the commands that are sent above for it are, in order and each once, a front of those
+/// that were taken from it, redirects aside; and that no other command is sent above.
+pub fn a_hub_sends_its_commands()
+    ensures { AfterAllCalls SendsItsCommands }
+{}
+
+/// The law that where the upper end of a hub is closed so is each lower one, and that behind the closing of an end nothing is
+/// sent but the end of the stream.
+pub fn a_hub_closes_whole()
+    ensures { AfterAllCalls ClosesWithTheHub }
+{}

@@ -16,3 +16,18 @@ pub mod Turns
 mod Carrying
 mod Carried
 mod InPlace
+pub mod Leading
+pub mod Keeping
+pub mod Ordered
+pub mod Settled
+pub mod Placed
+pub mod Landed
+pub mod Running
+pub mod Apart
+pub mod Finishing
+pub mod Taking
+mod Inside
+pub mod Ending
+pub mod Opening
+pub mod Wires
+pub mod Coming

@@ -8,7 +8,7 @@ use Rattle.tcf_wires.specs.declared.event.WireEvent.TheVariants as events
 use Rattle.tcf_wires.specs.declared.event.WireRefusal.{WireRefusal}
 use Rattle.tcf_wires.specs.declared.event.WireRefusal.TheVariants as refusals
 use Rattle.serving_wires.specs.Calls.{events_in}
-use Rattle.serving_wires.specs.Serving.{is_stop, stops}
+use Rattle.serving_wires.specs.Serving.{is_stop, listens, stops}
 use Rattle.serving_wires.specs.declared.end.ServeEnd.{ServeEnd}
 use Rattle.serving_wires.specs.declared.end.ServeEnd.TheVariants.{Stopped, Turns, WireFault, NoMemory}
 
@@ -33,9 +33,9 @@ pub record AreTaken (ends_run : WireCall → Bool) (turns : ℕ) (calls : List W
   pub goes_on : stops calls ≡ false
   pub sound : list_any ends_run calls ≡ false
 
--- the last call failed: the address couldn't be listened on, or an event that was asked for within the turns didn't come
+-- the last call failed: the address couldn't be listened on, as the first one and before any event, or an event that was asked for within the turns didn't come
 pub data IsLastCall (turns : ℕ) (earlier : List WireCall) : WireCall → Type 0 where
-  no_listening : (address : List ℕ) → earlier ≡ [] → IsLastCall turns earlier (Listened address (Err refusals.Failed))
+  no_listening : (address : List ℕ) → events_in earlier ≡ [] → list_any listens earlier ≡ false → IsLastCall turns earlier (Listened address (Err refusals.Failed))
   no_event : length (events_in earlier) < turns → IsLastCall turns earlier (Gave (Err refusals.Failed))
 
 pub record IsBroken (ends_run : WireCall → Bool) (turns : ℕ) (calls : List WireCall) : Type 0 where

@@ -13,3 +13,11 @@ pub mod Laws
 pub mod WireLaws
 pub mod Changes
 pub mod Flushing
+pub mod Order
+pub mod Process
+pub mod Program
+pub mod Sending
+pub mod Going
+pub mod Standing
+pub mod Turn
+pub mod Serve

@@ -8,6 +8,9 @@ pub mod intake;
 pub mod laws;
 pub mod outbox;
 pub mod roster;
+pub mod run;
+pub mod sending;
+pub mod served;
 
 pub use end::{ServeEnd, end_of};
 pub use event::is_stop;
@@ -19,3 +22,6 @@ pub use laws::{
 };
 pub use outbox::{END_OF_STREAM, Outbox};
 pub use roster::Roster;
+pub use run::{serve, take_turn};
+pub use sending::Sending;
+pub use served::Served;

@@ -2,6 +2,7 @@
 use Rattle.std.proofs.Common.{◌≡◌, ℕ, ◌<◌, Bool, true, false, ◌||◌, List, [], ◌∷◌, ◌++◌, length, refl, sym, ap, ◌∙◌, subst, inl, inr, arith}
 use Rattle.std.specs.Prelude.{Option, None, Some, Result, Ok, Err, IfSome}
 use Rattle.std.specs.List.{list_any}
+use Rattle.std.proofs.lemmas.Bool.{false≢true}
 use Rattle.tcf_outside.specs.Files.{FilesSeen, content_of}
 use Rattle.tcf_outside.specs.Sink.{SinkSeen}
 use Rattle.tcf_outside.specs.declared.files.HeldFile.{HeldFile}
@@ -16,7 +17,7 @@ use Rattle.tcf_wires.specs.declared.event.WireEvent.TheVariants as events
 use Rattle.tcf_wires.specs.declared.event.WireRefusal.{WireRefusal}
 use Rattle.tcf_wires.specs.declared.event.WireRefusal.TheVariants as refusals
 use Rattle.serving_wires.specs.Calls.{Makes, events_in}
-use Rattle.serving_wires.specs.Serving.{breaks, fails, is_stop, stops}
+use Rattle.serving_wires.specs.Serving.{breaks, fails, is_stop, listens, stops}
 use Rattle.serving_wires.specs.Ends.{AreTaken, EndsSo, IsBroken, IsLastCall, IsStopped, no_listening, no_event}
 use Rattle.serving_wires.proofs.Making.{makes_so}
 use Rattle.serving_wires.proofs.Spared.{same_events}
@@ -65,17 +66,23 @@ stopped_stops ends_run turns count calls s = ap (list_any is_stop) s.last ∙ st
 
 -- the call that failed gave no event
 quiet_last : {last : WireCall} → (turns : ℕ) (earlier : List WireCall) → IsLastCall turns earlier last → events_in (last ∷ []) ≡ []
-quiet_last turns earlier (no_listening address none) = refl
+quiet_last turns earlier (no_listening address quiet never) = refl
 quiet_last turns earlier (no_event within) = refl
 
 broken_events : (ends_run : WireCall → Bool) (turns : ℕ) (calls : List WireCall) (b : IsBroken ends_run turns calls) → events_in calls ≡ events_in b.earlier
 broken_events ends_run turns calls b = ap events_in b.split ∙ same_events b.earlier (b.last ∷ []) (quiet_last turns b.earlier b.fails_last)
 
+-- no address was listened on before the first one that was
+listened_before : (address elsewhere : List ℕ) (earlier later calls : List WireCall) → list_any listens earlier ≡ false → calls ≡ earlier ++ Listened elsewhere (Err refusals.Failed) ∷ []
+    → calls ≡ Listened address (Ok tt) ∷ later → ⊥
+listened_before address elsewhere [] later calls never split first = absurd cc
+listened_before address elsewhere (call ∷ earlier) later calls never split first =
+    let same : call ≡ Listened address (Ok tt) = cc in absurd (false≢true (sym never ∙ ap (λ (c : WireCall). listens c || list_any listens earlier) same))
+
 -- where an address was listened on, and a later call failed, not all turns were taken
 broken_within : {last : WireCall} → (turns : ℕ) (address : List ℕ) (earlier later calls : List WireCall) → IsLastCall turns earlier last
     → calls ≡ earlier ++ last ∷ [] → calls ≡ Listened address (Ok tt) ∷ later → length (events_in earlier) < turns
-broken_within turns address earlier later calls (no_listening elsewhere none) split first =
-    let only : calls ≡ Listened elsewhere (Err refusals.Failed) ∷ [] = split ∙ ap (λ cs. cs ++ Listened elsewhere (Err refusals.Failed) ∷ []) none in cc
+broken_within turns address earlier later calls (no_listening elsewhere quiet never) split first = absurd (listened_before address elsewhere earlier later calls never split first)
 broken_within turns address earlier later calls (no_event within) split first = within
 
 served_out : (ends_run : WireCall → Bool) (address : List ℕ) (turns : ℕ) (calls : List WireCall) (end : ServeEnd) (ending : Ending) (exit : Exit) (before after : SinkSeen)
@@ -230,7 +237,7 @@ is_out (Some (load number)) (whole contents) files files' calls ending exit befo
 is_out (Some (agent address turns images)) (whole contents) files files' calls ending exit before after hears its e =
     served_out fails address turns calls its.0 ending exit before after its.1.ends its.2 e
 is_out (Some (value address peer turns)) (whole []) files files' calls ending exit before after hears its e =
-    served_out breaks address turns calls its.0 ending exit before after its.1.ends its.2 e
+    served_out breaks address turns calls its.0 ending exit before after its.1.runs.ends its.2 e
 is_out (Some (value address peer turns)) (whole (file ∷ more)) files files' calls ending exit before after hears its e = absurd its
 is_out (Some (client address name turns)) (whole []) files files' calls ending exit before after hears its e = absurd its
 is_out (Some (client address name turns)) (whole (file ∷ [])) files files' calls ending exit before after hears its e =

@@ -48,7 +48,7 @@ serving_rises : (ends_run : WireCall → Bool) (turns count : ℕ) (calls : List
 serving_rises ends_run turns count calls broken = subst (λ cs. Rose count (faults_through cs count)) (sym broken.split) (by_last broken.earlier broken.fails_last)
   where
     by_last : {last : WireCall} → (earlier : List WireCall) → IsLastCall turns earlier last → Rose count (faults_through (earlier ++ last ∷ []) count)
-    by_last earlier (no_listening where_to none) = last_rises count earlier (Listened where_to (Err refusals.Failed)) (λ n. refl)
+    by_last earlier (no_listening where_to quiet never) = last_rises count earlier (Listened where_to (Err refusals.Failed)) (λ n. refl)
     by_last earlier (no_event within) = last_rises count earlier (Gave (Err refusals.Failed)) (λ n. refl)
 
 running_rises : (script : List ScriptLine) (address : List ℕ) (turns count : ℕ) (calls : List WireCall) → RunsClient script address turns (Err refusals.Failed) calls → Rose count (faults_through calls count)
@@ -202,7 +202,7 @@ value_tells s address peer turns calls end ending told counted fits = by_end end
         told_at s (Some (value address peer turns)) ending (served_ending turns serve_ends.Turns) e (λ put. served serve_ends.Turns (turns_text turns) so put)
     by_end serve_ends.WireFault so e =
         told_at s (Some (value address peer turns)) ending wire_ending e (λ put. (
-          subst (Rose s.wires.faults) (sym counted) (serving_rises breaks turns s.wires.faults calls so.ends),
+          subst (Rose s.wires.faults) (sym counted) (serving_rises breaks turns s.wires.faults calls so.runs.ends),
           served serve_ends.WireFault wire_ending.text so put,
         ))
     by_end serve_ends.NoMemory so e = told_at s (Some (value address peer turns)) ending (served_ending turns serve_ends.NoMemory) e (λ put. tt)

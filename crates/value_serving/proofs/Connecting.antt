@@ -9,23 +9,19 @@ use Rattle.tcf_wires.specs.declared.event.WireRefusal.{WireRefusal}
 use Rattle.tcf_wires.specs.declared.event.WireRefusal.TheVariants.{Failed, NoMemory}
 use Rattle.serving_wires.proofs.Making.{makes_both, makes_none, makes_nothing, makes_one, makes_so}
 use Rattle.serving_wires.specs.Calls.{Makes}
-use Rattle.serving_wires.specs.OutboxValue.{OutboxValue}
-use Rattle.serving_wires.specs.Row.{Row}
 use Rattle.value_node.specs.Value.{connect_failed}
 use Rattle.value_node.specs.ValueValue.{ValueValue}
 use Rattle.value_node.specs.declared.states.ValueTurn.{ValueTurn}
 use Rattle.value_node.specs.declared.states.ValueTurn.TheVariants.{Nothing, Took, Connect}
 use Rattle.value_serving.specs.Adds.{can_give, one_taken, with_node}
-use Rattle.value_serving.specs.Following.{BreaksOff, BreaksOffBehind, Goes, GoesBehind, answered as goes_answered, here, told as goes_told}
-use Rattle.value_serving.specs.Order.{leaves}
+use Rattle.serving_wires.specs.Going.{BreaksOff, Goes, answered as goes_answered, here, told as goes_told}
+use Rattle.value_serving.specs.Following.{BreaksOffBehind, GoesBehind}
+use Rattle.serving_wires.specs.Order.{leaves}
 use Rattle.value_serving.specs.Passing.{after_turn, answered, connected_on, leaving, taken}
-use Rattle.value_serving.specs.Process.{Answer, Process, asks, done}
-use Rattle.value_serving.specs.Sending.{begun, begun_by, left_for, ordered}
+use Rattle.serving_wires.specs.Process.{Answer, Process, asks, done}
+use Rattle.serving_wires.specs.Sending.{begun, begun_by, left_for, ordered}
 use Rattle.value_serving.specs.declared.add.Add.{Add}
-use Rattle.value_serving.proofs.Leading.{breaks_at_once, breaks_bound, breaks_then, goes_bound, goes_then}
-
-abbrev pub Rows : Type 0
-Rows = List (Row OutboxValue)
+use Rattle.serving_wires.proofs.Leading.{Rows, breaks_at_once, breaks_bound, breaks_then, goes_bound, goes_then}
 
 abbrev pub question : Add → Process Add
 question a = asks (λ answer. answered answer a)

@@ -1,6 +1,6 @@
 -- No more than 64 value-adds stand.
 use Rattle.std.proofs.Common.{◌≡◌, ℕ, ◌≤◌, Bool, true, false, List, [], ◌∷◌, ◌++◌, length, nat_lt, Option, Some, None, refl, sym, ap, subst, arith, length-append}
-use Rattle.std.specs.Prelude.{fold}
+use Rattle.std.specs.List.{AllByRecursion}
 use Rattle.std.proofs.lemmas.Bool.{ltb-true}
 use Rattle.serving_wires.specs.Row.{Row}
 use Rattle.serving_wires.specs.Rows.{item_at, with_item_at}
@@ -12,14 +12,13 @@ use Rattle.value_node.specs.declared.states.Side.{Side}
 use Rattle.value_serving.specs.Adds.{new_add}
 use Rattle.value_serving.specs.Limits.{NoMoreThan64Stand}
 use Rattle.value_serving.specs.Passing.{gathered, heard as heard_on_side}
-use Rattle.value_serving.specs.Process.{Answer, Process, and_then, asks, done, tells}
-use Rattle.value_serving.specs.Served.{standing_in}
-use Rattle.value_serving.specs.Serving.{handled, heard_at, heard_by, heard_on, heard_where, is_over_at, is_over_in, kept_unless, opened, opened_if, unless_over, wire_of}
-use Rattle.value_serving.specs.Standing.{Heard, State, after, after_one, answered, came, landed, rests, sent_with, waits, wires_after, wires_with}
+use Rattle.serving_wires.specs.Process.{Process, and_then, asks, done, tells}
+use Rattle.value_serving.specs.Serving.{handled, heard_at, heard_by, heard_on, heard_where, is_over_at, is_over_in, kept_unless, opened, opened_if, unless_over, value_adds, wire_of, with_adds}
+use Rattle.serving_wires.specs.Standing.{Heard}
+use Rattle.value_serving.specs.ServingValue.{ServingValue}
 use Rattle.value_serving.specs.declared.add.Add.{Add}
 use Rattle.value_serving.proofs.ServedAdds.{IsAt, at_place}
-use Rattle.value_serving.proofs.UntilNothing.{ComesTo, comes_then}
-use Rattle.value_serving.proofs.Wires.{Wires}
+use Rattle.serving_wires.proofs.Coming.{ComesTo, comes_then, stands_so}
 
 abbrev Rows : Type 0
 Rows = List (Row Add)
@@ -76,40 +75,22 @@ opened_few true peer channel adds is few =
     (λ a any. omega (arith, less, length-append adds ((record { channel = channel; item = a }) ∷ [])))
 opened_few false peer channel adds is few = few
 
-event_few : (peer : List ℕ) (event : WireEvent) (adds : Rows) → AreFew adds → ComesTo AreFew (handled peer event adds)
+with_few : (v : ServingValue) (p : Process Rows) → ComesTo AreFew p → ComesTo (λ w. AreFew w.adds) (with_adds v p)
+with_few v p comes = comes_then AreFew (λ w. AreFew w.adds) p (λ adds. done (record v { adds = adds })) comes (λ adds all. all)
+
+event_few : (event : WireEvent) (v : ServingValue) → AreFew v.adds → ComesTo (λ w. AreFew w.adds) (handled event v)
 unfolding handled opened
-event_few peer (events.Opened channel) adds few = opened_few (nat_lt (length adds) 64) peer channel adds refl few
-event_few peer (events.Piece channel bytes) adds few = on_few channel (Piece bytes) adds few
-event_few peer (events.Ended channel) adds few = on_few channel End adds few
-event_few peer (events.Lost channel) adds few = on_few channel End adds few
-event_few peer events.Idle adds few = few
-event_few peer events.Stop adds few = few
+event_few (events.Opened channel) v few = with_few v (opened v.peer channel v.adds) (opened_few (nat_lt (length v.adds) 64) v.peer channel v.adds refl few)
+event_few (events.Piece channel bytes) v few = with_few v (heard_on channel (Piece bytes) v.adds) (on_few channel (Piece bytes) v.adds few)
+event_few (events.Ended channel) v few = with_few v (heard_on channel End v.adds) (on_few channel End v.adds few)
+event_few (events.Lost channel) v few = with_few v (heard_on channel End v.adds) (on_few channel End v.adds few)
+event_few events.Idle v few = few
+event_few events.Stop v few = few
 
-abbrev KeepsFew : State → Type 0
-KeepsFew (rests s) = AreFew s.adds
-KeepsFew (waits s next) = AreFew s.adds × ((answer : Answer) → ComesTo AreFew (next answer))
-
-landed_few : (adds : Rows) (sent : Wires) (p : Process Rows) → AreFew adds → ComesTo AreFew p → KeepsFew (landed adds sent p)
-landed_few adds sent (done news) few comes = comes
-landed_few adds sent (tells order p) few comes = landed_few adds (sent_with order sent) p few comes
-landed_few adds sent (asks next) few comes = (few, comes)
-
-one_few : (peer : List ℕ) (state : State) (heard : Heard) → KeepsFew state → KeepsFew (after_one peer state heard)
-one_few peer (rests s) (came event) keeps = landed_few s.adds (wires_with event s.sent) (handled peer event s.adds) keeps (event_few peer event s.adds keeps)
-one_few peer (rests s) (answered answer) keeps = keeps
-one_few peer (waits s next) (came event) keeps = keeps
-one_few peer (waits s next) (answered answer) keeps = landed_few s.adds (wires_after answer s.sent) (next answer) keeps.0 (keeps.1 answer)
-
-all_few : (peer : List ℕ) (heard : List Heard) (state : State) → KeepsFew state → KeepsFew (fold (after_one peer) state heard)
-all_few peer [] state keeps = keeps
-all_few peer (h ∷ heard) state keeps = all_few peer heard (after_one peer state h) (one_few peer state h keeps)
-
-standing_few : (state : State) → KeepsFew state → AreFew (standing_in state).adds
-standing_few (rests s) keeps = keeps
-standing_few (waits s next) keeps = keeps.0
-
-first_few : KeepsFew (rests (record { adds = []; sent = [] }))
-first_few = omega arith
+all_can : (heard : List Heard) → AllByRecursion (λ (h : Heard). Unit {0}) heard
+all_can [] = tt
+all_can (h ∷ heard) = (tt, all_can heard)
 
 pub no_more_than_64 : NoMoreThan64Stand
-no_more_than_64 peer heard = standing_few (after peer heard) (all_few peer heard (rests (record { adds = []; sent = [] })) first_few)
+no_more_than_64 peer heard =
+    stands_so (value_adds peer) (λ v. AreFew v.adds) (λ (h : Heard). Unit {0}) (λ event v fits few. event_few event v few) (omega arith) (omega arith) heard (all_can heard)

@@ -1,9 +1,10 @@
 -- What comes goes to its value-add, and what that has to send is queued.
 use Rattle.std.proofs.Common.{◌≡◌, ℕ, ◌≤◌, Bool, true, false, List, [], ◌∷◌, ◌++◌, length, Option, Some, None, sym, subst, ◌<◌, ◌⊎◌, inl, inr, lt-ltb, le-ltb}
 use Rattle.tcf_wires.specs.Told.{WiresSeen}
+use Rattle.tcf_wires.specs.declared.call.WireCall.{WireCall}
 use Rattle.tcf_wires.specs.declared.event.WireEvent.{WireEvent}
 use Rattle.tcf_wires.specs.declared.event.WireEvent.TheVariants as events
-use Rattle.serving_wires.proofs.Making.{makes_none}
+use Rattle.serving_wires.proofs.Making.{makes_none, makes_so}
 use Rattle.serving_wires.specs.Calls.{Makes}
 use Rattle.serving_wires.specs.Row.{Row}
 use Rattle.serving_wires.specs.Rows.{item_at, with_item_at}
@@ -12,15 +13,16 @@ use Rattle.value_node.specs.ValueValue.{ValueValue}
 use Rattle.value_node.specs.declared.states.Side.{Side}
 use Rattle.value_node.specs.declared.states.Side.TheVariants.{Below, Above}
 use Rattle.value_serving.specs.Adds.{bytes_for, emptied, is_over, new_add, waiting_on, waits, with_node}
-use Rattle.value_serving.specs.Following.{BreaksOff, Goes, here, told}
-use Rattle.value_serving.specs.Order.{closes, queues}
+use Rattle.serving_wires.specs.Going.{BreaksOff, Goes, here, told}
+use Rattle.serving_wires.specs.Order.{closes, queues}
 use Rattle.value_serving.specs.Passing.{closing, gathered, heard, passed_on, room_made, sent_above, sent_on, taken}
-use Rattle.value_serving.specs.Process.{done, tells}
-use Rattle.value_serving.specs.Sending.{begun, closed_if, opened_by, ordered}
-use Rattle.value_serving.specs.Serving.{handled, heard_at, heard_on, is_over_at, kept_unless, opened, unless_over, wire_of}
+use Rattle.serving_wires.specs.Process.{Process, done, tells}
+use Rattle.serving_wires.specs.Sending.{begun, closed_if, opened_by, ordered}
+use Rattle.value_serving.specs.Serving.{handled, heard_at, heard_on, is_over_at, kept_unless, opened, unless_over, wire_of, with_adds}
+use Rattle.value_serving.specs.ServingValue.{ServingValue}
 use Rattle.value_serving.specs.declared.add.Add.{Add}
-use Rattle.value_serving.proofs.Leading.{broken_bound, broken_bound_behind, broken_both, goes_both, made_behind, made_both, stays_here}
-use Rattle.value_serving.proofs.Connecting.{Rows}
+use Rattle.serving_wires.proofs.Leading.{broken_bound, broken_bound_behind, broken_both, goes_both, goes_bound, made_behind, made_both, stays_here}
+use Rattle.serving_wires.proofs.Leading.{Rows}
 
 abbrev Adds : Type 0
 Adds = List (Row Add)
@@ -185,8 +187,24 @@ sends_away peer n channel adds first olds mids news full begins queued last =
 
 -- ---- nothing came, or nothing more is to come
 
-pub idles : (peer : List ℕ) (n : ℕ) (event : WireEvent) (adds : Adds) (rows : Rows) (seen : WiresSeen) → (event ≡ events.Idle) ⊎ (event ≡ events.Stop)
-    → Makes (Goes peer n n (handled peer event adds) (done adds) (opened_by event rows) rows) seen seen
+pub idles : (peer : List ℕ) (n : ℕ) (event : WireEvent) (v : ServingValue) (rows : Rows) (seen : WiresSeen) → (event ≡ events.Idle) ⊎ (event ≡ events.Stop)
+    → Makes (Goes peer n n (handled event v) (done v) (opened_by event rows) rows) seen seen
 unfolding handled
-idles peer n event adds rows seen (inl is) = rw is (stays_here peer n (done adds) rows seen)
-idles peer n event adds rows seen (inr is) = rw is (stays_here peer n (done adds) rows seen)
+idles peer n event v rows seen (inl is) = rw is (stays_here peer n (done v) rows seen)
+idles peer n event v rows seen (inr is) = rw is (stays_here peer n (done v) rows seen)
+
+-- ---- of all that is served
+
+pub with_all : (peer : List ℕ) (n m : ℕ) (v : ServingValue) (p : Process Adds) (last : Adds) (olds news : Rows) (calls : List WireCall) → Goes peer n m p (done last) olds news calls
+    → Goes peer n m (with_adds v p) (done (record v { adds = last })) olds news calls
+with_all peer n m v p last olds news calls goes = goes_bound peer n m p (done last) (λ adds. done (record v { adds = adds })) olds news calls goes
+
+pub made_with_all : (peer : List ℕ) (n m : ℕ) (v : ServingValue) (p : Process Adds) (last : Adds) (olds news : Rows) (seen seen1 : WiresSeen)
+    → Makes (Goes peer n m p (done last) olds news) seen seen1 → Makes (Goes peer n m (with_adds v p) (done (record v { adds = last })) olds news) seen seen1
+made_with_all peer n m v p last olds news seen seen1 =
+    makes_so (Goes peer n m p (done last) olds news) (Goes peer n m (with_adds v p) (done (record v { adds = last })) olds news) seen seen1
+    (λ calls goes. with_all peer n m v p last olds news calls goes)
+
+pub broken_with_all : (peer : List ℕ) (n : ℕ) (v : ServingValue) (p : Process Adds) (olds : Rows) (seen seen1 : WiresSeen)
+    → Makes (BreaksOff peer n p olds) seen seen1 → Makes (BreaksOff peer n (with_adds v p) olds) seen seen1
+broken_with_all peer n v p olds seen seen1 = broken_bound peer n p (λ adds. done (record v { adds = adds })) olds seen seen1

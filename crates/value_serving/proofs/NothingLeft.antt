@@ -1,6 +1,6 @@
 -- Nothing is left to do for the value-adds that stand.
 use Rattle.std.proofs.Common.{◌≡◌, ℕ, Bool, true, false, List, [], ◌∷◌, ◌++◌, length, nat_le, nat_lt, Option, Some, None, refl, sym, ap, subst}
-use Rattle.std.specs.Prelude.{IsTrue, fold}
+use Rattle.std.specs.Prelude.{IsTrue}
 use Rattle.std.specs.List.{AllByRecursion}
 use Rattle.std.proofs.lemmas.Bool.{leb-true, and_parts}
 use Rattle.list_laws.proofs.AllLists.{all_append, all_at, all_left, all_push, all_right, all_weaker}
@@ -15,14 +15,14 @@ use Rattle.value_node.specs.declared.states.Side.{Side}
 use Rattle.value_serving.specs.Adds.{new_add}
 use Rattle.value_serving.specs.Left.{CanBeHeard, LeavesNothing, NothingLeft}
 use Rattle.value_serving.specs.Passing.{gathered, heard as heard_on_side}
-use Rattle.value_serving.specs.Process.{Answer, Process, and_then, asks, done, tells}
-use Rattle.value_serving.specs.Served.{standing_in}
-use Rattle.value_serving.specs.Serving.{handled, heard_at, heard_by, heard_on, heard_where, is_over_at, is_over_in, kept_unless, opened, opened_if, unless_over, wire_of}
-use Rattle.value_serving.specs.Standing.{Heard, State, after, after_one, answered, came, landed, rests, sent_with, waits, wires_after, wires_with}
+use Rattle.serving_wires.specs.Process.{Process, and_then, done}
+use Rattle.value_serving.specs.Serving.{handled, heard_at, heard_by, heard_on, heard_where, is_over_at, is_over_in, kept_unless, opened, opened_if, unless_over, value_adds, wire_of, with_adds}
+use Rattle.serving_wires.specs.Standing.{after, standing_in}
+use Rattle.value_serving.specs.ServingValue.{ServingValue}
 use Rattle.value_serving.specs.declared.add.Add.{Add}
+use Rattle.serving_wires.proofs.Coming.{ComesTo, comes_then, stands_so}
 use Rattle.value_serving.proofs.ServedAdds.{IsAt, at_place}
-use Rattle.value_serving.proofs.UntilNothing.{ComesTo, Fits, Good, comes_then, gathered_comes, good_left, heard_comes, new_good}
-use Rattle.value_serving.proofs.Wires.{Wires}
+use Rattle.value_serving.proofs.UntilNothing.{Fits, Good, gathered_comes, good_left, heard_comes, new_good}
 
 abbrev Rows : Type 0
 Rows = List (Row Add)
@@ -76,40 +76,21 @@ opened_rows false peer channel adds all = all
 
 -- ---- an event
 
-event_rows : (peer : List ℕ) (event : WireEvent) (adds : Rows) → IsTrue (can_come 0 event) → AllGood adds → ComesTo AllGood (handled peer event adds)
+with_good : (v : ServingValue) (p : Process Rows) → ComesTo AllGood p → ComesTo (λ w. AllGood w.adds) (with_adds v p)
+with_good v p comes = comes_then AllGood (λ w. AllGood w.adds) p (λ adds. done (record v { adds = adds })) comes (λ adds all. all)
+
+event_rows : (event : WireEvent) (v : ServingValue) → IsTrue (can_come 0 event) → AllGood v.adds → ComesTo (λ w. AllGood w.adds) (handled event v)
 unfolding handled opened
-event_rows peer (events.Opened channel) adds can all = opened_rows (nat_lt (length adds) 64) peer channel adds all
-event_rows peer (events.Piece channel bytes) adds can all =
-    on_rows channel (Piece bytes) adds (leb-true (length bytes) 65536 (and_parts (nat_lt 0 (length bytes)) (nat_le (length bytes) 65536) can).1) all
-event_rows peer (events.Ended channel) adds can all = on_rows channel End adds tt all
-event_rows peer (events.Lost channel) adds can all = on_rows channel End adds tt all
-event_rows peer events.Idle adds can all = all
-event_rows peer events.Stop adds can all = all
-
-abbrev KeepsGood : State → Type 0
-KeepsGood (rests s) = AllGood s.adds
-KeepsGood (waits s next) = AllGood s.adds × ((answer : Answer) → ComesTo AllGood (next answer))
-
-landed_good : (adds : Rows) (sent : Wires) (p : Process Rows) → AllGood adds → ComesTo AllGood p → KeepsGood (landed adds sent p)
-landed_good adds sent (done news) all comes = comes
-landed_good adds sent (tells order p) all comes = landed_good adds (sent_with order sent) p all comes
-landed_good adds sent (asks next) all comes = (all, comes)
-
-one_good : (peer : List ℕ) (state : State) (heard : Heard) → CanBeHeard heard → KeepsGood state → KeepsGood (after_one peer state heard)
-one_good peer (rests s) (came event) can keeps = landed_good s.adds (wires_with event s.sent) (handled peer event s.adds) keeps (event_rows peer event s.adds can keeps)
-one_good peer (rests s) (answered answer) can keeps = keeps
-one_good peer (waits s next) (came event) can keeps = keeps
-one_good peer (waits s next) (answered answer) can keeps = landed_good s.adds (wires_after answer s.sent) (next answer) keeps.0 (keeps.1 answer)
-
-all_good : (peer : List ℕ) (heard : List Heard) (state : State) → AllByRecursion CanBeHeard heard → KeepsGood state → KeepsGood (fold (after_one peer) state heard)
-all_good peer [] state can keeps = keeps
-all_good peer (h ∷ heard) state can keeps = all_good peer heard (after_one peer state h) can.1 (one_good peer state h can.0 keeps)
-
-standing_good : (state : State) → KeepsGood state → AllGood (standing_in state).adds
-standing_good (rests s) keeps = keeps
-standing_good (waits s next) keeps = keeps.0
+event_rows (events.Opened channel) v can all = with_good v (opened v.peer channel v.adds) (opened_rows (nat_lt (length v.adds) 64) v.peer channel v.adds all)
+event_rows (events.Piece channel bytes) v can all =
+    with_good v (heard_on channel (Piece bytes) v.adds)
+    (on_rows channel (Piece bytes) v.adds (leb-true (length bytes) 65536 (and_parts (nat_lt 0 (length bytes)) (nat_le (length bytes) 65536) can).1) all)
+event_rows (events.Ended channel) v can all = with_good v (heard_on channel End v.adds) (on_rows channel End v.adds tt all)
+event_rows (events.Lost channel) v can all = with_good v (heard_on channel End v.adds) (on_rows channel End v.adds tt all)
+event_rows events.Idle v can all = all
+event_rows events.Stop v can all = all
 
 pub leaves_nothing : LeavesNothing
 leaves_nothing peer heard can =
-    all_weaker IsGood (λ row. NothingLeft row.item) (standing_in (after peer heard)).adds (λ row good. good_left row.item good)
-    (standing_good (after peer heard) (all_good peer heard (rests (record { adds = []; sent = [] })) can tt))
+    all_weaker IsGood (λ row. NothingLeft row.item) (standing_in (after (value_adds peer) heard)).served.adds (λ row good. good_left row.item good)
+    (stands_so (value_adds peer) (λ v. AllGood v.adds) CanBeHeard (λ event v fits all. event_rows event v fits all) tt tt heard can)

@@ -16,14 +16,15 @@ use Rattle.value_node.specs.declared.states.Side.{Side}
 use Rattle.value_node.specs.declared.states.Side.TheVariants.{Below, Above}
 use Rattle.value_node.proofs.TheLaws.{ends_are_runs}
 use Rattle.value_serving.specs.Adds.{bytes_for, emptied, emptied_at, emptied_end, is_over, queue_of, queue_on, waits, with_node}
-use Rattle.value_serving.specs.Order.{Order, channel_of, closes, queues}
+use Rattle.serving_wires.specs.Order.{Order, channel_of, closes, queues}
 use Rattle.value_serving.specs.Passing.{closing, gathered, heard, passed_on, sent_above, sent_on}
-use Rattle.value_serving.specs.Process.{done}
+use Rattle.serving_wires.specs.Process.{done}
 use Rattle.value_serving.specs.Served.{bytes_of}
-use Rattle.value_serving.specs.Standing.{Sent, sent_after, sent_with}
+use Rattle.serving_wires.specs.Standing.{Sent, sent_after, sent_with}
 use Rattle.value_serving.specs.declared.add.Add.{Add}
 use Rattle.value_serving.proofs.Making.{IsSilent, Made, made_emptied, over_is_free, unlinked}
-use Rattle.value_serving.proofs.Wires.{Grows, Spares, Wires, grows_none, spares_both, spares_low, spares_none, spares_up, wire_other, wire_own}
+use Rattle.serving_wires.proofs.Wires.{Grows, Wires, grows_none, wire_other, wire_own}
+use Rattle.value_serving.proofs.Sparing.{Spares, spares_both, spares_low, spares_none, spares_up}
 use Rattle.value_serving.proofs.Working.{Leads, OnItsWay, OnWire, UpWorks, Works, leads_then, leads_weaker, passed_comes}
 
 -- ---- a side is emptied

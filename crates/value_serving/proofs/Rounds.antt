@@ -14,12 +14,12 @@ use Rattle.value_node.specs.declared.states.Side.TheVariants.{Below, Above}
 use Rattle.value_node.specs.declared.states.ValueTurn.{ValueTurn}
 use Rattle.value_node.specs.declared.states.ValueTurn.TheVariants.{Nothing, Took, Connect}
 use Rattle.value_serving.specs.Adds.{can_give, given_above, given_below, next_given, one_taken, waiting_on, with_node}
-use Rattle.value_serving.specs.Following.{BreaksOff, Goes, answered as goes_answered, here, told}
+use Rattle.serving_wires.specs.Going.{BreaksOff, Goes, answered as goes_answered, here, told}
 use Rattle.value_serving.specs.Passing.{after_giving, after_turn, answered, count_of, given_so_many, leaving, passed_on, room_made, taken}
-use Rattle.value_serving.specs.Process.{Answer, Process, asks, done, tells, and_then}
+use Rattle.serving_wires.specs.Process.{Answer, Process, asks, done, tells, and_then}
 use Rattle.value_serving.specs.declared.add.Add.{Add}
-use Rattle.value_serving.proofs.Leading.{breaks_bound, breaks_then, goes_bound, goes_then}
-use Rattle.value_serving.proofs.Connecting.{Rows}
+use Rattle.serving_wires.proofs.Leading.{breaks_bound, breaks_then, goes_bound, goes_then}
+use Rattle.serving_wires.proofs.Leading.{Rows}
 
 -- ---- what is given waits no more
 

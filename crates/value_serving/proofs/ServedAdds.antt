@@ -10,7 +10,7 @@ use Rattle.channel_core.specs.declared.held.Outgoing.{Outgoing}
 use Rattle.channel_core.proofs.TheLaws.{queues_in_order}
 use Rattle.serving_wires.specs.Row.{Row}
 use Rattle.serving_wires.specs.Rows.{item_at, with_item_at}
-use Rattle.serving_wires.proofs.Rows.{change_first, changed_numbers, found, is_among, item_found, missing_if, numbers, with_behind}
+use Rattle.serving_wires.proofs.Rows.{found, is_among, item_found, missing_if, numbers, with_behind}
 use Rattle.serving_wires.specs.declared.intake.Came.{Came}
 use Rattle.serving_wires.specs.declared.intake.Came.TheVariants.{Piece, End}
 use Rattle.tcf_wires.specs.declared.event.WireEvent.{WireEvent}
@@ -24,16 +24,19 @@ use Rattle.value_node.specs.declared.states.Side.{Side}
 use Rattle.value_node.specs.declared.states.Side.TheVariants.{Below}
 use Rattle.value_node.proofs.TheLaws.{ends_are_runs}
 use Rattle.value_serving.specs.Adds.{is_over, new_add}
-use Rattle.value_serving.specs.Order.{Order, channel_of, closes, queues}
+use Rattle.serving_wires.specs.Order.{closes, queues}
 use Rattle.value_serving.specs.Passing.{gathered, heard}
-use Rattle.value_serving.specs.Process.{Answer, Process, and_then, asks, done, tells}
+use Rattle.serving_wires.specs.Process.{Answer, Process, and_then, asks, done, tells}
 use Rattle.value_serving.specs.Served.{AreValueAdds, IsGivenAbove, IsGivenTo, IsValueAdd, ServedAreValueAdds, bytes_of}
-use Rattle.value_serving.specs.Serving.{handled, heard_at, heard_by, heard_on, heard_where, is_over_at, is_over_in, kept_unless, opened, opened_if, unless_over, wire_of}
-use Rattle.value_serving.specs.Standing.{Heard, Sent, State, after, after_one, answered, came, landed, rests, sent_after, sent_in, sent_with, unused_wire, waits, wires_after, wires_with, with_wire}
+use Rattle.value_serving.specs.Serving.{handled, heard_at, heard_by, heard_on, heard_where, is_over_at, is_over_in, kept_unless, opened, opened_if, unless_over, value_adds, wire_of, with_adds}
+use Rattle.serving_wires.specs.Standing.{Heard, Sent, State, after, after_one, answered, at_first, came, landed, rests, sent_in, sent_with, unused_wire, waits, wires_after, wires_with, with_wire}
+use Rattle.value_serving.specs.ServingValue.{ServingValue}
 use Rattle.value_serving.specs.declared.add.Add.{Add}
+use Rattle.serving_wires.proofs.Apart.{landed_numbers, same_channel}
 use Rattle.value_serving.proofs.Making.{made_new}
 use Rattle.value_serving.proofs.Rested.{Forgotten, HasNothing, Rested, Settled, gathered_leads, heard_leads}
-use Rattle.value_serving.proofs.Wires.{Grows, IsFree, Spares, Wires, found_new, found_push, grows_none, not_new, spares_low, spares_none}
+use Rattle.serving_wires.proofs.Wires.{Grows, Wires, found_new, found_push, grows_none, not_new}
+use Rattle.value_serving.proofs.Sparing.{IsFree, Spares, spares_low, spares_none}
 use Rattle.value_serving.proofs.Working.{IsNew, Leads, OnWire, UpWorks, Works, leads_then, leads_weaker}
 
 -- ---- the wires of two value-adds differ
@@ -314,15 +317,28 @@ Fresh (events.Lost channel) sent = Unit {0}
 Fresh events.Idle sent = Unit {0}
 Fresh events.Stop sent = Unit {0}
 
-event_lands : (peer : List ℕ) (event : WireEvent) (adds : Rows) (sent : Wires) → Fresh event sent → Stands peer adds sent
-    → Lands peer (wires_with event sent) (handled peer event adds) (wires_with event sent)
+-- the peer stays
+abbrev StandsSo : List ℕ → ServingValue → Wires → Type 0
+StandsSo peer v sent = (v.peer ≡ peer) × Stands peer v.adds sent
+
+with_lands : (peer : List ℕ) (v : ServingValue) (before : Wires) (p : Process Rows) (sent : Wires) → v.peer ≡ peer → Lands peer before p sent
+    → Leads (Grows before) (StandsSo peer) (with_adds v p) sent
+with_lands peer v before p sent same lands =
+    leads_then (Grows before) (Stands peer) (StandsSo peer) p (λ adds. done (record v { adds = adds })) sent lands (λ adds s stands. (same, stands))
+
+event_lands : (peer : List ℕ) (event : WireEvent) (v : ServingValue) (sent : Wires) → Fresh event sent → StandsSo peer v sent
+    → Leads (Grows (wires_with event sent)) (StandsSo peer) (handled event v) (wires_with event sent)
 unfolding handled opened
-event_lands peer (events.Opened channel) adds sent fresh stands = opened_lands (nat_lt (length adds) 64) peer channel adds sent fresh stands
-event_lands peer (events.Piece channel bytes) adds sent fresh stands = on_lands peer channel (Piece bytes) adds sent stands
-event_lands peer (events.Ended channel) adds sent fresh stands = on_lands peer channel End adds sent stands
-event_lands peer (events.Lost channel) adds sent fresh stands = on_lands peer channel End adds sent stands
-event_lands peer events.Idle adds sent fresh stands = stands
-event_lands peer events.Stop adds sent fresh stands = stands
+event_lands peer (events.Opened channel) v sent fresh stands =
+    with_lands peer v (with_wire channel sent) (opened_if (nat_lt (length v.adds) 64) v.peer channel v.adds) (with_wire channel sent) stands.0
+    (subst (λ (to : List ℕ). Lands peer (with_wire channel sent) (opened_if (nat_lt (length v.adds) 64) to channel v.adds) (with_wire channel sent)) (sym stands.0)
+    (opened_lands (nat_lt (length v.adds) 64) peer channel v.adds sent fresh stands.1))
+event_lands peer (events.Piece channel bytes) v sent fresh stands =
+    with_lands peer v sent (heard_on channel (Piece bytes) v.adds) sent stands.0 (on_lands peer channel (Piece bytes) v.adds sent stands.1)
+event_lands peer (events.Ended channel) v sent fresh stands = with_lands peer v sent (heard_on channel End v.adds) sent stands.0 (on_lands peer channel End v.adds sent stands.1)
+event_lands peer (events.Lost channel) v sent fresh stands = with_lands peer v sent (heard_on channel End v.adds) sent stands.0 (on_lands peer channel End v.adds sent stands.1)
+event_lands peer events.Idle v sent fresh stands = stands
+event_lands peer events.Stop v sent fresh stands = stands
 
 -- ---- so they are value-adds
 
@@ -381,14 +397,15 @@ all_adds peer sent later adds grows all = all_weaker (IsSettled peer sent) (λ r
 
 -- ---- the state
 
-abbrev KeepsState : List ℕ → State → Type 0
-KeepsState peer (rests s) = Stands peer s.adds s.sent
-KeepsState peer (waits s next) = AllAdds peer s.adds s.sent × ((answer : Answer) → IsNew answer s.sent → Leads (AllAdds peer s.adds) (Stands peer) (next answer) (wires_after answer s.sent))
+abbrev KeepsState : List ℕ → State ServingValue → Type 0
+KeepsState peer (rests s) = StandsSo peer s.served s.sent
+KeepsState peer (waits s next) =
+    AllAdds peer s.served.adds s.sent × ((answer : Answer) → IsNew answer s.sent → Leads (AllAdds peer s.served.adds) (StandsSo peer) (next answer) (wires_after answer s.sent))
 
-landed_keeps : (peer : List ℕ) (adds : Rows) (sent : Wires) (p : Process Rows) → Leads (AllAdds peer adds) (Stands peer) p sent → KeepsState peer (landed adds sent p)
-landed_keeps peer adds sent (done news) leads = leads
-landed_keeps peer adds sent (tells order p) leads = landed_keeps peer adds (sent_with order sent) p leads
-landed_keeps peer adds sent (asks next) leads = leads
+landed_keeps : (peer : List ℕ) (v : ServingValue) (sent : Wires) (p : Process ServingValue) → Leads (AllAdds peer v.adds) (StandsSo peer) p sent → KeepsState peer (landed v sent p)
+landed_keeps peer v sent (done new) leads = leads
+landed_keeps peer v sent (tells order p) leads = landed_keeps peer v (sent_with order sent) p leads
+landed_keeps peer v sent (asks next) leads = leads
 
 all_with : (peer : List ℕ) (event : WireEvent) (adds : Rows) (sent : Wires) → Fresh event sent → Stands peer adds sent → AllByRecursion (IsSettled peer (wires_with event sent)) adds
 all_with peer (events.Opened channel) adds sent fresh stands = (all_new peer channel sent adds fresh stands.all).0
@@ -398,26 +415,24 @@ all_with peer (events.Lost channel) adds sent fresh stands = stands.all
 all_with peer events.Idle adds sent fresh stands = stands.all
 all_with peer events.Stop adds sent fresh stands = stands.all
 
-abbrev IsNewIn : State → Heard → Type 0
+abbrev IsNewIn : State ServingValue → Heard → Type 0
 IsNewIn (rests s) (came event) = Fresh event s.sent
 IsNewIn (rests s) (answered answer) = Unit {0}
 IsNewIn (waits s next) (came event) = Unit {0}
 IsNewIn (waits s next) (answered answer) = IsNew answer s.sent
 
-one_keeps : (peer : List ℕ) (state : State) (heard : Heard) → IsNewIn state heard → KeepsState peer state → KeepsState peer (after_one peer state heard)
+one_keeps : (peer : List ℕ) (state : State ServingValue) (heard : Heard) → IsNewIn state heard → KeepsState peer state → KeepsState peer (after_one (value_adds peer) state heard)
 one_keeps peer (rests s) (came event) new keeps =
     let before = wires_with event s.sent in
-    landed_keeps peer s.adds before (handled peer event s.adds)
-    (leads_weaker (Grows before) (AllAdds peer s.adds) (Stands peer) (Stands peer) (handled peer event s.adds) before
-    (λ later grows. all_adds peer before later s.adds grows (all_with peer event s.adds s.sent new keeps)) (λ rows later stands. stands) (event_lands peer event s.adds s.sent new keeps))
+    landed_keeps peer s.served before (handled event s.served)
+    (leads_weaker (Grows before) (AllAdds peer s.served.adds) (StandsSo peer) (StandsSo peer) (handled event s.served) before
+    (λ later grows. all_adds peer before later s.served.adds grows (all_with peer event s.served.adds s.sent new keeps.1)) (λ v later stands. stands)
+    (event_lands peer event s.served s.sent new keeps))
 one_keeps peer (rests s) (answered answer) new keeps = keeps
 one_keeps peer (waits s next) (came event) new keeps = keeps
-one_keeps peer (waits s next) (answered answer) new keeps = landed_keeps peer s.adds (wires_after answer s.sent) (next answer) (keeps.1 answer new)
+one_keeps peer (waits s next) (answered answer) new keeps = landed_keeps peer s.served (wires_after answer s.sent) (next answer) (keeps.1 answer new)
 
 -- ---- the channels of the wires
-
-abbrev pub same_channel : ℕ → ℕ → Bool
-same_channel one other = one == other
 
 distinct_front : (xs ys : List ℕ) → IsDistinct same_channel (xs ++ ys) → IsDistinct same_channel xs
 unfolding IsDistinct
@@ -428,14 +443,6 @@ distinct_last : (xs : List ℕ) (y : ℕ) → IsDistinct same_channel (xs ++ y �
 unfolding IsDistinct
 distinct_last [] y all = refl
 distinct_last (x ∷ xs) y all = ap (λ (b : Bool). b || is_among y xs) (all_at (λ z. (x == z) ≡ false) xs [] y all.0) ∙ distinct_last xs y all.1
-
-ordered_numbers : (order : Order) (sent : Wires) → numbers (sent_with order sent) ≡ numbers sent
-ordered_numbers order sent = ap (λ (rs : Wires). numbers rs) (change_first Sent (channel_of order) (sent_after order) sent) ∙ changed_numbers (channel_of order) (sent_after order) sent
-
-pub landed_numbers : (adds : Rows) (sent : Wires) (p : Process Rows) → numbers (sent_in (landed adds sent p)) ≡ numbers sent
-landed_numbers adds sent (done news) = refl
-landed_numbers adds sent (tells order p) = landed_numbers adds (sent_with order sent) p ∙ ordered_numbers order sent
-landed_numbers adds sent (asks next) = refl
 
 with_numbers : (channel : ℕ) (sent : Wires) → numbers (with_wire channel sent) ≡ numbers sent ++ channel ∷ []
 with_numbers channel sent = map-append (λ (r : Row Sent). r.channel) sent _
@@ -461,13 +468,13 @@ answer_more : (answer : Answer) (sent : Wires) → AreMore sent (wires_after ans
 answer_more (Ok channel) sent = one_more channel sent
 answer_more (Err refusal) sent = no_more sent
 
-state_more : (peer : List ℕ) (state : State) (heard : Heard) → AreMore (sent_in state) (sent_in (after_one peer state heard))
+state_more : (peer : List ℕ) (state : State ServingValue) (heard : Heard) → AreMore (sent_in state) (sent_in (after_one (value_adds peer) state heard))
 state_more peer (rests s) (came event) =
-    let m = event_more event s.sent in (m.0, landed_numbers s.adds (wires_with event s.sent) (handled peer event s.adds) ∙ m.1)
+    let m = event_more event s.sent in (m.0, landed_numbers s.served (wires_with event s.sent) (handled event s.served) ∙ m.1)
 state_more peer (rests s) (answered answer) = no_more s.sent
 state_more peer (waits s next) (came event) = no_more s.sent
 state_more peer (waits s next) (answered answer) =
-    let m = answer_more answer s.sent in (m.0, landed_numbers s.adds (wires_after answer s.sent) (next answer) ∙ m.1)
+    let m = answer_more answer s.sent in (m.0, landed_numbers s.served (wires_after answer s.sent) (next answer) ∙ m.1)
 
 abbrev Distinct : Wires → Type 0
 Distinct sent = IsDistinct same_channel (numbers sent)
@@ -490,30 +497,29 @@ answer_new : (answer : Answer) (sent : Wires) → Distinct (wires_after answer s
 answer_new (Ok channel) sent all = new_wire channel sent all
 answer_new (Err refusal) sent all = tt
 
-state_new : (peer : List ℕ) (state : State) (heard : Heard) → Distinct (sent_in (after_one peer state heard)) → IsNewIn state heard
+state_new : (peer : List ℕ) (state : State ServingValue) (heard : Heard) → Distinct (sent_in (after_one (value_adds peer) state heard)) → IsNewIn state heard
 state_new peer (rests s) (came event) all =
-    event_new event s.sent (subst (IsDistinct same_channel) (landed_numbers s.adds (wires_with event s.sent) (handled peer event s.adds)) all)
+    event_new event s.sent (subst (IsDistinct same_channel) (landed_numbers s.served (wires_with event s.sent) (handled event s.served)) all)
 state_new peer (rests s) (answered answer) all = tt
 state_new peer (waits s next) (came event) all = tt
 state_new peer (waits s next) (answered answer) all =
-    answer_new answer s.sent (subst (IsDistinct same_channel) (landed_numbers s.adds (wires_after answer s.sent) (next answer)) all)
+    answer_new answer s.sent (subst (IsDistinct same_channel) (landed_numbers s.served (wires_after answer s.sent) (next answer)) all)
 
-distinct_before : (peer : List ℕ) (heard : List Heard) (state : State) → Distinct (sent_in (fold (after_one peer) state heard)) → Distinct (sent_in state)
+distinct_before : (peer : List ℕ) (heard : List Heard) (state : State ServingValue) → Distinct (sent_in (fold (after_one (value_adds peer)) state heard)) → Distinct (sent_in state)
 distinct_before peer [] state all = all
 distinct_before peer (h ∷ heard) state all =
-    let next = after_one peer state h in before_more (sent_in state) (sent_in next) (state_more peer state h) (distinct_before peer heard next all)
+    let next = after_one (value_adds peer) state h in before_more (sent_in state) (sent_in next) (state_more peer state h) (distinct_before peer heard next all)
 
-all_keep : (peer : List ℕ) (heard : List Heard) (state : State) → Distinct (sent_in (fold (after_one peer) state heard)) → KeepsState peer state
-    → KeepsState peer (fold (after_one peer) state heard)
+all_keep : (peer : List ℕ) (heard : List Heard) (state : State ServingValue) → Distinct (sent_in (fold (after_one (value_adds peer)) state heard)) → KeepsState peer state
+    → KeepsState peer (fold (after_one (value_adds peer)) state heard)
 all_keep peer [] state all keeps = keeps
 all_keep peer (h ∷ heard) state all keeps =
-    let next = after_one peer state h in all_keep peer heard next all (one_keeps peer state h (state_new peer state h (distinct_before peer heard next all)) keeps)
+    let next = after_one (value_adds peer) state h in all_keep peer heard next all (one_keeps peer state h (state_new peer state h (distinct_before peer heard next all)) keeps)
 
-state_adds : (peer : List ℕ) (state : State) → KeepsState peer state → AreValueAdds peer state
-state_adds peer (rests s) keeps = all_adds peer s.sent s.sent s.adds (grows_none s.sent) keeps.all
+state_adds : (peer : List ℕ) (state : State ServingValue) → KeepsState peer state → AreValueAdds peer state
+state_adds peer (rests s) keeps = all_adds peer s.sent s.sent s.served.adds (grows_none s.sent) keeps.1.all
 state_adds peer (waits s next) keeps = keeps.0
 
 pub serves_value_adds : ServedAreValueAdds
 serves_value_adds peer heard apart =
-    let first : State = rests (record { adds = []; sent = [] }) in
-    state_adds peer (after peer heard) (all_keep peer heard first apart (record { all = tt; apart = tt }))
+    state_adds peer (after (value_adds peer) heard) (all_keep peer heard (at_first (value_adds peer)) apart (refl, record { all = tt; apart = tt }))

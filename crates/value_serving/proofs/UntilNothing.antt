@@ -23,26 +23,10 @@ use Rattle.value_node.specs.declared.states.ValueTurn.TheVariants.{Nothing, Took
 use Rattle.value_serving.specs.Adds.{came_to, can_give, emptied, emptied_at, emptied_end, given_above, given_below, is_over, new_add, next_given, one_taken, waiting_on, waits, with_node}
 use Rattle.value_serving.specs.Left.{NothingLeft}
 use Rattle.value_serving.specs.Passing.{after_giving, after_turn, answered, closing, connected_on, count_of, gathered, given_so_many, heard, leaving, passed_on, room_made, sent_above, sent_on, taken}
-use Rattle.value_serving.specs.Process.{Answer, Process, and_then, asks, done, tells}
+use Rattle.serving_wires.specs.Process.{Answer, Process, and_then, done}
+use Rattle.serving_wires.proofs.Coming.{ComesTo, comes_then, comes_weaker}
 use Rattle.value_serving.specs.declared.add.Add.{Add}
 use Rattle.value_serving.proofs.Idle.{IsIdle, OneTurn, Shrunk, connected_answered, failed_answered, high_entries, high_inbox, idle_turn, idles, one_turn, took, total}
-
--- ---- whatever is answered, the process comes to this
-
-abbrev pub ComesTo : {A : Type 0} → (A → Type 0) → Process A → Type 0
-ComesTo Q (done a) = Q a
-ComesTo Q (tells order p) = ComesTo Q p
-ComesTo Q (asks next) = (answer : Answer) → ComesTo Q (next answer)
-
-pub comes_then : {A B : Type 0} → (Q : A → Type 0) (R : B → Type 0) (p : Process A) (later : A → Process B) → ComesTo Q p → ((a : A) → Q a → ComesTo R (later a)) → ComesTo R (and_then p later)
-comes_then Q R (done a) later comes so = so a comes
-comes_then Q R (tells order p) later comes so = comes_then Q R p later comes so
-comes_then Q R (asks next) later comes so = λ answer. comes_then Q R (next answer) later (comes answer) so
-
-comes_weaker : {A : Type 0} → (Q R : A → Type 0) (p : Process A) → ((a : A) → Q a → R a) → ComesTo Q p → ComesTo R p
-comes_weaker Q R (done a) so comes = so a comes
-comes_weaker Q R (tells order p) so comes = comes_weaker Q R p so comes
-comes_weaker Q R (asks next) so comes = λ answer. comes_weaker Q R (next answer) so (comes answer)
 
 -- ---- what waits are pieces of wires, and the inboxes hold no more than a count counts
 

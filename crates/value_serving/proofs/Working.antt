@@ -30,16 +30,17 @@ use Rattle.value_node.specs.declared.states.Side.TheVariants.{Below, Above}
 use Rattle.value_node.specs.declared.states.ValueTurn.{ValueTurn}
 use Rattle.value_node.specs.declared.states.ValueTurn.TheVariants.{Nothing, Took, Connect}
 use Rattle.value_serving.specs.Adds.{came_to, can_give, else_below, given_above, given_below, is_over, next_given, one_taken, waiting_on, with_node}
-use Rattle.value_serving.specs.Order.{leaves}
+use Rattle.serving_wires.specs.Order.{leaves}
 use Rattle.value_serving.specs.Passing.{after_giving, after_turn, answered, connected_on, count_of, given_so_many, leaving, passed_on, room_made, taken}
-use Rattle.value_serving.specs.Process.{Answer, Process, and_then, asks, done, tells}
+use Rattle.serving_wires.specs.Process.{Answer, Process, and_then, asks, done, tells}
 use Rattle.value_serving.specs.Served.{bytes_of}
 use Rattle.value_serving.specs.Serving.{is_number}
-use Rattle.value_serving.specs.Standing.{Sent, sent_with, unused_wire, wires_after, with_wire}
+use Rattle.serving_wires.specs.Standing.{Sent, sent_with, unused_wire, wires_after, with_wire}
 use Rattle.value_serving.specs.declared.add.Add.{Add}
 use Rattle.value_serving.proofs.Giving.{IsQuiet}
 use Rattle.value_serving.proofs.Making.{IsSilent, Made, made_connected, made_quiet, over_is_free, silent_quiet}
-use Rattle.value_serving.proofs.Wires.{Grows, Spares, Wires, found_new, found_push, grows_leaving, grows_wire, not_new, spares_both, wire_other}
+use Rattle.serving_wires.proofs.Wires.{Grows, Wires, found_new, found_push, grows_leaving, grows_wire, not_new, wire_other}
+use Rattle.value_serving.proofs.Sparing.{Spares, spares_both}
 
 -- ---- the wires of a value-add
 

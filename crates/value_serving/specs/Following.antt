@@ -1,36 +1,15 @@
--- How far a process has come by the calls of the wires, and what the outboxes are then.
-use Rattle.std.specs.Prelude.{ℕ, ◌≤◌, Bool, if◌then◌else◌, List, [], ◌∷◌, IfOk}
+-- How far a value-add has come with a message that it takes, by the calls of the wires, and what the outboxes are then.
+use Rattle.std.specs.Prelude.{ℕ, Bool, if◌then◌else◌, List}
 use Rattle.serving_wires.specs.Calls.{Makes}
+use Rattle.serving_wires.specs.Going.{BreaksOff, Goes}
 use Rattle.serving_wires.specs.OutboxValue.{OutboxValue}
+use Rattle.serving_wires.specs.Process.{Process, done}
 use Rattle.serving_wires.specs.Row.{Row}
-use Rattle.tcf_wires.specs.Event.{unused_after_connect}
 use Rattle.tcf_wires.specs.Told.{WiresSeen}
 use Rattle.tcf_wires.specs.declared.call.WireCall.{WireCall}
-use Rattle.tcf_wires.specs.declared.call.WireCall.TheVariants.{Connected}
 use Rattle.value_serving.specs.Adds.{one_taken}
-use Rattle.value_serving.specs.Order.{Order}
 use Rattle.value_serving.specs.Passing.{after_turn}
-use Rattle.value_serving.specs.Process.{Answer, Process, asks, done, tells}
-use Rattle.value_serving.specs.Sending.{begun_by, ordered}
 use Rattle.value_serving.specs.declared.add.Add.{Add}
-
--- Between two states of the wires, by the least number that wasn't given yet: each order was done, and each connect was asked
--- of the wires at once, and answered.
-pub data Goes {A : Type 0} (peer : List ℕ) : ℕ → ℕ → Process A → Process A → List (Row OutboxValue) → List (Row OutboxValue) → List WireCall → Type 0 where
-  here : (unused : ℕ) (p : Process A) (rows : List (Row OutboxValue)) → Goes peer unused unused p p rows rows []
-  told : (unused later : ℕ) (order : Order) (p q : Process A) (olds news : List (Row OutboxValue)) (calls : List WireCall)
-      → Goes peer unused later p q (ordered order olds) news calls → Goes peer unused later (tells order p) q olds news calls
-  answered : (unused later : ℕ) (answer : Answer) (next : Answer → Process A) (q : Process A) (olds news : List (Row OutboxValue)) (calls : List WireCall)
-      → IfOk answer (λ channel. unused ≤ channel)
-      → Goes peer (unused_after_connect answer unused) later (next answer) q (begun_by answer olds) news calls
-      → Goes peer unused later (asks next) q olds news (Connected peer answer ∷ calls)
-
--- memory was wanting somewhere
-pub record BreaksOff {A : Type 0} (peer : List ℕ) (unused : ℕ) (p : Process A) (olds : List (Row OutboxValue)) (calls : List WireCall) : Type 0 where
-  pub later : ℕ
-  pub to : Process A
-  pub news : List (Row OutboxValue)
-  pub goes : Goes peer unused later p to olds news calls
 
 -- a turn, whatever follows it if a message was taken
 abbrev pub GoesBehind : List ℕ → ℕ → ℕ → Add → Add → Bool → List (Row OutboxValue) → List (Row OutboxValue) → List WireCall → Type 0
@@ -42,19 +21,6 @@ BreaksOffBehind peer unused old olds calls = (follows : Add → Process Add) →
 
 -- ---- by what is seen of the wires, before it and after it
 
--- by some calls it is done, with what came of it
-abbrev pub Does : {A : Type 0} → List ℕ → Process A → A → List (Row OutboxValue) → List (Row OutboxValue) → ℕ → ℕ → WiresSeen → WiresSeen → Type 0
-Does peer p a olds news unused later before after = Makes (Goes peer unused later p (done a) olds news) before after
-
--- with no call at all, whatever numbers were given
-abbrev pub DoesAlone : {A : Type 0} → List ℕ → Process A → A → List (Row OutboxValue) → List (Row OutboxValue) → Type 0
-DoesAlone peer p a olds news = (unused : ℕ) → Goes peer unused unused p (done a) olds news []
-
--- a part of it was, and then memory was wanting
-abbrev pub DoesPart : {A : Type 0} → List ℕ → Process A → List (Row OutboxValue) → ℕ → WiresSeen → WiresSeen → Type 0
-DoesPart peer p olds unused before after = Makes (BreaksOff peer unused p olds) before after
-
--- the same of a turn
 abbrev pub TakesOne : List ℕ → Add → Add → Bool → List (Row OutboxValue) → List (Row OutboxValue) → ℕ → ℕ → WiresSeen → WiresSeen → Type 0
 TakesOne peer old new is_taken olds news unused later before after = Makes (GoesBehind peer unused later old new is_taken olds news) before after
 

@@ -7,8 +7,8 @@ use Rattle.value_node.specs.Value.{takes_above, takes_below}
 use Rattle.value_node.specs.declared.states.Side.TheVariants.{Below, Above}
 use Rattle.value_node.specs.declared.states.ValueTurn.TheVariants.{Nothing}
 use Rattle.value_serving.specs.Adds.{can_give, one_taken, waiting_on}
-use Rattle.value_serving.specs.Served.{standing_in}
-use Rattle.value_serving.specs.Standing.{Heard, after, answered, came}
+use Rattle.value_serving.specs.Serving.{value_adds}
+use Rattle.serving_wires.specs.Standing.{Heard, after, answered, came, standing_in}
 use Rattle.value_serving.specs.declared.add.Add.{Add}
 
 -- wires can give this: a piece has 1 to 65,536 bytes
@@ -27,4 +27,4 @@ pub record NothingLeft (a : Add) : Type 0 where
 -- Whatever came, and whatever connects were answered.
 abbrev pub LeavesNothing : Type 0
 LeavesNothing = (peer : List ℕ) (heard : List Heard) → AllByRecursion CanBeHeard heard
-    → AllByRecursion (λ row. NothingLeft row.item) (standing_in (after peer heard)).adds
+    → AllByRecursion (λ row. NothingLeft row.item) (standing_in (after (value_adds peer) heard)).served.adds

@@ -1,14 +1,11 @@
-pub mod Order
-pub mod Process
-pub mod Sending
 pub mod Adds
 pub mod Passing
+pub mod Sending
 pub mod ServingValue
 pub mod Serving
 pub mod Following
-pub mod Standing
+pub mod Heeding
 pub mod Served
 pub mod Left
 pub mod Limits
 pub mod Serve
-pub mod Turn

@@ -8,8 +8,8 @@ use Rattle.value_node.specs.declared.states.Side.TheVariants.{Below, Above}
 use Rattle.value_node.specs.declared.states.ValueTurn.{ValueTurn}
 use Rattle.value_node.specs.declared.states.ValueTurn.TheVariants.{Nothing, Took, Connect}
 use Rattle.value_serving.specs.Adds.{bytes_for, can_give, emptied, is_over, next_given, one_taken, waiting_on, waits, with_node}
-use Rattle.value_serving.specs.Order.{closes, leaves, queues}
-use Rattle.value_serving.specs.Process.{Answer, Process, asks, done, tells, and_then}
+use Rattle.serving_wires.specs.Order.{closes, leaves, queues}
+use Rattle.serving_wires.specs.Process.{Answer, Process, asks, done, tells, and_then}
 use Rattle.value_serving.specs.declared.add.Add.{Add}
 
 -- ---- the answer of a connect: where there is a connection it is the value-add's wire above, and an earlier one is left, with

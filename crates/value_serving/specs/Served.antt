@@ -1,12 +1,14 @@
 -- What is served are value-adds, and what is queued for their wires is what they give out.
-use Rattle.std.specs.Prelude.{ℕ, ◌≡◌, ◌==◌, List, map, Option, None, Some}
-use Rattle.std.specs.List.{AllByRecursion, IsDistinct, flat_map}
+use Rattle.std.specs.Prelude.{ℕ, ◌≡◌, List, Option, None, Some}
+use Rattle.std.specs.List.{AllByRecursion, flat_map}
 use Rattle.channel_core.specs.Runs.{Run}
 use Rattle.channel_core.specs.declared.held.Outgoing.{Outgoing}
 use Rattle.serving_wires.specs.Changes.{item_on}
 use Rattle.serving_wires.specs.Row.{Row}
 use Rattle.value_node.specs.Runs.{Call, ValueRun, above, after_all, below, no_calls}
-use Rattle.value_serving.specs.Standing.{Heard, Sent, Standing, State, after, rests, sent_in, waits}
+use Rattle.serving_wires.specs.Standing.{AreApart, Heard, Sent, State, after, sent_in, standing_in}
+use Rattle.value_serving.specs.Serving.{value_adds}
+use Rattle.value_serving.specs.ServingValue.{ServingValue}
 use Rattle.value_serving.specs.declared.add.Add.{Add}
 
 abbrev pub bytes_of : List Outgoing → List ℕ
@@ -35,19 +37,11 @@ pub record IsValueAdd (peer : List ℕ) (wires : List (Row Sent)) (a : Add) : Ty
 
 -- the value-adds that stand; while the answer of a connect is waited for, those that stood when the last event
 -- came
-abbrev pub standing_in : State → Standing
-standing_in (rests s) = s
-standing_in (waits s next) = s
-
-abbrev pub AreValueAdds : List ℕ → State → Type 0
+abbrev pub AreValueAdds : List ℕ → State ServingValue → Type 0
 AreValueAdds peer state =
-    AllByRecursion (λ row. IsValueAdd peer (standing_in state).sent row.item) (standing_in state).adds
-
--- no two wires have the same channel
-abbrev pub AreApart : List (Row Sent) → Type 0
-AreApart wires = IsDistinct (λ one other. one == other) (map (λ row. row.channel) wires)
+    AllByRecursion (λ row. IsValueAdd peer (standing_in state).sent row.item) (standing_in state).served.adds
 
 -- Whatever came, and whatever connects were answered, where each connection had a channel of its own.
 abbrev pub ServedAreValueAdds : Type 0
-ServedAreValueAdds = (peer : List ℕ) (heard : List Heard) → AreApart (sent_in (after peer heard))
-    → AreValueAdds peer (after peer heard)
+ServedAreValueAdds = (peer : List ℕ) (heard : List Heard) → AreApart (sent_in (after (value_adds peer) heard))
+    → AreValueAdds peer (after (value_adds peer) heard)

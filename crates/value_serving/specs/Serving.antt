@@ -8,15 +8,16 @@ use Rattle.tcf_wires.specs.declared.event.WireEvent.{WireEvent}
 use Rattle.tcf_wires.specs.declared.event.WireEvent.TheVariants as events
 use Rattle.value_node.specs.declared.states.Side.{Side}
 use Rattle.value_node.specs.declared.states.Side.TheVariants.{Below, Above}
+use Rattle.serving_wires.specs.Program.{Behaviour, Program, program_of}
 use Rattle.value_serving.specs.Adds.{is_over, new_add}
-use Rattle.value_serving.specs.Order.{closes, queues}
+use Rattle.serving_wires.specs.Order.{closes, queues}
 use Rattle.value_serving.specs.Passing.{gathered, heard}
-use Rattle.value_serving.specs.Process.{Process, done, tells, and_then}
+use Rattle.serving_wires.specs.Process.{Process, done, tells, and_then}
 use Rattle.value_serving.specs.ServingValue.{ServingValue}
 use Rattle.value_serving.specs.declared.add.Add.{Add}
 
 abbrev pub new_serving : List ℕ → ServingValue
-new_serving peer = record { peer = peer; adds = []; sending = [] }
+new_serving peer = record { peer = peer; adds = [] }
 
 -- ---- a connection came: it has a value-add, which says its Hello; while there are 64 the end of the stream is all that is sent
 
@@ -81,10 +82,21 @@ unfoldable pub heard_on : ℕ → Came → List (Row Add) → Process (List (Row
 heard_on channel what adds = heard_where (wire_of channel adds) what adds
 
 -- an event; an end in good order and a broken connection are one
-unfoldable pub handled : List ℕ → WireEvent → List (Row Add) → Process (List (Row Add))
-handled peer (events.Opened channel) adds = opened peer channel adds
-handled peer (events.Piece channel bytes) adds = heard_on channel (Piece bytes) adds
-handled peer (events.Ended channel) adds = heard_on channel End adds
-handled peer (events.Lost channel) adds = heard_on channel End adds
-handled peer events.Idle adds = done adds
-handled peer events.Stop adds = done adds
+abbrev pub with_adds : ServingValue → Process (List (Row Add)) → Process ServingValue
+with_adds s p = and_then p (λ adds. done (record s { adds = adds }))
+
+unfoldable pub handled : WireEvent → ServingValue → Process ServingValue
+handled (events.Opened channel) s = with_adds s (opened s.peer channel s.adds)
+handled (events.Piece channel bytes) s = with_adds s (heard_on channel (Piece bytes) s.adds)
+handled (events.Ended channel) s = with_adds s (heard_on channel End s.adds)
+handled (events.Lost channel) s = with_adds s (heard_on channel End s.adds)
+handled events.Idle s = done s
+handled events.Stop s = done s
+
+-- ---- so they are a program: it does nothing before the first event
+
+abbrev pub behaviour : Behaviour ServingValue
+behaviour = record { peer = λ s. s.peer; handled = handled }
+
+abbrev pub value_adds : List ℕ → Program ServingValue
+value_adds peer = program_of behaviour (new_serving peer) (done (new_serving peer))

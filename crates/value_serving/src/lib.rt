@@ -4,7 +4,6 @@
 mod add;
 pub mod laws;
 mod passing;
-mod sending;
 pub mod serve;
 mod serving;
 

@@ -1,13 +1,14 @@
 //! What came for a value-add passes through it, and a connection is made where it asks for one.
 ghost use Rattle.std.specs.Prelude.{◌≡◌, IfOk, OnErr, OnOk};
 ghost use Rattle.value_serving.specs.Adds.{emptied, new_add};
-ghost use Rattle.value_serving.specs.Following.{Does, DoesAlone, DoesPart, TakesOne, TakesPart};
+ghost use Rattle.serving_wires.specs.Going.{Does, DoesAlone, DoesPart};
+ghost use Rattle.value_serving.specs.Following.{TakesOne, TakesPart};
 ghost use Rattle.value_serving.specs.Passing.{connected_on, connecting, gathered, heard, passed_on, room_made, taken};
-ghost use Rattle.value_serving.specs.Sending.{begun, left_for, with_sent};
+ghost use Rattle.serving_wires.specs.Sending.{begun, left_for};
+ghost use Rattle.value_serving.specs.Sending.{with_sent};
 
 use crate::add::{Add, is_over, new_add, take_one, take_out};
-use crate::sending::Sending;
-use serving_wires::{Came, Intake};
+use serving_wires::{Came, Intake, Sending};
 use std::alloc::{AllocError, Global};
 use tcf_values::Text;
 use tcf_wires::{WireRefusal, Wires};

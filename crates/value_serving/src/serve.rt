@@ -4,10 +4,9 @@ ghost use Rattle.tcf_outside.specs.Faults.{Rose};
 ghost use Rattle.serving_wires.specs.Calls.{Makes};
 ghost use Rattle.serving_wires.specs.Ends.{end_of};
 ghost use Rattle.value_serving.specs.Serve.{ServesValueAdds};
-ghost use Rattle.value_serving.specs.Turn.{TakesTurn};
 
 use crate::serving::Serving;
-use serving_wires::{ServeEnd, each_wire_is_carried, end_of, is_stop};
+use serving_wires::{Sending, ServeEnd, each_wire_is_carried, end_of, serve};
 use std::alloc::Global;
 use tcf_wires::{WireRefusal, Wires};
 
@@ -50,24 +49,7 @@ fn try_serve<W: Wires>(
 {
     each_wire_is_carried();
     let mut serving = Serving::new(alloc, peer)?;
+    let mut sending = Sending::new(alloc);
     wires.listen(address)?;
-    for before in 0..turns {
-        let is_last = take_turn(&mut serving, wires)?;
-        if is_last {
-            return Ok(ServeEnd::Stopped { events: before + 1 });
-        }
-    }
-    Ok(ServeEnd::Turns)
-}
-
-/// Takes an event and puts what is queued then. Answers whether it was `Stop`.
-fn take_turn<W: Wires>(serving: &mut Serving, wires: &mut W) -> Result<bool, WireRefusal>
-    ensures turn { Makes (TakesTurn serving.old serving.new (W.unused wires.old) (W.unused wires.new) result)
-        (W.seen wires.old) (W.seen wires.new) }
-{
-    let event = wires.next()?;
-    let is_last = is_stop(&event);
-    serving.heed(event, wires)?;
-    serving.flush(wires)?;
-    Ok(is_last)
+    serve(&mut serving, &mut sending, wires, turns)
 }

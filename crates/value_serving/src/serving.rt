@@ -1,15 +1,12 @@
-//! The value-adds that are served, with their wires, and what each event makes of them.
+//! The value-adds that are served, and what each event makes of them.
 ghost use Rattle.std.specs.Prelude.{◌≡◌, IfOk, OnErr, OnOk};
-ghost use Rattle.serving_wires.specs.Calls.{Makes};
-ghost use Rattle.serving_wires.specs.Flushing.{FlushesKept, GivesUpAll, its_own};
-ghost use Rattle.value_serving.specs.Following.{Does, DoesPart};
-ghost use Rattle.value_serving.specs.Serving.{above_of, heard_at, kept_unless, new_serving, is_above_at, is_over_at, wire_of};
-ghost use Rattle.value_serving.specs.Turn.{Heeds, HeedsOn, HeedsOpening, HeedsPart, HeedsPartOn};
+ghost use Rattle.serving_wires.specs.Going.{Does, DoesPart};
+ghost use Rattle.value_serving.specs.Heeding.{HeedsOn, HeedsOpening, HeedsPartOn};
+ghost use Rattle.value_serving.specs.Serving.{above_of, behaviour, heard_at, kept_unless, new_serving, is_above_at, is_over_at, wire_of};
 
 use crate::add::{Add, is_over};
 use crate::passing::{greet, hear};
-use crate::sending::Sending;
-use serving_wires::{Came, END_OF_STREAM, Roster};
+use serving_wires::{Came, END_OF_STREAM, Roster, Sending, Served};
 use std::alloc::{AllocError, Global};
 use std::marker::Model;
 use tcf_values::Text;
@@ -19,25 +16,23 @@ use value_node::Side;
 /// The most value-adds.
 const MOST: usize = 64;
 
-/// The value-adds that aren't closed, one for each connection that came, and what is to be put on all wires.
+/// The value-adds that aren't closed, one for each connection that came.
 #[derive(Drop)]
 pub struct Serving {
     alloc: Global,
     peer: Text,
     adds: Roster<Add>,
-    sending: Sending,
 }
 
 impl Model for Serving {
-    ghost use Rattle.std.specs.Coded.{codes};
     ghost use Rattle.value_serving.specs.ServingValue.{ServingValue, serving_code};
     ghost use Rattle.value_serving.specs.contracts.add.Add as one_add;
 
     ghost Value = { ServingValue };
 
-    ghost coded = { serving_code one_add.the_row.coded (Prim.hlevel codes) };
+    ghost coded = { serving_code one_add.the_row.coded };
 
-    ghost view = { λ s. record { peer = s.peer; adds = s.adds; sending = s.sending } };
+    ghost view = { λ s. record { peer = s.peer; adds = s.adds } };
 }
 
 impl Serving {
@@ -48,50 +43,37 @@ impl Serving {
             alloc,
             peer: Text::from_str(alloc, peer)?,
             adds: Roster::new(alloc),
-            sending: Sending::new(alloc),
         })
     }
 
-    /// An event comes: it goes to its value-add, all messages that can be taken are taken, and what the value-add has to send
-    /// is queued.
-    #[tactic(auto, unfolding(crate::specs::Serving::handled))]
-    pub fn heed<W: Wires>(&mut self, event: WireEvent, wires: &mut W) -> Result<(), AllocError>
-        ensures peer { OnOk result (self.new.peer ≡ self.old.peer) }
-        ensures ok { OnOk result (Heeds event self.old self.new
-            (W.unused wires.old) (W.unused wires.new) (W.seen wires.old) (W.seen wires.new)) }
-        ensures err { OnErr result (HeedsPart event self.old (W.unused wires.old) (W.seen wires.old) (W.seen wires.new)) }
-    {
-        match event {
-            WireEvent::Opened(channel) => self.open(channel),
-            WireEvent::Piece(channel, bytes) => self.hear(channel, Came::Piece(bytes), wires),
-            WireEvent::Ended(channel) | WireEvent::Lost(channel) => {
-                self.hear(channel, Came::End, wires)
-            }
-            WireEvent::Idle | WireEvent::Stop => Ok(()),
-        }
-    }
-
     /// A connection came. While 64 value-adds are there it is sent the end of the stream alone.
-    fn open(&mut self, channel: u64) -> Result<(), AllocError>
+    fn open(&mut self, channel: u64, sending: &mut Sending) -> Result<(), AllocError>
         ensures peer { OnOk result (self.new.peer ≡ self.old.peer) }
-        ensures ok { OnOk result (HeedsOpening channel self.old self.new) }
+        ensures ok { OnOk result (HeedsOpening channel self.old self.new sending.old sending.new) }
     {
-        self.sending.begin(channel)?;
+        sending.begin(channel)?;
         if self.adds.len() >= MOST {
-            self.sending.queue(channel, END_OF_STREAM)?;
-            self.sending.close(channel);
+            sending.queue(channel, END_OF_STREAM)?;
+            sending.close(channel);
             return Ok(());
         }
-        let add = greet(self.alloc, &self.peer, channel, &mut self.sending)?;
+        let add = greet(self.alloc, &self.peer, channel, sending)?;
         self.adds.push(channel, add)
     }
 
     /// Something came on a channel. On one of no value-add it is dropped.
-    fn hear<W: Wires>(&mut self, channel: u64, came: Came, wires: &mut W) -> Result<(), AllocError>
+    fn hear<W: Wires>(
+        &mut self,
+        channel: u64,
+        came: Came,
+        sending: &mut Sending,
+        wires: &mut W,
+    ) -> Result<(), AllocError>
         ensures peer { OnOk result (self.new.peer ≡ self.old.peer) }
-        ensures ok { OnOk result (HeedsOn channel came self.old self.new
+        ensures ok { OnOk result (HeedsOn channel came self.old self.new sending.old sending.new
             (W.unused wires.old) (W.unused wires.new) (W.seen wires.old) (W.seen wires.new)) }
-        ensures err { OnErr result (HeedsPartOn channel came self.old (W.unused wires.old) (W.seen wires.old) (W.seen wires.new)) }
+        ensures err { OnErr result (HeedsPartOn channel came self.old sending.old
+            (W.unused wires.old) (W.seen wires.old) (W.seen wires.new)) }
     {
         if let Some((place, side)) = wire_of(&self.adds, channel) {
             hear_at(
@@ -100,7 +82,7 @@ impl Serving {
                 place,
                 side,
                 came,
-                &mut self.sending,
+                sending,
                 wires,
                 self.peer.as_str(),
             )?;
@@ -108,18 +90,30 @@ impl Serving {
         }
         Ok(())
     }
+}
 
-    /// Puts what is queued, wire by wire in the order of their channels.
-    pub fn flush<W: Wires>(&mut self, wires: &mut W) -> Result<(), AllocError>
-        ensures peer { OnOk result (self.new.peer ≡ self.old.peer) }
-        ensures adds { OnOk result (self.new.adds ≡ self.old.adds) }
-        ensures ok { OnOk result (Makes (FlushesKept its_own self.old.sending self.new.sending)
-            (W.seen wires.old) (W.seen wires.new)) }
-        ensures err { OnErr result (Makes (GivesUpAll its_own self.old.sending)
-            (W.seen wires.old) (W.seen wires.new)) }
-        ensures numbers { W.unused wires.new ≡ W.unused wires.old }
-    {
-        self.sending.flush(wires)
+impl Served for Serving {
+    ghost behaviour = { behaviour };
+
+    /// An event comes: it goes to its value-add, all messages that can be taken are taken, and what the value-add has to send
+    /// is queued.
+    #[tactic(auto, unfolding(crate::specs::Serving::handled))]
+    fn heed<W: Wires>(
+        &mut self,
+        event: WireEvent,
+        sending: &mut Sending,
+        wires: &mut W,
+    ) -> Result<(), AllocError> {
+        match event {
+            WireEvent::Opened(channel) => self.open(channel, sending),
+            WireEvent::Piece(channel, bytes) => {
+                self.hear(channel, Came::Piece(bytes), sending, wires)
+            }
+            WireEvent::Ended(channel) | WireEvent::Lost(channel) => {
+                self.hear(channel, Came::End, sending, wires)
+            }
+            WireEvent::Idle | WireEvent::Stop => Ok(()),
+        }
     }
 }
 

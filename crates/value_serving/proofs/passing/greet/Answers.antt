@@ -1,6 +1,6 @@
 use Rattle.std.proofs.Common.{subst}
 use Rattle.value_serving.specs.declared.add.Add.{Add}
-use Rattle.value_serving.specs.Following.{DoesAlone}
+use Rattle.serving_wires.specs.Going.{DoesAlone}
 use Rattle.value_serving.specs.Passing.{gathered}
 use Rattle.value_serving.proofs.passing.greet.Goals as goal
 

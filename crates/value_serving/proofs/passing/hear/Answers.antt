@@ -1,5 +1,5 @@
 use Rattle.value_serving.proofs.Hearing.{hears, hears_in_part, hears_not_gathered}
-use Rattle.value_serving.proofs.Leading.{broken_at_once}
+use Rattle.serving_wires.proofs.Leading.{broken_at_once}
 use Rattle.value_serving.proofs.Results.{on_ok_same}
 use Rattle.value_serving.specs.Passing.{heard}
 use Rattle.value_serving.proofs.passing.hear.Goals as goal

@@ -1,6 +1,6 @@
 use Rattle.std.proofs.Common.{◌-◌}
 use Rattle.serving_wires.specs.Calls.{Makes}
-use Rattle.value_serving.specs.Following.{Goes}
+use Rattle.serving_wires.specs.Going.{Goes}
 use Rattle.value_serving.specs.Passing.{taken}
 use Rattle.value_serving.proofs.passing.take.Given as goal
 

@@ -12,10 +12,10 @@ use Rattle.serving_wires.specs.Following.{Follows, IsFlushed, IsSplit, Spares}
 use Rattle.serving_wires.specs.Outbox.{Flushes, IsGivenUp, Puts, Shuts, before_put, before_shut, closed, is_due, lost as put_lost, none as put_none, nothing_left, queued, taken as put_taken, unused_outbox, left_behind}
 use Rattle.serving_wires.specs.OutboxValue.{OutboxValue}
 use Rattle.serving_wires.specs.Serving.{EachBehind, IsInPlace, Nodes}
-use Rattle.value_serving.specs.Order.{Order, closes, leaves, queues}
-use Rattle.value_serving.specs.Sending.{outbox_after, queued_unless_closed}
-use Rattle.value_serving.specs.Serve.{CarriesWire}
-use Rattle.value_serving.specs.Standing.{Sent, sent_after, unused_wire}
+use Rattle.serving_wires.specs.Order.{Order, closes, leaves, queues}
+use Rattle.serving_wires.specs.Sending.{outbox_after, queued_unless_closed}
+use Rattle.serving_wires.specs.Serve.{CarriesWire}
+use Rattle.serving_wires.specs.Standing.{Sent, sent_after, unused_wire}
 use Rattle.serving_wires.specs.WireLaws.{WireLaws}
 use Rattle.list_laws.proofs.Lists.{empty_by}
 

@@ -7,10 +7,10 @@ use Rattle.serving_wires.specs.Row.{Row}
 use Rattle.serving_wires.specs.WireLaws.{WireLaws}
 use Rattle.serving_wires.proofs.Rows.{changed_nowhere, first_changed}
 use Rattle.serving_wires.proofs.Standing.{KeepsOn, Meets, Relation, Stand, both, meets, neither, shut}
-use Rattle.value_serving.specs.Order.{Order}
-use Rattle.value_serving.specs.Sending.{outbox_after}
-use Rattle.value_serving.specs.Standing.{Sent, sent_after}
-use Rattle.value_serving.proofs.Keeping.{Keeps, flush_done, keeps_at, keeps_flush, keeps_given_up, keeps_in_place, keeps_more, keeps_order, keeps_order_gone}
+use Rattle.serving_wires.specs.Order.{Order}
+use Rattle.serving_wires.specs.Sending.{outbox_after}
+use Rattle.serving_wires.specs.Standing.{Sent, sent_after}
+use Rattle.serving_wires.proofs.Keeping.{Keeps, flush_done, keeps_at, keeps_flush, keeps_given_up, keeps_in_place, keeps_more, keeps_order, keeps_order_gone}
 
 abbrev pub by_wires : Relation Sent OutboxValue
 by_wires = record { has = its_own; all = λ sent. sent.queued; Keeps = λ channel sent now calls. Keeps channel sent now calls }

@@ -6,10 +6,10 @@ use Rattle.serving_wires.specs.Calls.{Makes}
 use Rattle.serving_wires.specs.OutboxValue.{OutboxValue}
 use Rattle.serving_wires.specs.Row.{Row}
 use Rattle.tcf_wires.specs.declared.call.WireCall.{WireCall}
-use Rattle.value_serving.specs.Following.{BreaksOff, Goes, answered, here, told}
-use Rattle.value_serving.specs.Process.{Process, done, and_then}
+use Rattle.serving_wires.specs.Going.{BreaksOff, Goes, answered, here, told}
+use Rattle.serving_wires.specs.Process.{Process, done, and_then}
 
-abbrev Rows : Type 0
+abbrev pub Rows : Type 0
 Rows = List (Row OutboxValue)
 
 pub goes_then : {A : Type 0} → (peer : List ℕ) (n m k : ℕ) (p q r : Process A) (olds mids news : Rows) (first rest : List WireCall)

@@ -1,7 +1,7 @@
 -- What is done, step by step: orders are given for wires, and where a connection is asked for, its answer says how it goes on.
 use Rattle.std.specs.Prelude.{ℕ, Result}
 use Rattle.tcf_wires.specs.declared.event.WireRefusal.{WireRefusal}
-use Rattle.value_serving.specs.Order.{Order}
+use Rattle.serving_wires.specs.Order.{Order}
 
 -- a connection was made, which has this channel, or none was
 abbrev pub Answer : Type 0

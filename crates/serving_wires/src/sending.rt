@@ -2,10 +2,12 @@
 ghost use Rattle.std.specs.Prelude.{◌≡◌, [], OnErr, OnOk};
 ghost use Rattle.serving_wires.specs.Calls.{Makes};
 ghost use Rattle.serving_wires.specs.Flushing.{FlushesKept, GivesUpAll, its_own};
-ghost use Rattle.value_serving.specs.Order.{closes, leaves, queues};
-ghost use Rattle.value_serving.specs.Sending.{begun, ordered, queued_unless_closed};
+ghost use Rattle.serving_wires.specs.Order.{closes, leaves, queues};
+ghost use Rattle.serving_wires.specs.Sending.{begun, ordered, queued_unless_closed};
 
-use serving_wires::{Outbox, Roster, flush_rows};
+use crate::flushing::flush_rows;
+use crate::outbox::Outbox;
+use crate::roster::Roster;
 use std::alloc::{AllocError, Global};
 use std::marker::Model;
 use tcf_wires::Wires;

@@ -1,20 +1,22 @@
--- The wires of a run have channels of their own, so what is served are value-adds.
-use Rattle.std.proofs.Common.{◌≡◌, ℕ, ◌+◌, ◌≤◌, ◌==◌, false, List, sym, ap, ◌∙◌, subst, arith, ne_eqb}
+-- The wires of a run have channels of their own.
+use Rattle.std.proofs.Common.{◌≡◌, ℕ, ◌+◌, ◌≤◌, ◌==◌, Bool, false, List, refl, sym, ap, ◌∙◌, subst, arith, ne_eqb}
 use Rattle.std.specs.List.{AllByRecursion, IsDistinct}
 use Rattle.list_laws.proofs.AllLists.{all_weaker}
 use Rattle.tcf_wires.specs.declared.call.WireCall.{WireCall}
+use Rattle.serving_wires.specs.Order.{Order, channel_of}
+use Rattle.serving_wires.specs.Process.{Process, asks, done, tells}
+use Rattle.serving_wires.specs.Program.{Program}
 use Rattle.serving_wires.specs.Row.{Row}
-use Rattle.serving_wires.proofs.Rows.{numbers}
+use Rattle.serving_wires.specs.Standing.{AreApart, Sent, State, landed, sent_after, sent_in, sent_with, state_after}
+use Rattle.serving_wires.proofs.Landed.{Holds, Landed, Sents}
+use Rattle.serving_wires.proofs.Leading.{Rows}
+use Rattle.serving_wires.proofs.Ordered.{by_wires}
+use Rattle.serving_wires.proofs.Rows.{change_first, changed_numbers, numbers}
+use Rattle.serving_wires.proofs.Running.{Resting}
 use Rattle.serving_wires.proofs.Standing.{Relation, Stand, gone, kept, none}
-use Rattle.value_serving.specs.Process.{Process}
-use Rattle.value_serving.specs.Served.{AreApart, AreValueAdds}
-use Rattle.value_serving.specs.Standing.{State, heard_in, sent_in, state_after}
-use Rattle.value_serving.specs.declared.add.Add.{Add}
-use Rattle.value_serving.proofs.Connecting.{Rows}
-use Rattle.value_serving.proofs.Landed.{Holds, Landed, Sents}
-use Rattle.value_serving.proofs.Running.{Resting}
-use Rattle.value_serving.proofs.ServedAdds.{landed_numbers, same_channel, serves_value_adds}
-use Rattle.value_serving.proofs.Standing.{by_wires}
+
+abbrev pub same_channel : ℕ → ℕ → Bool
+same_channel one other = one == other
 
 -- ---- wires in rising order differ
 
@@ -42,14 +44,25 @@ stand_distinct r calls low ideals reals (gone n ideal is rs lost rest) =
 holds_apart : (unused : ℕ) (calls : List WireCall) (sent : Sents) (rows : Rows) → Holds unused calls sent rows → AreApart sent
 holds_apart unused calls sent rows h = stand_distinct by_wires calls 0 sent rows h.lines
 
+-- ---- an order changes no number
+
+ordered_numbers : (order : Order) (sent : Sents) → numbers (sent_with order sent) ≡ numbers sent
+ordered_numbers order sent = ap (λ (rs : Sents). numbers rs) (change_first Sent (channel_of order) (sent_after order) sent) ∙ changed_numbers (channel_of order) (sent_after order) sent
+
+pub landed_numbers : {A : Type 0} → (served : A) (sent : Sents) (p : Process A) → numbers (sent_in (landed served sent p)) ≡ numbers sent
+landed_numbers served sent (done news) = refl
+landed_numbers served sent (tells order p) = landed_numbers served (sent_with order sent) p ∙ ordered_numbers order sent
+landed_numbers served sent (asks next) = refl
+
 -- ---- so in a run
 
-pub rests_served : (peer : List ℕ) (adds : List (Row Add)) (sending : Rows) (unused : ℕ) (calls : List WireCall) → Resting peer adds sending unused calls → AreValueAdds peer (state_after peer calls)
-rests_served peer adds sending unused calls r =
-    serves_value_adds peer (heard_in calls) (subst AreApart (sym (ap (λ (s : State). sent_in s) r.state)) (holds_apart unused calls r.sent sending r.holds))
+pub rests_apart : {A : Type 0} → (program : Program A) (served : A) (sending : Rows) (unused : ℕ) (calls : List WireCall) → Resting program served sending unused calls
+    → AreApart (sent_in (state_after program calls))
+rests_apart {A = A} program served sending unused calls r =
+    subst AreApart (sym (ap (λ (s : State A). sent_in s) r.state)) (holds_apart unused calls r.sent sending r.holds)
 
-pub landed_served : (peer : List ℕ) (adds : List (Row Add)) (rows : Rows) (unused : ℕ) (calls : List WireCall) (p : Process (List (Row Add))) → Landed peer adds rows unused calls p
-    → AreValueAdds peer (state_after peer calls)
-landed_served peer adds rows unused calls p l =
-    let same : numbers (sent_in (state_after peer calls)) ≡ numbers l.sent = ap (λ (s : State). numbers (sent_in s)) l.state ∙ landed_numbers adds l.sent p in
-    serves_value_adds peer (heard_in calls) (subst (IsDistinct same_channel) (sym same) (holds_apart unused calls l.sent rows l.holds))
+pub landed_apart : {A : Type 0} → (program : Program A) (served : A) (rows : Rows) (unused : ℕ) (calls : List WireCall) (p : Process A) → Landed program served rows unused calls p
+    → AreApart (sent_in (state_after program calls))
+landed_apart {A = A} program served rows unused calls p l =
+    let same : numbers (sent_in (state_after program calls)) ≡ numbers l.sent = ap (λ (s : State A). numbers (sent_in s)) l.state ∙ landed_numbers served l.sent p in
+    subst (IsDistinct same_channel) (sym same) (holds_apart unused calls l.sent rows l.holds)

@@ -5,16 +5,16 @@ use Rattle.tcf_wires.specs.declared.call.WireCall.{WireCall}
 use Rattle.serving_wires.specs.Following.{Spares}
 use Rattle.serving_wires.specs.Row.{Row}
 use Rattle.serving_wires.specs.Flushing.{its_own}
-use Rattle.value_serving.specs.Serve.{CarriesWire}
-use Rattle.value_serving.specs.Standing.{Sent, wire_in}
+use Rattle.serving_wires.specs.Serve.{CarriesWire}
+use Rattle.serving_wires.specs.Standing.{Sent, wire_in}
 use Rattle.serving_wires.specs.WireLaws.{WireLaws}
 use Rattle.serving_wires.proofs.Flushed.{AllFlushed, flushed_there}
-use Rattle.value_serving.proofs.Keeping.{keeps_carried, keeps_front, keeps_shut}
+use Rattle.serving_wires.proofs.Keeping.{keeps_carried, keeps_front, keeps_shut}
 use Rattle.serving_wires.proofs.Rows.{found}
 use Rattle.serving_wires.proofs.Fronts.{IsFront}
 use Rattle.serving_wires.proofs.Standing.{Meets, Stand, both, meets, neither, shut}
-use Rattle.value_serving.proofs.Standing.{by_wires}
-use Rattle.value_serving.proofs.Connecting.{Rows}
+use Rattle.serving_wires.proofs.Ordered.{by_wires}
+use Rattle.serving_wires.proofs.Leading.{Rows}
 
 abbrev Sents : Type 0
 Sents = List (Row Sent)

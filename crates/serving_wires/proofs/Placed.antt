@@ -1,5 +1,5 @@
 -- What is heard by calls; and puts leave all as it stands, so that each is in its place.
-use Rattle.std.proofs.Common.{◌≡◌, ℕ, Bool, true, false, ◌||◌, List, [], ◌∷◌, ◌++◌, refl, sym, ap, ◌∙◌, subst, append-nil}
+use Rattle.std.proofs.Common.{◌≡◌, Bool, true, false, ◌||◌, List, [], ◌∷◌, ◌++◌, refl, sym, ap, ◌∙◌, subst, append-nil}
 use Rattle.std.specs.Prelude.{Ok, Err}
 use Rattle.std.specs.List.{list_any}
 use Rattle.std.proofs.lemmas.Bool.{false≢true, or_parts}
@@ -10,23 +10,24 @@ use Rattle.tcf_wires.specs.declared.call.WireCall.TheVariants.{Listened, Connect
 use Rattle.serving_wires.specs.Calls.{event_of, events_in}
 use Rattle.serving_wires.specs.Serving.{EachBehind, IsInPlace as IsPutInPlace, IsOffer, fails, reaches_out}
 use Rattle.serving_wires.proofs.Fronts.{both_none}
-use Rattle.value_serving.specs.Serve.{IsInPlace, Rests}
-use Rattle.value_serving.specs.Standing.{Heard, State, after, after_one, heard_by, heard_in, is_resting, nodes_in, rests, state_after}
+use Rattle.serving_wires.specs.Serve.{IsInPlace, Rests}
+use Rattle.serving_wires.specs.Program.{Program}
+use Rattle.serving_wires.specs.Standing.{Heard, State, after, after_one, at_first, heard_by, heard_in, is_resting, nodes_in, state_after}
 
 -- ---- what is heard by calls, one behind the other
 
 pub heard_both : (first rest : List WireCall) → heard_in (first ++ rest) ≡ heard_in first ++ heard_in rest
 heard_both first rest = flat_map-append heard_by first rest
 
-pub state_with : (peer : List ℕ) (calls : List WireCall) (call : WireCall) (heard : Heard) → heard_by call ≡ heard ∷ []
-    → state_after peer (calls ++ call ∷ []) ≡ after_one peer (state_after peer calls) heard
-state_with peer calls call heard is =
-    ap (λ (hs : List Heard). after peer hs) (heard_both calls (call ∷ []) ∙ ap (λ (hs : List Heard). heard_in calls ++ (hs ++ [])) is)
-    ∙ fold-append (after_one peer) (rests (record { adds = []; sent = [] })) (heard_in calls) (heard ∷ [])
+pub state_with : {A : Type 0} → (program : Program A) (calls : List WireCall) (call : WireCall) (heard : Heard) → heard_by call ≡ heard ∷ []
+    → state_after program (calls ++ call ∷ []) ≡ after_one program (state_after program calls) heard
+state_with program calls call heard is =
+    ap (λ (hs : List Heard). after program hs) (heard_both calls (call ∷ []) ∙ ap (λ (hs : List Heard). heard_in calls ++ (hs ++ [])) is)
+    ∙ fold-append (after_one program) (at_first program) (heard_in calls) (heard ∷ [])
 
-pub state_stays : (peer : List ℕ) (calls more : List WireCall) → heard_in more ≡ [] → state_after peer (calls ++ more) ≡ state_after peer calls
-state_stays peer calls more nothing =
-    ap (λ (hs : List Heard). after peer hs) (heard_both calls more ∙ ap (λ (hs : List Heard). heard_in calls ++ hs) nothing ∙ append-nil (heard_in calls))
+pub state_stays : {A : Type 0} → (program : Program A) (calls more : List WireCall) → heard_in more ≡ [] → state_after program (calls ++ more) ≡ state_after program calls
+state_stays program calls more nothing =
+    ap (λ (hs : List Heard). after program hs) (heard_both calls more ∙ ap (λ (hs : List Heard). heard_in calls ++ hs) nothing ∙ append-nil (heard_in calls))
 
 -- ---- puts, and shuttings
 
@@ -83,19 +84,19 @@ put_there : (before : List WireCall) (call : WireCall) (behind : List WireCall) 
 put_there [] call behind puts = first_put call behind puts
 put_there (first ∷ before) call behind puts = put_there before call behind (other_puts first (before ++ call ∷ behind) puts)
 
-one_placed : (peer : List ℕ) (call : WireCall) (state : State) (now : List WireCall) → IsPut call → state_after peer now ≡ state → is_resting state ≡ true
-    → IsPutInPlace (nodes_in state) now call → IsInPlace peer now call
-one_placed peer (Listened address answer) state now put same resting place = absurd (false≢true (sym put.inside))
-one_placed peer (Connected to answer) state now put same resting place = absurd (false≢true (sym put.inside))
-one_placed peer (Gave (Ok event)) state now put same resting place = absurd (let no = put.no_event in cc)
-one_placed peer (Gave (Err refusal)) state now put same resting place = absurd (false≢true (sym put.sound))
-one_placed peer (Offered channel piece answer) state now put same resting place =
-    record { rests = ap is_resting same ∙ resting; offer = subst (λ (s : State). IsOffer (nodes_in s) channel piece now) (sym same) place }
-one_placed peer (Shut channel) state now put same resting place = record { rests = ap is_resting same ∙ resting; once = place }
+one_placed : {A : Type 0} → (program : Program A) (call : WireCall) (state : State A) (now : List WireCall) → IsPut call → state_after program now ≡ state → is_resting state ≡ true
+    → IsPutInPlace (nodes_in state) now call → IsInPlace program now call
+one_placed program (Listened address answer) state now put same resting place = absurd (false≢true (sym put.inside))
+one_placed program (Connected to answer) state now put same resting place = absurd (false≢true (sym put.inside))
+one_placed program (Gave (Ok event)) state now put same resting place = absurd (let no = put.no_event in cc)
+one_placed program (Gave (Err refusal)) state now put same resting place = absurd (false≢true (sym put.sound))
+one_placed {A = A} program (Offered channel piece answer) state now put same resting place =
+    record { rests = ap is_resting same ∙ resting; offer = subst (λ (s : State A). IsOffer (nodes_in s) channel piece now) (sym same) place }
+one_placed program (Shut channel) state now put same resting place = record { rests = ap is_resting same ∙ resting; once = place }
 
-pub puts_placed : (peer : List ℕ) (calls more : List WireCall) → ArePuts more → Rests peer calls → EachBehind (IsPutInPlace (nodes_in (state_after peer calls))) calls more
-    → EachBehind (IsInPlace peer) calls more
-puts_placed peer calls more puts resting places before behind call split =
+pub puts_placed : {A : Type 0} → (program : Program A) (calls more : List WireCall) → ArePuts more → Rests program calls → EachBehind (IsPutInPlace (nodes_in (state_after program calls))) calls more
+    → EachBehind (IsInPlace program) calls more
+puts_placed program calls more puts resting places before behind call split =
     let split_puts = subst ArePuts split puts in
-    one_placed peer call (state_after peer calls) (calls ++ before) (put_there before call behind split_puts)
-    (state_stays peer calls before (puts_heard before (puts_before before call behind split_puts))) resting (places before behind call split)
+    one_placed program call (state_after program calls) (calls ++ before) (put_there before call behind split_puts)
+    (state_stays program calls before (puts_heard before (puts_before before call behind split_puts))) resting (places before behind call split)

@@ -5,9 +5,8 @@ use Rattle.list_laws.proofs.Numbers.{number_itself}
 use Rattle.serving_wires.specs.Row.{Row}
 use Rattle.serving_wires.specs.Rows.{with_item}
 use Rattle.serving_wires.proofs.Rows.{change_first, changed_here, changed_later, first_changed, found, found_here, found_later}
-use Rattle.value_serving.specs.Order.{Order, channel_of, leaves}
-use Rattle.value_serving.specs.Serving.{is_number}
-use Rattle.value_serving.specs.Standing.{Sent, sent_after, sent_with, unused_wire, with_wire}
+use Rattle.serving_wires.specs.Order.{Order, channel_of, leaves}
+use Rattle.serving_wires.specs.Standing.{Sent, sent_after, sent_with, unused_wire, with_wire}
 
 abbrev pub Wires : Type 0
 Wires = List (Row Sent)
@@ -99,28 +98,6 @@ leaves_by false earlier channel wire later away s = record { now = s.now; there 
 pub grows_leaving : (sent later : Wires) (earlier : ℕ) → Grows sent later → Grows sent (sent_with (leaves earlier) later)
 grows_leaving sent later earlier g = λ channel wire is. leaves_by (earlier == channel) earlier channel wire later refl (g channel wire is)
 
--- ---- the wires of one value-add change, and those that are free of it stay
-
-abbrev pub IsFree : ℕ → ℕ → Option ℕ → Type 0
-IsFree channel low up = ((low == channel) ≡ false) × (is_number channel up ≡ false)
-
-abbrev pub Spares : ℕ → Option ℕ → Wires → ℕ → Option ℕ → Wires → Type 0
-Spares low up sent low_then up_then later =
-    (channel : ℕ) (wire : Sent) → IsFree channel low up → found channel sent ≡ Some wire → (found channel later ≡ Some wire) × IsFree channel low_then up_then
-
-pub spares_none : (low : ℕ) (up : Option ℕ) (sent : Wires) → Spares low up sent low up sent
-spares_none low up sent = λ channel wire free is. (is, free)
-
-pub spares_both : (low low1 low2 : ℕ) (up up1 up2 : Option ℕ) (sent sent1 sent2 : Wires) → Spares low up sent low1 up1 sent1 → Spares low1 up1 sent1 low2 up2 sent2
-    → Spares low up sent low2 up2 sent2
-spares_both low low1 low2 up up1 up2 sent sent1 sent2 first second = λ channel wire free is. let s = first channel wire free is in second channel wire s.1 s.0
-
-pub spares_low : (order : Order) (low : ℕ) (up : Option ℕ) (sent : Wires) → channel_of order ≡ low → Spares low up sent low up (sent_with order sent)
-spares_low order low up sent at = λ channel wire free is. (wire_other order channel sent (ap (λ (k : ℕ). k == channel) at ∙ free.0) ∙ is, free)
-
-pub spares_up : (order : Order) (low above : ℕ) (sent : Wires) → channel_of order ≡ above → Spares low (Some above) sent low (Some above) (sent_with order sent)
-spares_up order low above sent at = λ channel wire free is. (wire_other order channel sent (ap (λ (k : ℕ). k == channel) at ∙ free.1) ∙ is, free)
-
 -- one that is there isn't the new one
 pub not_new : (new channel : ℕ) (sent : Wires) (wire : Sent) → found new sent ≡ None → found channel sent ≡ Some wire → (new == channel) ≡ false
 not_new new channel sent wire missing is = by_flag (new == channel) refl
@@ -128,6 +105,3 @@ not_new new channel sent wire missing is = by_flag (new == channel) refl
     by_flag : (flag : Bool) → (new == channel) ≡ flag → flag ≡ false
     by_flag true same = absurd (none-some wire (sym missing ∙ ap (λ (k : ℕ). found k sent) (eqb-true new channel same) ∙ is))
     by_flag false away = refl
-
-pub spares_new : (low new : ℕ) (up : Option ℕ) (sent : Wires) → found new sent ≡ None → Spares low up sent low (Some new) (with_wire new sent)
-spares_new low new up sent missing = λ channel wire free is. (found_push channel sent _ wire is, (free.0, not_new new channel sent wire missing is))

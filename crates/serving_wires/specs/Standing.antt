@@ -1,18 +1,17 @@
--- How served value-adds stand after some events and answers of connects. Nothing is put here: what is queued for a wire stays,
--- so that all that was ever queued for each wire is there.
-use Rattle.std.specs.Prelude.{ℕ, Bool, true, false, List, [], ◌∷◌, ◌++◌, fold, Option, None, Some, Ok, Err, if◌then◌else◌}
-use Rattle.std.specs.List.{flat_map}
-use Rattle.serving_wires.specs.Row.{Row}
-use Rattle.serving_wires.specs.Serving.{Nodes}
+-- How a program that is served stands after some events and answers of connects. Nothing is put here: what is queued for a wire
+-- stays, so that all that was ever queued for each wire is there.
+use Rattle.std.specs.Prelude.{ℕ, ◌==◌, Bool, true, false, List, [], ◌∷◌, ◌++◌, fold, map, Option, None, Some, Ok, Err, if◌then◌else◌}
+use Rattle.std.specs.List.{IsDistinct, flat_map}
 use Rattle.tcf_wires.specs.declared.call.WireCall.{WireCall}
 use Rattle.tcf_wires.specs.declared.call.WireCall.TheVariants.{Connected, Gave}
 use Rattle.tcf_wires.specs.declared.event.WireEvent.{WireEvent}
 use Rattle.tcf_wires.specs.declared.event.WireEvent.TheVariants as events
 use Rattle.serving_wires.specs.Changes.{changed_on, item_on}
-use Rattle.value_serving.specs.Order.{Order, channel_of, closes, leaves, queues}
-use Rattle.value_serving.specs.Process.{Answer, Process, asks, done, tells}
-use Rattle.value_serving.specs.Serving.{handled}
-use Rattle.value_serving.specs.declared.add.Add.{Add}
+use Rattle.serving_wires.specs.Order.{Order, channel_of, closes, leaves, queues}
+use Rattle.serving_wires.specs.Process.{Answer, Process, asks, done, tells}
+use Rattle.serving_wires.specs.Program.{Program}
+use Rattle.serving_wires.specs.Row.{Row}
+use Rattle.serving_wires.specs.Serving.{Nodes}
 
 -- ---- what was ever queued for a wire
 
@@ -48,35 +47,43 @@ abbrev pub wires_after : Answer → List (Row Sent) → List (Row Sent)
 wires_after (Ok channel) sent = with_wire channel sent
 wires_after (Err refusal) sent = sent
 
--- ---- the value-adds and their wires; the next event is waited for, or the answer of a connect
+-- no two wires have the same channel
+abbrev pub AreApart : List (Row Sent) → Type 0
+AreApart wires = IsDistinct (λ one other. one == other) (map (λ row. row.channel) wires)
 
-pub record Standing : Type 0 where
-  pub adds : List (Row Add)
+-- ---- what is served, and its wires; the next event is waited for, or the answer of a connect
+
+pub record Standing (A : Type 0) : Type 0 where
+  pub served : A
   pub sent : List (Row Sent)
 
-pub data State : Type 0 where
-  rests : Standing → State
-  waits : Standing → (Answer → Process (List (Row Add))) → State
+pub data State (A : Type 0) : Type 0 where
+  rests : Standing A → State A
+  waits : Standing A → (Answer → Process A) → State A
 
 -- a process goes on, until it is done or asks for a connection
-abbrev pub landed : List (Row Add) → List (Row Sent) → Process (List (Row Add)) → State
-landed adds sent (done news) = rests (record { adds = news; sent = sent })
-landed adds sent (tells order p) = landed adds (sent_with order sent) p
-landed adds sent (asks next) = waits (record { adds = adds; sent = sent }) next
+abbrev pub landed : {A : Type 0} → A → List (Row Sent) → Process A → State A
+landed a sent (done new) = rests (record { served = new; sent = sent })
+landed a sent (tells order p) = landed a (sent_with order sent) p
+landed a sent (asks next) = waits (record { served = a; sent = sent }) next
 
 -- an event came, or a connect was answered
 pub data Heard : Type 0 where
   came : WireEvent → Heard
   answered : Answer → Heard
 
-abbrev pub after_one : List ℕ → State → Heard → State
-after_one peer (rests s) (came event) = landed s.adds (wires_with event s.sent) (handled peer event s.adds)
-after_one peer (rests s) (answered answer) = rests s
-after_one peer (waits s next) (came event) = waits s next
-after_one peer (waits s next) (answered answer) = landed s.adds (wires_after answer s.sent) (next answer)
+abbrev pub after_one : {A : Type 0} → Program A → State A → Heard → State A
+after_one program (rests s) (came event) = landed s.served (wires_with event s.sent) (program.behaviour.handled event s.served)
+after_one program (rests s) (answered answer) = rests s
+after_one program (waits s next) (came event) = waits s next
+after_one program (waits s next) (answered answer) = landed s.served (wires_after answer s.sent) (next answer)
 
-abbrev pub after : List ℕ → List Heard → State
-after peer heard = fold (after_one peer) (rests (record { adds = []; sent = [] })) heard
+-- before anything was heard
+abbrev pub at_first : {A : Type 0} → Program A → State A
+at_first program = landed program.first [] program.begins
+
+abbrev pub after : {A : Type 0} → Program A → List Heard → State A
+after program heard = fold (after_one program) (at_first program) heard
 
 -- what was heard by these calls
 abbrev pub heard_by : WireCall → List Heard
@@ -87,16 +94,21 @@ heard_by call = []
 abbrev pub heard_in : List WireCall → List Heard
 heard_in calls = flat_map heard_by calls
 
-abbrev pub state_after : List ℕ → List WireCall → State
-state_after peer calls = after peer (heard_in calls)
+abbrev pub state_after : {A : Type 0} → Program A → List WireCall → State A
+state_after program calls = after program (heard_in calls)
 
 -- ---- what can be said of a state
 
-abbrev pub sent_in : State → List (Row Sent)
+-- what is served; while the answer of a connect is waited for, as it stood when the last event came
+abbrev pub standing_in : {A : Type 0} → State A → Standing A
+standing_in (rests s) = s
+standing_in (waits s next) = s
+
+abbrev pub sent_in : {A : Type 0} → State A → List (Row Sent)
 sent_in (rests s) = s.sent
 sent_in (waits s next) = s.sent
 
-abbrev pub is_resting : State → Bool
+abbrev pub is_resting : {A : Type 0} → State A → Bool
 is_resting (rests s) = true
 is_resting (waits s next) = false
 
@@ -104,10 +116,10 @@ abbrev pub wire_in : Option Sent → Sent
 wire_in None = unused_wire
 wire_in (Some sent) = sent
 
-abbrev pub wire_on : ℕ → State → Sent
+abbrev pub wire_on : {A : Type 0} → ℕ → State A → Sent
 wire_on channel state = wire_in (item_on channel (sent_in state))
 
-abbrev pub nodes_in : State → Nodes
+abbrev pub nodes_in : {A : Type 0} → State A → Nodes
 nodes_in state = record {
   served = λ events channel. (wire_on channel state).queued;
   closed = λ events channel. (wire_on channel state).is_closed;

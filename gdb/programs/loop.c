@@ -1,0 +1,7 @@
+/* Goes on for ever, and writes all the time. */
+volatile unsigned turns;
+
+int main(void) {
+    for (;;)
+        turns++;
+}

@@ -1,12 +1,15 @@
 #!/usr/bin/env python3
 """Starts `tcf agent` on loopback, treats it badly, and measures it beside gdbserver and QEMU's stub.
 
-    bench/serve.py            builds the program first, which proves it
-    bench/serve.py PROGRAM    takes a program that is built
+    bench/serve.py                    builds the program first, which proves it
+    bench/serve.py PROGRAM            takes a program that is built
+    bench/serve.py PROGRAM BEFORE     and compares it with an earlier one, in runs that alternate
 
 It wants Python 3, and Debian's gdbserver and qemu-system-misc for the comparison; without them only the agent is measured.
 """
+import base64
 import os
+import re
 import shutil
 import socket
 import struct
@@ -22,8 +25,8 @@ EOM, EOS = b'\x03\x01', b'\x03\x02'
 HELLO = b'E\0Locator\0Hello\0["Locator"]\0' + EOM
 TURNS = '1000000000'
 
-# addi x5, x0, 1; jal x0, 0: a program that goes on for ever
-IMAGE = bytes.fromhex('930210006f000000')
+# addi x5, x5, 1; jal x0, -4: a program that counts for ever
+IMAGE = bytes.fromhex('938212006ff0dfff')
 
 
 def free_port():
@@ -130,6 +133,17 @@ class Channel:
         answer = self.ask('Processes', 'start', '""', '"loop"', '[]', '[]', 'true')
         return answer.split(b'"ID":"')[1].split(b'"')[0].decode()
 
+    def resume(self, thread):
+        self.ask('RunControl', 'resume', f'"{thread}"', '0', '1')
+
+    def suspend(self, thread):
+        self.ask('RunControl', 'suspend', f'"{thread}"')
+
+    def executed(self, thread):
+        """How many instructions of the loop the thread, which is suspended, has executed: every other one adds 1 to x5."""
+        answer = self.ask('Registers', 'get', f'"{thread}.x5"')
+        return 2 * int.from_bytes(base64.b64decode(answer.split(b'\0')[3].strip(b'"')), 'little')
+
     def close(self):
         self.socket.close()
 
@@ -215,27 +229,126 @@ def measure_agent(agent):
     return rates
 
 
+# ---- a thread that runs
+
+def going(channel, thread, seconds=1.0, do=lambda: time.sleep(0.01)):
+    """How many instructions a second the thread executes while this is done again and again, and how often it is done."""
+    first, done = channel.executed(thread), 0
+    channel.resume(thread)
+    begin = time.perf_counter()
+    while time.perf_counter() - begin < seconds:
+        do()
+        done += 1
+    taken = time.perf_counter() - begin
+    channel.suspend(thread)
+    return (channel.executed(thread) - first) / taken, done / taken
+
+
+def measure_running(program):
+    """A thread that goes on for ever: alone, beside a client that asks without pause, and that client without it."""
+    with Agent(program) as agent:
+        channel, other, silent = agent.channel(), agent.channel(), connected(agent.port)
+        process = channel.start()
+        thread = f'{process}.1'
+        read = asked(other, 1, 'Memory', 'get', f'"{process}"', '0', '1', '4', '0')
+        calm, _ = rate(agent.process, 1, read)
+        free, _ = going(channel, thread)
+        beside, busy = going(channel, thread, do=read)
+        steps, _ = rate(agent.process, 1, stepped(channel, thread))
+        waits = []
+        for _ in range(100):
+            channel.resume(thread)
+            time.sleep(0.002)
+            begin = time.perf_counter()
+            channel.suspend(thread)
+            waits.append(time.perf_counter() - begin)
+        silent.close()
+    return {
+        'instructions of a thread that runs': free,
+        'the same beside a client that asks without pause': beside,
+        'answers to that client': busy,
+        'answers where no thread runs': calm,
+        'steps': steps,
+        'suspends of an endless loop, by the slowest of 100': 1 / max(waits),
+    }
+
+
+def compare_running(program, before):
+    """The same of two programs, in five runs each that alternate, of which the middle one counts."""
+    programs = [program] if before is None else [before, program]
+    runs = [[measure_running(one) for one in programs] for _ in range(5)]
+    print('| a second | ' + ' | '.join(['before', 'now', 'ratio'] if before else ['now']) + ' |')
+    print('|---' * (4 if before else 2) + '|')
+    for what in runs[0][0]:
+        middle = [sorted(run[at][what] for run in runs)[2] for at in range(len(programs))]
+        row = [f'{count:,.0f}' for count in middle]
+        if before:
+            row.append(f'{middle[1] / middle[0]:.2f}' if middle[0] else '-')
+        print(f'| {what} | ' + ' | '.join(row) + ' |')
+
+
+def crowded(program):
+    """64 channels that ask without pause while eight threads run."""
+    with Agent(program) as agent:
+        channels = [agent.channel() for _ in range(64)]
+        one = channels[0]
+        processes = [one.start() for _ in range(8)]
+        for process in processes:
+            one.resume(f'{process}.1')
+        begin, answers = time.perf_counter(), 0
+        while time.perf_counter() - begin < 2:
+            for channel in channels:
+                channel.socket.sendall(channel.command('Locator', 'sync'))
+            for channel in channels:
+                channel.answer(channel.token)
+                answers += 1
+        taken = time.perf_counter() - begin
+        for process in processes:
+            one.suspend(f'{process}.1')
+        least = min(one.executed(f'{process}.1') for process in processes)
+    print(f'64 channels that ask without pause while eight threads run: {answers / taken:,.0f} answers a second, '
+          f'and {least / taken:,.0f} instructions of the slowest thread')
+    return check('each is answered, and each thread goes on', least > 0)
+
+
 # ---- the stubs, measured
 
-def measure_stub(process, port, address, register):
+def right(answer):
+    """The answer of a stub that carried a request out."""
+    if not answer or answer.startswith(b'E'):
+        sys.exit(f'a stub refused a request: {answer!r}')
+    return answer
+
+
+def spread(answer):
+    """An answer's text, in which `*` and a letter stand for more of the letter before, as many as the letter's code less 29."""
+    return re.sub(r'(.)\*(.)', lambda run: run[1] * (ord(run[2]) - 28), answer.decode())
+
+
+def measure_stub(process, port, place):
+    """What a stub does; `place` gives, by all its registers, an address of its memory. It is asked for all registers at once,
+    since gdbserver answers for no single one."""
     gdb = Gdb(port)
-    read = b'm%x,4' % address
-    one = b'p%x' % register
+    right(gdb.ask(b'?'))
+    read = b'm%x,4' % place(bytes.fromhex(spread(right(gdb.ask(b'g'))).replace('x', '0')))
+    registers = b'g'
+
+    def asked_for(body):
+        return lambda: right(gdb.ask(body))
 
     def piped(body):
         def do():
             gdb.socket.sendall(gdb.spelled(body) * 64)
             for _ in range(64):
-                gdb.packet()
+                right(gdb.packet())
         return do
 
-    gdb.ask(b'?')
     rates = {
-        'memory reads of 4 bytes': rate(process, 1, lambda: gdb.ask(read)),
+        'memory reads of 4 bytes': rate(process, 1, asked_for(read)),
         'memory reads of 4 bytes, 64 in the pipe': rate(process, 64, piped(read)),
-        'register reads': rate(process, 1, lambda: gdb.ask(one)),
-        'register reads, 64 in the pipe': rate(process, 64, piped(one)),
-        'steps': rate(process, 1, lambda: gdb.ask(b's')),
+        'register reads': rate(process, 1, asked_for(registers)),
+        'register reads, 64 in the pipe': rate(process, 64, piped(registers)),
+        'steps': rate(process, 1, asked_for(b's')),
     }
     gdb.close()
     return rates
@@ -248,17 +361,8 @@ def measure_gdbserver():
     server = subprocess.Popen(['gdbserver', '--once', f'{LOOPBACK}:{port}', '/bin/sleep', '600'],
                               stdout=subprocess.DEVNULL, stderr=subprocess.DEVNULL)
     try:
-        gdb = Gdb(port)
-        # where the program is to begin: its instruction pointer, register 16 on x86-64
-        place = int.from_bytes(bytes.fromhex(gdb.ask(b'p10').decode()), 'little')
-        gdb.close()
-    finally:
-        server.kill()
-        server.wait()
-    server = subprocess.Popen(['gdbserver', '--once', f'{LOOPBACK}:{port}', '/bin/sleep', '600'],
-                              stdout=subprocess.DEVNULL, stderr=subprocess.DEVNULL)
-    try:
-        return measure_stub(server, port, place, 0)
+        # where the program is to begin: its instruction pointer, behind 16 registers of 8 bytes on x86-64
+        return measure_stub(server, port, lambda registers: int.from_bytes(registers[128:136], 'little'))
     finally:
         server.kill()
         server.wait()
@@ -273,7 +377,7 @@ def measure_qemu():
                                  '-serial', 'none', '-S', '-gdb', f'tcp:{LOOPBACK}:{port}'],
                                 stdout=subprocess.DEVNULL, stderr=subprocess.DEVNULL)
     try:
-        return measure_stub(emulator, port, 4096, 5)
+        return measure_stub(emulator, port, lambda registers: 4096)
     finally:
         emulator.kill()
         emulator.wait()
@@ -439,8 +543,10 @@ def main():
     program = program_of(sys.argv)
     fine = treat_badly(lambda: Agent(program))
     fine &= comes_too_early(program)
+    fine &= crowded(program)
     many_idle(program)
     flooded(program)
+    compare_running(program, str(Path(sys.argv[2]).resolve()) if len(sys.argv) > 2 else None)
     compare(program)
     sys.exit(not fine)
 

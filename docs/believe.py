@@ -43,7 +43,7 @@ def fail(message):
 def ghost_uses(text):
     """What the lines `use Rattle..` name: local name -> (path, name), and alias -> (path, None)."""
     uses = {}
-    form = r"^\s*(?:pub |ghost )*use (Rattle[\w.]+?)(?:\.\{([^}]*)\})?(?: as (\w+))?;?$"
+    form = r"^\s*(?:unfoldable |pub |ghost )*use (Rattle[\w.]+?)(?:\.\{([^}]*)\})?(?: as (\w+))?;?$"
     for path, names, alias in re.findall(form, text.replace("◌", ""), re.M):
         if alias or not names:
             uses[alias or path.split(".")[-1]] = (path, None)
@@ -80,11 +80,11 @@ def spec_source(file, crate):
     lines = file.read_text().split("\n")
     form = r"(?:(?:pub |abbrev |unfoldable |def )*(record |data )?)(\S+) (?!=)"
     starts = [n for n, line in enumerate(lines)
-              if re.match(r"(abbrev|unfoldable|def|record|data|pub (?!use|mod)\S+) |[\w']+ : ", line)]
+              if re.match(r"(abbrev|unfoldable(?! pub use)|def|record|data|pub (?!use|mod)\S+) |[\w']+ : ", line)]
     items, constructors = {}, {}
     for start, after in zip(starts, starts[1:] + [len(lines)]):
         chunk = range(comment_start(lines, start, "--"), comment_start(lines, after, "--"))
-        body = [n for n in chunk if lines[n].strip() and not re.match(r"(pub )?(use|mod) ", lines[n])]
+        body = [n for n in chunk if lines[n].strip() and not re.match(r"(unfoldable )?(pub )?(use|mod) ", lines[n])]
         while lines[body[-1]].startswith("--"):  # a heading above what comes next
             body.pop()
         kind, name = re.match(form, lines[start].replace("◌", "")).groups()

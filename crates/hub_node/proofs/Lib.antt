@@ -11,4 +11,5 @@ pub mod Issuing
 pub mod Untaken
 pub mod Owning
 pub mod Shutting
+pub mod Hearing
 pub mod TheLaws

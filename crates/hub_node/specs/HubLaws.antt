@@ -1,11 +1,12 @@
 -- What a hub promises, over any calls and whatever bytes come.
-use Rattle.std.specs.Prelude.{ℕ, ◌≡◌, ◌+◌, ◌==◌, Bool, true, false, if◌then◌else◌, List, [], ◌∷◌, decimal, filter, Option, None, Some, Result, Ok}
+use Rattle.std.specs.Prelude.{ℕ, ◌≡◌, ◌+◌, ◌==◌, Bool, true, false, if◌then◌else◌, List, [], ◌∷◌, ◌++◌, decimal, filter, Option, None, Some, Result, Ok}
 use Rattle.std.specs.List.{flat_map}
 use Rattle.channel_core.specs.Closing.{is_closed}
 use Rattle.channel_core.specs.EndValue.{EndValue}
 use Rattle.channel_core.specs.RunLaws.{EndsOnce, is_command}
 use Rattle.channel_core.specs.Runs.{Run}
 use Rattle.channel_core.specs.Wire.{is_redirect, said}
+use Rattle.channel_core.specs.declared.held.Incoming.{Incoming}
 use Rattle.channel_core.specs.declared.held.Outgoing.{Outgoing}
 use Rattle.channel_core.specs.declared.taking.Taken.{Taken}
 use Rattle.channel_core.specs.declared.taking.Taken.TheVariants as taken
@@ -14,9 +15,10 @@ use Rattle.list_laws.specs.Fronts.{IsFront}
 use Rattle.tcf_message.specs.Message.{MessageValue, command, reading}
 use Rattle.tcf_message.specs.declared.message.MessageFault.{MessageFault}
 use Rattle.hub_node.specs.Calls.{AreNew, Call}
-use Rattle.hub_node.specs.Deeds.{Asked, sent_in}
+use Rattle.hub_node.specs.Deeds.{Asked, heard_in, sent_in}
 use Rattle.hub_node.specs.Hub.{new_hub}
 use Rattle.hub_node.specs.Runs.{HubRun, above_run, after_all, below_run, no_calls}
+use Rattle.hub_node.specs.declared.waiting.Tag.{Tag}
 
 -- ---- the ends are what their calls made of them
 
@@ -59,6 +61,34 @@ sent_above token (c ∷ commands) = said (command (decimal token) c.service c.na
 pub record SendsItsCommands (j : ℕ) (r : HubRun) : Type 0 where
   pub sent : IsFront (filter is_command (above_run r).past.queued) (sent_above 1 (sent_in r.deeds))
   pub own : IsFront (filter (is_of j) (sent_in r.deeds)) (flat_map (asked_by j) (below_run r).past.taken)
+
+-- ---- 2. what is heard from above
+
+-- the Hello has come
+abbrev pub bound_by : Bool → Taken Tag → Bool
+bound_by bound (taken.Hello incoming) = true
+bound_by bound (taken.Command incoming) = bound
+bound_by bound (taken.Event incoming) = bound
+bound_by bound (taken.Progress token incoming) = bound
+bound_by bound (taken.Final tag incoming) = bound
+bound_by bound (taken.Closed cause) = bound
+
+-- each event but the first Hello, progress and each answer
+abbrev pub heard_of : Bool → Taken Tag → List Incoming
+heard_of bound (taken.Hello incoming) = if bound then incoming ∷ [] else []
+heard_of bound (taken.Command incoming) = []
+heard_of bound (taken.Event incoming) = incoming ∷ []
+heard_of bound (taken.Progress token incoming) = incoming ∷ []
+heard_of bound (taken.Final tag incoming) = incoming ∷ []
+heard_of bound (taken.Closed cause) = []
+
+abbrev pub heard_from : Bool → List (Taken Tag) → List Incoming
+heard_from bound [] = []
+heard_from bound (entry ∷ entries) = heard_of bound entry ++ heard_from (bound_by bound entry) entries
+
+-- what the hub heard is, in order, what was taken from above
+pub record HearsWhatComes (j : ℕ) (r : HubRun) : Type 0 where
+  pub heard : heard_in r.deeds ≡ heard_from false (above_run r).past.taken
 
 -- ---- 3. the end
 

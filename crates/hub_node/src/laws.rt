@@ -1,5 +1,5 @@
 //! The laws of a hub, over any calls and whatever bytes come.
-ghost use Rattle.hub_node.specs.HubLaws.{AfterAllCalls, ClosesWithTheHub, EndsAreRuns, SendsItsCommands};
+ghost use Rattle.hub_node.specs.HubLaws.{AfterAllCalls, ClosesWithTheHub, EndsAreRuns, HearsWhatComes, SendsItsCommands};
 
 /// The law that each end of a hub is what the calls made of it that its own calls are said to be; a lower end that is closed
 /// and has nothing to send may be forgotten.
@@ -11,6 +11,12 @@ pub fn the_ends_are_runs()
 /// that were taken from it, redirects aside; and that no other command is sent above.
 pub fn a_hub_sends_its_commands()
     ensures { AfterAllCalls SendsItsCommands }
+{}
+
+/// The law that what a hub hears from above is, in order, each event but the first Hello, all progress and each answer that
+/// was taken there.
+pub fn a_hub_hears_what_comes()
+    ensures { AfterAllCalls HearsWhatComes }
 {}
 
 /// The law that where the upper end of a hub is closed so is each lower one, and that behind the closing of an end nothing is

@@ -7,4 +7,4 @@ mod world;
 
 pub use chain::Chain;
 pub use laws::{a_round_goes_on, a_world_stands};
-pub use world::World;
+pub use world::{World, images_of};

@@ -535,7 +535,7 @@ impl World {
 }
 
 /// The images of a schedule, as the target has them.
-fn images_of(alloc: Global, named: &[NamedImage]) -> Result<Vec<Image>, AllocError>
+pub fn images_of(alloc: Global, named: &[NamedImage]) -> Result<Vec<Image>, AllocError>
     ensures { IfOk result (λ images. images.items ≡ images_of named.now) }
 {
     let mut images = Vec::new(alloc);

@@ -4,8 +4,11 @@
 ghost use Rattle.std.specs.Prelude.{◌≡◌, option_copied, option_map, IfSome, IfNone};
 ghost use Rattle.std.specs.List.{list_all};
 ghost use Rattle.tcf_values.specs.Cut.{IsCut, Lacks, cut_of};
-ghost use Rattle.line_words.specs.Words.{is_inside, is_word, word_of};
+ghost use Rattle.line_words.specs.Words.{is_inside, is_word, word_of, words_of};
 
+mod left;
+
+pub use left::WordsLeft;
 use tcf_values::cut_at;
 
 /// The first word of a text, and what stands behind the blank that ends it. None comes exactly where the text has no
@@ -30,6 +33,21 @@ pub fn is_word(text: &[u8]) -> bool
     ensures { result ≡ is_word text.now }
 {
     !text.is_empty() && is_inside_word(text)
+}
+
+/// Whether single blanks separate words, and nothing else stands there.
+#[tactic(auto, using(crate::proofs::Cuts::words_cut, crate::proofs::Cuts::words_last, crate::proofs::Cuts::shorter_cut))]
+pub fn are_words(text: &[u8]) -> bool
+    ensures { result ≡ list_all is_word (words_of text.now) }
+{
+    let mut rest = text;
+    while let Some((word, after)) = first_word(rest) {
+        if !is_word(word) {
+            return false;
+        }
+        rest = after;
+    }
+    is_word(rest)
 }
 
 /// The text, if it is one word.

@@ -19,7 +19,7 @@ use Rattle.tcf_schedules.specs.Words.{words_of, is_name, is_numeral, is_hex_word
 use Rattle.tcf_schedules.specs.Line.{up_word, down_word, direction_word, joined}
 use Rattle.tcf_schedules.specs.Reading.{name_of, numeral_of, hex_of, direction_of, only_thread, thread_of, command_in, command_of}
 use Rattle.tcf_values.proofs.TheLaws.{context_round_trip}
-use Rattle.tcf_schedules.proofs.Cuts.{split_cut, split_lacks}
+use Rattle.line_words.proofs.Cuts.{split_cut, split_lacks}
 
 -- ---- Texts that pass a test
 

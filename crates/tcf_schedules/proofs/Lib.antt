@@ -1,4 +1,3 @@
-pub mod Cuts
 pub mod FirstBad
 pub mod Grammar
 pub mod Images

@@ -3,7 +3,7 @@ use Rattle.std.proofs.Common.{◌≡◌, ℕ, List, ◌++◌, sym, ◌∙◌, ap
 use Rattle.std.proofs.lemmas.List.{append-nil}
 use Rattle.tcf_values.specs.Cut.{Lacks, IsCut}
 use Rattle.tcf_schedules.specs.Words.{words_of, part_text, data_of}
-use Rattle.tcf_schedules.proofs.Cuts.{words_cut, words_last}
+use Rattle.line_words.proofs.Cuts.{words_cut, words_last}
 
 -- the part of one word was added
 pub parts_step : (start body new rest word after : List ℕ) → start ≡ body ++ data_of (words_of rest) → IsCut 32 rest word after → new ≡ body ++ part_text word

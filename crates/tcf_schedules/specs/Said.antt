@@ -1,5 +1,5 @@
 -- What a line says, as the code reads it.
-use Rattle.std.specs.Prelude.{ℕ, List, [], Option, Some, None, option_map}
+use Rattle.std.specs.Prelude.{ℕ, List, option_map}
 use Rattle.tcf_schedules.specs.declared.line.CommandSays.{CommandSays}
 use Rattle.tcf_schedules.specs.declared.line.HeadSays.{HeadSays}
 use Rattle.tcf_schedules.specs.declared.line.HeadSays.TheVariants.{Image, Chain}
@@ -11,13 +11,8 @@ use Rattle.tcf_schedules.specs.declared.line.PlainSays.TheVariants.{Opens, Sends
 use Rattle.tcf_schedules.specs.declared.line.StepSays.{StepSays}
 use Rattle.tcf_schedules.specs.declared.line.StepSays.TheVariants.{Once, Rounds, Times}
 use Rattle.cached_lines.specs.Said.{cached_said}
-use Rattle.tcf_schedules.specs.Words.{words_of}
+pub use Rattle.line_words.specs.Words.{words_said}
 use Rattle.tcf_schedules.specs.Line.{PlainStep, opens, sends, delivers, turns, ticks, closes, cuts, asks, LineStep, once, rounds, times, LineHead, image, chain, LineValue, head, step}
-
--- the words of a text, where there is one
-abbrev pub words_said : Option (List ℕ) → List (List ℕ)
-words_said None = []
-words_said (Some text) = words_of text
 
 -- a command's name, and the words behind it
 abbrev pub command_said : CommandSays → List ℕ × List (List ℕ)

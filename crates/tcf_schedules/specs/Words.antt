@@ -2,15 +2,12 @@
 use Rattle.std.specs.Prelude.{ℕ, ◌==◌, ◌%◌, ◌&&◌, ◌||◌, Bool, not, List, [], ◌∷◌, ◌++◌, length, flat_map, slice_index, if◌then◌else◌, nat_lt, nat_le, codes, bytes_eq, Result, Ok, Err}
 use Rattle.std.specs.Char.{is_ascii_alphanumeric, is_ascii_digit}
 use Rattle.std.specs.Int.{is_in_range}
-use Rattle.std.specs.List.{list_all, slice_split}
+use Rattle.std.specs.List.{list_all}
 use Rattle.hex.specs.Hex.{decode_of}
+pub use Rattle.line_words.specs.Words.{words_of}
 use Rattle.hex.specs.declared.error.FromHexError.{FromHexError}
 
 -- ---- Words and lines
-
--- what stands between the blanks of a text
-abbrev pub words_of : List ℕ → List (List ℕ)
-words_of text = slice_split (λ byte. byte == 32) text
 
 -- 1 to 16 ASCII letters and digits
 abbrev pub is_name : List ℕ → Bool

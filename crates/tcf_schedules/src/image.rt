@@ -1,4 +1,4 @@
-//! The images of a schedule's header.
+//! The images of a header.
 ghost use Rattle.std.specs.Prelude.{◌≡◌, ◌++◌, ◌∷◌, [], IfOk, OnOk, OnErr, IsTrue, bytes_eq};
 ghost use Rattle.std.specs.List.{list_any};
 ghost use Rattle.tcf_schedules.specs.Words.{is_name, is_hex_word, bytes_of};
@@ -15,9 +15,9 @@ use tcf_values::{Bytes, Text};
 
 /// An image as a line says it: its name, and the digits of its bytes.
 #[derive(Drop)]
-pub(crate) struct ImageSays<'a> {
-    pub(crate) name: &'a [u8],
-    pub(crate) digits: &'a [u8],
+pub struct ImageSays<'a> {
+    pub name: &'a [u8],
+    pub digits: &'a [u8],
     ghost named: { IsTrue (is_name name.now) },
     ghost paired: { IsTrue (is_hex_word digits.now) },
 }
@@ -52,7 +52,7 @@ fn bytes_from(alloc: Global, digits: &[u8]) -> Result<Bytes, AllocError>
 
 impl ImageSays<'_> {
     /// The image that is said.
-    pub(crate) fn image(&self, alloc: Global) -> Result<NamedImage, AllocError>
+    pub fn image(&self, alloc: Global) -> Result<NamedImage, AllocError>
         ensures { IfOk result (λ made. made ≡ image_of self.now.name.now self.now.digits.now) }
     {
         Ok(NamedImage {
@@ -64,7 +64,7 @@ impl ImageSays<'_> {
 
 /// The images so far, in order, and their names, among which one is found without a look at each.
 #[derive(Drop)]
-pub(crate) struct ImageList<'a> {
+pub struct ImageList<'a> {
     images: Vec<NamedImage>,
     names: BTreeSet<&'a [u8]>,
 }
@@ -82,7 +82,8 @@ impl<'a> Model for ImageList<'a> {
 }
 
 impl<'a> ImageList<'a> {
-    pub(crate) fn new(alloc: Global) -> Self
+    /// No image yet.
+    pub fn new(alloc: Global) -> Self
         ensures { result ≡ [] }
     {
         ImageList {
@@ -92,14 +93,14 @@ impl<'a> ImageList<'a> {
     }
 
     /// Whether an image has the name.
-    pub(crate) fn has(&self, name: &[u8]) -> bool
+    pub fn has(&self, name: &[u8]) -> bool
         ensures { result ≡ list_any (λ (i : NamedImage). bytes_eq i.name name.now) self.now }
     {
         self.names.contains(name)
     }
 
     /// Puts the image that is said last.
-    pub(crate) fn push(&mut self, alloc: Global, says: &ImageSays<'a>) -> Result<(), AllocError>
+    pub fn push(&mut self, alloc: Global, says: &ImageSays<'a>) -> Result<(), AllocError>
         ensures ok { OnOk result (self.new ≡ self.old ++ image_of says.now.name.now says.now.digits.now ∷ []) }
         ensures err { OnErr result (self.new ≡ self.old) }
     {
@@ -114,5 +115,12 @@ impl<'a> ImageList<'a> {
         ensures { result ≡ self.entry }
     {
         NamedImages::from_vec(self.images)
+    }
+
+    /// The images alone.
+    pub fn into_vec(self) -> Vec<NamedImage>
+        ensures { result.items ≡ self.entry }
+    {
+        self.images
     }
 }

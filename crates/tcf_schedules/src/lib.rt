@@ -11,9 +11,13 @@ pub mod schedule;
 pub mod script;
 mod words;
 
-pub use reading::read_schedule;
+pub use image::{ImageList, ImageSays};
+pub use line::image_in;
+pub use place::chain_at;
+pub use reading::{cut_line, is_blank_or_comment, read_schedule};
 pub use schedule::{
     ChainHead, ChainHeads, NamedImage, NamedImages, Schedule, ScheduleStep, ScheduleSteps,
     TextFault, TextRefusal,
 };
 pub use script::{Script, ScriptLine, read_script};
+pub use words::{image_word, thread_id};

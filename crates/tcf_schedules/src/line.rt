@@ -7,12 +7,11 @@ ghost use Rattle.tcf_schedules.specs.Said.{command_said, plain_said, step_said, 
 
 use crate::image::ImageSays;
 use crate::words::{
-    are_words, cached_word, chain_word, close_word, cut_word, deliver_word, good_name, hex_digits,
-    image_word, is_up, numeral, open_word, rounds_word, send_word, thread_id, tick_word,
-    times_word, turn_word,
+    cached_word, chain_word, close_word, cut_word, deliver_word, good_name, hex_digits, image_word,
+    is_up, numeral, open_word, rounds_word, send_word, thread_id, tick_word, times_word, turn_word,
 };
 use cached_lines::{CachedSays, cached_says};
-use line_words::{first_word, good_word};
+use line_words::{are_words, first_word, good_word};
 use tcf_values::{ContextId, number_within};
 
 /// The most value-adds of a chain.
@@ -87,7 +86,7 @@ pub(crate) enum LineSays<'a> {
 }
 
 /// The name of a command, and the words behind it.
-#[tactic(auto, unfolding(crate::specs::Reading::command_of), using(crate::proofs::Cuts::words_cut, crate::proofs::Cuts::words_last))]
+#[tactic(auto, unfolding(crate::specs::Reading::command_of), using(line_words::proofs::Cuts::words_cut, line_words::proofs::Cuts::words_last))]
 fn command_in(text: &[u8]) -> Option<CommandSays<'_>>
     ensures { option_map command_said result ≡ command_of text.now }
 {
@@ -252,8 +251,10 @@ fn step_says<'a>(word: &[u8], rest: &'a [u8]) -> Option<StepSays<'a>>
     }
 }
 
-/// The name of an image before the digits of its bytes.
-fn image_in(text: &[u8]) -> Option<ImageSays<'_>>
+/// The name of an image before the digits of its bytes, `NAME HEX`: behind the word `image` of its line. NAME is 1 to 16
+/// letters and digits of ASCII, HEX an even number of lower-case hexadecimal digits, or `-` for no byte. It takes no
+/// memory.
+pub fn image_in(text: &[u8]) -> Option<ImageSays<'_>>
     ensures { option_map image_said result ≡ option_map imaging (imaging_of text.now) }
 {
     let (name, digits) = first_word(text)?;

@@ -61,7 +61,7 @@ pub(crate) enum PlacedStep<'a> {
 }
 
 /// The place of the chain of this name.
-fn chain_at(chains: &[ChainHead], name: &[u8]) -> Option<usize>
+pub fn chain_at(chains: &[ChainHead], name: &[u8]) -> Option<usize>
     ensures { result ≡ chain_of chains.now name.now }
 {
     chains.iter().position(|head| head.name.as_slice() == name)
@@ -209,7 +209,7 @@ fn push_part(word: &[u8], body: &mut Octets) -> Result<(), AllocError>
 }
 
 /// Appends the parts that the words say.
-#[tactic(auto, using(crate::proofs::Cuts::words_cut, crate::proofs::Cuts::words_last, crate::proofs::Cuts::shorter_cut))]
+#[tactic(auto, using(line_words::proofs::Cuts::words_cut, line_words::proofs::Cuts::words_last, line_words::proofs::Cuts::shorter_cut))]
 fn push_parts(words: &[u8], body: &mut Octets) -> Result<(), AllocError>
     ensures { OnOk result (body.new ≡ body.old ++ data_of (words_of words.now)) }
 {

@@ -193,15 +193,16 @@ impl<'a> Reading<'a> {
     }
 }
 
-pub(crate) fn is_blank_or_comment(line: &[u8]) -> bool
+/// Whether a line is skipped: an empty one, and one that begins with `#`.
+pub fn is_blank_or_comment(line: &[u8]) -> bool
     ensures { result ≡ is_skipped line.now }
 {
     matches!(line, [] | [b'#', ..])
 }
 
 /// The first line of a file that isn't empty, without its end, and what follows it.
-#[tactic(auto, using(crate::proofs::Cuts::shorter_cut, crate::proofs::Lines::lines_cut, crate::proofs::Lines::lines_last))]
-pub(crate) fn cut_line(file: &[u8]) -> (&[u8], &[u8])
+#[tactic(auto, using(line_words::proofs::Cuts::shorter_cut, crate::proofs::Lines::lines_cut, crate::proofs::Lines::lines_last))]
+pub fn cut_line(file: &[u8]) -> (&[u8], &[u8])
     requires { 0 < length file.now }
     ensures lines { lines_of file.now ≡ result.0.now ∷ lines_of result.1.now }
     ensures shorter { length result.1.now < length file.now }

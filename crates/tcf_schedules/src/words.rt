@@ -2,20 +2,19 @@
 ghost use Rattle.std.specs.Prelude.{◌≡◌, option_copied, IfSome, IsTrue};
 ghost use Rattle.std.specs.Char.{is_ascii_alphanumeric, is_ascii_digit};
 ghost use Rattle.std.specs.List.{list_all};
-ghost use Rattle.line_words.specs.Words.{is_word};
-ghost use Rattle.tcf_schedules.specs.Words.{words_of, is_name, dash_word, is_low_hex, is_hex_word};
+ghost use Rattle.tcf_schedules.specs.Words.{is_name, dash_word, is_low_hex, is_hex_word};
 ghost use Rattle.tcf_schedules.specs.Reading.{name_of, numeral_of, hex_of, direction_of, thread_of};
 ghost use Rattle.tcf_schedules.specs.Script.{wait_word};
 ghost use Rattle.tcf_schedules.specs.Line.{image_word, chain_word, open_word, send_word, deliver_word, turn_word, tick_word, close_word, cut_word, cached_word, rounds_word, times_word, up_word, down_word};
 
-use line_words::{first_word, is_word};
 use tcf_values::{ContextId, context_id};
 
 /// The most letters and digits of a name.
 const LONGEST_NAME: usize = 16;
 
+/// The word of a line that has an image.
 #[tactic(auto, unfolding(crate::specs::Line::image_word))]
-pub(crate) fn image_word() -> &'static [u8]
+pub fn image_word() -> &'static [u8]
     ensures { result.now ≡ image_word }
 {
     b"image"
@@ -145,21 +144,6 @@ pub(crate) fn good_name(text: &[u8]) -> Option<&[u8]>
     }
 }
 
-/// Whether blanks separate words of a command.
-#[tactic(auto, using(crate::proofs::Cuts::words_cut, crate::proofs::Cuts::words_last, crate::proofs::Cuts::shorter_cut))]
-pub(crate) fn are_words(text: &[u8]) -> bool
-    ensures { result ≡ list_all is_word (words_of text.now) }
-{
-    let mut rest = text;
-    while let Some((word, after)) = first_word(rest) {
-        if !is_word(word) {
-            return false;
-        }
-        rest = after;
-    }
-    is_word(rest)
-}
-
 fn are_digits(text: &[u8]) -> bool
     ensures { result ≡ list_all is_ascii_digit text.now }
 {
@@ -213,7 +197,7 @@ pub(crate) fn is_up(word: &[u8]) -> Option<bool>
 
 /// The thread whose spelling the text is.
 #[tactic(auto, unfolding(crate::specs::Reading::thread_of))]
-pub(crate) fn thread_id(text: &[u8]) -> Option<ContextId>
+pub fn thread_id(text: &[u8]) -> Option<ContextId>
     ensures { result ≡ thread_of text.now }
 {
     match context_id(text)? {

@@ -1,3 +1,12 @@
 pub mod Args
-pub mod Cuts
+pub mod Behind
+pub mod CachedBack
+pub mod Data
+pub mod Digits
 pub mod Growth
+pub mod LinesBack
+pub mod Numbers
+pub mod Plain
+pub mod Read
+pub mod ReadBack
+pub mod Values

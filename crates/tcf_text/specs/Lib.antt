@@ -3,3 +3,5 @@ pub mod Shown
 pub mod Each
 pub mod Lines
 pub mod Once
+pub mod Said
+pub mod Reading

@@ -11,6 +11,8 @@ use Rattle.tcf_text.specs.declared.log.LogLine.{LogLine}
 use Rattle.tcf_text.specs.declared.log.LogLine.TheVariants.{Sent, Refused, Hello, Event, Progress, Final, Unknown, Closed, Ended, Cached}
 use Rattle.tcf_text.specs.declared.log.RefusedWhy.{RefusedWhy}
 use Rattle.tcf_text.specs.declared.log.RefusedWhy.TheVariants.{Full, NotOpen, TooLong, Spent}
+use Rattle.tcf_text.specs.declared.log.Showing.{Showing}
+use Rattle.tcf_text.specs.declared.log.Showing.TheVariants.{Plain, Readable}
 
 -- a byte that can't be shown as it is: a control byte or blank, `%`, or DEL
 abbrev pub is_hidden : ℕ → Bool
@@ -25,9 +27,25 @@ abbrev pub shown : List ℕ → List ℕ
 shown [] = codes "-"
 shown (byte ∷ bytes) = shown_byte byte ++ flat_map shown_byte bytes
 
+-- a first byte that would make another word of the text is shown by its digits: `!`, which begins a rest, and a `-` that
+-- stands alone, which is the empty word
+abbrev pub front_byte : ℕ → List ℕ → List ℕ
+front_byte byte [] = if byte == 45 then codes "%2D" else if byte == 33 then codes "%21" else shown_byte byte
+front_byte byte (next ∷ bytes) = if byte == 33 then codes "%21" else shown_byte byte
+
+-- a word that can be read back
+abbrev pub readable : List ℕ → List ℕ
+readable [] = codes "-"
+readable (byte ∷ bytes) = front_byte byte bytes ++ flat_map shown_byte bytes
+
+-- a word, in this way
+abbrev pub word_shown : Showing → List ℕ → List ℕ
+word_shown Plain word = shown word
+word_shown Readable word = readable word
+
 -- a word behind a blank
-abbrev pub word_text : List ℕ → List ℕ
-word_text word = 32 ∷ shown word
+abbrev pub word_text : Showing → List ℕ → List ℕ
+word_text how word = 32 ∷ word_shown how word
 
 -- what stands behind the last zero of some data, where something does, behind a blank and `!`
 abbrev pub rest_text : List ℕ → List ℕ
@@ -35,14 +53,14 @@ rest_text [] = []
 rest_text (byte ∷ bytes) = codes " !" ++ shown (byte ∷ bytes)
 
 -- the parts that a zero ends, and the rest that none ends
-abbrev pub parts_text : List (List ℕ) → List ℕ
-parts_text [] = []
-parts_text (rest ∷ []) = rest_text rest
-parts_text (part ∷ next ∷ more) = word_text part ++ parts_text (next ∷ more)
+abbrev pub parts_text : Showing → List (List ℕ) → List ℕ
+parts_text how [] = []
+parts_text how (rest ∷ []) = rest_text rest
+parts_text how (part ∷ next ∷ more) = word_text how part ++ parts_text how (next ∷ more)
 
 -- data, cut at its zeros
-abbrev pub args_text : List ℕ → List ℕ
-args_text body = parts_text (slice_split (λ byte. byte == 0) body)
+abbrev pub args_text : Showing → List ℕ → List ℕ
+args_text how body = parts_text how (slice_split (λ byte. byte == 0) body)
 
 -- a mark behind a blank; `-` where there is none
 abbrev pub mark_text : Option ℕ → List ℕ
@@ -100,17 +118,17 @@ abbrev pub numbered : List ℕ → ℕ → List ℕ
 numbered word number = word ++ 32 ∷ decimal number
 
 -- a command, or an event, by its service and name, and its data
-abbrev pub named_text : List ℕ → List ℕ → List ℕ → List ℕ
-named_text service name body = word_text service ++ word_text name ++ args_text body
+abbrev pub named_text : Showing → List ℕ → List ℕ → List ℕ → List ℕ
+named_text how service name body = word_text how service ++ word_text how name ++ args_text how body
 
 -- what was asked of the cache, word by word
-abbrev pub asked_text : CachedWhat → List ℕ
-asked_text (asked.Context id) = context_word ++ word_text id
-asked_text (asked.State id) = state_word ++ word_text id
-asked_text (asked.Register id) = register_word ++ word_text id
-asked_text (asked.Properties id) = properties_word ++ word_text id
-asked_text (asked.Status id) = status_word ++ word_text id
-asked_text (asked.Bytes id addr size) = bytes_word ++ word_text id ++ 32 ∷ decimal addr ++ 32 ∷ decimal size
+abbrev pub asked_text : Showing → CachedWhat → List ℕ
+asked_text how (asked.Context id) = context_word ++ word_text how id
+asked_text how (asked.State id) = state_word ++ word_text how id
+asked_text how (asked.Register id) = register_word ++ word_text how id
+asked_text how (asked.Properties id) = properties_word ++ word_text how id
+asked_text how (asked.Status id) = status_word ++ word_text how id
+asked_text how (asked.Bytes id addr size) = bytes_word ++ word_text how id ++ 32 ∷ decimal addr ++ 32 ∷ decimal size
 
 -- what the cache had, behind a blank
 abbrev pub value_text : Option (List ℕ) → List ℕ
@@ -118,25 +136,29 @@ value_text None = none_word
 value_text (Some value) = 32 ∷ value
 
 -- a log line without its end
-abbrev pub line_words : LogLine → List ℕ
-line_words (Sent number service name body) = numbered sent_word number ++ named_text service name body
-line_words (Refused why) = refused_front ++ refused_reason why
-line_words (Hello mark body) = hello_word ++ mark_text mark ++ args_text body
-line_words (Event mark service name body) = event_word ++ mark_text mark ++ named_text service name body
-line_words (Progress number mark body) = numbered progress_word number ++ mark_text mark ++ args_text body
-line_words (Final number mark body) = numbered result_word number ++ mark_text mark ++ args_text body
-line_words (Unknown number mark) = numbered unknown_word number ++ mark_text mark
-line_words (Closed number) = numbered closed_word number
-line_words (Ended why) = end_front ++ end_cause why
-line_words (Cached what value) = cached_front ++ asked_text what ++ value_text value
+abbrev pub line_words : Showing → LogLine → List ℕ
+line_words how (Sent number service name body) = numbered sent_word number ++ named_text how service name body
+line_words how (Refused why) = refused_front ++ refused_reason why
+line_words how (Hello mark body) = hello_word ++ mark_text mark ++ args_text how body
+line_words how (Event mark service name body) = event_word ++ mark_text mark ++ named_text how service name body
+line_words how (Progress number mark body) = numbered progress_word number ++ mark_text mark ++ args_text how body
+line_words how (Final number mark body) = numbered result_word number ++ mark_text mark ++ args_text how body
+line_words how (Unknown number mark) = numbered unknown_word number ++ mark_text mark
+line_words how (Closed number) = numbered closed_word number
+line_words how (Ended why) = end_front ++ end_cause why
+line_words how (Cached what value) = cached_front ++ asked_text how what ++ value_text value
 
 -- a log line, which byte 10 ends
-abbrev pub line_text : LogLine → List ℕ
-line_text line = line_words line ++ 10 ∷ []
+abbrev pub line_text : Showing → LogLine → List ℕ
+line_text how line = line_words how line ++ 10 ∷ []
 
--- a log: its lines in order
+-- log lines in order
+abbrev pub lines_text : Showing → List LogLine → List ℕ
+lines_text how lines = flat_map (line_text how) lines
+
+-- a log as it is printed
 abbrev pub log_text : List LogLine → List ℕ
-log_text lines = flat_map line_text lines
+log_text lines = lines_text Plain lines
 
 -- a text that was added to, whose new part is not told
 pub record Grows (before after : List ℕ) : Type 0 where

@@ -4,14 +4,15 @@ use Rattle.std.specs.Prelude.{ℕ, List, [], ◌∷◌, ◌++◌, codes}
 use Rattle.std.specs.Fmt.{signed_decimal}
 use Rattle.tcf_message.specs.Message.{MessageValue, command, final, progress, not_known, event, flow}
 use Rattle.tcf_text.specs.Log.{word_text, args_text, named_text}
+use Rattle.tcf_text.specs.declared.log.Showing.TheVariants.{Plain}
 
 -- a message's line without its end
 abbrev pub message_words : MessageValue → List ℕ
-message_words (command token service name body) = codes "C" ++ word_text token ++ named_text service name body
-message_words (final token body) = codes "R" ++ word_text token ++ args_text body
-message_words (progress token body) = codes "P" ++ word_text token ++ args_text body
-message_words (not_known token) = codes "N" ++ word_text token
-message_words (event service name body) = codes "E" ++ named_text service name body
+message_words (command token service name body) = codes "C" ++ word_text Plain token ++ named_text Plain service name body
+message_words (final token body) = codes "R" ++ word_text Plain token ++ args_text Plain body
+message_words (progress token body) = codes "P" ++ word_text Plain token ++ args_text Plain body
+message_words (not_known token) = codes "N" ++ word_text Plain token
+message_words (event service name body) = codes "E" ++ named_text Plain service name body
 message_words (flow level) = codes "F " ++ signed_decimal level
 
 -- a message's line, which byte 10 ends

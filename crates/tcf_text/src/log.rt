@@ -2,6 +2,15 @@
 use cached_lines::CachedWhat;
 use tcf_outside::Octets;
 
+/// How the words and the data of a line are shown.
+#[derive(Clone, Copy, Debug, PartialEq, Eq)]
+pub enum Showing {
+    /// As a log is printed.
+    Plain,
+    /// So that each can be read back: of a word a first `!` is shown as `%21`, and a `-` that stands alone as `%2D`.
+    Readable,
+}
+
 /// Why a command was not accepted.
 #[derive(Clone, Copy, Debug, PartialEq, Eq)]
 pub enum RefusedWhy {

@@ -7,6 +7,7 @@ ghost use Rattle.tcf_message.specs.Message.{value_of};
 ghost use Rattle.tcf_text.specs.Log.{word_text, args_text, named_text, Grows};
 ghost use Rattle.tcf_text.specs.Shown.{message_words, message_line};
 
+use crate::log::Showing;
 use crate::show::{show_args, show_named, show_word};
 use itoa::Buffer;
 use std::alloc::AllocError;
@@ -15,20 +16,20 @@ use tcf_outside::Octets;
 
 /// Appends a type letter and a token.
 fn show_token(letter: u8, token: &[u8], out: &mut Octets) -> Result<(), AllocError>
-    ensures shown { OnOk result (out.new ≡ out.old ++ (letter ∷ [] ++ word_text token.now)) }
+    ensures shown { OnOk result (out.new ≡ out.old ++ (letter ∷ [] ++ word_text Showing.Plain token.now)) }
     ensures part { OnErr result (Grows out.old out.new) }
 {
     out.push(letter)?;
-    show_word(token, out)
+    show_word(Showing::Plain, token, out)
 }
 
 /// Appends a type letter, a token and the data of an answer.
 fn show_answer(letter: u8, token: &[u8], body: &[u8], out: &mut Octets) -> Result<(), AllocError>
-    ensures shown { OnOk result (out.new ≡ out.old ++ (letter ∷ [] ++ word_text token.now ++ args_text body.now)) }
+    ensures shown { OnOk result (out.new ≡ out.old ++ (letter ∷ [] ++ word_text Showing.Plain token.now ++ args_text Showing.Plain body.now)) }
     ensures part { OnErr result (Grows out.old out.new) }
 {
     show_token(letter, token, out)?;
-    show_args(body, out)
+    show_args(Showing::Plain, body, out)
 }
 
 /// Appends a command.
@@ -39,20 +40,20 @@ fn show_command(
     body: &[u8],
     out: &mut Octets,
 ) -> Result<(), AllocError>
-    ensures shown { OnOk result (out.new ≡ out.old ++ (codes "C" ++ word_text token.now ++ named_text service.now name.now body.now)) }
+    ensures shown { OnOk result (out.new ≡ out.old ++ (codes "C" ++ word_text Showing.Plain token.now ++ named_text Showing.Plain service.now name.now body.now)) }
     ensures part { OnErr result (Grows out.old out.new) }
 {
     show_token(b'C', token, out)?;
-    show_named(service, name, body, out)
+    show_named(Showing::Plain, service, name, body, out)
 }
 
 /// Appends an event.
 fn show_event(service: &[u8], name: &[u8], body: &[u8], out: &mut Octets) -> Result<(), AllocError>
-    ensures shown { OnOk result (out.new ≡ out.old ++ (codes "E" ++ named_text service.now name.now body.now)) }
+    ensures shown { OnOk result (out.new ≡ out.old ++ (codes "E" ++ named_text Showing.Plain service.now name.now body.now)) }
     ensures part { OnErr result (Grows out.old out.new) }
 {
     out.push(b'E')?;
-    show_named(service, name, body, out)
+    show_named(Showing::Plain, service, name, body, out)
 }
 
 /// Appends a flow control message.

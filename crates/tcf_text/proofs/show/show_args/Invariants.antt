@@ -5,7 +5,7 @@ use Rattle.tcf_text.proofs.show.show_args.Given as goal
 abbrev pub invariant-loop-part : goal.invariant-loop-part
 invariant-loop-part l =
     record {
-      text : l.initial.out ++ args_text l.body ≡ l.out ++ args_text l.rest;
+      text : l.initial.out ++ args_text l.how l.body ≡ l.out ++ args_text l.how l.rest;
       grows : Grows l.initial.out l.out;
     }
 

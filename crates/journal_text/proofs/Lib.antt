@@ -1,0 +1,9 @@
+pub mod Back
+pub mod Codes
+pub mod Ends
+pub mod Growing
+pub mod HexBack
+pub mod Imaging
+pub mod InputsBack
+pub mod Lines
+pub mod Reaching

@@ -1,0 +1,5 @@
+pub mod Images
+pub mod Inputs
+pub mod Journal
+pub mod Read
+pub mod Written

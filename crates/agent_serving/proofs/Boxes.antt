@@ -1,7 +1,7 @@
 -- How many entries wait in the inboxes of an agent's channels, and what a turn, a piece and an input make of their number.
 use Rattle.std.proofs.Common.{◌≡◌, ℕ, zero, suc, ◌+◌, ◌-◌, ◌≤◌, ◌==◌, Bool, true, false, cond, List, [], ◌∷◌, ◌++◌, length, Option, Some, None, Result, Ok, Err, is_some, refl, ◌∙◌, arith, length-append}
 use Rattle.std.specs.Prelude.{nat_lt, remove, slice_get}
-use Rattle.channel_core.specs.Closing.{closed_for, is_closed}
+use Rattle.channel_core.specs.Closing.{is_closed}
 use Rattle.channel_core.specs.EndValue.{unless_spent}
 use Rattle.channel_core.specs.Holding.{is_free, let_out, released, sent_out}
 use Rattle.channel_core.specs.Level.{is_due, level_of, leveled}
@@ -61,9 +61,6 @@ queued_kept message mark e = by_flag (is_closed e.state) e e _ refl refl
 
 -- ---- taking: one is less, and none is left where the end closes
 
-closed_none : (cause : Cause) (e : End) → entries (closed_for cause e) ≡ 0
-closed_none cause e = refl
-
 redirected_kept : (done : Bool) (e : End) → IsKept e (redirected done e)
 redirected_kept true e = refl
 redirected_kept false e = released_kept (record e { redirect = None; state = Live })
@@ -120,9 +117,6 @@ pub next_none : (e : End) → entries e ≡ 0 → (next_taken e).0 ≡ None
 next_none e none = none_from e.inbox e.stop e none
 
 -- ---- a piece brings no more than it has bytes, and perhaps a fault
-
-last_less : (cause : Cause) (e : End) → entries (with_last cause e) ≤ entries e + 1
-last_less cause e = omega arith
 
 entered_less : (raw : List ℕ) (mark : Option ℕ) (e : End) → entries (entered raw mark e) ≤ entries e + 1
 entered_less raw mark e =

@@ -1,5 +1,6 @@
 -- More calls of an agent: what they give out, how openings are answered, and that a channel is opened once.
 use Rattle.std.proofs.Common.{◌≡◌, ℕ, ◌==◌, ◌⊎◌, inl, inr, Bool, true, false, ◌||◌, nat_le, cond, List, [], ◌∷◌, ◌++◌, refl, sym, ap, ◌∙◌, append_assoc, append-nil}
+use Rattle.std.specs.Prelude.{fold}
 use Rattle.std.specs.List.{list_any}
 use Rattle.std.proofs.lemmas.Bool.{false≢true, or_cases}
 use Rattle.std.proofs.lemmas.List.Folds.{list_any-append}
@@ -20,8 +21,7 @@ use Rattle.agent_serving.specs.Served.{answered_by, answers, given_by, given_out
 -- ---- the agent after calls
 
 abbrev pub run : List Call → AgentValue → AgentValue
-run [] a = a
-run (call ∷ calls) a = run calls (called call a)
+run calls a = fold (λ before call. called call before) a calls
 
 pub run_agent : (calls : List Call) (r : AgentRun) → (after_all calls r).agent ≡ run calls r.agent
 run_agent [] r = refl
@@ -56,7 +56,7 @@ later_opened k calls r is =
     let grown = history_grows calls r in
     ap (was_opened k) grown.1 ∙ list_any-append (input_opens k) r.history grown.0 ∙ ap (λ b. b || was_opened k grown.0) is
 
-abbrev any : List Bool → Bool
+abbrev pub any : List Bool → Bool
 any bs = list_any (λ (b : Bool). b) bs
 
 one_opened : (k : ℕ) (call : Call) (a : AgentValue) (history : List Input) → any (answered_by k call a) ≡ true → was_opened k (history ++ input_by call a) ≡ true
@@ -95,8 +95,8 @@ refused_if : (k : ℕ) (a : AgentValue) → has_number k a.numbers ≡ true → 
 unfolding opened
 refused_if k a is = ap (λ (b : Bool). (cond {A = Bool × AgentValue} (b || (nat_le 64 (live_count a.channels) || is_full a)) (false, a) (true, begun k a)).0) is
 
-pub refused_again : (images : List Image) (calls : List Call) (k : ℕ) (later : List Bool) → answers k calls (new_agent images) ≡ true ∷ later → (opened k (run_by images calls).agent).0 ≡ false
-refused_again images calls k later is =
+pub refused_again : (images : List Image) (calls : List Call) (k : ℕ) → any (answers k calls (new_agent images)) ≡ true → (opened k (run_by images calls).agent).0 ≡ false
+refused_again images calls k is =
     let r = run_by images calls in
     let h = holds_all images calls (no_calls images) (holds_first images) in
-    refused_if k r.agent (h.numbers k ∙ answered_opened k calls (no_calls images) (ap any is))
+    refused_if k r.agent (h.numbers k ∙ answered_opened k calls (no_calls images) is)

@@ -33,6 +33,7 @@ use Rattle.agent_node.proofs.Places.{found, none_found, place_found}
 use Rattle.agent_node.proofs.Standing.{Stands, forgotten, no_more, none_stands, past_number, run_unspent, shown}
 use Rattle.agent_node.proofs.TheLaws.{agent_tells_the_truth}
 use Rattle.agent_node.proofs.Truth.{HoldsRun, holds_all, holds_first}
+use Rattle.agent_serving.proofs.CallLists.{run_agent}
 use Rattle.agent_serving.specs.Served.{GivesWhatIsTold, TellsItsHistory, given_by, given_out, run_by}
 
 -- what the first past of a number put out
@@ -285,6 +286,7 @@ tells_its_history images calls =
     let h = holds_all images calls (no_calls images) (holds_first images) in
     let truth = agent_tells_the_truth images calls in
     record {
+      agent = run_agent calls (no_calls images);
       legal = truth.legal;
       told = all_both (λ past. given_in past.number r.channels ≡ (run_of past).past.given) (FollowsHistory images r.history) (GivesWhatIsTold images calls) r.channels
           (one_tells images calls) (each_given r.channels h.differ) truth.channels;

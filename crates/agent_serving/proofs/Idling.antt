@@ -1,5 +1,5 @@
 -- While nothing comes all instructions are executed that may be, or no thread runs any more, or the agent is full.
-use Rattle.std.proofs.Common.{◌≡◌, ℕ, zero, suc, ◌+◌, ◌-◌, ◌^◌, ◌≤◌, ◌<◌, ◌==◌, ◌⊎◌, inl, inr, Bool, true, false, cond, List, [], ◌∷◌, Option, Some, None, refl, sym, ap, ◌∙◌, subst, arith, eqb-true}
+use Rattle.std.proofs.Common.{◌≡◌, ℕ, zero, suc, ◌+◌, ◌-◌, ◌≤◌, ◌<◌, ◌==◌, ◌⊎◌, inl, inr, Bool, true, false, cond, List, [], ◌∷◌, Option, Some, None, refl, sym, ap, ◌∙◌, subst, arith, eqb-true}
 use Rattle.std.specs.Prelude.{filter, is_some}
 use Rattle.std.proofs.lemmas.Bool.{eqb-false, false≢true}
 use Rattle.tcf_values.specs.declared.event.EventData.{EventData}
@@ -10,12 +10,17 @@ use Rattle.target_hub.specs.Passing.{running_in, tick_told}
 use Rattle.target_hub.specs.HubValue.{TargetValue}
 use Rattle.agent_node.specs.Agent.{after_input, instruction_tells, is_full, ticked, ticked_by}
 use Rattle.agent_node.specs.AgentValue.{AgentValue}
-use Rattle.serving_wires.specs.Row.{Row}
+use Rattle.tcf_wires.specs.declared.event.WireEvent.TheVariants.{Idle}
+use Rattle.serving_wires.specs.Process.{done}
+use Rattle.serving_wires.proofs.Coming.{ComesTo, comes_then}
+use Rattle.serving_wires.proofs.Holding.{landed_so}
+use Rattle.agent_serving.specs.Gathering.{all_gathered}
 use Rattle.agent_serving.specs.Left.{GoesOnWhileIdle, HasGoneOn}
-use Rattle.agent_serving.specs.Lines.{gathered, line_gathered, with_outbox}
-use Rattle.agent_serving.specs.Serving.{acted, after_event, all_gathered, gathered_rows}
+use Rattle.agent_serving.specs.Serving.{acted, handled, told}
+use Rattle.agent_serving.specs.ServingValue.{ServingValue}
 use Rattle.agent_serving.specs.Ticking.{after_pass, after_passes, idled, left_by_pass, less_one, threads_of}
-use Rattle.agent_serving.specs.declared.line.Line.{Line}
+use Rattle.agent_serving.proofs.ServedSo.{event_never}
+use Rattle.agent_serving.proofs.Told.{IsSame, all_come, all_emptied, all_same, same_full}
 use Rattle.agent_serving.proofs.Passes.{one_pass, passes_of_none, passes_over_none}
 
 -- ---- a tick is one input, and a thread that runs has one where the agent isn't full
@@ -171,29 +176,22 @@ all_passes (suc passes) left a few = by_left (left == 0) refl (λ left_then next
     by_left true none later = none_to_do (suc passes) left a (eqb-true left 0 none)
     by_left false some later = by_full (is_full a) refl some later
 
--- ---- gathering changes neither
+-- ---- and then what the agent tells is queued, which changes neither
 
-record IsSame (a b : AgentValue) : Type 0 where
-  target : b.target ≡ a.target
-  position : b.position ≡ a.position
+idle_ends : (before after told_now : AgentValue) → IsSame after told_now → Ends 256 before after → HasGoneOn before told_now
+idle_ends before after told_now same (inl all) = inl (same.position ∙ all)
+idle_ends before after told_now same (inr (inl none)) = inr (inl (ap (λ (t : TargetValue). running_in t.contexts.processes) same.target ∙ none))
+idle_ends before after told_now same (inr (inr full)) = inr (inr (same_full after told_now same ∙ full))
 
-gathered_same : (closed : Bool) (a : AgentValue) (line : Line) → IsSame a (cond closed (a, line) (with_outbox line (gathered a line.outbox))).0
-unfolding gathered
-gathered_same true a line = record { target = refl; position = refl }
-gathered_same false a line = record { target = refl; position = refl }
-
-rows_same : (rows : List (Row Line)) (a : AgentValue) → IsSame a (gathered_rows rows a).0
-rows_same [] a = record { target = refl; position = refl }
-rows_same (row ∷ rows) a =
-    let first = gathered_same row.item.outbox.is_closed a row.item in
-    let rest = rows_same rows (line_gathered a row.item).0 in
-    record { target = rest.target ∙ first.target; position = rest.position ∙ first.position }
-
-idle_ends : (before after gathered_now : AgentValue) → IsSame after gathered_now → Ends 256 before after → HasGoneOn before gathered_now
-idle_ends before after gathered_now same (inl all) = inl (same.position ∙ all)
-idle_ends before after gathered_now same (inr (inl none)) = inr (inl (ap (λ (t : TargetValue). running_in t.contexts.processes) same.target ∙ none))
-idle_ends before after gathered_now same (inr (inr full)) = inr (inr (ap (λ (n : ℕ). n == 2 ^ 64 - 1) same.position ∙ full))
+idle_comes : (s : ServingValue) → ComesTo (λ (next : ServingValue). HasGoneOn s.agent next.agent) (handled Idle s)
+unfolding handled acted told idled
+idle_comes s =
+    let after = after_passes 256 256 s.agent in
+    let Next : AgentValue → Type 0 = λ a. HasGoneOn s.agent a in
+    comes_then Next (λ (next : ServingValue). HasGoneOn s.agent next.agent) (all_gathered s.lines after) (λ a. done (record { agent = a; lines = s.lines }))
+    (all_come Next s.lines after (idle_ends s.agent after (all_emptied s.lines after) (all_same s.lines after) (all_passes 256 256 s.agent (omega arith))))
+    (λ a so. so)
 
 pub goes_on_while_idle : GoesOnWhileIdle
-unfolding after_event acted all_gathered idled
-goes_on_while_idle s = idle_ends s.agent (idled s.agent) (gathered_rows s.lines (idled s.agent)).0 (rows_same s.lines (idled s.agent)) (all_passes 256 256 s.agent (omega arith))
+goes_on_while_idle images s =
+    landed_so (λ (next : ServingValue). HasGoneOn s.served.agent next.agent) s.served s.sent (handled Idle s.served) (event_never Idle s.served) (idle_comes s.served)

@@ -1,25 +1,19 @@
 mod Queued
-mod Turns
-mod Passes
-mod Rows
-mod Standing
-mod Hearing
-mod Settled
-mod Fronts
-mod Acted
 mod CallLists
-mod GivenOut
 mod Doing
-mod Wires
-mod ServedSo
+mod GivenOut
+mod Rows
+mod Made
+pub mod ServedSo
 mod Boxes
 mod Rooms
+mod Told
+mod Passes
 mod Idling
 mod Leaving
-mod Running
-pub mod Gathering
-mod Given
-mod Taking
-mod Ending
 mod Apart
+mod Telling
+mod Given
+mod Turns
+pub mod Opening
 pub mod TheLaws

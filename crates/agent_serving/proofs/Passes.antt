@@ -43,9 +43,6 @@ no_pass left a = refl
 
 -- ---- so far
 
-pub begun_passes : (count : ℕ) (a : AgentValue) → after_passes count count a ≡ after_passes (count - 0) count a
-begun_passes count a = ap (λ (n : ℕ). after_passes n count a) (omega arith)
-
 pub passes_go_on : (count done left left_then : ℕ) (first now then : AgentValue) (threads : List ContextId) → done < count → threads ≡ threads_of now
     → then ≡ after_pass threads left now → left_then ≡ left_by_pass threads left now → after_passes count count first ≡ after_passes (count - done) left now
     → after_passes count count first ≡ after_passes (count - (done + 1)) left_then then

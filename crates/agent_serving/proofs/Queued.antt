@@ -1,5 +1,5 @@
 -- What an agent has queued for a channel goes out, one message after the other.
-use Rattle.std.proofs.Common.{◌≡◌, ℕ, suc, ◌+◌, ◌<◌, ◌==◌, Bool, true, false, not, cond, nat_lt, List, [], ◌∷◌, ◌++◌, length, Option, Some, None, refl, sym, ap, ◌∙◌, arith, subst, one-add, lt-ltb, append-nil, append_assoc}
+use Rattle.std.proofs.Common.{◌≡◌, ℕ, suc, ◌+◌, ◌<◌, ◌==◌, Bool, true, false, not, cond, nat_lt, List, [], ◌∷◌, length, Option, Some, None, refl, sym, ap, ◌∙◌, arith, subst, one-add, lt-ltb}
 use Rattle.std.specs.Prelude.{drop}
 use Rattle.std.proofs.lemmas.Option.{none-some, same_Some}
 use Rattle.channel_core.specs.EndValue.{unless_spent}
@@ -8,36 +8,10 @@ use Rattle.agent_node.specs.AgentValue.{AgentValue}
 use Rattle.agent_node.specs.Agent.{after_giving, channel_of, first_of, given}
 use Rattle.agent_node.specs.Channels.{End, changed, changed_at, channel_at, end_in, place_of, with_end}
 use Rattle.channel_list.specs.declared.channel.Channel.{Channel}
-use Rattle.serving_wires.specs.Outbox.{queued}
-use Rattle.serving_wires.specs.OutboxValue.{OutboxValue}
 use Rattle.serving_wires.proofs.Rows.{within}
-use Rattle.agent_serving.specs.Lines.{agent_emptied, bytes_of, emptied, gathered, queue_of, queue_on}
+use Rattle.agent_serving.specs.Gathering.{agent_emptied, emptied, queue_of}
 use Rattle.agent_node.proofs.Places.{found, first_place, place_found, changed_behind}
 use Rattle.list_laws.proofs.Numbers.{lt_more}
-
--- ---- What is queued in an outbox, one part after the other
-
-queued_by : (lost : Bool) (o : OutboxValue) (first rest : List ℕ) → queued rest (queued first (record o { is_lost = lost })) ≡ queued (first ++ rest) (record o { is_lost = lost })
-queued_by true o first rest = refl
-queued_by false o first rest = ap (λ bytes. record o { is_lost = false; queued = bytes }) (append_assoc o.queued first rest)
-
--- one part and then the others
-pub queued_on : (first rest : List ℕ) (o : OutboxValue) → queued rest (queued first o) ≡ queued (first ++ rest) o
-queued_on first rest o = queued_by o.is_lost o first rest
-
-none_by_flag : (lost : Bool) (o : OutboxValue) → queued [] (record o { is_lost = lost }) ≡ record o { is_lost = lost }
-none_by_flag true o = refl
-none_by_flag false o = ap (λ bytes. record o { is_lost = false; queued = bytes }) (append-nil o.queued)
-
-pub none_is_queued : (o : OutboxValue) → queued [] o ≡ o
-none_is_queued o = none_by_flag o.is_lost o
-
-channel_by : (lost : Bool) (o : OutboxValue) (bytes : List ℕ) → (queued bytes (record o { is_lost = lost })).channel ≡ o.channel
-channel_by true o bytes = refl
-channel_by false o bytes = refl
-
-pub channel_stays : (bytes : List ℕ) (o : OutboxValue) → (queued bytes o).channel ≡ o.channel
-channel_stays bytes o = channel_by o.is_lost o bytes
 
 -- ---- The first channel of a number, by cases on the list
 
@@ -132,13 +106,6 @@ once_emptied false e = refl
 pub emptied_after : (e : End) → emptied (without_first e) ≡ emptied e
 emptied_after e = once_emptied e.is_spent e
 
-twice_emptied : (spent : Bool) (e : End) → emptied (emptied (record e { is_spent = spent })) ≡ emptied (record e { is_spent = spent })
-twice_emptied true e = refl
-twice_emptied false e = refl
-
-pub emptied_twice : (e : End) → emptied (emptied e) ≡ emptied e
-emptied_twice e = twice_emptied e.is_spent e
-
 none_by : (spent : Bool) (e : End) → queue_of (Some (emptied (record e { is_spent = spent }))) ≡ []
 none_by true e = refl
 none_by false e = refl
@@ -218,15 +185,3 @@ done k a gives =
 
 pub agent_is_done : (k : ℕ) (a next : AgentValue) → given k a ≡ None → next ≡ after_giving k a → IsDone k a next
 agent_is_done k a next gives is = subst (λ x. IsDone k a x) (sym is) (done k a gives)
-
--- all that it has was taken out
-pub gathered_at_last : (k : ℕ) (first a next : AgentValue) (before o : OutboxValue) → k ≡ before.channel → given k a ≡ None → next ≡ after_giving k a
-    → agent_emptied k a ≡ agent_emptied k first → queued (bytes_of (queue_on k a)) o ≡ queued (bytes_of (queue_on k first)) before
-    → (next, o) ≡ gathered first before
-unfolding gathered
-gathered_at_last k first a next before o at gives is agents queues =
-    let d = agent_is_done k a next gives is in
-    let rest : o ≡ queued (bytes_of (queue_on k first)) before =
-    sym (none_is_queued o) ∙ ap (λ (outs : List Outgoing). queued (bytes_of outs) o) (sym d.queue) ∙ queues in
-    ap (λ (x : AgentValue). (x, o)) (d.same ∙ agents) ∙ ap (λ (y : OutboxValue). (agent_emptied k first, y)) rest
-    ∙ ap (λ (n : ℕ). (agent_emptied n first, queued (bytes_of (queue_on n first)) before)) at

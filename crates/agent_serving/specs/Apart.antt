@@ -5,13 +5,13 @@ use Rattle.channel_core.specs.QueueLaws.{is_message}
 use Rattle.channel_core.specs.declared.held.Outgoing.{Outgoing}
 use Rattle.target_contexts.specs.declared.process.Image.{Image}
 use Rattle.target_hub.specs.Sent.{sent}
-use Rattle.tcf_wires.specs.declared.event.WireEvent.{WireEvent}
 use Rattle.agent_node.specs.Agent.{new_agent}
 use Rattle.agent_node.specs.AgentLaws.{all_said, messages_told, tokens}
 use Rattle.agent_node.specs.Apart.{AreToldTheSame, asked_on, opened_as}
 use Rattle.agent_node.specs.Runs.{AgentRun, Call, run_of}
 use Rattle.agent_serving.specs.Served.{IsServed, given_out, run_by}
-use Rattle.agent_serving.specs.Serving.{after_events}
+use Rattle.agent_serving.specs.Serving.{served_agent}
+use Rattle.serving_wires.specs.Standing.{Heard, after}
 
 -- ---- what is given out on the channel of a number
 
@@ -35,7 +35,7 @@ GivesItsOwn images calls k =
 
 -- Whatever came over the wires, on this channel and on others, by the calls that made what is served.
 abbrev pub EachIsGivenItsOwn : Type 0
-EachIsGivenItsOwn = (images : List Image) (events : List WireEvent) (served : IsServed images (after_events images events)) →
+EachIsGivenItsOwn = (images : List Image) (heard : List Heard) (served : IsServed images (after (served_agent images) heard)) →
     (k : ℕ) → GivesItsOwn images served.calls k
 
 -- it was told the same, and where its commands had the same tokens the same is given out on it
@@ -46,7 +46,7 @@ pub record GiveTheSame (images : List Image) (calls others : List Call) (k : ℕ
 -- So of any two served agents with the same images, whatever came over the wires of either: where the histories are the
 -- same, a wire can't tell them apart.
 abbrev pub OneHistoryServesTheSame : Type 0
-OneHistoryServesTheSame = (images : List Image) (events others : List WireEvent) →
-    (one : IsServed images (after_events images events)) (other : IsServed images (after_events images others)) →
+OneHistoryServesTheSame = (images : List Image) (heard others : List Heard) →
+    (one : IsServed images (after (served_agent images) heard)) (other : IsServed images (after (served_agent images) others)) →
     (run_by images one.calls).history ≡ (run_by images other.calls).history →
     (k : ℕ) → GiveTheSame images one.calls other.calls k

@@ -1,10 +1,9 @@
 pub mod Passing
 pub mod Ticking
-pub mod Lines
+pub mod Gathering
 pub mod ServingValue
 pub mod Serving
 pub mod Served
 pub mod Apart
 pub mod Left
 pub mod Serve
-pub mod Turn

@@ -1,6 +1,7 @@
--- What is served is an agent, and what is queued for each of its wires is what it gave out there.
-use Rattle.std.specs.Prelude.{ℕ, ◌≡◌, ◌==◌, Bool, true, false, List, [], ◌∷◌, ◌++◌, filter, option_to_list, if◌then◌else◌}
-use Rattle.std.specs.List.{AllByRecursion}
+-- What is served is an agent: what is queued for each of its wires is what it gave out there, and what comes there is what it
+-- gets.
+use Rattle.std.specs.Prelude.{ℕ, ◌≡◌, ◌==◌, Bool, true, false, List, [], ◌∷◌, ◌++◌, filter, fold, option_to_list, if◌then◌else◌}
+use Rattle.std.specs.List.{AllByRecursion, flat_map}
 use Rattle.channel_core.specs.QueueLaws.{is_message}
 use Rattle.channel_core.specs.declared.held.Outgoing.{Outgoing}
 use Rattle.list_laws.specs.Fronts.{IsFront}
@@ -9,17 +10,18 @@ use Rattle.target_hub.specs.History.{IsLegal}
 use Rattle.target_hub.specs.Sent.{sent}
 use Rattle.tcf_wires.specs.Told.{taken_on}
 use Rattle.tcf_wires.specs.declared.call.WireCall.{WireCall}
-use Rattle.tcf_wires.specs.declared.event.WireEvent.{WireEvent}
 use Rattle.agent_node.specs.Agent.{given, new_agent, opened}
 use Rattle.agent_node.specs.AgentLaws.{all_said, asked, messages_told, tokens}
 use Rattle.agent_node.specs.AgentValue.{AgentValue}
-use Rattle.agent_node.specs.Runs.{AgentRun, Call, Past, after_all, called, gives, no_calls, opens, run_of}
-use Rattle.serving_wires.specs.Calls.{events_in}
-use Rattle.agent_serving.specs.Lines.{bytes_of}
-use Rattle.agent_serving.specs.Serving.{after_events, line_of, queued_in}
+use Rattle.agent_node.specs.Runs.{AgentRun, Call, Past, after_all, called, comes, gives, no_calls, opens, run_of}
+use Rattle.serving_wires.specs.Standing.{AreApart, Heard, State, after, is_resting, sent_in, standing_in, state_after, wire_on}
+use Rattle.serving_wires.specs.Wired.{IsWired}
+use Rattle.serving_wires.specs.declared.intake.Came.{Came}
+use Rattle.agent_serving.specs.Gathering.{bytes_of}
+use Rattle.agent_serving.specs.Serving.{served_agent}
 use Rattle.agent_serving.specs.ServingValue.{ServingValue}
 
--- ---- what calls of an agent give out on a channel, and how the agent answers its openings
+-- ---- what calls of an agent give out on a channel and what it gets there, and how the agent answers its openings
 
 abbrev pub given_by : ℕ → Call → AgentValue → List Outgoing
 given_by k (gives j) a = if j == k then option_to_list (given j a) else []
@@ -28,6 +30,14 @@ given_by k _ a = []
 abbrev pub given_out : ℕ → List Call → AgentValue → List Outgoing
 given_out k [] a = []
 given_out k (call ∷ calls) a = given_by k call a ++ given_out k calls (called call a)
+
+-- what it gets on a channel
+abbrev pub got_by : ℕ → Call → List ℕ
+got_by k (comes j piece) = if j == k then piece else []
+got_by k _ = []
+
+abbrev pub got_on : ℕ → List Call → List ℕ
+got_on k calls = flat_map (got_by k) calls
 
 -- whether the channel was opened, or refused
 abbrev pub answered_by : ℕ → Call → AgentValue → List Bool
@@ -51,7 +61,10 @@ abbrev pub wire_of : List Image → List Call → ℕ → List ℕ
 wire_of images calls k =
     let a = new_agent images in queued_for (answers k calls a) (bytes_of (given_out k calls a))
 
--- ---- what they tell
+-- ---- the agent that they make, and what they tell
+
+abbrev pub after_calls : List Image → List Call → AgentValue
+after_calls images calls = fold (λ a call. called call a) (new_agent images) calls
 
 abbrev pub run_by : List Image → List Call → AgentRun
 run_by images calls = after_all calls (no_calls images)
@@ -65,24 +78,36 @@ GivesWhatIsTold images calls past =
     filter is_message (given_out past.number calls (new_agent images) ++ (run_of past).end.queued)
     ≡ all_said (messages_told (tokens (asked (run_of past))) told)
 
--- the history of the inputs is legal, and so of each channel that was opened
+-- the run of these calls comes to that agent; the history of the inputs is legal, and so of each channel that was opened
 pub record TellsItsHistory (images : List Image) (calls : List Call) : Type 0 where
+  pub agent : (run_by images calls).agent ≡ after_calls images calls
   pub legal : IsLegal images (run_by images calls).history
   pub told : AllByRecursion (GivesWhatIsTold images calls) (run_by images calls).channels
 
 -- ---- some calls of a new agent make what is served
 
-pub record IsServed (images : List Image) (s : ServingValue) : Type 0 where
+-- of a channel that is open: what it gave out there is all that was queued for its wire; and what it got there, with what waits,
+-- is all that came on it
+abbrev pub IsWiredOn : List Image → List Call → State ServingValue → ℕ → List Came → Type 0
+IsWiredOn images calls state k waiting =
+    IsWired k (standing_in state).sent (got_on k calls) (bytes_of (given_out k calls (new_agent images))) waiting (is_resting state)
+
+pub record IsServed (images : List Image) (state : State ServingValue) : Type 0 where
   pub calls : List Call
-  pub agent : s.agent ≡ (run_by images calls).agent
-  pub queued : (k : ℕ) → queued_in (line_of k s.lines) ≡ wire_of images calls k
+  pub agent : (standing_in state).served.agent ≡ after_calls images calls
+  pub queued : (k : ℕ) → (wire_on k state).queued ≡ wire_of images calls k
+  -- what it got on a channel is a front of what came on its wire, whether it is open or not
+  pub got : (k : ℕ) → IsFront (got_on k calls) (wire_on k state).came
+  pub wired : AllByRecursion (λ line. IsWiredOn images calls state line.channel line.item) (standing_in state).served.lines
+  -- no wire takes the place of another
+  pub kept : (k : ℕ) → (wire_on k state).is_left ≡ false
   pub tells : TellsItsHistory images calls
 
--- Whatever the images, and whatever came.
+-- Whatever the images, and whatever came, where each connection had a channel of its own.
 abbrev pub ServesAnAgent : Type 0
-ServesAnAgent = (images : List Image) (events : List WireEvent) → IsServed images (after_events images events)
+ServesAnAgent = (images : List Image) (heard : List Heard) → AreApart (sent_in (after (served_agent images) heard)) → IsServed images (after (served_agent images) heard)
 
 -- It stands behind the wires: what they took on each channel is a front of what it gave out there.
 pub record IsBehindWires (images : List Image) (wires : List WireCall) : Type 0 where
-  pub served : IsServed images (after_events images (events_in wires))
+  pub served : IsServed images (state_after (served_agent images) wires)
   pub taken : (k : ℕ) → IsFront (taken_on k wires) (wire_of images served.calls k)

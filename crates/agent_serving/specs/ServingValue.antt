@@ -1,10 +1,10 @@
--- An agent that is served, with its wires, as contracts see it.
+-- An agent that is served, as contracts see it.
 use Rattle.std.specs.Prelude.{List}
 use Rattle.agent_node.specs.AgentValue.{AgentValue}
 use Rattle.serving_wires.specs.Row.{Row}
-use Rattle.agent_serving.specs.declared.line.Line.{Line}
+use Rattle.serving_wires.specs.declared.intake.Came.{Came}
 
--- an agent, and the lines of its connections, in the order of their opening
+-- an agent, and what came on each of its channels and waits, in the order of their opening
 pub record ServingValue : Type 0 where
   pub agent : AgentValue
-  pub lines : List (Row Line)
+  pub lines : List (Row (List Came))

@@ -3,8 +3,8 @@ ghost use Rattle.agent_serving.specs.Apart.{EachIsGivenItsOwn, OneHistoryServesT
 ghost use Rattle.agent_serving.specs.Left.{GoesOnWhileIdle, LeavesNothing};
 ghost use Rattle.agent_serving.specs.Served.{ServesAnAgent};
 
-/// The law that what is served is an agent, whatever its images and whatever came: some calls of a new agent
-/// make it, and what is queued for each wire is what it gave out there in them, or for a channel that it refused
+/// The law that what is served is an agent, whatever its images and whatever came, where each connection has a channel
+/// of its own: some calls of a new agent make it, and what is queued for each wire is what it gave out there in them, or for a channel that it refused
 /// the end of the stream alone. The history of these calls is legal; and what was given out on a channel, and
 /// what is still to be given out, flow control and the end of the stream aside, is what the history tells it, each
 /// answer under the token of its command.
@@ -26,8 +26,8 @@ pub fn wires_touch_by_the_history_alone()
     ensures same { OneHistoryServesTheSame }
 {}
 
-/// The law that after any events that can come, of each line that isn't closed, no message can be taken on its
-/// channel, and none waits; nothing that came behind it can be given, and nothing waits; and what the agent has for
+/// The law that after any events that can come, of each channel whose end wasn't taken, no message can be taken on it,
+/// and none waits; nothing that came behind it can be given, and nothing waits; and what the agent has for
 /// it is queued. Only where the agent is full, and takes no further input, do messages and pieces wait. By `Idle`
 /// 256 instructions are executed, or no thread runs any more, or the agent is full.
 pub fn nothing_is_left_to_do()

@@ -1,8 +1,8 @@
 //! An agent that is served over wires: each event goes to it, and what it tells goes to its peers.
 #![tactic(auto)]
 
+mod gathering;
 pub mod laws;
-mod line;
 mod passing;
 pub mod serve;
 mod serving;

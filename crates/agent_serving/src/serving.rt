@@ -1,25 +1,24 @@
-//! An agent with the lines of its connections, and what each event makes of them.
-ghost use Rattle.std.specs.Prelude.{◌≡◌, IfOk, OnErr, OnOk};
-ghost use Rattle.target_contexts.specs.Named.{has_running};
-ghost use Rattle.serving_wires.specs.Calls.{Makes};
-ghost use Rattle.serving_wires.specs.Flushing.{FlushesKept, GivesUpAll};
-ghost use Rattle.agent_serving.specs.Lines.{of_line};
-ghost use Rattle.agent_serving.specs.Serving.{acted, after_event, all_gathered, heard_on, new_serving, opened_on};
+//! An agent with what came on its channels, and what each event makes of them.
+ghost use Rattle.std.specs.Prelude.{◌≡◌, [], IfOk, OnOk};
+ghost use Rattle.serving_wires.specs.Going.{DoesAlone};
+ghost use Rattle.serving_wires.specs.Sending.{begun, opened_by};
+ghost use Rattle.agent_serving.specs.Serving.{acted, behaviour, heard_on, new_serving, opened_on, passed_at};
 
-use crate::line::{Line, new_line};
+use crate::gathering::{gather, gather_all};
+use crate::passing::pass_on;
 use crate::ticking::idle;
 use agent_node::{AgentNode, Image};
-use serving_wires::{Came, Roster, flush_rows};
+use serving_wires::{Came, END_OF_STREAM, Intake, Roster, Sending, Served};
 use std::alloc::{AllocError, Global};
 use std::marker::Model;
 use tcf_wires::{WireEvent, Wires};
 
-/// A served agent. Lines that are shut are forgotten.
+/// A served agent, with what came on each of its channels and waits. A channel whose end was taken is forgotten.
 #[derive(Drop)]
 pub struct Serving {
     alloc: Global,
     agent: AgentNode,
-    lines: Roster<Line>,
+    lines: Roster<Intake>,
 }
 
 impl Model for Serving {
@@ -41,85 +40,87 @@ impl Serving {
         })
     }
 
-    /// An event comes: it goes to the agent, all messages that can be taken are taken, and what the agent tells is queued.
-    #[tactic(auto, unfolding(crate::specs::Serving::after_event))]
-    pub fn heed(&mut self, event: WireEvent) -> Result<(), AllocError>
-        ensures { OnOk result (self.new ≡ after_event event self.old) }
-    {
-        self.act(event)?;
-        self.gather()
-    }
-
     #[tactic(auto, unfolding(crate::specs::Serving::acted))]
-    fn act(&mut self, event: WireEvent) -> Result<(), AllocError>
-        ensures { OnOk result (self.new ≡ acted event self.old) }
+    fn act(&mut self, event: WireEvent, sending: &mut Sending) -> Result<(), AllocError>
+        ensures { OnOk result (DoesAlone [] (acted event self.old) self.new (opened_by event sending.old) sending.new) }
     {
         match event {
-            WireEvent::Opened(channel) => self.open(channel),
-            WireEvent::Piece(channel, bytes) => self.hear(channel, Came::Piece(bytes)),
-            WireEvent::Ended(channel) | WireEvent::Lost(channel) => self.hear(channel, Came::End),
+            WireEvent::Opened(channel) => self.open(channel, sending),
+            WireEvent::Piece(channel, bytes) => self.hear(channel, Came::Piece(bytes), sending),
+            WireEvent::Ended(channel) | WireEvent::Lost(channel) => {
+                self.hear(channel, Came::End, sending)
+            }
             WireEvent::Idle => idle(&mut self.agent),
             WireEvent::Stop => Ok(()),
         }
     }
 
-    /// A peer connected.
-    fn open(&mut self, channel: u64) -> Result<(), AllocError>
-        ensures { OnOk result (self.new ≡ opened_on channel self.old) }
+    /// A peer connected. For a channel that the agent refuses the end of the stream is all that is sent.
+    fn open(&mut self, channel: u64, sending: &mut Sending) -> Result<(), AllocError>
+        ensures { OnOk result (DoesAlone [] (opened_on channel self.old) self.new (begun channel sending.old) sending.new) }
     {
-        let is_opened = self.agent.opened(channel)?;
-        self.lines
-            .push(channel, new_line(self.alloc, channel, is_opened)?)
+        sending.begin(channel)?;
+        if self.agent.opened(channel)? {
+            return self.lines.push(channel, Intake::new(self.alloc));
+        }
+        sending.queue(channel, END_OF_STREAM)?;
+        sending.close(channel);
+        Ok(())
     }
 
-    /// Something came on a channel. On an unknown one it is dropped.
-    #[tactic(auto, unfolding(crate::specs::Serving::heard_on))]
-    fn hear(&mut self, channel: u64, came: Came) -> Result<(), AllocError>
-        ensures { OnOk result (self.new ≡ heard_on channel came self.old) }
+    /// Something came on a channel. On an unknown one it is dropped. Behind the channel's end what is still queued for it is
+    /// the last.
+    fn hear(&mut self, channel: u64, came: Came, sending: &mut Sending) -> Result<(), AllocError>
+        ensures { OnOk result (DoesAlone [] (heard_on channel came self.old) self.new sending.old sending.new) }
     {
         if let Some(place) = self.lines.place_of(channel) {
-            if let Some(line) = self.lines.get_mut(place) {
-                line.hear(&mut self.agent, came)?;
+            if hear_at(&mut self.agent, &mut self.lines, place, channel, came)? {
+                gather(&mut self.agent, channel, sending)?;
+                sending.close(channel);
+                self.lines.remove(place);
             }
         }
         Ok(())
     }
+}
 
-    /// Whether a thread of the target runs.
-    pub fn has_running(&self) -> bool
-        ensures { result ≡ has_running self.now.agent.target.contexts.processes }
-    {
-        self.agent.has_running()
+impl Served for Serving {
+    ghost behaviour = { behaviour };
+
+    /// An event comes: it goes to the agent, all messages that can be taken are taken, and what the agent tells is queued.
+    #[tactic(auto, unfolding(crate::specs::Serving::handled))]
+    fn heed<W: Wires>(
+        &mut self,
+        event: WireEvent,
+        sending: &mut Sending,
+        wires: &mut W,
+    ) -> Result<(), AllocError> {
+        self.act(event, sending)?;
+        gather_all(&mut self.agent, &self.lines, sending)
     }
 
-    /// Queues what the agent tells.
-    fn gather(&mut self) -> Result<(), AllocError>
-        ensures { OnOk result (self.new ≡ all_gathered self.old) }
-    {
-        gather_all(&mut self.agent, &mut self.lines)
-    }
-
-    /// Puts what is queued, wire by wire in the order of the lines, and shuts and forgets the lines that are done with.
-    pub fn flush<W: Wires>(&mut self, wires: &mut W) -> Result<(), AllocError>
-        ensures agent { self.new.agent ≡ self.old.agent }
-        ensures ok { OnOk result (Makes (FlushesKept of_line self.old.lines self.new.lines)
-            (W.seen wires.old) (W.seen wires.new)) }
-        ensures err { OnErr result (Makes (GivesUpAll of_line self.old.lines)
-            (W.seen wires.old) (W.seen wires.new)) }
-        ensures numbers { W.unused wires.new ≡ W.unused wires.old }
-    {
-        flush_rows(&mut self.lines, wires)
+    /// While a thread of the target runs it goes on.
+    fn waits_for_events(&self) -> bool {
+        !self.agent.has_running()
     }
 }
 
-/// Queues what the agent tells, line by line.
-fn gather_all(agent: &mut AgentNode, lines: &mut Roster<Line>) -> Result<(), AllocError>
-    ensures { OnOk result ((record { agent = agent.new; lines = lines.new }) ≡ all_gathered (record { agent = agent.old; lines = lines.old })) }
+/// Something came on the channel at a place, and goes to the agent; all messages that can be taken are taken. Answers whether
+/// the end of the channel was.
+fn hear_at(
+    agent: &mut AgentNode,
+    lines: &mut Roster<Intake>,
+    place: usize,
+    channel: u64,
+    came: Came,
+) -> Result<bool, AllocError>
+    ensures { IfOk result (λ is_over. (is_over, record { agent = agent.new; lines = lines.new }) ≡ passed_at place channel came (record { agent = agent.old; lines = lines.old })) }
 {
-    for place in 0..lines.len() {
-        if let Some(line) = lines.get_mut(place) {
-            line.gather(agent)?;
+    match lines.get_mut(place) {
+        Some(line) => {
+            line.push(came)?;
+            pass_on(agent, channel, line)
         }
+        None => Ok(false),
     }
-    Ok(())
 }

@@ -6,7 +6,7 @@ use Rattle.std.proofs.lemmas.Bool.{and_parts, false≢true, or_parts}
 use Rattle.std.proofs.lemmas.Option.{none-some, same_Some}
 use Rattle.slab.specs.Slab.{Slab, Updates, get}
 use Rattle.serving_wires.specs.Row.{Row}
-use Rattle.serving_wires.specs.Rows.{item_at, place_of, with_item_at}
+use Rattle.serving_wires.specs.Rows.{channel_at, item_at, place_of, with_item_at}
 use Rattle.serving_wires.specs.Slots.{are_kept, row_of, rows_of}
 use Rattle.serving_wires.specs.declared.roster.Place.{Place}
 
@@ -199,3 +199,20 @@ item_kept slots [] at key kept is = absurd (none-some key is)
 item_kept slots (place ∷ places) zero key kept is =
     ap (λ (n : ℕ). is_some (get slots n)) (sym (same_Some place.key key is)) ∙ (first_kept slots place places kept).there
 item_kept slots (place ∷ places) (suc at) key kept is = item_kept slots places at key (first_kept slots place places kept).rest is
+
+-- the channel at a place is that of the place
+first_channel : {T : Type 0} (c : ℕ) (o : Option T) (rows : List (Row T)) → is_some o ≡ true → channel_at 0 (row_of c o ++ rows) ≡ Some c
+first_channel c None rows some = absurd (false≢true some)
+first_channel c (Some item) rows some = refl
+
+later_channel : {T : Type 0} (c : ℕ) (o : Option T) (rows : List (Row T)) (at : ℕ) → is_some o ≡ true → channel_at (suc at) (row_of c o ++ rows) ≡ channel_at at rows
+later_channel c None rows at some = absurd (false≢true some)
+later_channel c (Some item) rows at some = refl
+
+pub channel_there : {T : Type 0} (slots : Slab T) (places : List Place) (at : ℕ) → IsTrue (are_kept slots places)
+    → option_map (λ place. place.channel) (slice_get places at) ≡ channel_at at (rows_of slots places)
+channel_there slots [] at kept = refl
+channel_there slots (place ∷ places) zero kept = sym (first_channel place.channel (get slots place.key) (rows_of slots places) (first_kept slots place places kept).there)
+channel_there slots (place ∷ places) (suc at) kept =
+    let f = first_kept slots place places kept in
+    channel_there slots places at f.rest ∙ sym (later_channel place.channel (get slots place.key) (rows_of slots places) at f.there)

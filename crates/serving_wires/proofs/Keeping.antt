@@ -15,7 +15,7 @@ use Rattle.serving_wires.specs.Serving.{EachBehind, IsInPlace, Nodes}
 use Rattle.serving_wires.specs.Order.{Order, closes, leaves, queues}
 use Rattle.serving_wires.specs.Sending.{outbox_after, queued_unless_closed}
 use Rattle.serving_wires.specs.Serve.{CarriesWire}
-use Rattle.serving_wires.specs.Standing.{Sent, sent_after, unused_wire}
+use Rattle.serving_wires.specs.Standing.{Sent, sent_after, unused_wire, with_piece}
 use Rattle.serving_wires.specs.WireLaws.{WireLaws}
 use Rattle.list_laws.proofs.Lists.{empty_by}
 
@@ -148,6 +148,12 @@ keeps_order laws (closes on) channel s now calls (left holds l) =
     left holds (record { at = l.at; closed = refl; closed_all = refl; nothing = l.nothing; front = l.front; shut = l.shut })
 keeps_order laws (leaves on) channel s now calls (follows stays f) = leave_follows now.is_shut channel s now calls refl f
 keeps_order laws (leaves on) channel s now calls (left holds l) = leave_left now.is_shut channel s now calls refl l
+
+-- a piece that came changes nothing of what is kept
+pub keeps_piece : (channel : ℕ) (bytes : List ℕ) (s : Sent) (now : OutboxValue) (calls : List WireCall) → Keeps channel s now calls → Keeps channel (with_piece bytes s) now calls
+keeps_piece channel bytes s now calls (follows stays f) = follows stays f
+keeps_piece channel bytes s now calls (left holds l) =
+    left holds (record { at = l.at; closed = l.closed; closed_all = l.closed_all; nothing = l.nothing; front = l.front; shut = l.shut })
 
 shut_stays : (order : Order) (o : OutboxValue) → o.is_shut ≡ true → o.is_closed ≡ true → outbox_after order o ≡ o
 shut_stays (queues on bytes) o is over = queued_away bytes o over

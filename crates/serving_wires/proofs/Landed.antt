@@ -35,7 +35,8 @@ use Rattle.serving_wires.proofs.Fronts.{IsFront}
 use Rattle.serving_wires.proofs.Settled.{front}
 use Rattle.serving_wires.proofs.Standing.{Stand, stand_more, stand_push}
 use Rattle.serving_wires.proofs.Keeping.{keeps_new}
-use Rattle.serving_wires.proofs.Ordered.{by_wires, stand_ordered, wires_keep}
+use Rattle.serving_wires.proofs.Ordered.{by_wires, stand_ordered, stand_pieced, wires_keep}
+use Rattle.serving_wires.proofs.Wires.{piece_first, piece_numbers}
 use Rattle.serving_wires.proofs.Leading.{Rows}
 
 abbrev pub Sents : Type 0
@@ -87,6 +88,17 @@ holds_order laws unused calls order sent rows h =
       below = subst (λ (ks : List ℕ). Below unused ks) (sym same) h.below;
       spares = λ channel missing.
           h.spares channel (missing_if channel sent (ap (λ (ks : List ℕ). is_among channel ks) (sym same) ∙ lacks_if channel (sent_with order sent) missing));
+    }
+
+pub holds_piece : (unused : ℕ) (calls : List WireCall) (channel : ℕ) (bytes : List ℕ) (sent : Sents) (rows : Rows) → Holds unused calls sent rows
+    → Holds unused calls (wires_with (events.Piece channel bytes) sent) rows
+holds_piece unused calls channel bytes sent rows h =
+    let now = wires_with (events.Piece channel bytes) sent in
+    let same : numbers now ≡ numbers sent = piece_numbers channel bytes sent in
+    record {
+      lines = subst (λ (s : Sents). Stand by_wires calls 0 s rows) (sym (piece_first channel bytes sent)) (stand_pieced calls bytes channel 0 sent rows h.lines);
+      below = subst (λ (ks : List ℕ). Below unused ks) (sym same) h.below;
+      spares = λ other missing. h.spares other (missing_if other sent (ap (λ (ks : List ℕ). is_among other ks) (sym same) ∙ lacks_if other now missing));
     }
 
 -- ---- a process that goes on
@@ -165,7 +177,7 @@ goes_keeps laws program served unused later p q olds news calls more (answered n
 event_holds : WireLaws → (event : WireEvent) (unused : ℕ) (calls : List WireCall) (sent : Sents) (rows : Rows) → can_come unused event ≡ true → Holds unused calls sent rows
     → Holds (unused_after_next (Ok event) unused) calls (wires_with event sent) (opened_by event rows)
 event_holds laws (events.Opened channel) unused calls sent rows can h = holds_push laws unused channel calls sent rows (leb-true unused channel can) h
-event_holds laws (events.Piece channel bytes) unused calls sent rows can h = h
+event_holds laws (events.Piece channel bytes) unused calls sent rows can h = holds_piece unused calls channel bytes sent rows h
 event_holds laws (events.Ended channel) unused calls sent rows can h = h
 event_holds laws (events.Lost channel) unused calls sent rows can h = h
 event_holds laws events.Idle unused calls sent rows can h = h

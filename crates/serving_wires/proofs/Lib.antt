@@ -31,3 +31,6 @@ pub mod Ending
 pub mod Opening
 pub mod Wires
 pub mod Coming
+pub mod Holding
+pub mod Waiting
+pub mod Wired

@@ -1,5 +1,6 @@
 -- What waits for an end: a piece is given to it only where its inbox holds fewer than 200 messages.
 use Rattle.std.specs.Prelude.{ℕ, List, [], ◌∷◌, Option, None, Some, nat_lt, if◌then◌else◌}
+use Rattle.std.specs.List.{flat_map}
 use Rattle.serving_wires.specs.declared.intake.Came.{Came}
 use Rattle.serving_wires.specs.declared.intake.Came.TheVariants.{Piece, End}
 
@@ -14,3 +15,11 @@ abbrev pub left_for : ℕ → List Came → List Came
 left_for inbox [] = []
 left_for inbox (Piece bytes ∷ later) = if nat_lt inbox 200 then later else Piece bytes ∷ later
 left_for inbox (End ∷ later) = later
+
+-- the bytes of the pieces that wait
+abbrev pub piece_bytes : Came → List ℕ
+piece_bytes (Piece bytes) = bytes
+piece_bytes End = []
+
+abbrev pub bytes_in : List Came → List ℕ
+bytes_in waiting = flat_map piece_bytes waiting

@@ -19,5 +19,6 @@ pub mod Program
 pub mod Sending
 pub mod Going
 pub mod Standing
+pub mod Wired
 pub mod Turn
 pub mod Serve

@@ -8,6 +8,9 @@ place_of channel rows = position (λ row. row.channel == channel) rows
 abbrev pub item_at : {T : Type 0} → ℕ → List (Row T) → Option T
 item_at place rows = option_map (λ row. row.item) (slice_get rows place)
 
+abbrev pub channel_at : {T : Type 0} → ℕ → List (Row T) → Option ℕ
+channel_at place rows = option_map (λ row. row.channel) (slice_get rows place)
+
 abbrev pub with_item : {T : Type 0} → T → Row T → Row T
 with_item item row = record row { item = item }
 

@@ -1,5 +1,5 @@
--- How a program that is served stands after some events and answers of connects. Nothing is put here: what is queued for a wire
--- stays, so that all that was ever queued for each wire is there.
+-- How a program that is served stands after some events and answers of connects. Nothing is put here, and nothing is taken
+-- away: all that was ever queued for each wire is there, and all that came on it.
 use Rattle.std.specs.Prelude.{ℕ, ◌==◌, Bool, true, false, List, [], ◌∷◌, ◌++◌, fold, map, Option, None, Some, Ok, Err, if◌then◌else◌}
 use Rattle.std.specs.List.{IsDistinct, flat_map}
 use Rattle.tcf_wires.specs.declared.call.WireCall.{WireCall}
@@ -13,15 +13,16 @@ use Rattle.serving_wires.specs.Program.{Program}
 use Rattle.serving_wires.specs.Row.{Row}
 use Rattle.serving_wires.specs.Serving.{Nodes}
 
--- ---- what was ever queued for a wire
+-- ---- what was ever queued for a wire, and what came on it
 
 pub record Sent : Type 0 where
   pub queued : List ℕ
+  pub came : List ℕ  -- the bytes of the pieces that came, since it opened
   pub is_closed : Bool  -- nothing more will be queued
   pub is_left : Bool  -- another wire took its place
 
 abbrev pub unused_wire : Sent
-unused_wire = record { queued = []; is_closed = false; is_left = false }
+unused_wire = record { queued = []; came = []; is_closed = false; is_left = false }
 
 abbrev pub sent_after : Order → Sent → Sent
 sent_after (queues channel bytes) s = if s.is_closed then s else record s { queued = s.queued ++ bytes }
@@ -31,13 +32,17 @@ sent_after (leaves channel) s = record s { is_closed = true; is_left = true }
 abbrev pub sent_with : Order → List (Row Sent) → List (Row Sent)
 sent_with order sent = changed_on (channel_of order) (sent_after order) sent
 
+-- a piece came
+abbrev pub with_piece : List ℕ → Sent → Sent
+with_piece bytes s = record s { came = s.came ++ bytes }
+
 -- a connection that came, or was made, has a wire
 abbrev pub with_wire : ℕ → List (Row Sent) → List (Row Sent)
 with_wire channel sent = sent ++ (record { channel = channel; item = unused_wire }) ∷ []
 
 abbrev pub wires_with : WireEvent → List (Row Sent) → List (Row Sent)
 wires_with (events.Opened channel) sent = with_wire channel sent
-wires_with (events.Piece channel bytes) sent = sent
+wires_with (events.Piece channel bytes) sent = changed_on channel (with_piece bytes) sent
 wires_with (events.Ended channel) sent = sent
 wires_with (events.Lost channel) sent = sent
 wires_with events.Idle sent = sent

@@ -3,7 +3,7 @@ ghost use Rattle.std.specs.Prelude.{◌≡◌, ◌==◌, ◌++◌, ◌∷◌, []
 ghost use Rattle.std.specs.Option.{option_copied_mut};
 ghost use Rattle.std.specs.Borrow.{sem};
 ghost use Rattle.slab.specs.Slab.{Updates};
-ghost use Rattle.serving_wires.specs.Rows.{item_at, place_of};
+ghost use Rattle.serving_wires.specs.Rows.{channel_at, item_at, place_of};
 
 use slab::Slab;
 use std::alloc::{AllocError, Global};
@@ -60,6 +60,13 @@ impl<T> Roster<T> {
         ensures { result ≡ place_of channel self.now }
     {
         find(&self.order, channel)
+    }
+
+    /// The channel whose item is at a place.
+    pub fn channel_at(&self, place: usize) -> Option<u64>
+        ensures { result ≡ channel_at place self.now }
+    {
+        channel_of(&self.order, place)
     }
 
     /// The item at a place.
@@ -119,6 +126,13 @@ fn find(order: &[Place], channel: u64) -> Option<usize>
     ensures { result ≡ position (λ place. place.channel == channel) order.now }
 {
     order.iter().position(|place| place.channel == channel)
+}
+
+/// Whose item is at a place.
+fn channel_of(order: &[Place], place: usize) -> Option<u64>
+    ensures { result ≡ option_map (λ place. place.channel) (slice_get order.now place) }
+{
+    Some(order.get(place)?.channel)
 }
 
 /// Where the item at a place is stored.

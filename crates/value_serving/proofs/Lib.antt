@@ -5,9 +5,12 @@ mod Rounds
 mod Results
 mod Hearing
 mod Giving
+mod Agreeing
 mod Making
 mod Working
 mod Rested
+mod WhoseWire
+mod Arriving
 mod ServedAdds
 mod Idle
 mod UntilNothing

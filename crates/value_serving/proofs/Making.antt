@@ -1,156 +1,106 @@
--- A value-add by its calls so far, and what its ends gave out in them.
-use Rattle.std.proofs.Common.{◌≡◌, ℕ, Bool, true, false, List, [], ◌∷◌, ◌++◌, length, Option, Some, None, refl, ap, sym, ◌∙◌, subst, arith, append-nil, append_assoc, length-append}
-use Rattle.std.specs.Prelude.{IfSome, if◌then◌else◌, is_some, option_and_then, option_map, slice_get}
+-- A value-add by its calls so far, and what passed on its sides in them.
+use Rattle.std.proofs.Common.{◌≡◌, ℕ, Bool, true, false, List, [], ◌∷◌, ◌++◌, length, Option, Some, None, refl, ap, sym, ◌∙◌, subst, arith, append_assoc, length-append}
+use Rattle.std.specs.Prelude.{fold, if◌then◌else◌, is_some, option_map, option_to_list, slice_get}
+use Rattle.std.proofs.lemmas.List.Sums.{fold-append}
 use Rattle.channel_core.specs.Closing.{is_closed}
-use Rattle.channel_core.specs.Laws.{listed}
-use Rattle.channel_core.specs.Runs.{Run, after_calls}
+use Rattle.channel_core.specs.Runs.{Run, after_calls as end_after}
 use Rattle.channel_core.specs.declared.held.Outgoing.{Outgoing}
 use Rattle.channel_core.proofs.TheLaws.{queues_in_order, stays_closed}
 use Rattle.value_node.specs.ForwardedValue.{ForwardedValue}
-use Rattle.value_node.specs.Passing.{Lower, Upper}
+use Rattle.value_node.specs.Passing.{Upper}
 use Rattle.value_node.specs.RelayLaws.{EndsAreRuns, StandsWell}
-use Rattle.value_node.specs.Runs.{Call, Past, UpperCall, ValueRun, above, after_all, after_call, below, bytes_end, called, comes, connects, fails, gives, no_calls, reconnected, turns, upper_after, upper_by, upper_from, upper_on, with_calls}
-use Rattle.value_node.specs.Value.{after_giving, awaits, connected, first_of, given, is_free, new_value, value_services}
+use Rattle.value_node.specs.Runs.{Call, Past, UpperCall, ValueRun, after_all, bytes_end, called, comes, connects, fails, gives, no_calls, turns, upper_after, upper_on}
+use Rattle.value_node.specs.Value.{after_giving, awaits, connected, given, is_free, new_value, value_services}
 use Rattle.value_node.specs.ValueValue.{ValueValue}
 use Rattle.value_node.specs.declared.relay.Relay.{Relay}
 use Rattle.value_node.specs.declared.states.Bind.{Bind}
 use Rattle.value_node.specs.declared.states.Bind.TheVariants.{Unbound, Opening, Bound, Closed}
 use Rattle.value_node.specs.declared.states.Side.{Side}
 use Rattle.value_node.specs.declared.states.Side.TheVariants.{Below, Above}
-use Rattle.value_node.proofs.Holding.{above_more, below_more}
-use Rattle.value_node.proofs.HoldsEnds.{upper_is}
 use Rattle.value_node.proofs.Pasts.{after_both}
 use Rattle.value_node.proofs.Steps.{called_whole, end_ran, ran, ran_by, upper_runs, whole}
 use Rattle.value_node.proofs.TheLaws.{ends_are_runs}
 use Rattle.value_serving.specs.Adds.{emptied, is_over, queue_on}
+use Rattle.value_serving.specs.Served.{Passage, Passed, after_call, after_calls, new_passage, nothing_passed, with_got, with_given}
+use Rattle.value_serving.proofs.Agreeing.{none_linked, passages_agree}
 use Rattle.value_serving.proofs.Emptying.{last_of, next_of}
-use Rattle.value_serving.proofs.Giving.{IsQuiet, given_after, lower_given, upper_given, upper_puts}
+use Rattle.value_serving.proofs.Giving.{IsQuiet, given_after, upper_puts}
 
--- ---- what holds of a run of calls
-
-pub record Has (r : ValueRun) (node : ValueValue) (low high : List Outgoing) (linked : Bool) : Type 0 where
-  pub node_is : node ≡ r.value
-  pub low_is : (below r.past).past.given ≡ low
-  pub high_is : (above r.past).past.given ≡ high
-  pub linked_is : is_some r.past.connection ≡ linked
-
-pub record Made (peer : List ℕ) (node : ValueValue) (low high : List Outgoing) (linked : Bool) : Type 0 where
+pub record Made (peer : List ℕ) (node : ValueValue) (low : Passed) (high : Option Passed) : Type 0 where
   pub calls : List Call
-  pub has : Has (after_all calls (no_calls peer)) node low high linked
+  pub is : after_calls peer calls ≡ record { node = node; below = low; above = high }
 
-pub made_new : (peer : List ℕ) → Made peer (new_value peer) [] [] false
-made_new peer = record { calls = []; has = record { node_is = refl; low_is = refl; high_is = refl; linked_is = refl } }
+pub made_new : (peer : List ℕ) → Made peer (new_value peer) nothing_passed None
+made_new peer = record { calls = []; is = refl }
 
-after_more : (calls : List Call) (call : Call) (r : ValueRun) → after_all (calls ++ call ∷ []) r ≡ after_call call (after_all calls r)
-after_more [] call r = refl
-after_more (first ∷ calls) call r = after_more calls call (after_call first r)
+-- ---- one call more
 
-made_more : (peer : List ℕ) (call : Call) (node next : ValueValue) (low low_then high high_then : List Outgoing) (linked linked_then : Bool)
-    → ((r : ValueRun) → EndsAreRuns r → Has r node low high linked → Has (after_call call r) next low_then high_then linked_then)
-    → Made peer node low high linked → Made peer next low_then high_then linked_then
-made_more peer call node next low low_then high high_then linked linked_then step m =
+abbrev IsMade : List ℕ → Passage → Type 0
+IsMade peer p = Made peer p.node p.below p.above
+
+made_more : (peer : List ℕ) (call : Call) (node : ValueValue) (low : Passed) (high : Option Passed) → Made peer node low high
+    → IsMade peer (after_call (record { node = node; below = low; above = high }) call)
+made_more peer call node low high m =
     record {
       calls = m.calls ++ call ∷ [];
-      has = subst (λ (r : ValueRun). Has r next low_then high_then linked_then) (sym (after_more m.calls call (no_calls peer)))
-          (step (after_all m.calls (no_calls peer)) (ends_are_runs peer m.calls) m.has);
+      is = fold-append after_call (new_passage peer) m.calls (call ∷ []) ∙ ap (λ (p : Passage). after_call p call) m.is;
     }
 
--- ---- a call that gives nothing out
+-- calls by which nothing passes, and no wire opens
+abbrev pub IsStill : Call → Type 0
+IsStill (comes side piece mark) = ⊥
+IsStill (bytes_end side) = Unit {0}
+IsStill (turns side) = Unit {0}
+IsStill connects = ⊥
+IsStill fails = Unit {0}
+IsStill (gives side) = ⊥
 
-linked_map : {A : Type 0} → (f : A → A) (o : Option A) → is_some (option_map f o) ≡ is_some o
-linked_map f None = refl
-linked_map f (Some x) = refl
+pub still_quiet : (call : Call) → IsStill call → IsQuiet call
+still_quiet (comes side piece mark) still = absurd still
+still_quiet (bytes_end side) still = tt
+still_quiet (turns side) still = tt
+still_quiet connects still = absurd still
+still_quiet fails still = tt
+still_quiet (gives side) still = absurd still
 
-has_with : (call : Call) (r : ValueRun) (node : ValueValue) (low high : List Outgoing) (linked : Bool) → IsQuiet call → EndsAreRuns r → Has r node low high linked
-    → Has (record { value = called call r.value; past = with_calls call r.value.relay (called call r.value).relay r.past }) (called call node) low high linked
-has_with call r node low high linked quiet runs h =
-    let next = (called call r.value).relay in
-    record {
-      node_is = ap (called call) h.node_is;
-      low_is = lower_given call r.value.relay next r.past quiet runs.unbound ∙ h.low_is;
-      high_is = upper_given call r.value.relay next r.past quiet runs.upper ∙ h.high_is;
-      linked_is = linked_map (λ (calls : List UpperCall). calls ++ upper_by call r.value.relay) r.past.connection ∙ h.linked_is;
-    }
+pub made_still : (peer : List ℕ) (call : Call) (node : ValueValue) (low : Passed) (high : Option Passed) → IsStill call → Made peer node low high → Made peer (called call node) low high
+made_still peer (comes side piece mark) node low high still m = absurd still
+made_still peer (bytes_end side) node low high still m = made_more peer (bytes_end side) node low high m
+made_still peer (turns side) node low high still m = made_more peer (turns side) node low high m
+made_still peer connects node low high still m = absurd still
+made_still peer fails node low high still m = made_more peer fails node low high m
+made_still peer (gives side) node low high still m = absurd still
 
-has_quiet : (call : Call) (r : ValueRun) (node : ValueValue) (low high : List Outgoing) (linked : Bool) → IsQuiet call → EndsAreRuns r → Has r node low high linked
-    → Has (after_call call r) (called call node) low high linked
-has_quiet (comes side piece mark) r node low high linked quiet runs h = has_with (comes side piece mark) r node low high linked quiet runs h
-has_quiet (bytes_end side) r node low high linked quiet runs h = has_with (bytes_end side) r node low high linked quiet runs h
-has_quiet (turns side) r node low high linked quiet runs h = has_with (turns side) r node low high linked quiet runs h
-has_quiet connects r node low high linked quiet runs h = absurd quiet
-has_quiet fails r node low high linked quiet runs h = has_with fails r node low high linked quiet runs h
-has_quiet (gives side) r node low high linked quiet runs h = absurd quiet
+-- a side changes
+abbrev pub low_by : Side → (Passed → Passed) → Passed → Passed
+low_by Below change low = change low
+low_by Above change low = low
 
-pub made_quiet : (peer : List ℕ) (call : Call) (node : ValueValue) (low high : List Outgoing) (linked : Bool) → IsQuiet call → Made peer node low high linked
-    → Made peer (called call node) low high linked
-made_quiet peer call node low high linked quiet m =
-    made_more peer call node (called call node) low low high high linked linked (λ r runs h. has_quiet call r node low high linked quiet runs h) m
+abbrev pub high_by : Side → (Passed → Passed) → Option Passed → Option Passed
+high_by Below change high = high
+high_by Above change high = option_map change high
 
--- ---- a message that is given out
+pub made_came : (peer : List ℕ) (side : Side) (piece : List ℕ) (node : ValueValue) (low : Passed) (high : Option Passed) → Made peer node low high
+    → Made peer (called (comes side piece None) node) (low_by side (with_got piece) low) (high_by side (with_got piece) high)
+made_came peer Below piece node low high m = made_more peer (comes Below piece None) node low high m
+made_came peer Above piece node low high m = made_more peer (comes Above piece None) node low high m
 
-given_whole : (side : Side) (value : ValueValue) → value.is_spent ≡ false → given side value ≡ given side (whole value.relay)
-given_whole side value unspent = ap (λ (b : Bool). given side (record { relay = value.relay; is_spent = b })) unspent
+made_gives : (peer : List ℕ) (side : Side) (node : ValueValue) (low : Passed) (high : Option Passed) → Made peer node low high
+    → Made peer (after_giving side node) (low_by side (with_given (given side node)) low) (high_by side (with_given (given side node)) high)
+made_gives peer Below node low high m = made_more peer (gives Below) node low high m
+made_gives peer Above node low high m = made_more peer (gives Above) node low high m
 
-none_upper : (v : Relay) (upper : Option Upper) (p : Past) → (after_calls (upper_from (gives Below) v upper) (above p)).past.given ≡ (above p).past.given
-none_upper v None p = refl
-none_upper v (Some e) p = refl
+-- ---- a connection
 
-one_upper : (v : Relay) (upper : Option Upper) (p : Past) → IfSome upper (λ e. e ≡ (above p).end)
-    → (after_calls (upper_from (gives Above) v upper) (above p)).past.given ≡ (above p).past.given ++ listed (option_and_then first_of upper)
-one_upper v None p same = sym (append-nil (above p).past.given)
-one_upper v (Some e) p same = ap (λ (x : Upper). (above p).past.given ++ listed (slice_get x.queued 0)) (sym same)
+connected_by : (flag : Bool) (peer : List ℕ) (p : Passage) → flag ≡ true → IsMade peer (record (if flag then record p { above = Some nothing_passed } else p) { node = connected p.node })
+    → Made peer (connected p.node) p.below (Some nothing_passed)
+connected_by true peer p on m = m
+connected_by false peer p on m = absurd cc
 
-has_below : (r : ValueRun) (node : ValueValue) (low high : List Outgoing) (linked : Bool) → EndsAreRuns r → Has r node low high linked
-    → Has (after_call (gives Below) r) (after_giving Below node) (low ++ listed (given Below node)) high linked
-has_below r node low high linked runs h =
-    let v = r.value.relay in
-    let p = r.past in
-    let next = (after_giving Below r.value).relay in
-    let given_is : given Below node ≡ slice_get v.lower.queued 0 = ap (given Below) h.node_is ∙ given_whole Below r.value runs.unspent in
-    record {
-      node_is = ap (after_giving Below) h.node_is;
-      low_is =
-          ap (λ (x : Run Unit). x.past.given) (below_more (gives Below) v next p runs.unbound)
-          ∙ ap (λ (e : Lower). (below p).past.given ++ listed (slice_get e.queued 0)) (sym runs.lower)
-          ∙ ap (λ (outs : List Outgoing). outs ++ listed (slice_get v.lower.queued 0)) h.low_is
-          ∙ ap (λ (o : Option Outgoing). low ++ listed o) (sym given_is);
-      high_is = ap (λ (x : Run ForwardedValue). x.past.given) (above_more (gives Below) v next p runs.upper) ∙ none_upper v v.upper p ∙ h.high_is;
-      linked_is = linked_map (λ (calls : List UpperCall). calls ++ upper_by (gives Below) v) p.connection ∙ h.linked_is;
-    }
-
-has_above : (r : ValueRun) (node : ValueValue) (low high : List Outgoing) (linked : Bool) → EndsAreRuns r → Has r node low high linked
-    → Has (after_call (gives Above) r) (after_giving Above node) low (high ++ listed (given Above node)) linked
-has_above r node low high linked runs h =
-    let v = r.value.relay in
-    let p = r.past in
-    let next = (after_giving Above r.value).relay in
-    let given_is : given Above node ≡ option_and_then first_of v.upper = ap (given Above) h.node_is ∙ given_whole Above r.value runs.unspent in
-    record {
-      node_is = ap (after_giving Above) h.node_is;
-      low_is = ap (λ (x : Run Unit). x.past.given) (below_more (gives Above) v next p runs.unbound) ∙ h.low_is;
-      high_is =
-          ap (λ (x : Run ForwardedValue). x.past.given) (above_more (gives Above) v next p runs.upper)
-          ∙ one_upper v v.upper p (upper_is v.upper p.connection runs.upper)
-          ∙ ap (λ (outs : List Outgoing). outs ++ listed (option_and_then first_of v.upper)) h.high_is
-          ∙ ap (λ (o : Option Outgoing). high ++ listed o) (sym given_is);
-      linked_is = linked_map (λ (calls : List UpperCall). calls ++ upper_by (gives Above) v) p.connection ∙ h.linked_is;
-    }
-
--- what is given out on a side, behind what was given out there
-abbrev pub low_with : Side → List Outgoing → List Outgoing → List Outgoing
-low_with Below low outs = low ++ outs
-low_with Above low outs = low
-
-abbrev pub high_with : Side → List Outgoing → List Outgoing → List Outgoing
-high_with Below high outs = high
-high_with Above high outs = high ++ outs
-
-made_gives : (peer : List ℕ) (side : Side) (node : ValueValue) (low high : List Outgoing) (linked : Bool) → Made peer node low high linked
-    → Made peer (after_giving side node) (low_with side low (listed (given side node))) (high_with side high (listed (given side node))) linked
-made_gives peer Below node low high linked m =
-    made_more peer (gives Below) node (after_giving Below node) low (low ++ listed (given Below node)) high high linked linked (λ r runs h. has_below r node low high linked runs h) m
-made_gives peer Above node low high linked m =
-    made_more peer (gives Above) node (after_giving Above node) low low high (high ++ listed (given Above node)) linked linked (λ r runs h. has_above r node low high linked runs h) m
+pub made_connected : (peer : List ℕ) (node : ValueValue) (low : Passed) (high : Option Passed) → awaits node.relay ≡ true → Made peer node low high
+    → Made peer (connected node) low (Some nothing_passed)
+made_connected peer node low high on m =
+    connected_by (awaits node.relay) peer (record { node = node; below = low; above = high }) on (made_more peer connects node low high m)
 
 -- ---- all of them are
 
@@ -174,54 +124,55 @@ given_first_by false Above v = upper_first v.upper v
 given_first : (side : Side) (value : ValueValue) → given side value ≡ first_in (queue_on side value)
 given_first side value = given_first_by value.is_spent side value.relay
 
-low_more : (side : Side) (low : List Outgoing) (out : Outgoing) (outs : List Outgoing) → low_with side (low_with side low (out ∷ [])) outs ≡ low_with side low (out ∷ outs)
-low_more Below low out outs = append_assoc low (out ∷ []) outs
+abbrev pub with_all : List Outgoing → Passed → Passed
+with_all outs s = record s { gave = s.gave ++ outs }
+
+all_more : (s : Passed) (out : Outgoing) (outs : List Outgoing) → with_all outs (with_given (Some out) s) ≡ with_all (out ∷ outs) s
+all_more s out outs = ap (λ (gave : List Outgoing). record s { gave = gave }) (append_assoc s.gave (out ∷ []) outs)
+
+low_more : (side : Side) (low : Passed) (out : Outgoing) (outs : List Outgoing) → low_by side (with_all outs) (low_by side (with_given (Some out)) low) ≡ low_by side (with_all (out ∷ outs)) low
+low_more Below low out outs = all_more low out outs
 low_more Above low out outs = refl
 
-high_more : (side : Side) (high : List Outgoing) (out : Outgoing) (outs : List Outgoing) → high_with side (high_with side high (out ∷ [])) outs ≡ high_with side high (out ∷ outs)
+high_more : (side : Side) (high : Option Passed) (out : Outgoing) (outs : List Outgoing)
+    → high_by side (with_all outs) (high_by side (with_given (Some out)) high) ≡ high_by side (with_all (out ∷ outs)) high
 high_more Below high out outs = refl
-high_more Above high out outs = append_assoc high (out ∷ []) outs
+high_more Above None out outs = refl
+high_more Above (Some s) out outs = ap (λ (now : Passed). Some now) (all_more s out outs)
 
-emptied_by : (outs : List Outgoing) (peer : List ℕ) (side : Side) (node : ValueValue) (low high : List Outgoing) (linked : Bool) → queue_on side node ≡ outs → Made peer node low high linked
-    → Made peer (emptied side node) (low_with side low outs) (high_with side high outs) linked
-emptied_by [] peer side node low high linked is m =
+emptied_by : (outs : List Outgoing) (peer : List ℕ) (side : Side) (node : ValueValue) (low : Passed) (high : Option Passed) → queue_on side node ≡ outs → Made peer node low high
+    → Made peer (emptied side node) (low_by side (with_all outs) low) (high_by side (with_all outs) high)
+emptied_by [] peer side node low high is m =
     let none : given side node ≡ None = given_first side node ∙ ap first_in is in
     let l = last_of side node none in
-    subst (λ (x : ValueValue). Made peer x (low_with side low []) (high_with side high []) linked) l.same
-    (subst (λ (o : Option Outgoing). Made peer (after_giving side node) (low_with side low (listed o)) (high_with side high (listed o)) linked) none (made_gives peer side node low high linked m))
-emptied_by (out ∷ outs) peer side node low high linked is m =
+    subst (λ (x : ValueValue). Made peer x (low_by side (with_all []) low) (high_by side (with_all []) high)) l.same
+    (subst (λ (o : Option Outgoing). Made peer (after_giving side node) (low_by side (with_given o) low) (high_by side (with_given o) high)) none (made_gives peer side node low high m))
+emptied_by (out ∷ outs) peer side node low high is m =
     let some : given side node ≡ Some out = given_first side node ∙ ap first_in is in
     let n = next_of side node out some in
     let next = after_giving side node in
     let whole_queue : out ∷ queue_on side next ≡ out ∷ outs = sym n.queue ∙ is in
     let rest : queue_on side next ≡ outs = cc in
-    let first : Made peer next (low_with side low (out ∷ [])) (high_with side high (out ∷ [])) linked =
-    subst (λ (o : Option Outgoing). Made peer next (low_with side low (listed o)) (high_with side high (listed o)) linked) some (made_gives peer side node low high linked m) in
-    let all = emptied_by outs peer side next (low_with side low (out ∷ [])) (high_with side high (out ∷ [])) linked rest first in
-    subst (λ (x : ValueValue). Made peer x (low_with side low (out ∷ outs)) (high_with side high (out ∷ outs)) linked) n.same
-    (subst (λ (xs : List Outgoing). Made peer (emptied side next) xs (high_with side high (out ∷ outs)) linked) (low_more side low out outs)
-    (subst (λ (xs : List Outgoing). Made peer (emptied side next) (low_with side (low_with side low (out ∷ [])) outs) xs linked) (high_more side high out outs) all))
+    let low_then = low_by side (with_given (Some out)) low in
+    let high_then = high_by side (with_given (Some out)) high in
+    let first : Made peer next low_then high_then =
+    subst (λ (o : Option Outgoing). Made peer next (low_by side (with_given o) low) (high_by side (with_given o) high)) some (made_gives peer side node low high m) in
+    let all = emptied_by outs peer side next low_then high_then rest first in
+    subst (λ (x : ValueValue). Made peer x (low_by side (with_all (out ∷ outs)) low) (high_by side (with_all (out ∷ outs)) high)) n.same
+    (subst (λ (s : Passed). Made peer (emptied side next) s (high_by side (with_all (out ∷ outs)) high)) (low_more side low out outs)
+    (subst (λ (s : Option Passed). Made peer (emptied side next) (low_by side (with_all outs) low_then) s) (high_more side high out outs) all))
 
-pub made_emptied : (peer : List ℕ) (side : Side) (node : ValueValue) (low high : List Outgoing) (linked : Bool) → Made peer node low high linked
-    → Made peer (emptied side node) (low_with side low (queue_on side node)) (high_with side high (queue_on side node)) linked
-made_emptied peer side node low high linked m = emptied_by (queue_on side node) peer side node low high linked refl m
+pub made_emptied : (peer : List ℕ) (side : Side) (node : ValueValue) (low : Passed) (high : Option Passed) → Made peer node low high
+    → Made peer (emptied side node) (low_by side (with_all (queue_on side node)) low) (high_by side (with_all (queue_on side node)) high)
+made_emptied peer side node low high m = emptied_by (queue_on side node) peer side node low high refl m
 
--- ---- a connection
+-- ---- it is what its run is
 
-linked_by : (flag : Bool) (r : ValueRun) (node : ValueValue) (low high : List Outgoing) (linked : Bool) → flag ≡ true → Has r node low high linked
-    → Has (record { value = connected r.value; past = if flag then reconnected r.past else r.past }) (connected node) low [] true
-linked_by true r node low high linked on h = record { node_is = ap connected h.node_is; low_is = h.low_is; high_is = refl; linked_is = refl }
-linked_by false r node low high linked on h = absurd cc
+node_of : (peer : List ℕ) (node : ValueValue) (low : Passed) (high : Option Passed) → (m : Made peer node low high) → node ≡ (after_all m.calls (no_calls peer)).value
+node_of peer node low high m = ap (λ (p : Passage). p.node) (sym m.is) ∙ (passages_agree peer m.calls).node
 
-has_connected : (r : ValueRun) (node : ValueValue) (low high : List Outgoing) (linked : Bool) → awaits node.relay ≡ true → Has r node low high linked
-    → Has (after_call connects r) (connected node) low [] true
-has_connected r node low high linked on h =
-    linked_by (awaits r.value.relay) r node low high linked (ap (λ (x : ValueValue). awaits x.relay) (sym h.node_is) ∙ on) h
-
-pub made_connected : (peer : List ℕ) (node : ValueValue) (low high : List Outgoing) (linked : Bool) → awaits node.relay ≡ true → Made peer node low high linked
-    → Made peer (connected node) low [] true
-made_connected peer node low high linked on m =
-    made_more peer connects node (connected node) low low high [] linked true (λ r runs h. has_connected r node low high linked on h) m
+pub unspent : (peer : List ℕ) (node : ValueValue) (low : Passed) (high : Option Passed) → Made peer node low high → node.is_spent ≡ false
+unspent peer node low high m = ap (λ (x : ValueValue). x.is_spent) (node_of peer node low high m) ∙ (ends_are_runs peer m.calls).unspent
 
 -- ---- a closed upper end that has nothing to send stays so until a connection
 
@@ -251,7 +202,7 @@ silent_by call v (Some e) (Some calls) quiet same old =
     let is : e ≡ (upper_after calls).end = cc in
     let more = upper_on call v e in
     let closed = upper_after calls in
-    let later = after_calls more closed in
+    let later = end_after more closed in
     let shut : is_closed closed.end.state ≡ true = ap (λ (x : Upper). is_closed x.state) (sym is) ∙ old.0 in
     let still = stays_closed value_services None calls more shut in
     let end : ran more e ≡ later.end = ap (ran more) is ∙ sym (end_ran more closed) in
@@ -275,12 +226,13 @@ silent_run : (call : Call) (r : ValueRun) → IsQuiet call → EndsAreRuns r →
 silent_run call r quiet runs old =
     subst IsSilent (sym (upper_called call r.value quiet runs.unspent)) (silent_by call r.value.relay r.value.relay.upper r.past.connection quiet runs.upper old)
 
-pub silent_quiet : (peer : List ℕ) (call : Call) (node : ValueValue) (low high : List Outgoing) (linked : Bool) → IsQuiet call → Made peer node low high linked
+pub silent_quiet : (peer : List ℕ) (call : Call) (node : ValueValue) (low : Passed) (high : Option Passed) → IsQuiet call → Made peer node low high
     → IsSilent node.relay.upper → IsSilent (called call node).relay.upper
-silent_quiet peer call node low high linked quiet m old =
+silent_quiet peer call node low high quiet m old =
     let r = after_all m.calls (no_calls peer) in
-    subst (λ (x : ValueValue). IsSilent (called call x).relay.upper) (sym m.has.node_is)
-    (silent_run call r quiet (ends_are_runs peer m.calls) (subst (λ (x : ValueValue). IsSilent x.relay.upper) m.has.node_is old))
+    let is : node ≡ r.value = node_of peer node low high m in
+    subst (λ (x : ValueValue). IsSilent (called call x).relay.upper) (sym is)
+    (silent_run call r quiet (ends_are_runs peer m.calls) (subst (λ (x : ValueValue). IsSilent x.relay.upper) is old))
 
 -- ---- where nothing more is said above, and where it is unbound, no upper end is open
 
@@ -290,22 +242,19 @@ free_if_over Opening v p stands over = absurd cc
 free_if_over Bound v p stands over = absurd cc
 free_if_over Closed v p stands over = stands.1
 
-pub over_is_free : (peer : List ℕ) (node : ValueValue) (low high : List Outgoing) (linked : Bool) → Made peer node low high linked → is_over Above node.relay.bind ≡ true
+pub over_is_free : (peer : List ℕ) (node : ValueValue) (low : Passed) (high : Option Passed) → Made peer node low high → is_over Above node.relay.bind ≡ true
     → is_free node.relay.upper ≡ true
-over_is_free peer node low high linked m over =
+over_is_free peer node low high m over =
     let r = after_all m.calls (no_calls peer) in
     let runs = ends_are_runs peer m.calls in
-    subst (λ (x : ValueValue). is_over Above x.relay.bind ≡ true → is_free x.relay.upper ≡ true) (sym m.has.node_is)
+    subst (λ (x : ValueValue). is_over Above x.relay.bind ≡ true → is_free x.relay.upper ≡ true) (sym (node_of peer node low high m))
     (λ on. free_if_over r.value.relay.bind r.value.relay r.past runs.stands on) over
 
 -- ---- one that has no connection has no upper end
 
-none_linked : (connection : Option (List UpperCall)) → is_some connection ≡ false → option_map (λ calls. (upper_after calls).end) connection ≡ None
-none_linked None is = refl
-none_linked (Some calls) is = absurd cc
-
-pub unlinked : (peer : List ℕ) (node : ValueValue) (low high : List Outgoing) (linked : Bool) → Made peer node low high linked → linked ≡ false → node.relay.upper ≡ None
-unlinked peer node low high linked m off =
-    let r = after_all m.calls (no_calls peer) in
-    let runs = ends_are_runs peer m.calls in
-    ap (λ (x : ValueValue). x.relay.upper) m.has.node_is ∙ runs.upper ∙ none_linked r.past.connection (m.has.linked_is ∙ off)
+pub unlinked : (peer : List ℕ) (node : ValueValue) (low : Passed) (high : Option Passed) → Made peer node low high → high ≡ None → node.relay.upper ≡ None
+unlinked peer node low high m off =
+    let agrees = passages_agree peer m.calls in
+    let linked : is_some (after_calls peer m.calls).above ≡ false = ap (λ (p : Passage). is_some p.above) m.is ∙ ap (λ (s : Option Passed). is_some s) off in
+    ap (λ (x : ValueValue). x.relay.upper) (node_of peer node low high m) ∙ (ends_are_runs peer m.calls).upper
+    ∙ none_linked (after_all m.calls (no_calls peer)).past.connection (sym agrees.connection ∙ linked)

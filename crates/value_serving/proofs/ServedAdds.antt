@@ -1,43 +1,40 @@
 -- What is served are value-adds, after any events and answers of connects.
 use Rattle.std.proofs.Common.{◌≡◌, ℕ, zero, suc, ◌==◌, Bool, true, false, List, [], ◌∷◌, ◌++◌, length, nat_lt, Option, Some, None, refl, ap, sym, ◌∙◌, subst, append-nil}
-use Rattle.std.specs.Prelude.{Ok, Err, ◌||◌, fold, is_some, option_map, remove, unwrap_or}
+use Rattle.std.specs.Prelude.{Ok, Err, ◌||◌, fold, remove}
 use Rattle.std.specs.List.{AllByRecursion, IsDistinct}
 use Rattle.std.proofs.lemmas.List.{map-append}
 use Rattle.list_laws.proofs.AllLists.{all_append, all_at, all_left, all_right, all_weaker}
 use Rattle.list_laws.proofs.Numbers.{other_number}
-use Rattle.channel_core.specs.Runs.{Run}
-use Rattle.channel_core.specs.declared.held.Outgoing.{Outgoing}
-use Rattle.channel_core.proofs.TheLaws.{queues_in_order}
 use Rattle.serving_wires.specs.Row.{Row}
 use Rattle.serving_wires.specs.Rows.{item_at, with_item_at}
-use Rattle.serving_wires.proofs.Rows.{found, is_among, item_found, missing_if, numbers, with_behind}
+use Rattle.serving_wires.proofs.Rows.{found, is_among, missing_if, numbers, with_behind}
 use Rattle.serving_wires.specs.declared.intake.Came.{Came}
 use Rattle.serving_wires.specs.declared.intake.Came.TheVariants.{Piece, End}
 use Rattle.tcf_wires.specs.declared.event.WireEvent.{WireEvent}
 use Rattle.tcf_wires.specs.declared.event.WireEvent.TheVariants as events
-use Rattle.value_node.specs.Passing.{Lower, Upper}
-use Rattle.value_node.specs.RelayLaws.{EndsAreRuns}
-use Rattle.value_node.specs.Runs.{UpperCall, ValueRun, above, after_all, below, no_calls, upper_after}
-use Rattle.value_node.specs.Value.{value_services}
+use Rattle.value_node.specs.Passing.{Upper}
 use Rattle.value_node.specs.ValueValue.{ValueValue}
 use Rattle.value_node.specs.declared.states.Side.{Side}
-use Rattle.value_node.specs.declared.states.Side.TheVariants.{Below}
-use Rattle.value_node.proofs.TheLaws.{ends_are_runs}
-use Rattle.value_serving.specs.Adds.{is_over, new_add}
+use Rattle.value_node.specs.declared.states.Side.TheVariants.{Below, Above}
+use Rattle.value_serving.specs.Adds.{is_over, new_add, queue_of, queue_on}
 use Rattle.serving_wires.specs.Order.{closes, queues}
 use Rattle.value_serving.specs.Passing.{gathered, heard}
 use Rattle.serving_wires.specs.Process.{Answer, Process, and_then, asks, done, tells}
-use Rattle.value_serving.specs.Served.{AreValueAdds, IsGivenAbove, IsGivenTo, IsValueAdd, ServedAreValueAdds, bytes_of}
-use Rattle.value_serving.specs.Serving.{handled, heard_at, heard_by, heard_on, heard_where, is_over_at, is_over_in, kept_unless, opened, opened_if, unless_over, value_adds, wire_of, with_adds}
-use Rattle.serving_wires.specs.Standing.{Heard, Sent, State, after, after_one, answered, at_first, came, landed, rests, sent_in, sent_with, unused_wire, waits, wires_after, wires_with, with_wire}
+use Rattle.value_serving.specs.Served.{AreValueAdds, IsValueAdd, IsWiredAbove, IsWiredSide, Passage, Passed, ServedAreValueAdds, bytes_of, nothing_passed}
+use Rattle.value_serving.specs.Serving.{handled, heard_at, heard_by, heard_on, heard_where, is_number, is_over_at, is_over_in, kept_unless, opened, opened_if, unless_over, value_adds, wire_of, with_adds}
+use Rattle.serving_wires.specs.Wired.{IsWired}
+use Rattle.serving_wires.specs.Standing.{Heard, Sent, State, after, after_one, answered, at_first, came, landed, rests, sent_in, sent_with, waits, wires_after, wires_with, with_wire}
 use Rattle.value_serving.specs.ServingValue.{ServingValue}
 use Rattle.value_serving.specs.declared.add.Add.{Add}
 use Rattle.serving_wires.proofs.Apart.{landed_numbers, same_channel}
 use Rattle.value_serving.proofs.Making.{made_new}
-use Rattle.value_serving.proofs.Rested.{Forgotten, HasNothing, Rested, Settled, gathered_leads, heard_leads}
-use Rattle.serving_wires.proofs.Wires.{Grows, Wires, found_new, found_push, grows_none, not_new}
+use Rattle.value_serving.proofs.Arriving.{came_on, nowhere_spares, side_hears, side_spares}
+use Rattle.value_serving.proofs.Rested.{Forgotten, HasNothing, Rested, Settled, gathered_leads, heard_leads, queue_by}
+use Rattle.serving_wires.proofs.Wired.{OnWire, is_wired, wire_begins, wired_yet}
+use Rattle.serving_wires.proofs.Wires.{Grows, Wires, found_push, gains_event, gains_then, not_new, piece_numbers}
 use Rattle.value_serving.proofs.Sparing.{IsFree, Spares, spares_low, spares_none}
-use Rattle.value_serving.proofs.Working.{IsNew, Leads, OnWire, UpWorks, Works, leads_then, leads_weaker}
+use Rattle.value_serving.proofs.WhoseWire.{IsAway, IsItsOwn, IsWireOf, OnSide, wire_is}
+use Rattle.value_serving.proofs.Working.{IsNew, Leads, UpWorks, Works, leads_then, leads_weaker}
 
 -- ---- the wires of two value-adds differ
 
@@ -92,39 +89,51 @@ apart_in (x ∷ front) rear row all off =
 -- ---- the value-adds that stand
 
 abbrev IsSettled : List ℕ → Wires → Row Add → Type 0
-IsSettled peer sent row = Settled peer sent row.item
+IsSettled peer sent row = Settled peer sent row.item × IsItsOwn row
 
 pub record Stands (peer : List ℕ) (adds : Rows) (sent : Wires) : Type 0 where
   pub all : AllByRecursion (IsSettled peer sent) adds
   pub apart : Apart adds
 
 -- others stay as they are
-up_spared : (up : Option ℕ) (low low1 low2 : ℕ) (up1 up2 : Option ℕ) (upper : Option Upper) (given : List Outgoing) (linked : Bool) (sent later : Wires) → UpFree up low1 up1 → Spares low1 up1 sent low2 up2 later
-    → UpWorks up low upper given linked sent → UpWorks up low upper given linked later × UpFree up low2 up2
-up_spared None low low1 low2 up1 up2 upper given linked sent later free spares w = (w, tt)
-up_spared (Some channel) low low1 low2 up1 up2 upper given linked sent later free spares w =
-    let s = spares channel w.on.wire free w.on.there in
-    (record { on = record { wire = w.on.wire; there = s.0; queued = w.on.queued }; silent = w.silent; apart = w.apart; linked_so = w.linked_so }, s.1)
+up_spared : (up : Option ℕ) (low low1 low2 : ℕ) (up1 up2 : Option ℕ) (upper : Option Upper) (waiting : List Came) (high : Option Passed) (sent later : Wires) → UpFree up low1 up1
+    → Spares low1 up1 sent low2 up2 later → UpWorks up low upper waiting high sent → UpWorks up low upper waiting high later × UpFree up low2 up2
+up_spared None low low1 low2 up1 up2 upper waiting high sent later free spares w = (w, tt)
+up_spared (Some channel) low low1 low2 up1 up2 upper waiting high sent later free spares w =
+    let s = spares channel w.on.wire free w.on.there in (
+      record {
+        passed = w.passed;
+        linked = w.linked;
+        on = record { wire = w.on.wire; there = s.0; queued = w.on.queued; came = w.on.came };
+        silent = w.silent;
+        apart = w.apart;
+      },
+      s.1,
+    )
 
 settled_spared : (peer : List ℕ) (low1 low2 : ℕ) (up1 up2 : Option ℕ) (sent later : Wires) (row : Row Add) → IsOff low1 up1 row → Spares low1 up1 sent low2 up2 later
     → IsSettled peer sent row → IsSettled peer later row × IsOff low2 up2 row
-settled_spared peer low1 low2 up1 up2 sent later row off spares s =
+settled_spared peer low1 low2 up1 up2 sent later row off spares its =
+    let s = its.0 in
     let w = s.works in
-    let low = spares row.item.below w.lower.wire off.0 w.lower.there in
-    let high = up_spared row.item.above row.item.below low1 low2 up1 up2 row.item.node.relay.upper w.given_high w.linked sent later off.1 spares w.upper in (
-      record {
-        works = record {
-          given_low = w.given_low;
-          given_high = w.given_high;
-          linked = w.linked;
-          made = w.made;
-          lower = record { wire = w.lower.wire; there = low.0; queued = w.lower.queued };
-          open_yet = w.open_yet;
-          upper = high.0;
-        };
-        low_empty = s.low_empty;
-        up_empty = s.up_empty;
-      },
+    let a = row.item in
+    let low = spares a.below w.lower.wire off.0 w.lower.there in
+    let high = up_spared a.above a.below low1 low2 up1 up2 a.node.relay.upper a.upper w.high sent later off.1 spares w.upper in (
+      (
+        record {
+          works = record {
+            low = w.low;
+            high = w.high;
+            made = w.made;
+            lower = record { wire = w.lower.wire; there = low.0; queued = w.lower.queued; came = w.lower.came };
+            open_yet = w.open_yet;
+            upper = high.0;
+          };
+          low_empty = s.low_empty;
+          up_empty = s.up_empty;
+        },
+        its.1,
+      ),
       (low.1, high.1),
     )
 
@@ -187,84 +196,105 @@ stands_in peer front rear row sent s others =
     }
 
 kept_stands : (over : Bool) (peer : List ℕ) (place channel : ℕ) (front rear : Rows) (b : Add) (sent : Wires) → is_over Below b.node.relay.bind ≡ over
-    → remove (front ++ record { channel = channel; item = b } ∷ rear) place ≡ front ++ rear → (is_over Below b.node.relay.bind ≡ false → Settled peer sent b)
+    → remove (front ++ record { channel = channel; item = b } ∷ rear) place ≡ front ++ rear → channel ≡ b.below → (is_over Below b.node.relay.bind ≡ false → Settled peer sent b)
     → Others peer (front ++ rear) sent b.below b.above → Stands peer (kept_unless over place (front ++ record { channel = channel; item = b } ∷ rear)) sent
-kept_stands true peer place channel front rear b sent is without settled others =
+kept_stands true peer place channel front rear b sent is without own settled others =
     subst (λ (rs : Rows). Stands peer rs sent) (sym without) (record { all = others.0; apart = others.1.0 })
-kept_stands false peer place channel front rear b sent is without settled others =
-    stands_in peer front rear (record { channel = channel; item = b }) sent (settled is) others
+kept_stands false peer place channel front rear b sent is without own settled others =
+    stands_in peer front rear (record { channel = channel; item = b }) sent (settled is, own) others
 
 abbrev Lands : List ℕ → Wires → Process Rows → Wires → Type 0
 Lands peer before p sent = Leads (Grows before) (Stands peer) p sent
 
-heard_lands : (peer : List ℕ) (place : ℕ) (side : Side) (what : Came) (found_item : Option Add) (adds : Rows) (sent : Wires) → item_at place adds ≡ found_item → Stands peer adds sent
-    → Lands peer sent (and_then (heard_by place side what found_item adds) (unless_over place)) sent
-heard_lands peer place side what None adds sent is stands = kept_none (is_over_at place adds) (ap is_over_in is)
-  where
-    kept_none : (over : Bool) → over ≡ false → Stands peer (kept_unless over place adds) sent
-    kept_none true off = absurd cc
-    kept_none false off = stands
-heard_lands peer place side what (Some a) adds sent is stands =
+heard_lands : (peer : List ℕ) (channel place : ℕ) (side : Side) (what : Came) (a : Add) (adds : Rows) (old : Wires) → item_at place adds ≡ Some a → OnSide side channel a → Stands peer adds old
+    → Lands peer (came_on channel what old) (and_then (heard_by place side what (Some a) adds) (unless_over place)) (came_on channel what old)
+heard_lands peer channel place side what a adds old is on stands =
+    let sent = came_on channel what old in
     let at = at_place place adds a is in
     let row : Row Add = record { channel = at.channel; item = a } in
-    let all : AllByRecursion (IsSettled peer sent) (at.front ++ row ∷ at.rear) = subst (AllByRecursion (IsSettled peer sent)) at.whole stands.all in
+    let all : AllByRecursion (IsSettled peer old) (at.front ++ row ∷ at.rear) = subst (AllByRecursion (IsSettled peer old)) at.whole stands.all in
     let out = apart_out at.front at.rear row (subst Apart at.whole stands.apart) in
-    let its : IsSettled peer sent row = all_at (IsSettled peer sent) at.front at.rear row all in
-    let rest : AllByRecursion (IsSettled peer sent) (at.front ++ at.rear) =
-    all_append (IsSettled peer sent) at.front at.rear (all_left (IsSettled peer sent) at.front (row ∷ at.rear) all) (all_right (IsSettled peer sent) at.front (row ∷ at.rear) all).1 in
+    let its : IsSettled peer old row = all_at (IsSettled peer old) at.front at.rear row all in
+    let rest : AllByRecursion (IsSettled peer old) (at.front ++ at.rear) =
+    all_append (IsSettled peer old) at.front at.rear (all_left (IsSettled peer old) at.front (row ∷ at.rear) all) (all_right (IsSettled peer old) at.front (row ∷ at.rear) all).1 in
+    let first = all_spared peer a.below a.below a.above a.above old sent (at.front ++ at.rear) out.1 (side_spares side what channel a old on) rest in
     let Placed : Rows → Wires → Type 0 = λ rows s. Stands peer (kept_unless (is_over_at place rows) place rows) s in
     leads_then (Grows sent) Placed (Stands peer) (and_then (heard side what a) (λ next. done (with_item_at place next adds))) (unless_over place) sent
-    (leads_then (Grows sent) (Forgotten peer a sent) Placed (heard side what a) (λ next. done (with_item_at place next adds)) sent (heard_leads peer side what a sent its.works)
+    (leads_then (Grows sent) (Forgotten peer a sent) Placed (heard side what a) (λ next. done (with_item_at place next adds)) sent
+    (heard_leads peer side what a sent (side_hears peer side what channel a old on its.0.works))
     (λ b s forgotten.
-    let spared = all_spared peer a.below b.below a.above b.above sent s (at.front ++ at.rear) out.1 forgotten.spares rest in
+    let spared = all_spared peer a.below b.below a.above b.above sent s (at.front ++ at.rear) first.1 forgotten.spares first.0 in
     let now : Rows = at.front ++ record { channel = at.channel; item = b } ∷ at.rear in
     subst (λ (rs : Rows). Placed rs s) (sym (at.changed b))
     (subst (λ (over : Bool). Stands peer (kept_unless over place now) s) (sym (ap is_over_in (at.there b)))
-    (kept_stands (is_over Below b.node.relay.bind) peer place at.channel at.front at.rear b s refl (at.without b) forgotten.settled (spared.0, (out.0, spared.1))))))
+    (kept_stands (is_over Below b.node.relay.bind) peer place at.channel at.front at.rear b s refl (at.without b) (its.1 ∙ sym forgotten.low_is) forgotten.settled (spared.0, (out.0, spared.1))))))
     (λ rows s placed. placed)
 
-where_lands : (peer : List ℕ) (wire : Option (ℕ × Side)) (what : Came) (adds : Rows) (sent : Wires) → Stands peer adds sent → Lands peer sent (heard_where wire what adds) sent
-unfolding heard_at
-where_lands peer None what adds sent stands = stands
-where_lands peer (Some (place, side)) what adds sent stands = heard_lands peer place side what (item_at place adds) adds sent refl stands
+-- on the wire of none it is dropped
+away_off : (channel low : ℕ) (up : Option ℕ) → (low == channel) ≡ false → is_number channel up ≡ false → IsFree low channel None × UpFree up channel None
+away_off channel low None away off = ((both_ways low channel away, refl), tt)
+away_off channel low (Some number) away off = ((both_ways low channel away, refl), (both_ways number channel off, refl))
 
-on_lands : (peer : List ℕ) (channel : ℕ) (what : Came) (adds : Rows) (sent : Wires) → Stands peer adds sent → Lands peer sent (heard_on channel what adds) sent
+all_off : (channel : ℕ) (rows : Rows) → AllByRecursion (IsAway channel) rows → AllOff channel None rows
+all_off channel rows away = all_weaker (IsAway channel) (IsOff channel None) rows (λ row is. away_off channel row.item.below row.item.above is.0 is.1) away
+
+where_lands : (peer : List ℕ) (channel : ℕ) (wire : Option (ℕ × Side)) (what : Came) (adds : Rows) (old : Wires) → IsWireOf channel adds wire → Stands peer adds old
+    → Lands peer (came_on channel what old) (heard_where wire what adds) (came_on channel what old)
+unfolding heard_at
+where_lands peer channel None what adds old away stands =
+    record {
+      all = (all_spared peer channel channel None None old (came_on channel what old) adds (all_off channel adds away) (nowhere_spares what channel old) stands.all).0;
+      apart = stands.apart;
+    }
+where_lands peer channel (Some (place, side)) what adds old its stands =
+    subst (λ (o : Option Add). Lands peer (came_on channel what old) (and_then (heard_by place side what o adds) (unless_over place)) (came_on channel what old)) (sym its.1)
+    (heard_lands peer channel place side what its.0 adds old its.1 its.2 stands)
+
+on_lands : (peer : List ℕ) (channel : ℕ) (what : Came) (adds : Rows) (old : Wires) → Stands peer adds old
+    → Lands peer (came_on channel what old) (heard_on channel what adds) (came_on channel what old)
 unfolding heard_on
-on_lands peer channel what adds sent stands = where_lands peer (wire_of channel adds) what adds sent stands
+on_lands peer channel what adds old stands =
+    where_lands peer channel (wire_of channel adds) what adds old
+    (wire_is channel adds (all_weaker (IsSettled peer old) IsItsOwn adds (λ row its. its.1) stands.all)) stands
 
 -- ---- a connection comes
 
-up_new : (up : Option ℕ) (low new : ℕ) (upper : Option Upper) (given : List Outgoing) (linked : Bool) (sent : Wires) → found new sent ≡ None → UpWorks up low upper given linked sent
-    → UpWorks up low upper given linked (with_wire new sent) × UpFree up new None
-up_new None low new upper given linked sent missing w = (w, tt)
-up_new (Some channel) low new upper given linked sent missing w = (
+up_new : (up : Option ℕ) (low new : ℕ) (upper : Option Upper) (waiting : List Came) (high : Option Passed) (sent : Wires) → found new sent ≡ None
+    → UpWorks up low upper waiting high sent → UpWorks up low upper waiting high (with_wire new sent) × UpFree up new None
+up_new None low new upper waiting high sent missing w = (w, tt)
+up_new (Some channel) low new upper waiting high sent missing w = (
   record {
-    on = record { wire = w.on.wire; there = found_push channel sent _ w.on.wire w.on.there; queued = w.on.queued };
+    passed = w.passed;
+    linked = w.linked;
+    on = record { wire = w.on.wire; there = found_push channel sent _ w.on.wire w.on.there; queued = w.on.queued; came = w.on.came };
     silent = w.silent;
     apart = w.apart;
-    linked_so = w.linked_so;
   },
   (not_new new channel sent w.on.wire missing w.on.there, refl),
 )
 
 settled_new : (peer : List ℕ) (new : ℕ) (sent : Wires) (row : Row Add) → found new sent ≡ None → IsSettled peer sent row → IsSettled peer (with_wire new sent) row × IsOff new None row
-settled_new peer new sent row missing s =
+settled_new peer new sent row missing its =
+    let s = its.0 in
     let w = s.works in
-    let high = up_new row.item.above row.item.below new row.item.node.relay.upper w.given_high w.linked sent missing w.upper in (
-      record {
-        works = record {
-          given_low = w.given_low;
-          given_high = w.given_high;
-          linked = w.linked;
-          made = w.made;
-          lower = record { wire = w.lower.wire; there = found_push row.item.below sent _ w.lower.wire w.lower.there; queued = w.lower.queued };
-          open_yet = w.open_yet;
-          upper = high.0;
-        };
-        low_empty = s.low_empty;
-        up_empty = s.up_empty;
-      },
-      ((not_new new row.item.below sent w.lower.wire missing w.lower.there, refl), high.1),
+    let a = row.item in
+    let high = up_new a.above a.below new a.node.relay.upper a.upper w.high sent missing w.upper in (
+      (
+        record {
+          works = record {
+            low = w.low;
+            high = w.high;
+            made = w.made;
+            lower = record { wire = w.lower.wire; there = found_push a.below sent _ w.lower.wire w.lower.there; queued = w.lower.queued; came = w.lower.came };
+            open_yet = w.open_yet;
+            upper = high.0;
+          };
+          low_empty = s.low_empty;
+          up_empty = s.up_empty;
+        },
+        its.1,
+      ),
+      ((not_new new a.below sent w.lower.wire missing w.lower.there, refl), high.1),
     )
 
 all_new : (peer : List ℕ) (new : ℕ) (sent : Wires) (rows : Rows) → found new sent ≡ None → AllByRecursion (IsSettled peer sent) rows
@@ -275,14 +305,13 @@ all_new peer new sent (row ∷ rows) missing all =
     let rest = all_new peer new sent rows missing all.1 in
     ((one.0, rest.0), (one.1, rest.1))
 
-new_works : (peer : List ℕ) (channel : ℕ) (sent : Wires) → found channel sent ≡ None → Works peer (new_add peer channel).node channel None (with_wire channel sent)
+new_works : (peer : List ℕ) (channel : ℕ) (sent : Wires) → found channel sent ≡ None → Works peer (new_add peer channel) (with_wire channel sent)
 new_works peer channel sent missing =
     record {
-      given_low = [];
-      given_high = [];
-      linked = false;
+      low = nothing_passed;
+      high = None;
       made = made_new peer;
-      lower = record { wire = unused_wire; there = found_new channel sent missing; queued = refl };
+      lower = wire_begins channel sent missing;
       open_yet = refl;
       upper = refl;
     }
@@ -294,10 +323,10 @@ opened_lands true peer channel adds sent missing stands =
     let before = with_wire channel sent in
     let others = all_new peer channel sent adds missing stands.all in
     leads_then (Grows before) (Rested peer first before first.node.relay.bind) (Stands peer) (gathered first) (λ a. done (adds ++ (record { channel = channel; item = a }) ∷ [])) before
-    (gathered_leads peer first before (Grows before) first before (new_works peer channel sent missing) (spares_none channel None before))
+    (gathered_leads peer first before (Grows before) first before (new_works peer channel sent missing) refl (spares_none channel None before))
     (λ a s rested.
     let spared = all_spared peer channel a.below None a.above before s adds others.1 rested.spares others.0 in
-    stands_in peer adds [] (record { channel = channel; item = a }) s (rested.settled refl)
+    stands_in peer adds [] (record { channel = channel; item = a }) s (rested.settled refl, sym rested.low_is)
     (subst (λ (rs : Rows). Others peer rs s a.below a.above) (sym (append-nil adds)) (spared.0, (stands.apart, spared.1))))
 opened_lands false peer channel adds sent missing stands =
     let before = with_wire channel sent in
@@ -334,7 +363,8 @@ event_lands peer (events.Opened channel) v sent fresh stands =
     (subst (λ (to : List ℕ). Lands peer (with_wire channel sent) (opened_if (nat_lt (length v.adds) 64) to channel v.adds) (with_wire channel sent)) (sym stands.0)
     (opened_lands (nat_lt (length v.adds) 64) peer channel v.adds sent fresh stands.1))
 event_lands peer (events.Piece channel bytes) v sent fresh stands =
-    with_lands peer v sent (heard_on channel (Piece bytes) v.adds) sent stands.0 (on_lands peer channel (Piece bytes) v.adds sent stands.1)
+    let now = wires_with (events.Piece channel bytes) sent in
+    with_lands peer v now (heard_on channel (Piece bytes) v.adds) now stands.0 (on_lands peer channel (Piece bytes) v.adds sent stands.1)
 event_lands peer (events.Ended channel) v sent fresh stands = with_lands peer v sent (heard_on channel End v.adds) sent stands.0 (on_lands peer channel End v.adds sent stands.1)
 event_lands peer (events.Lost channel) v sent fresh stands = with_lands peer v sent (heard_on channel End v.adds) sent stands.0 (on_lands peer channel End v.adds sent stands.1)
 event_lands peer events.Idle v sent fresh stands = stands
@@ -342,78 +372,55 @@ event_lands peer events.Stop v sent fresh stands = stands
 
 -- ---- so they are value-adds
 
-given_to : {T : Type 0} → (channel : ℕ) (outs : List Outgoing) (sent later : Wires) (end : Run T) → OnWire channel outs sent → Grows sent later → end.past.given ≡ outs → end.end.queued ≡ []
-    → end.past.given ++ end.end.queued ≡ end.past.queued → IsGivenTo channel later end
-given_to channel outs sent later end on grows given none order =
-    let g = grows channel on.wire on.there in
-    record {
-      wire = g.now;
-      there = item_found Sent channel later ∙ g.there;
-      queued = g.queued ∙ on.queued ∙ ap bytes_of (sym given);
-      whole = sym (append-nil end.past.given) ∙ ap (λ (outs : List Outgoing). end.past.given ++ outs) (sym none) ∙ order;
-    }
+abbrev AreWired : Bool → Wires → Wires → Type 0
+AreWired is_resting sent later = (channel : ℕ) (got gave : List ℕ) (waiting : List Came) → OnWire channel got gave waiting sent → IsWired channel later got gave waiting is_resting
 
-no_connection : (connection : Option (List UpperCall)) (linked : Bool) → is_some connection ≡ linked → linked ≡ false → connection ≡ None
-no_connection None linked is off = refl
-no_connection (Some calls) linked is off = absurd cc
+above_wired : (up : Option ℕ) (low : ℕ) (upper : Option Upper) (waiting : List Came) (high : Option Passed) (is_resting : Bool) (sent later : Wires) → AreWired is_resting sent later
+    → UpWorks up low upper waiting high sent → IsWiredAbove up later high waiting is_resting
+above_wired None low upper waiting high is_resting sent later wired w = subst (λ (s : Option Passed). IsWiredAbove None later s waiting is_resting) (sym w) tt
+above_wired (Some channel) low upper waiting high is_resting sent later wired w =
+    subst (λ (s : Option Passed). IsWiredAbove (Some channel) later s waiting is_resting) (sym w.linked) (wired channel w.passed.got (bytes_of w.passed.gave) waiting w.on)
 
-up_queue : (connection : Option (List UpperCall)) (upper : Option Upper) → upper ≡ option_map (λ calls. (upper_after calls).end) connection → is_some connection ≡ true → HasNothing upper
-    → (upper_after (unwrap_or connection [])).end.queued ≡ []
-up_queue None upper is on none = absurd cc
-up_queue (Some calls) upper is on none = subst HasNothing is none
+no_queue : (upper : Option Upper) → HasNothing upper → queue_of upper ≡ []
+no_queue None none = refl
+no_queue (Some e) none = none
 
-given_above : (up : Option ℕ) (low : ℕ) (r : ValueRun) (node : ValueValue) (outs : List Outgoing) (linked : Bool) (sent later : Wires) → EndsAreRuns r → node ≡ r.value
-    → UpWorks up low node.relay.upper outs linked sent → Grows sent later → (above r.past).past.given ≡ outs → is_some r.past.connection ≡ linked → HasNothing node.relay.upper
-    → (above r.past).past.given ++ (above r.past).end.queued ≡ (above r.past).past.queued → IsGivenAbove up later r
-given_above None low r node outs linked sent later runs is w grows given links none order = no_connection r.past.connection linked links w
-given_above (Some channel) low r node outs linked sent later runs is w grows given links none order =
-    given_to channel outs sent later (above r.past) w.on grows given
-    (up_queue r.past.connection node.relay.upper (ap (λ (x : ValueValue). x.relay.upper) is ∙ runs.upper) (links ∙ w.linked_so) none) order
+nothing_on : (side : Side) (node : ValueValue) → node.relay.lower.queued ≡ [] → HasNothing node.relay.upper → queue_on side node ≡ []
+nothing_on Below node low up = queue_by node.is_spent node.relay.lower.queued low
+nothing_on Above node low up = queue_by node.is_spent (queue_of node.relay.upper) (no_queue node.relay.upper up)
 
-above_order : (connection : Option (List UpperCall))
-    → (upper_after (unwrap_or connection [])).past.given ++ (upper_after (unwrap_or connection [])).end.queued ≡ (upper_after (unwrap_or connection [])).past.queued
-above_order connection = queues_in_order value_services None (unwrap_or connection [])
-
-is_value_add : (peer : List ℕ) (sent later : Wires) (a : Add) → Grows sent later → Settled peer sent a → IsValueAdd peer later a
-is_value_add peer sent later a grows s =
+is_value_add : (peer : List ℕ) (is_resting : Bool) (sent later : Wires) (a : Add) → AreWired is_resting sent later → Settled peer sent a → IsValueAdd peer later is_resting a
+is_value_add peer is_resting sent later a wired s =
     let w = s.works in
-    let r = after_all w.made.calls (no_calls peer) in
-    let runs = ends_are_runs peer w.made.calls in
-    let h = w.made.has in
+    let is = w.made.is in
     record {
       calls = w.made.calls;
-      node = h.node_is;
-      lower = given_to a.below w.given_low sent later (below r.past) w.lower grows h.low_is
-          (ap (λ (e : Lower). e.queued) (sym runs.lower) ∙ ap (λ (x : ValueValue). x.relay.lower.queued) (sym h.node_is) ∙ s.low_empty)
-          (queues_in_order value_services None (r.past.until_bound ++ r.past.since_bound));
-      upper = given_above a.above a.below r a.node w.given_high w.linked sent later runs h.node_is w.upper grows h.high_is h.linked_is s.up_empty (above_order r.past.connection);
+      node = ap (λ (p : Passage). p.node) (sym is);
+      lower = subst (λ (p : Passage). IsWiredSide a.below later p.below a.lower is_resting) (sym is) (wired a.below w.low.got (bytes_of w.low.gave) a.lower w.lower);
+      upper = subst (λ (p : Passage). IsWiredAbove a.above later p.above a.upper is_resting) (sym is)
+          (above_wired a.above a.below a.node.relay.upper a.upper w.high is_resting sent later wired w.upper);
+      whole = λ side. nothing_on side a.node s.low_empty s.up_empty;
     }
 
-abbrev AllAdds : List ℕ → Rows → Wires → Type 0
-AllAdds peer adds sent = AllByRecursion (λ row. IsValueAdd peer sent row.item) adds
+abbrev AllAdds : List ℕ → Bool → Rows → Wires → Type 0
+AllAdds peer is_resting adds sent = AllByRecursion (λ row. IsValueAdd peer sent is_resting row.item) adds
 
-all_adds : (peer : List ℕ) (sent later : Wires) (adds : Rows) → Grows sent later → AllByRecursion (IsSettled peer sent) adds → AllAdds peer adds later
-all_adds peer sent later adds grows all = all_weaker (IsSettled peer sent) (λ row. IsValueAdd peer later row.item) adds (λ row s. is_value_add peer sent later row.item grows s) all
+all_adds : (peer : List ℕ) (is_resting : Bool) (sent later : Wires) (adds : Rows) → AreWired is_resting sent later → AllByRecursion (IsSettled peer sent) adds → AllAdds peer is_resting adds later
+all_adds peer is_resting sent later adds wired all =
+    all_weaker (IsSettled peer sent) (λ row. IsValueAdd peer later is_resting row.item) adds (λ row its. is_value_add peer is_resting sent later row.item wired its.0) all
 
 -- ---- the state
 
 abbrev KeepsState : List ℕ → State ServingValue → Type 0
 KeepsState peer (rests s) = StandsSo peer s.served s.sent
 KeepsState peer (waits s next) =
-    AllAdds peer s.served.adds s.sent × ((answer : Answer) → IsNew answer s.sent → Leads (AllAdds peer s.served.adds) (StandsSo peer) (next answer) (wires_after answer s.sent))
+    AllAdds peer false s.served.adds s.sent
+    × ((answer : Answer) → IsNew answer s.sent → Leads (AllAdds peer false s.served.adds) (StandsSo peer) (next answer) (wires_after answer s.sent))
 
-landed_keeps : (peer : List ℕ) (v : ServingValue) (sent : Wires) (p : Process ServingValue) → Leads (AllAdds peer v.adds) (StandsSo peer) p sent → KeepsState peer (landed v sent p)
+landed_keeps : (peer : List ℕ) (v : ServingValue) (sent : Wires) (p : Process ServingValue) → Leads (AllAdds peer false v.adds) (StandsSo peer) p sent → KeepsState peer (landed v sent p)
 landed_keeps peer v sent (done new) leads = leads
 landed_keeps peer v sent (tells order p) leads = landed_keeps peer v (sent_with order sent) p leads
 landed_keeps peer v sent (asks next) leads = leads
-
-all_with : (peer : List ℕ) (event : WireEvent) (adds : Rows) (sent : Wires) → Fresh event sent → Stands peer adds sent → AllByRecursion (IsSettled peer (wires_with event sent)) adds
-all_with peer (events.Opened channel) adds sent fresh stands = (all_new peer channel sent adds fresh stands.all).0
-all_with peer (events.Piece channel bytes) adds sent fresh stands = stands.all
-all_with peer (events.Ended channel) adds sent fresh stands = stands.all
-all_with peer (events.Lost channel) adds sent fresh stands = stands.all
-all_with peer events.Idle adds sent fresh stands = stands.all
-all_with peer events.Stop adds sent fresh stands = stands.all
 
 abbrev IsNewIn : State ServingValue → Heard → Type 0
 IsNewIn (rests s) (came event) = Fresh event s.sent
@@ -425,8 +432,11 @@ one_keeps : (peer : List ℕ) (state : State ServingValue) (heard : Heard) → I
 one_keeps peer (rests s) (came event) new keeps =
     let before = wires_with event s.sent in
     landed_keeps peer s.served before (handled event s.served)
-    (leads_weaker (Grows before) (AllAdds peer s.served.adds) (StandsSo peer) (StandsSo peer) (handled event s.served) before
-    (λ later grows. all_adds peer before later s.served.adds grows (all_with peer event s.served.adds s.sent new keeps.1)) (λ v later stands. stands)
+    (leads_weaker (Grows before) (AllAdds peer false s.served.adds) (StandsSo peer) (StandsSo peer) (handled event s.served) before
+    (λ later grows.
+    all_adds peer false s.sent later s.served.adds
+    (λ channel got gave waiting on. wired_yet channel got gave waiting s.sent later (gains_then s.sent before later (gains_event event s.sent) grows) on) keeps.1.all)
+    (λ v later stands. stands)
     (event_lands peer event s.served s.sent new keeps))
 one_keeps peer (rests s) (answered answer) new keeps = keeps
 one_keeps peer (waits s next) (came event) new keeps = keeps
@@ -458,7 +468,7 @@ one_more channel sent = (channel ∷ [], with_numbers channel sent)
 
 event_more : (event : WireEvent) (sent : Wires) → AreMore sent (wires_with event sent)
 event_more (events.Opened channel) sent = one_more channel sent
-event_more (events.Piece channel bytes) sent = no_more sent
+event_more (events.Piece channel bytes) sent = ([], piece_numbers channel bytes sent ∙ sym (append-nil (numbers sent)))
 event_more (events.Ended channel) sent = no_more sent
 event_more (events.Lost channel) sent = no_more sent
 event_more events.Idle sent = no_more sent
@@ -517,7 +527,8 @@ all_keep peer (h ∷ heard) state all keeps =
     let next = after_one (value_adds peer) state h in all_keep peer heard next all (one_keeps peer state h (state_new peer state h (distinct_before peer heard next all)) keeps)
 
 state_adds : (peer : List ℕ) (state : State ServingValue) → KeepsState peer state → AreValueAdds peer state
-state_adds peer (rests s) keeps = all_adds peer s.sent s.sent s.served.adds (grows_none s.sent) keeps.1.all
+state_adds peer (rests s) keeps =
+    all_adds peer true s.sent s.sent s.served.adds (λ channel got gave waiting on. is_wired channel got gave waiting s.sent on) keeps.1.all
 state_adds peer (waits s next) keeps = keeps.0
 
 pub serves_value_adds : ServedAreValueAdds

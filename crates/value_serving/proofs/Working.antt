@@ -1,9 +1,9 @@
--- A value-add on its way through an event: what is queued for its wires is what its ends gave out.
-use Rattle.std.proofs.Common.{◌≡◌, ℕ, zero, suc, ◌==◌, Bool, true, false, List, [], Option, Some, None, refl, ap, ◌∙◌}
-use Rattle.std.specs.Prelude.{IfOk, Ok, Err, if◌then◌else◌}
+-- A value-add on its way through an event: what is queued for its wires is what its sides gave out, and what came on them is what
+-- they got and what waits.
+use Rattle.std.proofs.Common.{◌≡◌, ℕ, zero, suc, ◌==◌, Bool, true, false, List, [], ◌∷◌, ◌++◌, Option, Some, None, refl, ap, ◌∙◌, subst}
+use Rattle.std.specs.Prelude.{IfOk, Ok, Err, if◌then◌else◌, option_map, option_to_list}
 use Rattle.std.proofs.lemmas.Bool.{false≢true}
 use Rattle.list_laws.proofs.Numbers.{other_number}
-use Rattle.channel_core.specs.declared.held.Outgoing.{Outgoing}
 use Rattle.channel_core.specs.declared.taking.Taken.{Taken}
 use Rattle.channel_core.specs.declared.taking.Taken.TheVariants as taken_as
 use Rattle.channel_core.specs.Taking.{next_taken}
@@ -33,58 +33,123 @@ use Rattle.value_serving.specs.Adds.{came_to, can_give, else_below, given_above,
 use Rattle.serving_wires.specs.Order.{leaves}
 use Rattle.value_serving.specs.Passing.{after_giving, after_turn, answered, connected_on, count_of, given_so_many, leaving, passed_on, room_made, taken}
 use Rattle.serving_wires.specs.Process.{Answer, Process, and_then, asks, done, tells}
-use Rattle.value_serving.specs.Served.{bytes_of}
+use Rattle.value_serving.specs.Served.{Passed, bytes_of, nothing_passed, with_got}
 use Rattle.value_serving.specs.Serving.{is_number}
 use Rattle.serving_wires.specs.Standing.{Sent, sent_with, unused_wire, wires_after, with_wire}
 use Rattle.value_serving.specs.declared.add.Add.{Add}
-use Rattle.value_serving.proofs.Giving.{IsQuiet}
-use Rattle.value_serving.proofs.Making.{IsSilent, Made, made_connected, made_quiet, over_is_free, silent_quiet}
-use Rattle.serving_wires.proofs.Wires.{Grows, Wires, found_new, found_push, grows_leaving, grows_wire, not_new, wire_other}
+use Rattle.value_serving.proofs.Making.{IsSilent, IsStill, Made, made_came, made_connected, made_still, over_is_free, silent_quiet, still_quiet}
+use Rattle.serving_wires.proofs.Waiting.{next_and_left}
+use Rattle.serving_wires.proofs.Wired.{OnWire, end_got, piece_got, wire_begins}
+use Rattle.serving_wires.proofs.Wires.{Grows, Wires, found_push, grows_leaving, grows_wire, not_new, wire_other}
 use Rattle.value_serving.proofs.Sparing.{Spares, spares_both}
 
 -- ---- the wires of a value-add
 
-pub record OnWire (channel : ℕ) (given : List Outgoing) (sent : Wires) : Type 0 where
-  pub wire : Sent
-  pub there : found channel sent ≡ Some wire
-  pub queued : wire.queued ≡ bytes_of given
+abbrev pub SideOnWire : ℕ → Passed → List Came → Wires → Type 0
+SideOnWire channel passed waiting sent = OnWire channel passed.got (bytes_of passed.gave) waiting sent
 
-pub record IsUp (channel low : ℕ) (upper : Option Upper) (given : List Outgoing) (linked : Bool) (sent : Wires) : Type 0 where
-  pub on : OnWire channel given sent
+pub record IsUp (channel low : ℕ) (upper : Option Upper) (waiting : List Came) (high : Option Passed) (sent : Wires) : Type 0 where
+  pub passed : Passed
+  pub linked : high ≡ Some passed
+  pub on : SideOnWire channel passed waiting sent
   pub silent : on.wire.is_closed ≡ true → IsSilent upper
   pub apart : (low == channel) ≡ false
-  pub linked_so : linked ≡ true
 
-abbrev pub UpWorks : Option ℕ → ℕ → Option Upper → List Outgoing → Bool → Wires → Type 0
-UpWorks None low upper given linked sent = linked ≡ false
-UpWorks (Some channel) low upper given linked sent = IsUp channel low upper given linked sent
+abbrev pub UpWorks : Option ℕ → ℕ → Option Upper → List Came → Option Passed → Wires → Type 0
+UpWorks None low upper waiting high sent = high ≡ None
+UpWorks (Some channel) low upper waiting high sent = IsUp channel low upper waiting high sent
 
-pub record Works (peer : List ℕ) (node : ValueValue) (low : ℕ) (up : Option ℕ) (sent : Wires) : Type 0 where
-  pub given_low : List Outgoing
-  pub given_high : List Outgoing
-  pub linked : Bool
-  pub made : Made peer node given_low given_high linked
-  pub lower : OnWire low given_low sent
+pub record Works (peer : List ℕ) (a : Add) (sent : Wires) : Type 0 where
+  pub low : Passed
+  pub high : Option Passed
+  pub made : Made peer a.node low high
+  pub lower : SideOnWire a.below low a.lower sent
   pub open_yet : lower.wire.is_closed ≡ false
-  pub upper : UpWorks up low node.relay.upper given_high linked sent
+  pub upper : UpWorks a.above a.below a.node.relay.upper a.upper high sent
 
-up_silent : (up : Option ℕ) (low : ℕ) (one other : Option Upper) (given : List Outgoing) (linked : Bool) (sent : Wires) → (IsSilent one → IsSilent other) → UpWorks up low one given linked sent
-    → UpWorks up low other given linked sent
-up_silent None low one other given linked sent so w = w
-up_silent (Some channel) low one other given linked sent so w = record { on = w.on; silent = λ shut. so (w.silent shut); apart = w.apart; linked_so = w.linked_so }
+up_silent : (up : Option ℕ) (low : ℕ) (one other : Option Upper) (waiting : List Came) (high : Option Passed) (sent : Wires) → (IsSilent one → IsSilent other) → UpWorks up low one waiting high sent
+    → UpWorks up low other waiting high sent
+up_silent None low one other waiting high sent so w = w
+up_silent (Some channel) low one other waiting high sent so w =
+    record { passed = w.passed; linked = w.linked; on = w.on; silent = λ shut. so (w.silent shut); apart = w.apart }
 
-works_quiet : (peer : List ℕ) (call : Call) (node : ValueValue) (low : ℕ) (up : Option ℕ) (sent : Wires) → IsQuiet call → Works peer node low up sent → Works peer (called call node) low up sent
-works_quiet peer call node low up sent quiet w =
+works_still : (peer : List ℕ) (call : Call) (a : Add) (sent : Wires) → IsStill call → Works peer a sent → Works peer (with_node (called call a.node) a) sent
+works_still peer call a sent still w =
     record {
-      given_low = w.given_low;
-      given_high = w.given_high;
-      linked = w.linked;
-      made = made_quiet peer call node w.given_low w.given_high w.linked quiet w.made;
+      low = w.low;
+      high = w.high;
+      made = made_still peer call a.node w.low w.high still w.made;
       lower = w.lower;
       open_yet = w.open_yet;
-      upper = up_silent up low node.relay.upper (called call node).relay.upper w.given_high w.linked sent
-          (λ old. silent_quiet peer call node w.given_low w.given_high w.linked quiet w.made old) w.upper;
+      upper = up_silent a.above a.below a.node.relay.upper (called call a.node).relay.upper a.upper w.high sent
+          (λ old. silent_quiet peer call a.node w.low w.high (still_quiet call still) w.made old) w.upper;
     }
+
+-- ---- what waits first comes to a side
+
+works_below : (peer : List ℕ) (what : Came) (rest : List Came) (a : Add) (sent : Wires) → Works peer (record a { lower = what ∷ rest }) sent
+    → Works peer (with_node (came_to Below what a.node) (record a { lower = rest })) sent
+works_below peer (Piece bytes) rest a sent w =
+    let call : Call = comes Below bytes None in
+    record {
+      low = with_got bytes w.low;
+      high = w.high;
+      made = made_came peer Below bytes a.node w.low w.high w.made;
+      lower = piece_got a.below bytes w.low.got (bytes_of w.low.gave) rest sent w.lower;
+      open_yet = w.open_yet;
+      upper = up_silent a.above a.below a.node.relay.upper (called call a.node).relay.upper a.upper w.high sent (λ old. silent_quiet peer call a.node w.low w.high tt w.made old) w.upper;
+    }
+works_below peer End rest a sent w =
+    works_still peer (bytes_end Below) (record a { lower = rest }) sent tt
+    (record {
+      low = w.low;
+      high = w.high;
+      made = w.made;
+      lower = end_got a.below w.low.got (bytes_of w.low.gave) rest sent w.lower;
+      open_yet = w.open_yet;
+      upper = w.upper;
+    })
+
+up_got : (up : Option ℕ) (bytes : List ℕ) (rest : List Came) (low : ℕ) (one other : Option Upper) (high : Option Passed) (sent : Wires) → (IsSilent one → IsSilent other)
+    → UpWorks up low one (Piece bytes ∷ rest) high sent → UpWorks up low other rest (option_map (with_got bytes) high) sent
+up_got None bytes rest low one other high sent so w = ap (λ (s : Option Passed). option_map (with_got bytes) s) w
+up_got (Some channel) bytes rest low one other high sent so w =
+    record {
+      passed = with_got bytes w.passed;
+      linked = ap (λ (s : Option Passed). option_map (with_got bytes) s) w.linked;
+      on = piece_got channel bytes w.passed.got (bytes_of w.passed.gave) rest sent w.on;
+      silent = λ shut. so (w.silent shut);
+      apart = w.apart;
+    }
+
+up_ended : (up : Option ℕ) (rest : List Came) (low : ℕ) (upper : Option Upper) (high : Option Passed) (sent : Wires) → UpWorks up low upper (End ∷ rest) high sent
+    → UpWorks up low upper rest high sent
+up_ended None rest low upper high sent w = w
+up_ended (Some channel) rest low upper high sent w =
+    record { passed = w.passed; linked = w.linked; on = end_got channel w.passed.got (bytes_of w.passed.gave) rest sent w.on; silent = w.silent; apart = w.apart }
+
+works_above : (peer : List ℕ) (what : Came) (rest : List Came) (a : Add) (sent : Wires) → Works peer (record a { upper = what ∷ rest }) sent
+    → Works peer (with_node (came_to Above what a.node) (record a { upper = rest })) sent
+works_above peer (Piece bytes) rest a sent w =
+    let call : Call = comes Above bytes None in
+    record {
+      low = w.low;
+      high = option_map (with_got bytes) w.high;
+      made = made_came peer Above bytes a.node w.low w.high w.made;
+      lower = w.lower;
+      open_yet = w.open_yet;
+      upper = up_got a.above bytes rest a.below a.node.relay.upper (called call a.node).relay.upper w.high sent (λ old. silent_quiet peer call a.node w.low w.high tt w.made old) w.upper;
+    }
+works_above peer End rest a sent w =
+    works_still peer (bytes_end Above) (record a { upper = rest }) sent tt
+    (record {
+      low = w.low;
+      high = w.high;
+      made = w.made;
+      lower = w.lower;
+      open_yet = w.open_yet;
+      upper = up_ended a.above rest a.below a.node.relay.upper w.high sent w.upper;
+    })
 
 -- ---- a connection is made
 
@@ -96,38 +161,42 @@ stays_there : (channel : ℕ) (wire : Sent) (up : Option ℕ) (sent : Wires) →
 stays_there channel wire None sent off is = is
 stays_there channel wire (Some earlier) sent off is = wire_other (leaves earlier) channel sent off ∙ is
 
-not_low : (up : Option ℕ) (low : ℕ) (upper : Option Upper) (given : List Outgoing) (linked : Bool) (sent : Wires) → UpWorks up low upper given linked sent → is_number low up ≡ false
-not_low None low upper given linked sent w = refl
-not_low (Some channel) low upper given linked sent w = other_number low channel w.apart
+pub not_low : (up : Option ℕ) (low : ℕ) (upper : Option Upper) (waiting : List Came) (high : Option Passed) (sent : Wires) → UpWorks up low upper waiting high sent → is_number low up ≡ false
+not_low None low upper waiting high sent w = refl
+not_low (Some channel) low upper waiting high sent w = other_number low channel w.apart
 
-not_up : (up : Option ℕ) (new low : ℕ) (upper : Option Upper) (given : List Outgoing) (linked : Bool) (sent : Wires) → found new sent ≡ None → UpWorks up low upper given linked sent
+not_up : (up : Option ℕ) (new low : ℕ) (upper : Option Upper) (waiting : List Came) (high : Option Passed) (sent : Wires) → found new sent ≡ None → UpWorks up low upper waiting high sent
     → is_number new up ≡ false
-not_up None new low upper given linked sent missing w = refl
-not_up (Some channel) new low upper given linked sent missing w = other_number new channel (not_new new channel sent w.on.wire missing w.on.there)
+not_up None new low upper waiting high sent missing w = refl
+not_up (Some channel) new low upper waiting high sent missing w = other_number new channel (not_new new channel sent w.on.wire missing w.on.there)
 
-works_connected : (peer : List ℕ) (node : ValueValue) (low new : ℕ) (up : Option ℕ) (sent : Wires) → awaits node.relay ≡ true → found new sent ≡ None → Works peer node low up sent
-    → Works peer (connected node) low (Some new) (left_with up (with_wire new sent))
-works_connected peer node low new up sent on missing w =
+works_connected : (peer : List ℕ) (a : Add) (new : ℕ) (sent : Wires) → awaits a.node.relay ≡ true → found new sent ≡ None → Works peer a sent
+    → Works peer (connected_on new a) (left_with a.above (with_wire new sent))
+works_connected peer a new sent on missing w =
+    let begins = wire_begins new sent missing in
     record {
-      given_low = w.given_low;
-      given_high = [];
-      linked = true;
-      made = made_connected peer node w.given_low w.given_high w.linked on w.made;
+      low = w.low;
+      high = Some nothing_passed;
+      made = made_connected peer a.node w.low w.high on w.made;
       lower = record {
         wire = w.lower.wire;
-        there = stays_there low w.lower.wire up (with_wire new sent) (not_low up low node.relay.upper w.given_high w.linked sent w.upper) (found_push low sent _ w.lower.wire w.lower.there);
+        there = stays_there a.below w.lower.wire a.above (with_wire new sent) (not_low a.above a.below a.node.relay.upper a.upper w.high sent w.upper)
+            (found_push a.below sent _ w.lower.wire w.lower.there);
         queued = w.lower.queued;
+        came = w.lower.came;
       };
       open_yet = w.open_yet;
       upper = record {
+        passed = nothing_passed;
+        linked = refl;
         on = record {
           wire = unused_wire;
-          there = stays_there new unused_wire up (with_wire new sent) (not_up up new low node.relay.upper w.given_high w.linked sent missing w.upper) (found_new new sent missing);
+          there = stays_there new unused_wire a.above (with_wire new sent) (not_up a.above new a.below a.node.relay.upper a.upper w.high sent missing w.upper) begins.there;
           queued = refl;
+          came = refl;
         };
         silent = λ shut. absurd (false≢true shut);
-        apart = other_number new low (not_new new low sent w.lower.wire missing w.lower.there);
-        linked_so = refl;
+        apart = other_number new a.below (not_new new a.below sent w.lower.wire missing w.lower.there);
       };
     }
 
@@ -142,7 +211,8 @@ grows_left (Some earlier) before later g = grows_leaving before later earlier g
 -- ---- on its way
 
 pub record OnItsWay (peer : List ℕ) (first : Add) (before : Wires) (a : Add) (sent : Wires) : Type 0 where
-  pub works : Works peer a.node a.below a.above sent
+  pub works : Works peer a sent
+  pub low_is : a.below ≡ first.below
   pub grows : Grows before sent
   pub spares : Spares first.below first.above before a.below a.above sent
 
@@ -179,23 +249,24 @@ module _ (peer : List ℕ) (first : Add) (before : Wires) where
   abbrev Comes : Process Add → Wires → Type 0
   Comes p sent = Leads (Grows before) Goes p sent
 
-  quiet_goes : (call : Call) (a : Add) (sent : Wires) → IsQuiet call → Goes a sent → Goes (with_node (called call a.node) a) sent
-  quiet_goes call a sent quiet g = record { works = works_quiet peer call a.node a.below a.above sent quiet g.works; grows = g.grows; spares = g.spares }
+  still_goes : (call : Call) (a : Add) (sent : Wires) → IsStill call → Goes a sent → Goes (with_node (called call a.node) a) sent
+  still_goes call a sent still g = record { works = works_still peer call a sent still g.works; low_is = g.low_is; grows = g.grows; spares = g.spares }
 
   answered_comes : (answer : Answer) (a : Add) (sent : Wires) → awaits a.node.relay ≡ true → IsNew answer sent → Goes a sent → Comes (answered answer a) (wires_after answer sent)
   answered_comes (Ok channel) a sent on new g =
       leads_leaving (Grows before) Goes a.above (connected_on channel a) (with_wire channel sent)
       (record {
-        works = works_connected peer a.node a.below channel a.above sent on new g.works;
+        works = works_connected peer a channel sent on new g.works;
+        low_is = g.low_is;
         grows = grows_left a.above before (with_wire channel sent) (grows_wire before sent channel g.grows);
         spares = spares_both first.below a.below a.below first.above a.above (Some channel) before sent (left_with a.above (with_wire channel sent)) g.spares (spares_connected a.below channel a.above sent new);
       })
-  answered_comes (Err refusal) a sent on new g = quiet_goes fails a sent tt g
+  answered_comes (Err refusal) a sent on new g = still_goes fails a sent tt g
 
 -- ---- a turn: a connection is asked for only where it is waited for
 
-record TurnWorks (peer : List ℕ) (t : ValueTurn × ValueValue) (low : ℕ) (up : Option ℕ) (sent : Wires) : Type 0 where
-  works : Works peer t.1 low up sent
+record TurnWorks (peer : List ℕ) (t : ValueTurn × ValueValue) (a : Add) (sent : Wires) : Type 0 where
+  works : Works peer (with_node t.1 a) sent
   waits_so : t.0 ≡ Connect → awaits t.1.relay ≡ true
 
 any_never : (what : Option (Taken ForwardedValue)) (v : Relay) → (took_any_above what v).0 ≡ Connect → ⊥
@@ -252,24 +323,25 @@ below_awaits v free = by_flag (takes_below v.bind v.upper)
     by_flag true = any_awaits (next_taken v.lower).0 (with_lower (next_taken v.lower).1 v) free
     by_flag false = λ is. absurd cc
 
-turn_above : (peer : List ℕ) (node : ValueValue) (low : ℕ) (up : Option ℕ) (sent : Wires) → Works peer node low up sent → TurnWorks peer (turned Above node) low up sent
-turn_above peer node low up sent w = record { works = works_quiet peer (turns Above) node low up sent tt w; waits_so = λ is. absurd (above_never node.relay is) }
+turn_above : (peer : List ℕ) (a : Add) (sent : Wires) → Works peer a sent → TurnWorks peer (turned Above a.node) a sent
+turn_above peer a sent w = record { works = works_still peer (turns Above) a sent tt w; waits_so = λ is. absurd (above_never a.node.relay is) }
 
-turn_below : (peer : List ℕ) (node : ValueValue) (low : ℕ) (up : Option ℕ) (sent : Wires) → Works peer node low up sent → TurnWorks peer (turned Below node) low up sent
-turn_below peer node low up sent w =
+turn_below : (peer : List ℕ) (a : Add) (sent : Wires) → Works peer a sent → TurnWorks peer (turned Below a.node) a sent
+turn_below peer a sent w =
     record {
-      works = works_quiet peer (turns Below) node low up sent tt w;
-      waits_so = below_awaits node.relay (λ unbound. over_is_free peer node w.given_low w.given_high w.linked w.made (ap (is_over Above) unbound));
+      works = works_still peer (turns Below) a sent tt w;
+      waits_so = below_awaits a.node.relay (λ unbound. over_is_free peer a.node w.low w.high w.made (ap (is_over Above) unbound));
     }
 
-else_works : (peer : List ℕ) (t : ValueTurn × ValueValue) (low : ℕ) (up : Option ℕ) (sent : Wires) → TurnWorks peer t low up sent → TurnWorks peer (else_below t) low up sent
-else_works peer (Nothing, v) low up sent t = turn_below peer v low up sent t.works
-else_works peer (Took, v) low up sent t = t
-else_works peer (Connect, v) low up sent t = t
+else_works : (peer : List ℕ) (t : ValueTurn × ValueValue) (a : Add) (sent : Wires) → TurnWorks peer t a sent → TurnWorks peer (else_below t) a sent
+else_works peer (Nothing, v) a sent t =
+    let below = turn_below peer (with_node v a) sent t.works in record { works = below.works; waits_so = below.waits_so }
+else_works peer (Took, v) a sent t = t
+else_works peer (Connect, v) a sent t = t
 
-one_works : (peer : List ℕ) (node : ValueValue) (low : ℕ) (up : Option ℕ) (sent : Wires) → Works peer node low up sent → TurnWorks peer (one_taken node) low up sent
+one_works : (peer : List ℕ) (a : Add) (sent : Wires) → Works peer a sent → TurnWorks peer (one_taken a.node) a sent
 unfolding one_taken
-one_works peer node low up sent w = else_works peer (turned Above node) low up sent (turn_above peer node low up sent w)
+one_works peer a sent w = else_works peer (turned Above a.node) a sent (turn_above peer a sent w)
 
 module _ (peer : List ℕ) (first : Add) (before : Wires) where
   abbrev Way : Add → Wires → Type 0
@@ -281,13 +353,13 @@ module _ (peer : List ℕ) (first : Add) (before : Wires) where
   abbrev Follows : (Add → Process Add) → Type 0
   Follows later = (b : Add) (s : Wires) → Way b s → Ways (later b) s
 
-  turn_comes : (t : ValueTurn × ValueValue) (a : Add) (later : Add → Process Add) (sent : Wires) → TurnWorks peer t a.below a.above sent → Grows before sent
+  turn_comes : (t : ValueTurn × ValueValue) (a : Add) (later : Add → Process Add) (sent : Wires) → TurnWorks peer t a sent → a.below ≡ first.below → Grows before sent
       → Spares first.below first.above before a.below a.above sent → Follows later → Ways (after_turn t a later) sent
-  turn_comes (Nothing, v) a later sent t grows spares so = record { works = t.works; grows = grows; spares = spares }
-  turn_comes (Took, v) a later sent t grows spares so = so (with_node v a) sent (record { works = t.works; grows = grows; spares = spares })
-  turn_comes (Connect, v) a later sent t grows spares so =
+  turn_comes (Nothing, v) a later sent t low_is grows spares so = record { works = t.works; low_is = low_is; grows = grows; spares = spares }
+  turn_comes (Took, v) a later sent t low_is grows spares so = so (with_node v a) sent (record { works = t.works; low_is = low_is; grows = grows; spares = spares })
+  turn_comes (Connect, v) a later sent t low_is grows spares so =
       let b : Add = with_node v a in
-      let g : Way b sent = record { works = t.works; grows = grows; spares = spares } in (
+      let g : Way b sent = record { works = t.works; low_is = low_is; grows = grows; spares = spares } in (
         grows,
         λ answer new.
             leads_then (Grows before) Way Way (answered answer b) later (wires_after answer sent) (answered_comes peer first before answer b sent (t.waits_so refl) new g) so,
@@ -297,7 +369,7 @@ module _ (peer : List ℕ) (first : Add) (before : Wires) where
       → Ways (if flag then done a else after_turn (one_taken a.node) a (λ next. taken count next)) sent
   unless_given true count a sent g so = g
   unless_given false count a sent g so =
-      turn_comes (one_taken a.node) a (λ next. taken count next) sent (one_works peer a.node a.below a.above sent g.works) g.grows g.spares so
+      turn_comes (one_taken a.node) a (λ next. taken count next) sent (one_works peer a sent g.works) g.low_is g.grows g.spares so
 
   taken_comes : (count : ℕ) (a : Add) (sent : Wires) → Way a sent → Ways (taken count a) sent
   taken_comes zero a sent g = g
@@ -309,25 +381,36 @@ module _ (peer : List ℕ) (first : Add) (before : Wires) where
       leads_then (Grows before) Way Way (taken (waiting_on Above a) a) (λ next. taken (waiting_on Below a) next) sent (taken_comes (waiting_on Above a) a sent g)
       (λ b s way. taken_comes (waiting_on Below a) b s way)
 
-  came_goes : (side : Side) (what : Came) (a : Add) (sent : Wires) → Way a sent → Way (with_node (came_to side what a.node) a) sent
-  came_goes side (Piece bytes) a sent g = quiet_goes peer first before (comes side bytes None) a sent tt g
-  came_goes side End a sent g = quiet_goes peer first before (bytes_end side) a sent tt g
+  -- what waits first is given
+  above_goes : (what : Option Came) (rest : List Came) (a : Add) (sent : Wires) → a.upper ≡ option_to_list what ++ rest → Way a sent
+      → Way (given_above what (record a { upper = rest })).1 sent
+  above_goes None rest a sent is g = subst (λ (waiting : List Came). Way (record a { upper = waiting }) sent) is g
+  above_goes (Some what) rest a sent is g =
+      record {
+        works = works_above peer what rest a sent (subst (λ (waiting : List Came). Works peer (record a { upper = waiting }) sent) is g.works);
+        low_is = g.low_is;
+        grows = g.grows;
+        spares = g.spares;
+      }
 
-  above_goes : (what : Option Came) (a : Add) (sent : Wires) → Way a sent → Way (given_above what a).1 sent
-  above_goes None a sent g = g
-  above_goes (Some what) a sent g = came_goes Above what a sent g
+  else_above : (a : Add) (sent : Wires) → Way a sent
+      → Way (given_above (next_for (waiting_on Above a) a.upper) (record a { upper = left_for (waiting_on Above a) a.upper })).1 sent
+  else_above a sent g = above_goes (next_for (waiting_on Above a) a.upper) (left_for (waiting_on Above a) a.upper) a sent (next_and_left (waiting_on Above a) a.upper) g
 
-  below_goes : (what : Option Came) (a : Add) (sent : Wires) → Way a sent → Way (given_below what a).1 sent
-  below_goes None a sent g =
-      above_goes (next_for (waiting_on Above a) a.upper) (record a { upper = left_for (waiting_on Above a) a.upper }) sent
-      (record { works = g.works; grows = g.grows; spares = g.spares })
-  below_goes (Some what) a sent g = came_goes Below what a sent g
+  below_goes : (what : Option Came) (rest : List Came) (a : Add) (sent : Wires) → a.lower ≡ option_to_list what ++ rest → Way a sent
+      → Way (given_below what (record a { lower = rest })).1 sent
+  below_goes None rest a sent is g = else_above (record a { lower = rest }) sent (subst (λ (waiting : List Came). Way (record a { lower = waiting }) sent) is g)
+  below_goes (Some what) rest a sent is g =
+      record {
+        works = works_below peer what rest a sent (subst (λ (waiting : List Came). Works peer (record a { lower = waiting }) sent) is g.works);
+        low_is = g.low_is;
+        grows = g.grows;
+        spares = g.spares;
+      }
 
   given_goes : (a : Add) (sent : Wires) → Way a sent → Way (next_given a).1 sent
   unfolding next_given
-  given_goes a sent g =
-      below_goes (next_for (waiting_on Below a) a.lower) (record a { lower = left_for (waiting_on Below a) a.lower }) sent
-      (record { works = g.works; grows = g.grows; spares = g.spares })
+  given_goes a sent g = below_goes (next_for (waiting_on Below a) a.lower) (left_for (waiting_on Below a) a.lower) a sent (next_and_left (waiting_on Below a) a.lower) g
 
   giving_comes : (g : Bool × Add) (later : Add → Process Add) (sent : Wires) → Way g.1 sent → Follows later → Ways (after_giving g later) sent
   giving_comes (false, a) later sent way so = way

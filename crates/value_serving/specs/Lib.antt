@@ -6,6 +6,7 @@ pub mod Serving
 pub mod Following
 pub mod Heeding
 pub mod Served
+pub mod Passages
 pub mod Left
 pub mod Limits
 pub mod Serve

@@ -1,9 +1,0 @@
-use Rattle.serving_wires.specs.Calls.{Makes}
-use Rattle.agent_serving.proofs.Running.{Running}
-use Rattle.agent_serving.proofs.serve.try_serve.Given as goal
-
--- so many events were taken, and all that came of them is put
-abbrev pub invariant-loop-before : goal.invariant-loop-before
-invariant-loop-before g l =
-    Makes (Running l.fn.images.items l.fn.address l.before l.serving (g.W.Wires.unused l.wires))
-    (g.W.Wires.seen l.fn.wires) (g.W.Wires.seen l.wires)

@@ -1,29 +1,28 @@
 -- What a hub heard is, in order, what it took from above.
-use Rattle.std.proofs.Common.{◌≡◌, ℕ, ◌+◌, ◌==◌, Bool, true, false, cond, ◌||◌, List, [], ◌∷◌, ◌++◌, Option, Some, None, refl, sym, ap, subst, ◌∙◌, append-nil, append_assoc}
+use Rattle.std.proofs.Common.{◌≡◌, ℕ, ◌+◌, ◌==◌, Bool, true, false, cond, List, [], ◌∷◌, ◌++◌, Option, Some, None, refl, sym, ap, ◌∙◌, append-nil, append_assoc}
 use Rattle.std.specs.Prelude.{Result, Ok, Err}
 use Rattle.std.specs.List.{list_any}
 use Rattle.std.proofs.lemmas.List.Concat.{flat_map-append}
 use Rattle.channel_core.specs.Beginning.{new_end, tag_of}
 use Rattle.channel_core.specs.EndValue.{EndValue}
 use Rattle.channel_core.specs.Laws.{listed}
-use Rattle.channel_core.specs.Runs.{Call as EndCall, begun, called, closing, commanding, taking}
+use Rattle.channel_core.specs.Runs.{begun, closing, commanding, unless_refused}
 use Rattle.channel_core.specs.Sending.{last_token, refusal_to}
 use Rattle.channel_core.specs.Taking.{next_taken}
 use Rattle.channel_core.specs.Wire.{is_redirect}
-use Rattle.channel_core.specs.declared.held.Incoming.{Incoming}
 use Rattle.channel_core.specs.declared.sending.SendRefusal.{SendRefusal}
 use Rattle.channel_core.specs.declared.taking.Taken.{Taken}
 use Rattle.channel_core.specs.declared.taking.Taken.TheVariants as taken
 use Rattle.tcf_message.specs.Message.{MessageValue, command, event, final, flow, not_known, progress, reading}
 use Rattle.tcf_message.specs.declared.message.MessageFault.{MessageFault}
 use Rattle.hub_node.specs.Board.{dropped, found, kept}
-use Rattle.hub_node.specs.Calls.{Call, called as hub_call, opens, comes, bytes_end, turns, gives}
-use Rattle.hub_node.specs.Deeds.{Asked, Deed, above_deeds, answers, asked_deeds, below_deeds, deeds_by, forwards, heard_by, heard_in, joins, unless_refused as deed_unless_refused}
+use Rattle.hub_node.specs.Calls.{Call, opens, comes, bytes_end, turns, gives}
+use Rattle.hub_node.specs.Deeds.{Asked, above_deeds, answers, asked_deeds, below_deeds, deeds_by, forwards, heard_by, heard_in, joins, ends as all_ends}
 use Rattle.hub_node.specs.HubLaws.{bound_by, heard_from, heard_of}
 use Rattle.hub_node.specs.HubValue.{HubValue}
-use Rattle.hub_node.specs.Relay.{after_giving_at, all_closed, answered, asked, begun as relay_begun, came_at, ended_at, event_told, final_told, finished, forwarded, forwarded_as, found_by, gone, greeted, is_refused, next_below, opened_at, progress_told, refused_above, took_above, took_any_above, took_any_below, took_below, turned_above, turned_at, unless_refused as relay_unless_refused, upper_services, waits_as}
+use Rattle.hub_node.specs.Relay.{after_giving_at, all_closed, answered, asked, begun as relay_begun, came_at, ended_at, event_told, final_told, finished, forwarded, forwarded_as, found_by, gone, greeted, is_refused, next_below, opened_at, progress_told, refused_above, took_above, took_any_above, took_any_below, took_below, turned_above, upper_services, waits_as}
 use Rattle.hub_node.specs.RelayValue.{RelayValue}
-use Rattle.hub_node.specs.Runs.{HubRun, above_by, above_run, after_call, asked_above, forwarding, refused_calls, took_above as above_calls, unless_refused}
+use Rattle.hub_node.specs.Runs.{HubRun, above_by, above_run, after_call, asked_above, forwarding, refused_calls, took_above as above_calls}
 use Rattle.hub_node.specs.WaitingValue.{WaitingValue}
 use Rattle.hub_node.specs.declared.side.HubSide.TheVariants.{Above, Below}
 use Rattle.hub_node.specs.declared.waiting.Tag.{Tag}
@@ -115,7 +114,7 @@ forwarded_bound key i token service name body mark r = by_flag (r.upper.last == 
     kept_so = record r { board = kept key (waits_as i token r) r.board }
 
     by_flag : (flag : Bool) (o : Option SendRefusal)
-        → (cond flag (all_closed r) (relay_unless_refused o (all_closed kept_so) (forwarded_as key i token service name body mark r))).is_bound ≡ r.is_bound
+        → (cond flag (all_closed r) (unless_refused o (all_closed kept_so) (forwarded_as key i token service name body mark r))).is_bound ≡ r.is_bound
     by_flag true o = closed_bound r
     by_flag false None = refl
     by_flag false (Some why) = closed_bound kept_so
@@ -228,7 +227,7 @@ asked_heard i mark (Ok (command token service name body)) upper = by_flag (is_re
     c : Asked
     c = record { channel = i; token = token; service = service; name = name; body = body; mark = mark }
 
-    by_flag : (own : Bool) (o : Option SendRefusal) → heard_in (cond own (answers c ∷ []) (deed_unless_refused o (forwards c) ∷ [])) ≡ []
+    by_flag : (own : Bool) (o : Option SendRefusal) → heard_in (cond own (answers c ∷ []) (unless_refused o all_ends (forwards c) ∷ [])) ≡ []
     by_flag true o = refl
     by_flag false None = refl
     by_flag false (Some why) = refl

@@ -196,7 +196,7 @@ kept_end (Some c) r is = by_flag (is_kept c) refl
         let empty : c.end.queued ≡ [] = nothing_queued c.end.queued parts.1 in
         (ap (λ e. is_closed e.state) (sym is) ∙ closed, ap (λ e. e.queued) (sym is) ∙ empty)
 
-no_calls_of : (o : Option End) (j i : ℕ) (q : RelayValue) → below_by o j (opens i) q ≡ []
+pub no_calls_of : (o : Option End) (j i : ℕ) (q : RelayValue) → below_by o j (opens i) q ≡ []
 no_calls_of None j i q = refl
 no_calls_of (Some e) j i q = refl
 
@@ -208,7 +208,7 @@ and_true : (a : Bool) → (a && true) ≡ a
 and_true true = refl
 and_true false = refl
 
-open_first : (i : ℕ) (q : RelayValue) (flag : Bool) → is_refused i q ≡ flag → opened_at i q ≡ cond flag (false, q) (true, relay_begun i q)
+pub open_first : (i : ℕ) (q : RelayValue) (flag : Bool) → is_refused i q ≡ flag → opened_at i q ≡ cond flag (false, q) (true, relay_begun i q)
 unfolding opened_at
 open_first i q flag is = ap (λ b. cond b (false, q) (true, relay_begun i q)) is
 

@@ -7,7 +7,7 @@ use Rattle.std.proofs.lemmas.List.Concat.{flat_map-append}
 use Rattle.channel_core.specs.Beginning.{new_end}
 use Rattle.channel_core.specs.EndValue.{EndValue}
 use Rattle.channel_core.specs.RunLaws.{is_command}
-use Rattle.channel_core.specs.Runs.{Call as EndCall, Issued, Run, after_call, after_calls, begun, called, closing, commanding, delivering, draining, ending, issued, putting_out, sending, taking, unless_refused as core_unless_refused}
+use Rattle.channel_core.specs.Runs.{Call as EndCall, Issued, Run, after_call, after_calls, begun, called, closing, commanding, delivering, draining, ending, issued, putting_out, sending, taking, unless_refused}
 use Rattle.channel_core.specs.Sending.{refusal_to}
 use Rattle.channel_core.specs.Taking.{next_taken}
 use Rattle.channel_core.specs.Wire.{is_redirect, said}
@@ -21,11 +21,11 @@ use Rattle.list_laws.proofs.Fronts.{front_map, front_same, front_take}
 use Rattle.tcf_message.specs.Message.{MessageValue, command, event, final, flow, not_known, progress, reading}
 use Rattle.tcf_message.specs.declared.message.MessageFault.{MessageFault}
 use Rattle.hub_node.specs.Calls.{Call, opens, comes, bytes_end, turns, gives}
-use Rattle.hub_node.specs.Deeds.{Asked, answers, asked_deeds, below_deeds, deeds_by, forwards, joins, sent_by, sent_in, unless_refused as deed_unless_refused, above_deeds}
+use Rattle.hub_node.specs.Deeds.{Asked, answers, asked_deeds, below_deeds, deeds_by, forwards, joins, sent_by, sent_in, above_deeds, ends as all_ends}
 use Rattle.hub_node.specs.HubLaws.{sent_above}
 use Rattle.hub_node.specs.Relay.{next_below, opened_at, upper_services}
 use Rattle.hub_node.specs.RelayValue.{RelayValue}
-use Rattle.hub_node.specs.Runs.{HubRun, above_by, above_run, after_call as hub_after, asked_above, forwarding, refused_calls, took_above, unless_refused}
+use Rattle.hub_node.specs.Runs.{HubRun, above_by, above_run, after_call as hub_after, asked_above, forwarding, refused_calls, took_above}
 use Rattle.hub_node.specs.declared.side.HubSide.TheVariants.{Above, Below}
 use Rattle.hub_node.specs.declared.waiting.Tag.{Tag}
 use Rattle.hub_node.proofs.EndRuns.{run_more}
@@ -35,7 +35,7 @@ use Rattle.hub_node.proofs.Holding.{Holds}
 
 module _ {T : Type 0} where
   abbrev pub issued_by : EndCall T → EndValue T → List (Issued T)
-  issued_by (commanding service name body tag mark) e = core_unless_refused (refusal_to service name body e) [] (issued service name body tag mark e ∷ [])
+  issued_by (commanding service name body tag mark) e = unless_refused (refusal_to service name body e) [] (issued service name body tag mark e ∷ [])
   issued_by (delivering piece mark) e = []
   issued_by ending e = []
   issued_by taking e = []
@@ -88,12 +88,12 @@ forwarding_adds key i mark (Ok (command token service name body)) upper = by_fla
     calls : Option SendRefusal → List (EndCall Tag)
     calls o = unless_refused o (closing ∷ []) (commanding service name body tag mark ∷ [])
 
-    by_why : (o : Option SendRefusal) → refusal_to service name body upper ≡ o → Adds upper (issued_in (calls o) upper) (sent_in (deed_unless_refused o (forwards c) ∷ []))
-    by_why None is = one c tag (ap (λ x. core_unless_refused x [] (issued service name body tag mark upper ∷ []) ++ []) is) refl
+    by_why : (o : Option SendRefusal) → refusal_to service name body upper ≡ o → Adds upper (issued_in (calls o) upper) (sent_in (unless_refused o all_ends (forwards c) ∷ []))
+    by_why None is = one c tag (ap (λ x. unless_refused x [] (issued service name body tag mark upper ∷ []) ++ []) is) refl
     by_why (Some why) is = none_added upper
 
     by_flag : (own : Bool) → Adds upper (issued_in (cond own [] (calls (refusal_to service name body upper))) upper)
-        (sent_in (cond own (answers c ∷ []) (deed_unless_refused (refusal_to service name body upper) (forwards c) ∷ [])))
+        (sent_in (cond own (answers c ∷ []) (unless_refused (refusal_to service name body upper) all_ends (forwards c) ∷ [])))
     by_flag true = none_added upper
     by_flag false = by_why (refusal_to service name body upper) refl
 forwarding_adds key i mark (Ok (final token body)) upper = none_added upper
@@ -112,7 +112,7 @@ below_adds key i (Some (taken.Progress token incoming)) upper = none_added upper
 below_adds key i (Some (taken.Final tag incoming)) upper = none_added upper
 below_adds key i (Some (taken.Closed cause)) upper = none_added upper
 
-refused_none : (m : Result MessageValue MessageFault) (e : EndValue Tag) → issued_in (refused_calls m) e ≡ []
+pub refused_none : (m : Result MessageValue MessageFault) (e : EndValue Tag) → issued_in (refused_calls m) e ≡ []
 refused_none (Ok (command token service name body)) e = refl
 refused_none (Ok (final token body)) e = refl
 refused_none (Ok (progress token body)) e = refl
@@ -165,7 +165,7 @@ pub sent_length : (low : ℕ) (cs : List Asked) → length (sent_above low cs) �
 sent_length low [] = refl
 sent_length low (c ∷ cs) = ap suc (sent_length (low + 1) cs)
 
-length_map : {A B : Type 0} → (f : A → B) (xs : List A) → length (map f xs) ≡ length xs
+pub length_map : {A B : Type 0} → (f : A → B) (xs : List A) → length (map f xs) ≡ length xs
 length_map f [] = refl
 length_map f (x ∷ xs) = ap suc (length_map f xs)
 

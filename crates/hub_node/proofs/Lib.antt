@@ -12,4 +12,16 @@ pub mod Untaken
 pub mod Owning
 pub mod Shutting
 pub mod Hearing
+pub mod MessageKinds
+pub mod Waits
+pub mod PoolRows
+pub mod Boards
+pub mod Owners
+pub mod Steady
+pub mod Owned
+pub mod Boarding
+pub mod Telling
+pub mod Acting
+pub mod Tells
+pub mod Rightly
 pub mod TheLaws

@@ -1,7 +1,8 @@
 -- The numbers of the lower channels stay as they are, whatever is called but an opening.
-use Rattle.std.proofs.Common.{◌≡◌, ℕ, ◌+◌, ◌==◌, Bool, true, false, cond, ◌||◌, List, [], ◌∷◌, map, drop, Option, Some, None, refl, sym, ap, subst, ◌∙◌}
+use Rattle.std.proofs.Common.{◌≡◌, ℕ, ◌==◌, Bool, true, false, cond, ◌||◌, List, [], ◌∷◌, map, drop, Option, Some, None, refl, sym, ap, subst, ◌∙◌}
 use Rattle.std.specs.Prelude.{Result, Ok, Err}
 use Rattle.std.specs.List.{list_any}
+use Rattle.channel_core.specs.Runs.{unless_refused}
 use Rattle.channel_core.specs.Beginning.{tag_of}
 use Rattle.channel_core.specs.Closing.{closed_own}
 use Rattle.channel_core.specs.EndValue.{unless_spent}
@@ -21,7 +22,7 @@ use Rattle.tcf_message.specs.Message.{MessageValue, command, event, final, flow,
 use Rattle.tcf_message.specs.declared.message.MessageFault.{MessageFault}
 use Rattle.hub_node.specs.Board.{dropped, found, kept}
 use Rattle.hub_node.specs.Redirects.{redirect_reply}
-use Rattle.hub_node.specs.Relay.{after_giving_at, all_closed, answered, asked, came_at, ended_at, event_told, final_told, finished, forwarded, forwarded_as, found_by, gone, greeted, next_below, progress_told, refused_above, takes_below, took_above, took_any_above, took_any_below, took_below, turned_above, turned_at, unless_refused, waits_as}
+use Rattle.hub_node.specs.Relay.{after_giving_at, all_closed, answered, asked, came_at, ended_at, event_told, final_told, finished, forwarded, forwarded_as, found_by, gone, greeted, next_below, progress_told, refused_above, takes_below, took_above, took_any_above, took_any_below, took_below, turned_above, turned_at, waits_as}
 use Rattle.hub_node.specs.RelayValue.{RelayValue}
 use Rattle.hub_node.specs.WaitingValue.{WaitingValue}
 use Rattle.hub_node.specs.declared.side.HubSide.TheVariants.{Above, Below}

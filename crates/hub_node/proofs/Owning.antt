@@ -9,7 +9,7 @@ use Rattle.channel_core.specs.Closing.{is_closed}
 use Rattle.channel_core.specs.EndValue.{EndValue}
 use Rattle.channel_core.specs.Holding.{is_live}
 use Rattle.channel_core.specs.Laws.{listed}
-use Rattle.channel_core.specs.Runs.{Call as EndCall, after_calls, begun, closing, commanding, taking}
+use Rattle.channel_core.specs.Runs.{Call as EndCall, after_calls, begun, closing, commanding, taking, unless_refused}
 use Rattle.channel_core.specs.Sending.{refusal_to}
 use Rattle.channel_core.specs.Taking.{next_taken}
 use Rattle.channel_core.specs.Wire.{is_redirect}
@@ -26,16 +26,16 @@ use Rattle.list_laws.proofs.Fronts.{front_all, front_more, front_same}
 use Rattle.tcf_message.specs.Message.{MessageValue, command, event, final, flow, not_known, progress, reading}
 use Rattle.tcf_message.specs.declared.message.MessageFault.{MessageFault}
 use Rattle.hub_node.specs.Calls.{Call, opens, comes, bytes_end, turns, gives}
-use Rattle.hub_node.specs.Deeds.{Asked, Deed, above_deeds, answers, asked_deeds, below_deeds, deeds_by, forwards, joins, sent_by, sent_in, unless_refused as deed_unless_refused}
+use Rattle.hub_node.specs.Deeds.{Asked, Deed, above_deeds, answers, asked_deeds, below_deeds, deeds_by, forwards, joins, sent_by, sent_in, ends as all_ends}
 use Rattle.hub_node.specs.HubLaws.{IsEndOf, asked_by, asked_in, is_of}
 use Rattle.hub_node.specs.Relay.{hub_services, next_at, next_below, next_on, opened_at, takes_below, upper_services}
 use Rattle.hub_node.specs.RelayValue.{RelayValue}
-use Rattle.hub_node.specs.Runs.{HubRun, above_by, above_run, after_call, asked_above, below_by, below_run, calls_of, forwarding, only_if, took_of, unless_refused}
+use Rattle.hub_node.specs.Runs.{HubRun, above_by, above_run, after_call, asked_above, below_by, below_run, calls_of, forwarding, only_if, took_of}
 use Rattle.hub_node.specs.declared.side.HubSide.TheVariants.{Above, Below}
 use Rattle.hub_node.specs.declared.waiting.Tag.{Tag}
 use Rattle.hub_node.proofs.EndRuns.{end_after, end_more, ends}
 use Rattle.hub_node.proofs.Holding.{Holds, unopened}
-use Rattle.hub_node.proofs.Untaken.{above_untaken, below_untaken, delivering_untaken, ending_untaken, putting_untaken, taken_append, taken_in, taken_more, untaken}
+use Rattle.hub_node.proofs.Untaken.{is_taking, above_untaken, below_untaken, delivering_untaken, ending_untaken, putting_untaken, taken_append, taken_in, taken_more, untaken}
 
 -- ---- what a turn below takes
 
@@ -80,20 +80,20 @@ turn_takes j key i q (Some e) =
     let first : List (EndCall Unit) = only_if (i == j && takes_below q) (taking ∷ []) in
     let second : List (EndCall Unit) = took_of (i == j) (next_below i q).0 q.upper in
     taken_append first second e
-    ∙ ap (λ xs. taken_in first e ++ xs) (untaken second (ends first e) (below_untaken (i == j) (next_below i q).0 q.upper))
+    ∙ ap (λ xs. taken_in first e ++ xs) (untaken second (ends first e) (below_untaken is_taking (λ message mark. refl) (λ piece mark. refl) refl refl refl (i == j) (next_below i q).0 q.upper))
     ∙ append-nil (taken_in first e) ∙ if_taking (i == j) (takes_below q) e
 
 -- no other call takes anything of it
 other_takes : (j : ℕ) (call : Call) (q : RelayValue) (e : End) → ((key i : ℕ) → call ≢ turns key (Below i)) → taken_in (calls_of e j call q) e ≡ []
 other_takes j (opens i) q e not = refl
 other_takes j (comes Above piece mark) q e not = refl
-other_takes j (comes (Below i) piece mark) q e not = untaken (calls_of e j (comes (Below i) piece mark) q) e (delivering_untaken (i == j) e piece mark)
+other_takes j (comes (Below i) piece mark) q e not = untaken (calls_of e j (comes (Below i) piece mark) q) e (delivering_untaken is_taking (λ message mark. refl) (λ piece mark. refl) refl refl refl (i == j) e piece mark)
 other_takes j (bytes_end Above) q e not = refl
-other_takes j (bytes_end (Below i)) q e not = untaken (calls_of e j (bytes_end (Below i)) q) e (ending_untaken (i == j))
-other_takes j (turns key Above) q e not = untaken (calls_of e j (turns key Above) q) e (above_untaken j (next_taken q.upper).0 (record q { upper = (next_taken q.upper).1 }))
+other_takes j (bytes_end (Below i)) q e not = untaken (calls_of e j (bytes_end (Below i)) q) e (ending_untaken is_taking (λ message mark. refl) (λ piece mark. refl) refl refl refl (i == j))
+other_takes j (turns key Above) q e not = untaken (calls_of e j (turns key Above) q) e (above_untaken is_taking (λ message mark. refl) (λ piece mark. refl) refl refl refl j (next_taken q.upper).0 (record q { upper = (next_taken q.upper).1 }))
 other_takes j (turns key (Below i)) q e not = absurd (not key i refl)
 other_takes j (gives Above) q e not = refl
-other_takes j (gives (Below i)) q e not = untaken (calls_of e j (gives (Below i)) q) e (putting_untaken (i == j))
+other_takes j (gives (Below i)) q e not = untaken (calls_of e j (gives (Below i)) q) e (putting_untaken is_taking (λ message mark. refl) (λ piece mark. refl) refl refl refl (i == j))
 
 -- ---- what is sent of it
 
@@ -123,13 +123,13 @@ asked_sends key j mark (Ok (command token service name body)) upper = by_flag (i
     own = ap (λ b. cond b (c ∷ []) []) (eq-eqb j j refl)
 
     by_why : (o : Option SendRefusal) → refusal_to service name body upper ≡ o
-        → Sends (calls (refusal_to service name body upper) ≡ closing ∷ []) (filter (is_of j) (sent_in (deed_unless_refused o (forwards c) ∷ []))) (c ∷ [])
+        → Sends (calls (refusal_to service name body upper) ≡ closing ∷ []) (filter (is_of j) (sent_in (unless_refused o all_ends (forwards c) ∷ []))) (c ∷ [])
     by_why None is = same own
     by_why (Some why) is = refused refl (ap calls is)
 
     by_flag : (redirects : Bool) → is_redirect service name ≡ redirects
         → Sends (cond redirects [] (calls (refusal_to service name body upper)) ≡ closing ∷ [])
-        (filter (is_of j) (sent_in (cond redirects (answers c ∷ []) (deed_unless_refused (refusal_to service name body upper) (forwards c) ∷ []))))
+        (filter (is_of j) (sent_in (cond redirects (answers c ∷ []) (unless_refused (refusal_to service name body upper) all_ends (forwards c) ∷ []))))
         (cond redirects [] (c ∷ []))
     by_flag true is = same refl
     by_flag false is = by_why (refusal_to service name body upper) refl
@@ -161,7 +161,7 @@ asked_others i j mark (Ok (command token service name body)) upper isnt = by_fla
     c : Asked
     c = record { channel = i; token = token; service = service; name = name; body = body; mark = mark }
 
-    by_flag : (redirects : Bool) (o : Option SendRefusal) → filter (is_of j) (sent_in (cond redirects (answers c ∷ []) (deed_unless_refused o (forwards c) ∷ []))) ≡ []
+    by_flag : (redirects : Bool) (o : Option SendRefusal) → filter (is_of j) (sent_in (cond redirects (answers c ∷ []) (unless_refused o all_ends (forwards c) ∷ []))) ≡ []
     by_flag true o = refl
     by_flag false None = ap (λ b. cond b (c ∷ []) []) isnt
     by_flag false (Some why) = refl
@@ -204,11 +204,11 @@ turn_sends j key i q = by_own (i == j) refl
 
 -- ---- any call
 
-joined_none : (j i : ℕ) (did : Bool) → filter (is_of j) (sent_in (cond did (joins i ∷ []) [])) ≡ []
+pub joined_none : (j i : ℕ) (did : Bool) → filter (is_of j) (sent_in (cond did (joins i ∷ []) [])) ≡ []
 joined_none j i true = refl
 joined_none j i false = refl
 
-above_none : (j : ℕ) (bound : Bool) (what : Option (Taken Tag)) → filter (is_of j) (sent_in (above_deeds bound what)) ≡ []
+pub above_none : (j : ℕ) (bound : Bool) (what : Option (Taken Tag)) → filter (is_of j) (sent_in (above_deeds bound what)) ≡ []
 above_none j bound None = refl
 above_none j true (Some (taken.Hello incoming)) = refl
 above_none j false (Some (taken.Hello incoming)) = refl
@@ -237,7 +237,7 @@ call_sends j (gives side) q = other_sends j (gives side) q refl (λ key k is. cc
 
 -- nothing is sent where the upper end is closed
 
-not_live : (s : EndState) → is_closed s ≡ true → is_live s ≡ false
+pub not_live : (s : EndState) → is_closed s ≡ true → is_live s ≡ false
 not_live Opening is = refl
 not_live Live is = let both : false ≡ true = is in absurd cc
 not_live Reopening is = refl
@@ -292,7 +292,7 @@ asked_so j call r h =
 
 -- it stays closed, and is closed where that is called
 
-stays_over : (j : ℕ) (call : Call) (r : HubRun) → IsOver (above_run r).end → IsOver (above_run (after_call j call r)).end
+pub stays_over : (j : ℕ) (call : Call) (r : HubRun) → IsOver (above_run r).end → IsOver (above_run (after_call j call r)).end
 stays_over j call r over =
     let s = stays_closed upper_services None r.above (above_by call r.hub.relay) over in
     ap (λ (x : EndValue Tag). is_closed x.state) (end_more r.above (above_by call r.hub.relay) (begun (new_end upper_services None)))
@@ -301,7 +301,7 @@ stays_over j call r over =
     end_more_later : (r : HubRun) → (after_calls (above_by call r.hub.relay) (above_run r)).end ≡ ends (above_by call r.hub.relay) (above_run r).end
     end_more_later r = end_after (above_by call r.hub.relay) (above_run r)
 
-closes_over : (j : ℕ) (call : Call) (r : HubRun) → above_by call r.hub.relay ≡ closing ∷ [] → IsOver (above_run (after_call j call r)).end
+pub closes_over : (j : ℕ) (call : Call) (r : HubRun) → above_by call r.hub.relay ≡ closing ∷ [] → IsOver (above_run (after_call j call r)).end
 closes_over j call r is =
     let c = closes_only_so upper_services None r.above in
     ap (λ (x : EndValue Tag). is_closed x.state) (end_more r.above (above_by call r.hub.relay) (begun (new_end upper_services None)))

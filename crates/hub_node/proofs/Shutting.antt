@@ -1,12 +1,12 @@
 -- Where the upper end of a hub is closed, so is each lower one.
-use Rattle.std.proofs.Common.{◌≡◌, ◌⊎◌, inl, inr, ℕ, ◌+◌, ◌==◌, Bool, true, false, cond, ◌||◌, ◌&&◌, nat_le, List, [], ◌∷◌, ◌++◌, Option, Some, None, refl, sym, ap, subst, ◌∙◌, append-nil, append_assoc}
+use Rattle.std.proofs.Common.{◌≡◌, ◌⊎◌, inl, inr, ℕ, ◌+◌, ◌==◌, Bool, true, false, cond, ◌||◌, ◌&&◌, nat_le, List, [], ◌∷◌, ◌++◌, Option, Some, None, refl, sym, ap, ◌∙◌, append_assoc}
 use Rattle.std.specs.Prelude.{Result, Ok, Err}
 use Rattle.std.proofs.lemmas.Bool.{or_parts}
 use Rattle.channel_core.specs.Beginning.{new_end}
 use Rattle.channel_core.specs.Closing.{is_closed}
 use Rattle.channel_core.specs.EndValue.{EndValue}
-use Rattle.channel_core.specs.QueueLaws.{ClosesOnlySo, may_close}
-use Rattle.channel_core.specs.Runs.{Call as EndCall, Run, after_calls, an_answer, an_unknown, begun, called, closing, commanding, delivering, ending, putting_out, sending, taking}
+use Rattle.channel_core.specs.QueueLaws.{ClosesOnlySo}
+use Rattle.channel_core.specs.Runs.{Call as EndCall, Run, after_calls, an_answer, an_unknown, begun, called, closing, commanding, delivering, ending, putting_out, sending, taking, unless_refused}
 use Rattle.channel_core.specs.Sending.{refusal_to}
 use Rattle.channel_core.specs.Taking.{closes, next_taken}
 use Rattle.channel_core.specs.Wire.{is_redirect}
@@ -25,10 +25,10 @@ use Rattle.hub_node.specs.HubLaws.{IsEndOf}
 use Rattle.hub_node.specs.Redirects.{redirect_reply}
 use Rattle.hub_node.specs.Relay.{begun as relay_begun, hub_services, is_refused, next_below, opened_at, takes_below, upper_services}
 use Rattle.hub_node.specs.RelayValue.{RelayValue}
-use Rattle.hub_node.specs.Runs.{HubRun, above_by, above_run, after_call, asked_above, asked_calls, below_by, below_run, calls_of, forwarding, is_opening, only_if, refused_calls, took_above, took_for, took_of, unless_refused}
+use Rattle.hub_node.specs.Runs.{HubRun, above_by, above_run, after_call, asked_above, asked_calls, below_by, below_run, calls_of, forwarding, is_opening, only_if, refused_calls, took_above, took_for, took_of}
 use Rattle.hub_node.specs.declared.side.HubSide.TheVariants.{Above, Below}
 use Rattle.hub_node.specs.declared.waiting.Tag.{Tag}
-use Rattle.hub_node.proofs.EndRuns.{end_after, end_more, ends, ends_append, run_more}
+use Rattle.hub_node.proofs.EndRuns.{end_more, ends, run_more}
 use Rattle.hub_node.proofs.Holding.{Holds}
 
 abbrev pub IsOver : {T : Type 0} → EndValue T → Type 0
@@ -144,7 +144,7 @@ open_call j (gives (Below i)) r h opened = inl opened
 
 -- ---- a lower end that is closed
 
-shut_by : (r : HubRun) (first calls : List (EndCall Unit)) → calls ≡ first ++ closing ∷ [] → IsOver (after_calls (r.below ++ calls) (begun (new_end hub_services None))).end
+pub shut_by : (r : HubRun) (first calls : List (EndCall Unit)) → calls ≡ first ++ closing ∷ [] → IsOver (after_calls (r.below ++ calls) (begun (new_end hub_services None))).end
 shut_by r first calls is =
     let new : Run Unit = begun (new_end hub_services None) in
     ap (λ cs. is_closed (after_calls (r.below ++ cs) new).end.state) is
@@ -152,7 +152,7 @@ shut_by r first calls is =
     ∙ ap (λ (e : End). is_closed e.state) (end_more (r.below ++ first) (closing ∷ []) new)
     ∙ (closes_only_so hub_services None (r.below ++ first)).by_own
 
-stays_shut : (r : HubRun) (calls : List (EndCall Unit)) → IsOver (below_run r).end → IsOver (after_calls (r.below ++ calls) (begun (new_end hub_services None))).end
+pub stays_shut : (r : HubRun) (calls : List (EndCall Unit)) → IsOver (below_run r).end → IsOver (after_calls (r.below ++ calls) (begun (new_end hub_services None))).end
 stays_shut r calls over =
     let s = stays_closed hub_services None r.below calls over in
     ap (λ (x : Run Unit). is_closed x.end.state) (run_more r.below calls (begun (new_end hub_services None))) ∙ ap is_closed s.state ∙ over
@@ -168,7 +168,7 @@ abbrev pub ClosesBelow : HubRun → Type 0
 ClosesBelow r = r.is_begun ≡ true → IsOver (above_run r).end → IsOver (below_run r).end
 
 -- a channel opens only where the upper end is open
-opens_open : (j : ℕ) (call : Call) (q : RelayValue) → is_opening j call q ≡ true → is_closed q.upper.state ≡ false
+pub opens_open : (j : ℕ) (call : Call) (q : RelayValue) → is_opening j call q ≡ true → is_closed q.upper.state ≡ false
 unfolding opened_at
 opens_open j (opens i) q is = by_flag (is_refused i q) refl (and_second (i == j) (opened_at i q).0 is)
   where

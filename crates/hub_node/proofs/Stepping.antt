@@ -5,7 +5,7 @@ use Rattle.channel_core.specs.Beginning.{tag_of}
 use Rattle.channel_core.specs.Closing.{closed_own, is_closed}
 use Rattle.channel_core.specs.EndValue.{EndValue, unless_spent}
 use Rattle.channel_core.specs.Receiving.{delivered as end_delivered, ended as end_ended}
-use Rattle.channel_core.specs.Runs.{Call as EndCall, an_answer, an_event, an_unknown, called, closing, delivering, ending, putting_out, sending, some_progress, taking}
+use Rattle.channel_core.specs.Runs.{Call as EndCall, an_answer, an_event, an_unknown, called, closing, delivering, ending, putting_out, sending, some_progress, taking, unless_refused}
 use Rattle.channel_core.specs.Sending.{last_token, most_pending, queued, refusal_of, refusal_to}
 use Rattle.channel_core.specs.Taking.{next_taken}
 use Rattle.channel_core.specs.Wire.{is_redirect}
@@ -22,9 +22,9 @@ use Rattle.tcf_message.specs.declared.message.MessageFault.{MessageFault}
 use Rattle.hub_node.specs.Board.{dropped, found, kept}
 use Rattle.hub_node.specs.Calls.{comes, bytes_end, turns, gives}
 use Rattle.hub_node.specs.Redirects.{redirect_reply}
-use Rattle.hub_node.specs.Relay.{after_giving_at, all_closed, answered, asked, came_at, ended_at, event_told, final_told, finished, forwarded, forwarded_as, found_by, gone, greeted, next_at, next_below, next_on, progress_told, refused_above, takes_below, took_above, took_any_above, took_any_below, took_below, turned_above, turned_at, unless_refused as relay_unless_refused, waits_as}
+use Rattle.hub_node.specs.Relay.{after_giving_at, all_closed, answered, asked, came_at, ended_at, event_told, final_told, finished, forwarded, forwarded_as, found_by, gone, greeted, next_at, next_below, next_on, progress_told, refused_above, takes_below, took_above, took_any_above, took_any_below, took_below, turned_above, turned_at, waits_as}
 use Rattle.hub_node.specs.RelayValue.{RelayValue}
-use Rattle.hub_node.specs.Runs.{answering, asked_calls, calls_of, delivering_to, going_on, hearing, only_if, took_for, took_of, unless_refused}
+use Rattle.hub_node.specs.Runs.{answering, asked_calls, calls_of, delivering_to, going_on, hearing, only_if, took_for, took_of}
 use Rattle.hub_node.specs.WaitingValue.{WaitingValue}
 use Rattle.hub_node.specs.declared.side.HubSide.TheVariants.{Above, Below}
 use Rattle.hub_node.specs.declared.waiting.Tag.{Tag}
@@ -216,13 +216,13 @@ forwarded_lowers key i j token service name body mark r u = by_flag (r.upper.las
     kept_so : RelayValue
     kept_so = record r { board = kept key (waits_as i token r) r.board }
 
-    by_why : (o : Option SendRefusal) → channel_end j (relay_unless_refused o (all_closed kept_so) (forwarded_as key i token service name body mark r)).lowers
+    by_why : (o : Option SendRefusal) → channel_end j (unless_refused o (all_closed kept_so) (forwarded_as key i token service name body mark r)).lowers
         ≡ option_map (λ e. ends (unless_refused o (closing ∷ []) []) e) (channel_end j r.lowers)
     by_why None = none_called (channel_end j r.lowers)
     by_why (Some w) = closed_lowers j kept_so u
 
     by_flag : (flag : Bool) → (r.upper.last == last_token) ≡ flag
-        → channel_end j (cond flag (all_closed r) (relay_unless_refused why (all_closed kept_so) (forwarded_as key i token service name body mark r))).lowers
+        → channel_end j (cond flag (all_closed r) (unless_refused why (all_closed kept_so) (forwarded_as key i token service name body mark r))).lowers
         ≡ option_map (λ e. ends (unless_refused why (closing ∷ []) []) e) (channel_end j r.lowers)
     by_flag true is =
         let calls : List (EndCall Unit) = closing ∷ [] in

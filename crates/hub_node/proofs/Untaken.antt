@@ -5,7 +5,7 @@ use Rattle.std.specs.List.{list_any}
 use Rattle.channel_core.specs.Closing.{is_closed}
 use Rattle.channel_core.specs.EndValue.{EndValue}
 use Rattle.channel_core.specs.Laws.{listed}
-use Rattle.channel_core.specs.Runs.{Call as EndCall, Run, after_call, after_calls, called, closing, commanding, delivering, an_answer, draining, ending, putting_out, sending, taking}
+use Rattle.channel_core.specs.Runs.{Call as EndCall, Run, Unheld, after_call, after_calls, called, closing, commanding, delivering, an_answer, an_event, an_unknown, draining, ending, putting_out, sending, some_progress, taking, unless_refused}
 use Rattle.channel_core.specs.Sending.{refusal_to}
 use Rattle.channel_core.specs.Taking.{next_taken}
 use Rattle.channel_core.specs.Wire.{is_redirect}
@@ -19,7 +19,7 @@ use Rattle.hub_node.specs.Board.{found}
 use Rattle.hub_node.specs.Redirects.{redirect_reply}
 use Rattle.hub_node.specs.Relay.{found_by}
 use Rattle.hub_node.specs.RelayValue.{RelayValue}
-use Rattle.hub_node.specs.Runs.{answering, asked_calls, delivering_to, going_on, hearing, only_if, took_for, took_of, unless_refused}
+use Rattle.hub_node.specs.Runs.{answering, asked_calls, delivering_to, going_on, hearing, only_if, took_for, took_of}
 use Rattle.hub_node.specs.WaitingValue.{WaitingValue}
 use Rattle.hub_node.specs.declared.waiting.Tag.{Tag}
 use Rattle.hub_node.proofs.EndRuns.{ends, run_more}
@@ -86,92 +86,94 @@ module _ {T : Type 0} where
   untaken (closing ∷ calls) e none = untaken calls (called closing e) none
   untaken (draining ∷ calls) e none = untaken calls (called draining e) none
 
--- ---- what is passed on
+-- ---- what is passed on, by a test that no such call passes
 
-one_untaken : (flag : Bool) (call : EndCall Unit) → is_taking {T = Unit} call ≡ false → list_any (is_taking {T = Unit}) (only_if flag (call ∷ [])) ≡ false
-one_untaken true call none = ap (λ b. b || false) none
-one_untaken false call none = refl
+module _ (test : EndCall Unit → Bool) (sends : (message : Unheld) (mark : Option ℕ) → test (sending message mark) ≡ false) (delivers : (piece : List ℕ) (mark : Option ℕ) → test (delivering piece mark) ≡ false)
+    (ends_none : test ending ≡ false) (puts_none : test putting_out ≡ false) (shuts : test closing ≡ false) where
+  one_untaken : (flag : Bool) (call : EndCall Unit) → test call ≡ false → list_any test (only_if flag (call ∷ [])) ≡ false
+  one_untaken true call none = ap (λ b. b || false) none
+  one_untaken false call none = refl
 
-pub delivering_untaken : (flag : Bool) (e : End) (piece : List ℕ) (mark : Option ℕ) → list_any (is_taking {T = Unit}) (only_if flag (delivering_to e piece mark)) ≡ false
-delivering_untaken true e piece mark = by_flag (is_closed e.state)
-  where
-    by_flag : (over : Bool) → list_any (is_taking {T = Unit}) (cond over [] (delivering piece mark ∷ [])) ≡ false
-    by_flag true = refl
-    by_flag false = refl
-delivering_untaken false e piece mark = refl
+  pub delivering_untaken : (flag : Bool) (e : End) (piece : List ℕ) (mark : Option ℕ) → list_any test (only_if flag (delivering_to e piece mark)) ≡ false
+  delivering_untaken true e piece mark = by_flag (is_closed e.state)
+    where
+      by_flag : (over : Bool) → list_any test (cond over [] (delivering piece mark ∷ [])) ≡ false
+      by_flag true = refl
+      by_flag false = ap (λ b. b || false) (delivers piece mark)
+  delivering_untaken false e piece mark = refl
 
-pub ending_untaken : (flag : Bool) → list_any (is_taking {T = Unit}) (only_if flag (ending ∷ [])) ≡ false
-ending_untaken true = refl
-ending_untaken false = refl
+  pub ending_untaken : (flag : Bool) → list_any test (only_if flag (ending ∷ [])) ≡ false
+  ending_untaken true = ap (λ b. b || false) ends_none
+  ending_untaken false = refl
 
-pub putting_untaken : (flag : Bool) → list_any (is_taking {T = Unit}) (only_if flag (putting_out ∷ [])) ≡ false
-putting_untaken true = refl
-putting_untaken false = refl
+  pub putting_untaken : (flag : Bool) → list_any test (only_if flag (putting_out ∷ [])) ≡ false
+  putting_untaken true = ap (λ b. b || false) puts_none
+  putting_untaken false = refl
 
-hearing_untaken : (mark : Option ℕ) (m : Result MessageValue MessageFault) → list_any (is_taking {T = Unit}) (hearing mark m) ≡ false
-hearing_untaken mark (Ok (event service name body)) = refl
-hearing_untaken mark (Ok (command token service name body)) = refl
-hearing_untaken mark (Ok (final token body)) = refl
-hearing_untaken mark (Ok (progress token body)) = refl
-hearing_untaken mark (Ok (not_known token)) = refl
-hearing_untaken mark (Ok (flow level)) = refl
-hearing_untaken mark (Err fault) = refl
+  hearing_untaken : (mark : Option ℕ) (m : Result MessageValue MessageFault) → list_any test (hearing mark m) ≡ false
+  hearing_untaken mark (Ok (event service name body)) = ap (λ b. b || false) (sends (an_event service name body) mark)
+  hearing_untaken mark (Ok (command token service name body)) = refl
+  hearing_untaken mark (Ok (final token body)) = refl
+  hearing_untaken mark (Ok (progress token body)) = refl
+  hearing_untaken mark (Ok (not_known token)) = refl
+  hearing_untaken mark (Ok (flow level)) = refl
+  hearing_untaken mark (Err fault) = refl
 
-going_untaken : (j : ℕ) (w : Option WaitingValue) (mark : Option ℕ) (m : Result MessageValue MessageFault) → list_any (is_taking {T = Unit}) (going_on j w mark m) ≡ false
-going_untaken j (Some w) mark (Ok (progress token body)) = one_untaken (w.channel == j) _ refl
-going_untaken j (Some w) mark (Ok (command token service name body)) = refl
-going_untaken j (Some w) mark (Ok (final token body)) = refl
-going_untaken j (Some w) mark (Ok (event service name body)) = refl
-going_untaken j (Some w) mark (Ok (not_known token)) = refl
-going_untaken j (Some w) mark (Ok (flow level)) = refl
-going_untaken j (Some w) mark (Err fault) = refl
-going_untaken j None mark m = refl
+  going_untaken : (j : ℕ) (w : Option WaitingValue) (mark : Option ℕ) (m : Result MessageValue MessageFault) → list_any test (going_on j w mark m) ≡ false
+  going_untaken j (Some w) mark (Ok (progress token body)) = one_untaken (w.channel == j) _ (sends (some_progress w.token body) mark)
+  going_untaken j (Some w) mark (Ok (command token service name body)) = refl
+  going_untaken j (Some w) mark (Ok (final token body)) = refl
+  going_untaken j (Some w) mark (Ok (event service name body)) = refl
+  going_untaken j (Some w) mark (Ok (not_known token)) = refl
+  going_untaken j (Some w) mark (Ok (flow level)) = refl
+  going_untaken j (Some w) mark (Err fault) = refl
+  going_untaken j None mark m = refl
 
-answering_untaken : (j : ℕ) (w : Option WaitingValue) (mark : Option ℕ) (m : Result MessageValue MessageFault) → list_any (is_taking {T = Unit}) (answering j w mark m) ≡ false
-answering_untaken j (Some w) mark (Ok (final token body)) = one_untaken (w.channel == j) _ refl
-answering_untaken j (Some w) mark (Ok (not_known token)) = one_untaken (w.channel == j) _ refl
-answering_untaken j (Some w) mark (Ok (command token service name body)) = refl
-answering_untaken j (Some w) mark (Ok (progress token body)) = refl
-answering_untaken j (Some w) mark (Ok (event service name body)) = refl
-answering_untaken j (Some w) mark (Ok (flow level)) = refl
-answering_untaken j (Some w) mark (Err fault) = refl
-answering_untaken j None mark m = refl
+  answering_untaken : (j : ℕ) (w : Option WaitingValue) (mark : Option ℕ) (m : Result MessageValue MessageFault) → list_any test (answering j w mark m) ≡ false
+  answering_untaken j (Some w) mark (Ok (final token body)) = one_untaken (w.channel == j) _ (sends (an_answer w.token body) mark)
+  answering_untaken j (Some w) mark (Ok (not_known token)) = one_untaken (w.channel == j) _ (sends (an_unknown w.token) mark)
+  answering_untaken j (Some w) mark (Ok (command token service name body)) = refl
+  answering_untaken j (Some w) mark (Ok (progress token body)) = refl
+  answering_untaken j (Some w) mark (Ok (event service name body)) = refl
+  answering_untaken j (Some w) mark (Ok (flow level)) = refl
+  answering_untaken j (Some w) mark (Err fault) = refl
+  answering_untaken j None mark m = refl
 
-pub above_untaken : (j : ℕ) (what : Option (Taken Tag)) (r : RelayValue) → list_any (is_taking {T = Unit}) (took_for j what r) ≡ false
-above_untaken j None r = refl
-above_untaken j (Some (taken.Hello incoming)) r = by_flag r.is_bound
-  where
-    by_flag : (bound : Bool) → list_any (is_taking {T = Unit}) (cond bound (hearing incoming.mark (reading incoming.raw)) []) ≡ false
-    by_flag true = hearing_untaken incoming.mark (reading incoming.raw)
-    by_flag false = refl
-above_untaken j (Some (taken.Command incoming)) r = refl
-above_untaken j (Some (taken.Event incoming)) r = hearing_untaken incoming.mark (reading incoming.raw)
-above_untaken j (Some (taken.Progress token incoming)) r = going_untaken j (found_by (tag_of token r.upper.pending) r) incoming.mark (reading incoming.raw)
-above_untaken j (Some (taken.Final tag incoming)) r = answering_untaken j (found tag r.board) incoming.mark (reading incoming.raw)
-above_untaken j (Some (taken.Closed cause)) r = refl
+  pub above_untaken : (j : ℕ) (what : Option (Taken Tag)) (r : RelayValue) → list_any test (took_for j what r) ≡ false
+  above_untaken j None r = refl
+  above_untaken j (Some (taken.Hello incoming)) r = by_flag r.is_bound
+    where
+      by_flag : (bound : Bool) → list_any test (cond bound (hearing incoming.mark (reading incoming.raw)) []) ≡ false
+      by_flag true = hearing_untaken incoming.mark (reading incoming.raw)
+      by_flag false = refl
+  above_untaken j (Some (taken.Command incoming)) r = refl
+  above_untaken j (Some (taken.Event incoming)) r = hearing_untaken incoming.mark (reading incoming.raw)
+  above_untaken j (Some (taken.Progress token incoming)) r = going_untaken j (found_by (tag_of token r.upper.pending) r) incoming.mark (reading incoming.raw)
+  above_untaken j (Some (taken.Final tag incoming)) r = answering_untaken j (found tag r.board) incoming.mark (reading incoming.raw)
+  above_untaken j (Some (taken.Closed cause)) r = ap (λ b. b || false) shuts
 
-asked_untaken : (own : Bool) (m : Result MessageValue MessageFault) (upper : EndValue Tag) → list_any (is_taking {T = Unit}) (asked_calls own m upper) ≡ false
-asked_untaken own (Ok (command token service name body)) upper = by_flag (is_redirect service name)
-  where
-    by_why : (o : Option SendRefusal) → list_any (is_taking {T = Unit}) (unless_refused {A = List (EndCall Unit)} o (closing ∷ []) []) ≡ false
-    by_why None = refl
-    by_why (Some why) = refl
+  asked_untaken : (own : Bool) (m : Result MessageValue MessageFault) (upper : EndValue Tag) → list_any test (asked_calls own m upper) ≡ false
+  asked_untaken own (Ok (command token service name body)) upper = by_flag (is_redirect service name)
+    where
+      by_why : (o : Option SendRefusal) → list_any test (unless_refused {A = List (EndCall Unit)} o (closing ∷ []) []) ≡ false
+      by_why None = refl
+      by_why (Some why) = ap (λ b. b || false) shuts
 
-    by_flag : (redirects : Bool) → list_any (is_taking {T = Unit}) (cond redirects (only_if own (sending (an_answer token (redirect_reply service name body)) None ∷ [])) (unless_refused (refusal_to service name body upper) (closing ∷ []) [])) ≡ false
-    by_flag true = one_untaken own _ refl
-    by_flag false = by_why (refusal_to service name body upper)
-asked_untaken own (Ok (final token body)) upper = refl
-asked_untaken own (Ok (progress token body)) upper = refl
-asked_untaken own (Ok (event service name body)) upper = refl
-asked_untaken own (Ok (not_known token)) upper = refl
-asked_untaken own (Ok (flow level)) upper = refl
-asked_untaken own (Err fault) upper = refl
+      by_flag : (redirects : Bool) → list_any test (cond redirects (only_if own (sending (an_answer token (redirect_reply service name body)) None ∷ [])) (unless_refused (refusal_to service name body upper) (closing ∷ []) [])) ≡ false
+      by_flag true = one_untaken own _ (sends (an_answer token (redirect_reply service name body)) None)
+      by_flag false = by_why (refusal_to service name body upper)
+  asked_untaken own (Ok (final token body)) upper = refl
+  asked_untaken own (Ok (progress token body)) upper = refl
+  asked_untaken own (Ok (event service name body)) upper = refl
+  asked_untaken own (Ok (not_known token)) upper = refl
+  asked_untaken own (Ok (flow level)) upper = refl
+  asked_untaken own (Err fault) upper = refl
 
-pub below_untaken : (own : Bool) (what : Option (Taken Unit)) (upper : EndValue Tag) → list_any (is_taking {T = Unit}) (took_of own what upper) ≡ false
-below_untaken own None upper = refl
-below_untaken own (Some (taken.Hello incoming)) upper = refl
-below_untaken own (Some (taken.Command incoming)) upper = asked_untaken own (reading incoming.raw) upper
-below_untaken own (Some (taken.Event incoming)) upper = refl
-below_untaken own (Some (taken.Progress token incoming)) upper = refl
-below_untaken own (Some (taken.Final tag incoming)) upper = refl
-below_untaken own (Some (taken.Closed cause)) upper = refl
+  pub below_untaken : (own : Bool) (what : Option (Taken Unit)) (upper : EndValue Tag) → list_any test (took_of own what upper) ≡ false
+  below_untaken own None upper = refl
+  below_untaken own (Some (taken.Hello incoming)) upper = refl
+  below_untaken own (Some (taken.Command incoming)) upper = asked_untaken own (reading incoming.raw) upper
+  below_untaken own (Some (taken.Event incoming)) upper = refl
+  below_untaken own (Some (taken.Progress token incoming)) upper = refl
+  below_untaken own (Some (taken.Final tag incoming)) upper = refl
+  below_untaken own (Some (taken.Closed cause)) upper = refl

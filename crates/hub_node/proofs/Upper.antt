@@ -5,7 +5,7 @@ use Rattle.channel_core.specs.Beginning.{tag_of}
 use Rattle.channel_core.specs.Closing.{closed_own}
 use Rattle.channel_core.specs.EndValue.{EndValue, unless_spent}
 use Rattle.channel_core.specs.Receiving.{ended as end_ended}
-use Rattle.channel_core.specs.Runs.{Call as EndCall, closing, commanding, unless_refused as core_unless_refused}
+use Rattle.channel_core.specs.Runs.{Call as EndCall, closing, commanding, unless_refused}
 use Rattle.channel_core.specs.Sending.{commanded, last_token, refusal_to}
 use Rattle.channel_core.specs.Taking.{next_taken}
 use Rattle.channel_core.specs.Wire.{is_redirect}
@@ -16,9 +16,9 @@ use Rattle.tcf_message.specs.Message.{MessageValue, command, event, final, flow,
 use Rattle.tcf_message.specs.declared.message.MessageFault.{MessageFault}
 use Rattle.hub_node.specs.Board.{dropped, found, kept}
 use Rattle.hub_node.specs.Calls.{bytes_end, gives, turns}
-use Rattle.hub_node.specs.Relay.{after_giving_at, all_closed, answered, asked, ended_at, event_told, final_told, finished, forwarded, forwarded_as, found_by, gone, greeted, next_below, progress_told, refused_above, tag_for, took_above, took_any_above, took_any_below, took_below, turned_above, turned_at, unless_refused as relay_unless_refused, waits_as}
+use Rattle.hub_node.specs.Relay.{after_giving_at, all_closed, answered, asked, ended_at, event_told, final_told, finished, forwarded, forwarded_as, found_by, gone, greeted, next_below, progress_told, refused_above, tag_for, took_above, took_any_above, took_any_below, took_below, turned_above, turned_at, waits_as}
 use Rattle.hub_node.specs.RelayValue.{RelayValue}
-use Rattle.hub_node.specs.Runs.{above_by, asked_above, forwarding, refused_calls, took_above as above_calls, unless_refused}
+use Rattle.hub_node.specs.Runs.{above_by, asked_above, forwarding, refused_calls, took_above as above_calls}
 use Rattle.hub_node.specs.WaitingValue.{WaitingValue}
 use Rattle.hub_node.specs.declared.side.HubSide.TheVariants.{Above, Below}
 use Rattle.hub_node.specs.declared.waiting.Tag.{Tag}
@@ -120,12 +120,12 @@ forwarded_upper key i token service name body mark r u = by_flag (r.upper.last =
     calls o = unless_refused o (closing ∷ []) (commanding service name body (tag_for key r) mark ∷ [])
 
     by_why : (o : Option SendRefusal) → why ≡ o
-        → (relay_unless_refused o (all_closed kept_so) (forwarded_as key i token service name body mark r)).upper ≡ ends (calls o) r.upper
-    by_why None is = sym (ap (λ x. core_unless_refused x r.upper (commanded service name body (tag_for key r) mark r.upper)) is)
+        → (unless_refused o (all_closed kept_so) (forwarded_as key i token service name body mark r)).upper ≡ ends (calls o) r.upper
+    by_why None is = sym (ap (λ x. unless_refused x r.upper (commanded service name body (tag_for key r) mark r.upper)) is)
     by_why (Some w) is = closed_upper kept_so u
 
     by_flag : (flag : Bool) → (r.upper.last == last_token) ≡ flag
-        → (cond flag (all_closed r) (relay_unless_refused why (all_closed kept_so) (forwarded_as key i token service name body mark r))).upper ≡ ends (calls why) r.upper
+        → (cond flag (all_closed r) (unless_refused why (all_closed kept_so) (forwarded_as key i token service name body mark r))).upper ≡ ends (calls why) r.upper
     by_flag true is =
         let closes : List (EndCall Tag) = closing ∷ [] in
         let sends : List (EndCall Tag) = commanding service name body (tag_for key r) mark ∷ [] in

@@ -3,11 +3,11 @@
 use Rattle.std.specs.Prelude.{ℕ, Bool, if◌then◌else◌, List, [], ◌∷◌, Option, Some, None, Result, Ok}
 use Rattle.std.specs.List.{flat_map}
 use Rattle.channel_core.specs.EndValue.{EndValue}
+use Rattle.channel_core.specs.Runs.{unless_refused}
 use Rattle.channel_core.specs.Sending.{refusal_to}
 use Rattle.channel_core.specs.Taking.{next_taken}
 use Rattle.channel_core.specs.Wire.{is_redirect}
 use Rattle.channel_core.specs.declared.held.Incoming.{Incoming}
-use Rattle.channel_core.specs.declared.sending.SendRefusal.{SendRefusal}
 use Rattle.channel_core.specs.declared.taking.Taken.{Taken}
 use Rattle.channel_core.specs.declared.taking.Taken.TheVariants as taken
 use Rattle.tcf_message.specs.Message.{MessageValue, command, reading}
@@ -38,12 +38,8 @@ pub data Deed : Type 0 where
 -- ---- what a call does
 
 -- where a command is refused above, all is closed
-abbrev pub unless_refused : Option SendRefusal → Deed → Deed
-unless_refused None deed = deed
-unless_refused (Some why) deed = ends
-
 abbrev pub forwarded_as : Asked → EndValue Tag → Deed
-forwarded_as c upper = unless_refused (refusal_to c.service c.name c.body upper) (forwards c)
+forwarded_as c upper = unless_refused (refusal_to c.service c.name c.body upper) ends (forwards c)
 
 abbrev pub asked_deeds : ℕ → Option ℕ → Result MessageValue MessageFault → EndValue Tag → List Deed
 asked_deeds j mark (Ok (command token service name body)) upper =

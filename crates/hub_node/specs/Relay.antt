@@ -5,13 +5,13 @@ use Rattle.channel_core.specs.Beginning.{new_end, tag_of}
 use Rattle.channel_core.specs.Closing.{closed_own, is_closed}
 use Rattle.channel_core.specs.EndValue.{unless_spent}
 use Rattle.channel_core.specs.Holding.{is_live}
+use Rattle.channel_core.specs.Runs.{unless_refused}
 use Rattle.channel_core.specs.Receiving.{delivered as end_delivered, ended as end_ended, waiting_in}
 use Rattle.channel_core.specs.Sending.{commanded, queued, refusal_to}
 use Rattle.channel_core.specs.Taking.{next_taken}
 use Rattle.channel_core.specs.Wire.{is_redirect}
 use Rattle.channel_core.specs.declared.held.Outgoing.{Outgoing}
 use Rattle.channel_core.specs.declared.held.Incoming.{Incoming}
-use Rattle.channel_core.specs.declared.sending.SendRefusal.{SendRefusal}
 use Rattle.channel_core.specs.declared.taking.Taken.{Taken}
 use Rattle.channel_core.specs.declared.taking.Taken.TheVariants as taken
 use Rattle.channel_list.specs.Channels.{all_left, changed, channel_at, is_kept, is_open, live_count, new_channel, place_of, told_to_all, unless_closed, with_end}
@@ -87,10 +87,6 @@ forwarded_as key j token service name body mark r = record r {
 }
 
 -- where it is refused, all is closed; so it is where no token is left
-abbrev pub unless_refused : Option SendRefusal → RelayValue → RelayValue → RelayValue
-unless_refused None refused accepted = accepted
-unless_refused (Some why) refused accepted = refused
-
 unfoldable pub forwarded : ℕ → ℕ → List ℕ → List ℕ → List ℕ → List ℕ → Option ℕ → RelayValue → RelayValue
 forwarded key j token service name body mark r =
     if r.upper.last == 2 ^ 64 - 1 then all_closed r

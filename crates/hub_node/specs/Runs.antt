@@ -4,11 +4,10 @@ use Rattle.std.specs.Prelude.{ℕ, ◌+◌, ◌==◌, Bool, true, false, ◌||�
 use Rattle.channel_core.specs.Beginning.{new_end, tag_of}
 use Rattle.channel_core.specs.Closing.{is_closed}
 use Rattle.channel_core.specs.EndValue.{EndValue}
-use Rattle.channel_core.specs.Runs.{Call as EndCall, Run, after_calls, an_answer, an_event, an_unknown, begun, closing, commanding, delivering, ending, putting_out, sending, some_progress, taking}
+use Rattle.channel_core.specs.Runs.{Call as EndCall, Run, after_calls, an_answer, an_event, an_unknown, begun, closing, commanding, delivering, ending, putting_out, sending, some_progress, taking, unless_refused}
 use Rattle.channel_core.specs.Sending.{refusal_to}
 use Rattle.channel_core.specs.Taking.{next_taken}
 use Rattle.channel_core.specs.Wire.{is_redirect}
-use Rattle.channel_core.specs.declared.sending.SendRefusal.{SendRefusal}
 use Rattle.channel_core.specs.declared.taking.Taken.{Taken}
 use Rattle.channel_core.specs.declared.taking.Taken.TheVariants as taken
 use Rattle.channel_list.specs.Channels.{channel_end}
@@ -41,10 +40,6 @@ took_above (Some (taken.Event incoming)) = []
 took_above (Some (taken.Progress token incoming)) = []
 took_above (Some (taken.Final tag incoming)) = []
 took_above (Some (taken.Closed cause)) = closing ∷ []
-
-abbrev pub unless_refused : {A : Type 0} → Option SendRefusal → A → A → A
-unless_refused None refused accepted = accepted
-unless_refused (Some why) refused accepted = refused
 
 -- a command goes above, or all is closed
 abbrev pub forwarding : ℕ → Option ℕ → Result MessageValue MessageFault → EndValue Tag → List (EndCall Tag)

@@ -14,6 +14,7 @@ mod waiting;
 
 pub use hub::HubNode;
 pub use laws::{
-    a_hub_closes_whole, a_hub_hears_what_comes, a_hub_sends_its_commands, the_ends_are_runs,
+    a_hub_closes_whole, a_hub_hears_what_comes, a_hub_sends_its_commands, a_hub_tells_each_its_own,
+    the_ends_are_runs,
 };
 pub use side::HubSide;

@@ -1,4 +1,4 @@
-use Rattle.std.proofs.Common.{rules, ◌≡◌, refl, None, Some}
+use Rattle.std.proofs.Common.{rules, refl, None, Some}
 use Rattle.hub_node.proofs.board.Board.new.Goals as goal
 
 pub returns : goal.returns

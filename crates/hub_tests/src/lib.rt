@@ -1,0 +1,7 @@
+//! Tests of a hub between an agent and debuggers.
+#![tactic(auto)]
+
+#[cfg(test)]
+mod debugger;
+#[cfg(test)]
+mod joined;

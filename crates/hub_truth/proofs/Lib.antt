@@ -1,0 +1,11 @@
+pub mod Nothing
+pub mod Listened
+pub mod Fronts
+pub mod Passed
+pub mod Behind
+pub mod Parts
+pub mod Truth
+pub mod Begins
+pub mod Entries
+pub mod Tied
+pub mod TheLaws

@@ -1,11 +1,12 @@
 #!/usr/bin/env python3
-"""Puts random and half-right bytes into `tcf agent`, `tcf value` and `tcf client` on loopback, beside good clients.
+"""Puts random and half-right bytes into `tcf agent`, `tcf value`, `tcf hub` and `tcf client` on loopback, beside good clients.
 
     bench/hostile.py [PROGRAM] [--streams N] [--connections N] [--sessions N] [--seed N]
 
 Without PROGRAM it builds the program first, which proves it. A stream is one connection with some bytes. N streams go into an
-agent, and a tenth as many each into a value-add from below and from a peer above that lies; N sessions are runs of the
-client before a server that lies. Each line says whether what is wanted held, and the figures. It ends with status 1 where
+agent, a tenth as many each into a value-add from below and from a peer above that lies, and into a hub from below, and a
+hundredth as many into hubs from above, each into a hub of its own; N sessions are runs of the client before a server that
+lies. Each line says whether what is wanted held, and the figures. It ends with status 1 where
 a line says NO.
 """
 import argparse
@@ -20,6 +21,7 @@ import threading
 import time
 from pathlib import Path
 
+from hub import Hub, Shared
 from relay import Relayed, ValueAdd, address
 from serve import EOM, EOS, HELLO, LOOPBACK, TURNS, Agent, Channel, check, connected, free_port, processor, program_of, reset
 
@@ -378,6 +380,78 @@ def into_value_above(program, streams, dice):
                 f'within 0.3 s {seen["nothing"]:,} times; {after:,} KiB')
 
 
+# ---- into a hub
+
+def into_hub_below(program, streams, dice):
+    with Shared(program) as peer:
+        return into_server('a hub from below', peer, streams, dice)
+
+
+class Between:
+    """A peer above a hub that leads it on to an agent, and then sends what it likes beside."""
+
+    def __init__(self, agent_port):
+        self.listener = socket.create_server((LOOPBACK, 0))
+        self.port = self.listener.getsockname()[1]
+        self.agent_port, self.line = agent_port, None
+        threading.Thread(target=self.lead, daemon=True).start()
+
+    def lead(self):
+        line, _ = self.listener.accept()
+        above = connected(self.agent_port)
+        self.line = line
+        try:
+            while True:
+                for one, other in ((line, above), (above, line)):
+                    if select.select([one], [], [], 0.0005)[0]:
+                        if not (piece := one.recv(65536)):
+                            return
+                        other.sendall(piece)
+        except OSError:
+            pass
+        finally:
+            above.close()
+            line.close()
+            self.listener.close()
+
+
+def into_hub_above(program, streams, dice):
+    """A hub for each stream: its debugger is answered, then the peer above lies, and the debugger is answered again or sees
+    the end of its stream."""
+    begin, fine = time.perf_counter(), True
+    seen = {'answered': 0, 'end': 0, 'held': 0, 'other': 0}
+    longest = 0.0
+    with Agent(program) as agent:
+        connected(agent.port).close()
+        for number in range(streams):
+            between = Between(agent.port)
+            hub = Hub(program, between.port)
+            try:
+                good = Good(Channel(hub.port))
+                fine &= good.ask()
+                longest = max(longest, good.longest)
+                sent(between.line, lies(dice), dice)
+                good.channel.socket.settimeout(0.3)
+                try:
+                    good.ask()  # by the agent, or by a lie
+                    seen['answered'] += 1
+                except EOFError:
+                    seen['end' if good.channel.came.endswith(EOS) else 'other'] += 1
+                except TimeoutError:
+                    seen['held'] += 1
+                except OSError:
+                    seen['other'] += 1
+                good.channel.close()
+                fine &= hub.process.poll() is None
+            finally:
+                hub.end()
+    fine &= longest < BOUND and seen['other'] == 0
+    return told(f'{streams:,} hubs whose peer lies', fine, begin,
+                f'before that each debugger was answered, within {longest * 1000:.1f} ms; behind it {seen["answered"]:,} were '
+                f'answered again, {seen["end"]:,} saw the end of the stream, {seen["held"]:,} nothing within 0.3 s, and '
+                f'{seen["other"]:,} something else')
+
+
 # ---- into a client
 
 def into_client(program, sessions, dice):
@@ -606,6 +680,8 @@ def main():
     fine = into_agent(program, words.streams, dice)
     fine &= into_value_below(program, few, dice)
     fine &= into_value_above(program, few, dice)
+    fine &= into_hub_below(program, few, dice)
+    fine &= into_hub_above(program, max(10, few // 10), dice)
     fine &= into_client(program, words.sessions, dice)
     fine &= unread_input(program, few, dice)
     fine &= stay_when_shut(program)

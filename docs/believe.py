@@ -75,9 +75,21 @@ def without_comments(lines, mark):
     return "\n".join(re.match(rf"(?:{STRING}|(?!{mark}).)*", line)[0] for line in lines)
 
 
+def without_modules(lines):
+    """The lines with those of a `module _ .. where` brought to the margin."""
+    inside, out = False, []
+    for line in lines:
+        if re.match(r"module _ .* where$", line):
+            inside, line = True, ""
+        elif inside and line and not line.startswith("  "):
+            inside = False
+        out.append(line[2:] if inside else line)
+    return out
+
+
 def spec_source(file, crate):
     """The definitions of a file of specs."""
-    lines = file.read_text().split("\n")
+    lines = without_modules(file.read_text().split("\n"))
     form = r"(?:(?:pub |abbrev |unfoldable |def )*(record |data )?)(\S+) (?!=)"
     starts = [n for n, line in enumerate(lines)
               if re.match(r"(abbrev|unfoldable(?! pub use)|def|record|data|pub (?!use|mod)\S+) |[\w']+ : ", line)]

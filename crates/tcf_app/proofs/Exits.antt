@@ -1,6 +1,6 @@
 -- What the exit of a run tells, from the run as a whole.
 use Rattle.std.proofs.Common.{◌≡◌, ℕ, Bool, true, false, List, [], ◌∷◌, refl, sym, ap, ◌∙◌, subst, inl, inr, ◌⊎◌, arith}
-use Rattle.std.specs.Prelude.{Option, None, Some, Result, Ok, Err, IfSome}
+use Rattle.std.specs.Prelude.{◌||◌, Option, None, Some, Result, Ok, Err, IfSome, is_err}
 use Rattle.std.specs.List.{list_any}
 use Rattle.tcf_outside.specs.Faults.{Rose}
 use Rattle.tcf_outside.specs.Files.{FilesSeen}
@@ -20,6 +20,10 @@ use Rattle.serving_wires.proofs.Rising.{rose_raised}
 use Rattle.serving_wires.specs.Ends.{AreTaken, EndsSo, IsStopped}
 use Rattle.serving_wires.specs.declared.end.ServeEnd.{ServeEnd}
 use Rattle.serving_wires.specs.declared.end.ServeEnd.TheVariants as serve_ends
+use Rattle.agent_serving.proofs.Opening.{fails_as_breaks}
+use Rattle.hub_serving.specs.Serve.{ServesHub}
+use Rattle.hub_serving.specs.Serve as hubs
+use Rattle.serving_wires.proofs.Holding.{fails_so}
 use Rattle.client_serving.specs.Run.{RunsClient, no_calls, not_connected, connected, HasRun as RunHas}
 use Rattle.client_serving.specs.declared.end.ClientEnd.{ClientEnd}
 use Rattle.client_serving.specs.declared.end.ClientEnd.TheVariants as client_ends
@@ -27,9 +31,9 @@ use Rattle.client_serving.specs.declared.end.ClientRun.{ClientRun}
 use Rattle.tcf_app.specs.declared.exit.Exit.{Exit}
 use Rattle.tcf_app.specs.declared.exit.Exit.TheVariants.{Usage, SinkFault, NoMemory}
 use Rattle.tcf_app.specs.Exit.{IsGivenUp, TellsFault, faults_by}
-use Rattle.tcf_app.specs.Words.{OrderValue, chain, show, load, agent, value, client, names_of}
+use Rattle.tcf_app.specs.Words.{OrderValue, chain, show, load, agent, value, client, hub, names_of}
 use Rattle.tcf_app.specs.Heard.{Heard, whole, longer, failed, Agrees, Hears, heard_in}
-use Rattle.tcf_app.specs.Ending.{Ending, Ends, IsEnding, IsRanEnding, served_ending, exit_of, ran_ending, wire_ending}
+use Rattle.tcf_app.specs.Ending.{Ending, Ends, IsEnding, IsRanEnding, images_with, served_ending, exit_of, ran_ending, wire_ending}
 use Rattle.tcf_app.specs.Run.{RunsBy, serves_peers, is_early, SparesWires, ends_run, AreHeeded, IsReadHeeded, PutsFront, IsFrontPut, ExitsOver, IsDecided}
 use Rattle.tcf_app.proofs.Hearing.{heard_of_held, fails_last}
 use Rattle.tcf_app.proofs.Tells.{Seen, Tells, given_up_tells, ending_tells}
@@ -80,6 +84,9 @@ early_calls (Some (agent address turns images)) (whole contents) calls ending it
 early_calls (Some (value address peer turns)) (whole []) calls ending its (inl none) = cc
 early_calls (Some (value address peer turns)) (whole []) calls ending its (inr early) = served_calls turns calls its.0 ending its.2 early
 early_calls (Some (value address peer turns)) (whole (file ∷ more)) calls ending its early = absurd its
+early_calls (Some (hub address peer turns)) (whole []) calls ending its (inl none) = cc
+early_calls (Some (hub address peer turns)) (whole []) calls ending its (inr early) = served_calls turns calls its.0 ending its.2 early
+early_calls (Some (hub address peer turns)) (whole (file ∷ more)) calls ending its early = absurd its
 early_calls (Some (client address name turns)) (whole []) calls ending its early = absurd its
 early_calls (Some (client address name turns)) (whole (file ∷ [])) calls ending its (inl none) = cc
 early_calls (Some (client address name turns)) (whole (file ∷ [])) calls ending its (inr early) = ran_calls (script_of file) address turns calls ending its early
@@ -108,6 +115,22 @@ served_heeded ends_run turns calls serve_ends.Turns ending ends is = let taken :
 served_heeded ends_run turns calls serve_ends.WireFault ending ends is = inr is
 served_heeded ends_run turns calls serve_ends.NoMemory ending ends is = inl ends
 
+-- a hub connects once, and by that call the run ends where it failed
+hub_heeded : (peer address : List ℕ) (turns : ℕ) (calls : List WireCall) (end : ServeEnd) (ending : Ending) → ServesHub peer address turns end calls → ending ≡ served_ending turns end
+    → (list_any fails calls ≡ false) ⊎ (ending ≡ wire_ending)
+hub_heeded peer address turns calls end ending (hubs.unbegun none is) e = inl (ap (list_any fails) none)
+hub_heeded peer address turns calls end ending (hubs.unconnected called is) e = inr (e ∙ ap (served_ending turns) is)
+hub_heeded peer address turns calls end ending (hubs.served c runs its) e =
+    let later : list_any fails c.later ≡ list_any breaks c.later = elim c.listens as (λ _. list_any fails c.later ≡ list_any breaks c.later) [
+      | inl l ↦ rw l.first (ap (λ (b : Bool). is_err l.answer || b) (fails_so l.later l.once))
+      | inr none ↦ rw none.0 refl
+    ] in
+    let same : list_any fails calls ≡ list_any breaks calls = rw c.connects later in
+    elim (served_heeded breaks turns calls end ending runs.ends e) as (λ _. (list_any fails calls ≡ false) ⊎ (ending ≡ wire_ending)) [
+      | inl none ↦ inl (same ∙ none)
+      | inr is ↦ inr is
+    ]
+
 ran_heeded : (said : Result (List ScriptLine) BadLine) (address : List ℕ) (turns : ℕ) (calls : List WireCall) (ending : Ending) → IsRanEnding said address turns calls ending
     → (list_any fails calls ≡ false) ⊎ (ending ≡ wire_ending)
 ran_heeded (Err bad) address turns calls ending its = inl (ap (list_any fails) its.0)
@@ -134,9 +157,16 @@ heeded (Some (show name)) (whole (file ∷ [])) calls ending its = inl (ap (list
 heeded (Some (show name)) (whole (file ∷ other ∷ more)) calls ending its = absurd its
 heeded (Some (load number)) (whole []) calls ending its = inl (ap (list_any fails) its.0)
 heeded (Some (load number)) (whole (file ∷ more)) calls ending its = absurd its
-heeded (Some (agent address turns images)) (whole contents) calls ending its = served_heeded fails turns calls its.0 ending its.1.ends its.2
+heeded (Some (agent address turns images)) (whole contents) calls ending its =
+    let same = fails_as_breaks (images_with images contents) address turns its.0 calls its.1 in
+    elim (served_heeded breaks turns calls its.0 ending its.1.runs.ends its.2) as (λ _. (list_any fails calls ≡ false) ⊎ (ending ≡ wire_ending)) [
+      | inl none ↦ inl (same ∙ none)
+      | inr is ↦ inr is
+    ]
 heeded (Some (value address peer turns)) (whole []) calls ending its = served_heeded breaks turns calls its.0 ending its.1.runs.ends its.2
 heeded (Some (value address peer turns)) (whole (file ∷ more)) calls ending its = absurd its
+heeded (Some (hub address peer turns)) (whole []) calls ending its = hub_heeded peer address turns calls its.0 ending its.1 its.2
+heeded (Some (hub address peer turns)) (whole (file ∷ more)) calls ending its = absurd its
 heeded (Some (client address name turns)) (whole []) calls ending its = absurd its
 heeded (Some (client address name turns)) (whole (file ∷ [])) calls ending its = ran_heeded (script_of file) address turns calls ending its
 heeded (Some (client address name turns)) (whole (file ∷ other ∷ more)) calls ending its = absurd its

@@ -1,5 +1,5 @@
 -- How the run goes on from what was heard of the files.
-use Rattle.std.proofs.Common.{◌≡◌, ℕ, ◌+◌, false, List, [], ◌∷◌, ◌++◌, length, refl, sym, subst, inr, arith}
+use Rattle.std.proofs.Common.{◌≡◌, ℕ, ◌+◌, false, List, [], ◌∷◌, ◌++◌, length, refl, sym, subst, arith}
 use Rattle.std.specs.Prelude.{Option, None, Some, Result, Ok, Err, IfOk}
 use Rattle.tcf_outside.specs.Files.{FilesSeen}
 use Rattle.tcf_outside.specs.Sink.{SinkSeen}
@@ -16,9 +16,8 @@ use Rattle.tcf_wires.specs.declared.event.WireRefusal.TheVariants as refusals
 use Rattle.serving_wires.specs.Calls.{Makes}
 use Rattle.serving_wires.proofs.Making.{makes_none, makes_so}
 use Rattle.agent_serving.specs.Serve.{ServesAgent}
-use Rattle.agent_serving.specs.Served.{wire_of}
-use Rattle.agent_serving.specs.Serving.{served_by}
-use Rattle.agent_serving.proofs.TheLaws.{served_is_an_agent}
+use Rattle.hub_serving.specs.Serve.{ServesHub}
+use Rattle.agent_serving.proofs.Opening.{none_served}
 use Rattle.serving_wires.specs.declared.end.ServeEnd.{ServeEnd}
 use Rattle.serving_wires.specs.declared.end.ServeEnd.TheVariants as serve_ends
 use Rattle.value_serving.specs.Serve.{ServesValueAdds}
@@ -31,10 +30,10 @@ use Rattle.tcf_app.specs.declared.exit.Exit.{Exit}
 use Rattle.tcf_app.specs.declared.exit.Exit.TheVariants.{NoMemory}
 use Rattle.tcf_app.specs.declared.reading.Unread.{Unread}
 use Rattle.tcf_app.specs.declared.reading.Unread.TheVariants as unread
-use Rattle.tcf_app.specs.Words.{NamedFile, OrderValue, chain, show, load, agent, value, client, files_in, files_named, first_place}
+use Rattle.tcf_app.specs.Words.{NamedFile, OrderValue, chain, show, load, agent, value, client, hub, files_in, files_named, first_place}
 use Rattle.tcf_app.specs.Heard.{Heard, whole, longer, failed, Hears, HearsPart}
 use Rattle.tcf_app.proofs.Outcomes.{each_is_shown}
-use Rattle.tcf_app.specs.Ending.{Ending, Ends, EndsIn, EndsUnread, IsWholeEnding, IsShownEnding, IsServedEnding, IsAddsEnding, IsRanEnding, images_with, contents_of, fault_ending, long_ending, usage_ending, bad_ending, wanting_ending, played_ending, lines_ending, summed_ending, served_ending, exit_of, ran_ending}
+use Rattle.tcf_app.specs.Ending.{Ending, Ends, EndsIn, EndsUnread, IsWholeEnding, IsShownEnding, IsServedEnding, IsRanEnding, images_with, contents_of, fault_ending, long_ending, usage_ending, bad_ending, wanting_ending, played_ending, lines_ending, summed_ending, served_ending, exit_of, ran_ending}
 use Rattle.tcf_app.specs.Run.{RunsBy}
 use Rattle.tcf_app.proofs.Endings.{ends_early, ends_wanting}
 use Rattle.tcf_app.proofs.Hearing.{NotFailed, can_hear, some_each}
@@ -70,21 +69,6 @@ show_wants name (file ∷ []) sink is =
     by_bad text None e = cc
     by_bad text (Some bad) e = cc
 show_wants name (file ∷ other ∷ more) sink is = absurd (omega arith)
-
-none_served : (images : List Image) (address : List ℕ) (turns : ℕ) → ServesAgent images address turns serve_ends.NoMemory []
-none_served images address turns =
-    record {
-      listens = inr (refl, refl);
-      serves = λ before after call parts. absurd (nothing_in before after call parts);
-      fronts = λ channel. ((served_by images).served [] channel, refl);
-      settled = λ other some. absurd (other refl);
-      agent = let served = served_is_an_agent images [] in record { served = served; taken = λ k. (wire_of images served.calls k, refl) };
-      ends = refl;
-    }
-  where
-    nothing_in : (before after : List WireCall) (call : WireCall) → [] ≡ before ++ call ∷ after → ⊥
-    nothing_in [] after call parts = cc
-    nothing_in (first ∷ before) after call parts = cc
 
 pub agent_wants : (address : List ℕ) (turns : ℕ) (images : List NamedFile) → CanWant (agent address turns images)
 agent_wants address turns images contents sink is =
@@ -152,11 +136,11 @@ show_runs name file exit files files' before after hears ends =
 
 pub agent_runs : (address : List ℕ) (turns : ℕ) (named : List NamedFile) (images : List Image) (exit : Exit) (files files' : FilesSeen) (before after : SinkSeen) (wires wires' : WiresSeen)
     → images ≡ images_with named (contents_of images) → Hears (files_in named) files files' (whole (contents_of images))
-    → Makes (λ calls. EndsIn (IsServedEnding images address turns calls) exit before after) wires wires'
+    → Makes (λ calls. EndsIn (IsServedEnding (ServesAgent images address turns) turns calls) exit before after) wires wires'
     → Makes (RunsBy (Some (agent address turns named)) exit files files' before after) wires wires'
 agent_runs address turns named images exit files files' before after wires wires' same hears made =
-    makes_so (λ calls. EndsIn (IsServedEnding images address turns calls) exit before after) (RunsBy (Some (agent address turns named)) exit files files' before after) wires wires'
-    (λ calls e. record { heard = whole (contents_of images); hears = hears; ends = (e.0, subst (λ (is : List Image). IsServedEnding is address turns calls e.0) same e.1, e.2) })
+    makes_so (λ calls. EndsIn (IsServedEnding (ServesAgent images address turns) turns calls) exit before after) (RunsBy (Some (agent address turns named)) exit files files' before after) wires wires'
+    (λ calls e. record { heard = whole (contents_of images); hears = hears; ends = (e.0, subst (λ (is : List Image). IsServedEnding (ServesAgent is address turns) turns calls e.0) same e.1, e.2) })
     made
 
 pub script_runs : (address name file : List ℕ) (turns : ℕ) (exit : Exit) (files files' : FilesSeen) (before after : SinkSeen) (wires wires' : WiresSeen)
@@ -178,10 +162,18 @@ pub load_runs : (number : ℕ) (files : FilesSeen) (exit : Exit) (before after :
 load_runs number files exit before after ends = record { heard = whole []; hears = hears_none files; ends = (summed_ending number, (refl, refl), ends) }
 
 pub value_runs : (address peer : List ℕ) (turns : ℕ) (files : FilesSeen) (exit : Exit) (before after : SinkSeen) (wires wires' : WiresSeen)
-    → Makes (λ calls. EndsIn (IsAddsEnding peer address turns calls) exit before after) wires wires'
+    → Makes (λ calls. EndsIn (IsServedEnding (ServesValueAdds peer address turns) turns calls) exit before after) wires wires'
     → Makes (RunsBy (Some (value address peer turns)) exit files files before after) wires wires'
 value_runs address peer turns files exit before after wires wires' made =
-    makes_so (λ calls. EndsIn (IsAddsEnding peer address turns calls) exit before after) (RunsBy (Some (value address peer turns)) exit files files before after) wires wires'
+    makes_so (λ calls. EndsIn (IsServedEnding (ServesValueAdds peer address turns) turns calls) exit before after) (RunsBy (Some (value address peer turns)) exit files files before after) wires wires'
+    (λ calls e. record { heard = whole []; hears = hears_none files; ends = e })
+    made
+
+pub hub_runs : (address peer : List ℕ) (turns : ℕ) (files : FilesSeen) (exit : Exit) (before after : SinkSeen) (wires wires' : WiresSeen)
+    → Makes (λ calls. EndsIn (IsServedEnding (ServesHub peer address turns) turns calls) exit before after) wires wires'
+    → Makes (RunsBy (Some (hub address peer turns)) exit files files before after) wires wires'
+hub_runs address peer turns files exit before after wires wires' made =
+    makes_so (λ calls. EndsIn (IsServedEnding (ServesHub peer address turns) turns calls) exit before after) (RunsBy (Some (hub address peer turns)) exit files files before after) wires wires'
     (λ calls e. record { heard = whole []; hears = hears_none files; ends = e })
     made
 
@@ -200,19 +192,11 @@ ran_not_wanting client_ends.Done e = cc
 ran_not_wanting (client_ends.Ended cause) e = cc
 ran_not_wanting client_ends.Turns e = cc
 
-pub served_ends : (images : List Image) (address : List ℕ) (turns : ℕ) (end : ServeEnd) (exit : Exit) (before after : SinkSeen) (wires wires' : WiresSeen)
-    → Makes (ServesAgent images address turns end) wires wires' → Ends (served_ending turns end) exit before after
-    → Makes (λ calls. EndsIn (IsServedEnding images address turns calls) exit before after) wires wires'
-served_ends images address turns end exit before after wires wires' made ends =
-    makes_so (ServesAgent images address turns end) (λ calls. EndsIn (IsServedEnding images address turns calls) exit before after) wires wires'
-    (λ calls fits. (served_ending turns end, (end, fits, refl), ends))
-    made
-
-pub adds_ends : (peer address : List ℕ) (turns : ℕ) (end : ServeEnd) (exit : Exit) (before after : SinkSeen) (wires wires' : WiresSeen)
-    → Makes (ServesValueAdds peer address turns end) wires wires' → Ends (served_ending turns end) exit before after
-    → Makes (λ calls. EndsIn (IsAddsEnding peer address turns calls) exit before after) wires wires'
-adds_ends peer address turns end exit before after wires wires' made ends =
-    makes_so (ServesValueAdds peer address turns end) (λ calls. EndsIn (IsAddsEnding peer address turns calls) exit before after) wires wires'
+pub served_ends : (Serves : ServeEnd → List WireCall → Type 0) (turns : ℕ) (end : ServeEnd) (exit : Exit) (before after : SinkSeen) (wires wires' : WiresSeen)
+    → Makes (Serves end) wires wires' → Ends (served_ending turns end) exit before after
+    → Makes (λ calls. EndsIn (IsServedEnding Serves turns calls) exit before after) wires wires'
+served_ends Serves turns end exit before after wires wires' made ends =
+    makes_so (Serves end) (λ calls. EndsIn (IsServedEnding Serves turns calls) exit before after) wires wires'
     (λ calls fits. (served_ending turns end, (end, fits, refl), ends))
     made
 

@@ -2,7 +2,7 @@
 use Rattle.std.proofs.Common.{◌≡◌, ℕ, ◌<◌, Bool, true, false, ◌||◌, List, [], ◌∷◌, ◌++◌, length, refl, sym, ap, ◌∙◌, subst, inl, inr, arith}
 use Rattle.std.specs.Prelude.{Option, None, Some, Result, Ok, Err, IfSome}
 use Rattle.std.specs.List.{list_any}
-use Rattle.std.proofs.lemmas.Bool.{false≢true}
+use Rattle.std.proofs.lemmas.Bool.{false≢true, or_parts}
 use Rattle.tcf_outside.specs.Files.{FilesSeen, content_of}
 use Rattle.tcf_outside.specs.Sink.{SinkSeen}
 use Rattle.tcf_outside.specs.declared.files.HeldFile.{HeldFile}
@@ -17,12 +17,14 @@ use Rattle.tcf_wires.specs.declared.event.WireEvent.TheVariants as events
 use Rattle.tcf_wires.specs.declared.event.WireRefusal.{WireRefusal}
 use Rattle.tcf_wires.specs.declared.event.WireRefusal.TheVariants as refusals
 use Rattle.serving_wires.specs.Calls.{Makes, events_in}
-use Rattle.serving_wires.specs.Serving.{breaks, fails, is_stop, listens, stops}
+use Rattle.serving_wires.specs.Serving.{breaks, is_stop, listens, stops}
 use Rattle.serving_wires.specs.Ends.{AreTaken, EndsSo, IsBroken, IsLastCall, IsStopped, no_listening, no_event}
 use Rattle.serving_wires.proofs.Making.{makes_so}
 use Rattle.serving_wires.proofs.Spared.{same_events}
 use Rattle.serving_wires.specs.declared.end.ServeEnd.{ServeEnd}
 use Rattle.serving_wires.specs.declared.end.ServeEnd.TheVariants as serve_ends
+use Rattle.hub_serving.specs.Serve.{ServesHub}
+use Rattle.hub_serving.specs.Serve as hubs
 use Rattle.client_serving.specs.Run.{EndsBy, RunsClient, ServesClient, no_calls, not_connected, connected, HasRun as RunHas, IsBroken as RunBreaks}
 use Rattle.client_serving.specs.Serving.{after_events}
 use Rattle.client_serving.specs.declared.end.ClientEnd.{ClientEnd}
@@ -30,11 +32,11 @@ use Rattle.client_serving.specs.declared.end.ClientEnd.TheVariants as client_end
 use Rattle.client_serving.specs.declared.end.ClientRun.{ClientRun}
 use Rattle.tcf_app.specs.declared.exit.Exit.{Exit}
 use Rattle.tcf_app.specs.declared.exit.Exit.TheVariants.{Done, NoMemory, Turns}
-use Rattle.tcf_app.specs.Words.{OrderValue, chain, show, load, agent, value, client, names_of}
+use Rattle.tcf_app.specs.Words.{OrderValue, chain, show, load, agent, value, client, hub, names_of}
 use Rattle.tcf_app.specs.Heard.{Heard, Hears, whole, longer, failed}
 use Rattle.tcf_app.specs.Ending.{Ending, Ends, IsEnding, IsRanEnding, exit_of, ran_ending, served_ending}
 use Rattle.tcf_app.proofs.Hearing.{content_is}
-use Rattle.tcf_app.specs.Run.{ComesTo, EndsOnly, IsOneEnd, IsEndOfRun, IsEndOfScript, IsEndOfServing, RunsBy}
+use Rattle.tcf_app.specs.Run.{BeginsConnected, BeginsListening, ComesTo, EndsOnly, IsOneEnd, IsEndOfRun, IsEndOfScript, IsEndOfServing, RunsBy}
 
 -- ---- the exit of an ending, or given up
 
@@ -51,7 +53,7 @@ at_wanting ending exit wanted before after e is = elim e.which as (λ _. EndsOnl
   | inr up ↦ inr up
 ]
 
--- ---- an agent and value-adds
+-- ---- an agent, value-adds and a hub
 
 stop_last : (earlier : List WireEvent) → list_any is_stop (earlier ++ events.Stop ∷ []) ≡ true
 stop_last [] = refl
@@ -79,46 +81,79 @@ listened_before address elsewhere [] later calls never split first = absurd cc
 listened_before address elsewhere (call ∷ earlier) later calls never split first =
     let same : call ≡ Listened address (Ok tt) = cc in absurd (false≢true (sym never ∙ ap (λ (c : WireCall). listens c || list_any listens earlier) same))
 
--- where an address was listened on, and a later call failed, not all turns were taken
-broken_within : {last : WireCall} → (turns : ℕ) (address : List ℕ) (earlier later calls : List WireCall) → IsLastCall turns earlier last
-    → calls ≡ earlier ++ last ∷ [] → calls ≡ Listened address (Ok tt) ∷ later → length (events_in earlier) < turns
-broken_within turns address earlier later calls (no_listening elsewhere quiet never) split first = absurd (listened_before address elsewhere earlier later calls never split first)
-broken_within turns address earlier later calls (no_event within) split first = within
+-- where the calls begin so, no listening failed
+abbrev Excludes : (List WireCall → Type 0) → Type 0
+Excludes Begins = (elsewhere : List ℕ) (earlier calls : List WireCall) → list_any listens earlier ≡ false → calls ≡ earlier ++ Listened elsewhere (Err refusals.Failed) ∷ []
+    → Begins calls → ⊥
 
-served_out : (ends_run : WireCall → Bool) (address : List ℕ) (turns : ℕ) (calls : List WireCall) (end : ServeEnd) (ending : Ending) (exit : Exit) (before after : SinkSeen)
-    → EndsSo ends_run turns end calls → ending ≡ served_ending turns end → Ends ending exit before after → IsEndOfServing address turns exit calls
-served_out ends_run address turns calls (serve_ends.Stopped count) ending exit before after so is e =
+listening_excludes : (address : List ℕ) → Excludes (BeginsListening address)
+listening_excludes address elsewhere earlier calls never split begins = listened_before address elsewhere earlier begins.0 calls never split begins.1
+
+connected_excludes : (peer address : List ℕ) → Excludes (BeginsConnected peer address)
+connected_excludes peer address elsewhere [] calls never split begins =
+    let both : Listened elsewhere (Err refusals.Failed) ∷ [] ≡ Connected peer (Ok begins.0) ∷ Listened address (Ok tt) ∷ begins.1.0 = sym split ∙ begins.1.1 in cc
+connected_excludes peer address elsewhere (call ∷ earlier) calls never split begins =
+    let both : call ∷ (earlier ++ Listened elsewhere (Err refusals.Failed) ∷ []) ≡ Connected peer (Ok begins.0) ∷ Listened address (Ok tt) ∷ begins.1.0 = sym split ∙ begins.1.1 in
+    let rest : earlier ++ Listened elsewhere (Err refusals.Failed) ∷ [] ≡ Listened address (Ok tt) ∷ begins.1.0 = cc in
+    listened_before address elsewhere earlier begins.1.0 (earlier ++ Listened elsewhere (Err refusals.Failed) ∷ []) (or_parts (listens call) (list_any listens earlier) never).1 refl rest
+
+-- where the calls begin so, and a later call failed, not all turns were taken
+broken_within : {last : WireCall} → (turns : ℕ) (Begins : List WireCall → Type 0) → Excludes Begins → (earlier calls : List WireCall) → IsLastCall turns earlier last
+    → calls ≡ earlier ++ last ∷ [] → Begins calls → length (events_in earlier) < turns
+broken_within turns Begins excludes earlier calls (no_listening elsewhere quiet never) split begins = absurd (excludes elsewhere earlier calls never split begins)
+broken_within turns Begins excludes earlier calls (no_event within) split begins = within
+
+served_out : (ends_run : WireCall → Bool) (Begins : List WireCall → Type 0) → Excludes Begins → (turns : ℕ) (calls : List WireCall) (end : ServeEnd) (ending : Ending) (exit : Exit) (before after : SinkSeen)
+    → EndsSo ends_run turns end calls → ending ≡ served_ending turns end → Ends ending exit before after → IsEndOfServing Begins turns exit calls
+served_out ends_run Begins excludes turns calls (serve_ends.Stopped count) ending exit before after so is e =
     let s : IsStopped ends_run turns count calls = so in
     record {
       stopped = λ stop. at_ending ending exit Done before after e (ap (λ (x : Ending). x.exit) is);
-      taken = λ later first none counted. let both : true ≡ false = sym (stopped_stops ends_run turns count calls s) ∙ none in cc;
+      taken = λ begins none counted. let both : true ≡ false = sym (stopped_stops ends_run turns count calls s) ∙ none in cc;
     }
-served_out ends_run address turns calls serve_ends.Turns ending exit before after so is e =
+served_out ends_run Begins excludes turns calls serve_ends.Turns ending exit before after so is e =
     let t : AreTaken ends_run turns calls = so in
     record {
       stopped = λ stop. let both : true ≡ false = sym stop ∙ t.goes_on in cc;
-      taken = λ later first none counted. at_ending ending exit Turns before after e (ap (λ (x : Ending). x.exit) is);
+      taken = λ begins none counted. at_ending ending exit Turns before after e (ap (λ (x : Ending). x.exit) is);
     }
-served_out ends_run address turns calls serve_ends.WireFault ending exit before after so is e =
+served_out ends_run Begins excludes turns calls serve_ends.WireFault ending exit before after so is e =
     let b : IsBroken ends_run turns calls = so in
     let same = broken_events ends_run turns calls b in
     record {
       stopped = λ stop. let both : true ≡ false = sym stop ∙ ap (list_any is_stop) same ∙ b.goes_on in cc;
-      taken = λ later first none counted.
-          let within = broken_within turns address b.earlier later calls b.fails_last b.split first in
+      taken = λ begins none counted.
+          let within = broken_within turns Begins excludes b.earlier calls b.fails_last b.split begins in
           absurd (omega (arith, within, sym (ap (λ (es : List WireEvent). length es) same) ∙ counted));
     }
-served_out ends_run address turns calls serve_ends.NoMemory ending exit before after so is e = record {
+served_out ends_run Begins excludes turns calls serve_ends.NoMemory ending exit before after so is e = record {
   stopped = λ stop. at_wanting ending exit Done before after e (ap (λ (x : Ending). x.exit) is);
-  taken = λ later first none counted. at_wanting ending exit Turns before after e (ap (λ (x : Ending). x.exit) is);
+  taken = λ begins none counted. at_wanting ending exit Turns before after e (ap (λ (x : Ending). x.exit) is);
 }
 
 -- no call was made
-nothing_served : (address : List ℕ) (turns : ℕ) (exit : Exit) (calls : List WireCall) → calls ≡ [] → IsEndOfServing address turns exit calls
-nothing_served address turns exit calls none = record {
+nothing_served : (Begins : List WireCall → Type 0) (turns : ℕ) (exit : Exit) (calls : List WireCall) → calls ≡ [] → (Begins [] → ⊥) → IsEndOfServing Begins turns exit calls
+nothing_served Begins turns exit calls none never = record {
   stopped = λ stop. let both : true ≡ false = sym stop ∙ ap stops none in cc;
-  taken = λ later first quiet counted. cc;
+  taken = λ begins quiet counted. absurd (never (subst Begins none begins));
 }
+
+listening_calls : (address : List ℕ) → BeginsListening address [] → ⊥
+listening_calls address begins = let first = begins.1 in cc
+
+connected_calls : (peer address : List ℕ) → BeginsConnected peer address [] → ⊥
+connected_calls peer address begins = let first = begins.1.1 in cc
+
+hub_out : (peer address : List ℕ) (turns : ℕ) (calls : List WireCall) (end : ServeEnd) (ending : Ending) (exit : Exit) (before after : SinkSeen)
+    → ServesHub peer address turns end calls → ending ≡ served_ending turns end → Ends ending exit before after → IsEndOfServing (BeginsConnected peer address) turns exit calls
+hub_out peer address turns calls end ending exit before after (hubs.unbegun none is) e_is e =
+    nothing_served (BeginsConnected peer address) turns exit calls none (connected_calls peer address)
+hub_out peer address turns calls end ending exit before after (hubs.unconnected called is) e_is e = record {
+  stopped = λ stop. let both : true ≡ false = sym stop ∙ ap stops called in cc;
+  taken = λ begins quiet counted. let both : Connected peer (Ok begins.0) ∷ Listened address (Ok tt) ∷ begins.1.0 ≡ Connected peer (Err refusals.Failed) ∷ [] = sym begins.1.1 ∙ called in cc;
+}
+hub_out peer address turns calls end ending exit before after (hubs.served c runs its) e_is e =
+    served_out breaks (BeginsConnected peer address) (connected_excludes peer address) turns calls end ending exit before after runs.ends e_is e
 
 -- ---- a client
 
@@ -222,8 +257,9 @@ silent_out : (order : OrderValue) (files : FilesSeen) (calls : List WireCall) (e
 silent_out (chain name) files calls exit none = tt
 silent_out (show name) files calls exit none = tt
 silent_out (load number) files calls exit none = tt
-silent_out (agent address turns images) files calls exit none = nothing_served address turns exit calls none
-silent_out (value address peer turns) files calls exit none = nothing_served address turns exit calls none
+silent_out (agent address turns images) files calls exit none = nothing_served (BeginsListening address) turns exit calls none (listening_calls address)
+silent_out (value address peer turns) files calls exit none = nothing_served (BeginsListening address) turns exit calls none (listening_calls address)
+silent_out (hub address peer turns) files calls exit none = nothing_served (BeginsConnected peer address) turns exit calls none (connected_calls peer address)
 silent_out (client address name turns) files calls exit none = silent_client address name turns files calls exit none
 
 is_out : (order : Option OrderValue) (heard : Heard) (files files' : FilesSeen) (calls : List WireCall) (ending : Ending) (exit : Exit) (before after : SinkSeen)
@@ -235,9 +271,12 @@ is_out (Some (chain name)) (whole contents) files files' calls ending exit befor
 is_out (Some (show name)) (whole contents) files files' calls ending exit before after hears its e = tt
 is_out (Some (load number)) (whole contents) files files' calls ending exit before after hears its e = tt
 is_out (Some (agent address turns images)) (whole contents) files files' calls ending exit before after hears its e =
-    served_out fails address turns calls its.0 ending exit before after its.1.ends its.2 e
+    served_out breaks (BeginsListening address) (listening_excludes address) turns calls its.0 ending exit before after its.1.runs.ends its.2 e
 is_out (Some (value address peer turns)) (whole []) files files' calls ending exit before after hears its e =
-    served_out breaks address turns calls its.0 ending exit before after its.1.runs.ends its.2 e
+    served_out breaks (BeginsListening address) (listening_excludes address) turns calls its.0 ending exit before after its.1.runs.ends its.2 e
+is_out (Some (hub address peer turns)) (whole []) files files' calls ending exit before after hears its e =
+    hub_out peer address turns calls its.0 ending exit before after its.1 its.2 e
+is_out (Some (hub address peer turns)) (whole (file ∷ more)) files files' calls ending exit before after hears its e = absurd its
 is_out (Some (value address peer turns)) (whole (file ∷ more)) files files' calls ending exit before after hears its e = absurd its
 is_out (Some (client address name turns)) (whole []) files files' calls ending exit before after hears its e = absurd its
 is_out (Some (client address name turns)) (whole (file ∷ [])) files files' calls ending exit before after hears its e =

@@ -16,12 +16,12 @@ use Rattle.tcf_wires.specs.declared.call.WireCall.TheVariants.{Connected, Gave, 
 use Rattle.tcf_wires.specs.declared.event.WireRefusal.{WireRefusal}
 use Rattle.tcf_wires.specs.declared.event.WireRefusal.TheVariants as refusals
 use Rattle.serving_wires.specs.Calls.{faults_through, with_calls}
-use Rattle.serving_wires.specs.Serving.{breaks, fails}
+use Rattle.serving_wires.specs.Serving.{breaks}
 use Rattle.serving_wires.specs.Ends.{IsBroken, IsLastCall, no_listening, no_event}
-use Rattle.agent_serving.specs.Serve.{ServesAgent}
 use Rattle.serving_wires.specs.declared.end.ServeEnd.{ServeEnd}
 use Rattle.serving_wires.specs.declared.end.ServeEnd.TheVariants as serve_ends
-use Rattle.value_serving.specs.Serve.{ServesValueAdds}
+use Rattle.hub_serving.specs.Serve.{ServesHub}
+use Rattle.hub_serving.specs.Serve as hubs
 use Rattle.client_serving.specs.Run.{RunsClient, no_calls, not_connected, connected, IsBroken as RunBreaks}
 use Rattle.client_serving.specs.declared.end.ClientEnd.{ClientEnd}
 use Rattle.client_serving.specs.declared.end.ClientEnd.TheVariants as client_ends
@@ -31,13 +31,13 @@ use Rattle.tcf_app.specs.declared.exit.BadPlace.{BadPlace}
 use Rattle.tcf_app.specs.declared.exit.Exit.{Exit}
 use Rattle.tcf_app.specs.declared.exit.Exit.TheVariants.{Done, Usage, BadText, FileFault, SinkFault, WireFault, Turns, NoMemory, BadStream, Ended, TooLong}
 use Rattle.tcf_app.specs.Exit.{IsGivenUp}
-use Rattle.tcf_app.specs.Words.{NamedFile, OrderValue, chain, show, load, agent, value, client, files_in, files_named, first_place, names_of}
+use Rattle.tcf_app.specs.Words.{NamedFile, OrderValue, chain, show, load, agent, value, client, hub, files_named, first_place, names_of}
 use Rattle.tcf_app.specs.Texts.{usage_text, file_fault_text, turns_text}
 use Rattle.tcf_app.specs.Played.{client_text, numbered}
 use Rattle.tcf_app.specs.Heard.{Heard, whole, longer, failed, Agrees, Hears, IsFirstLong, FailsLast}
 use Rattle.tcf_app.specs.Show.{IsShown}
-use Rattle.tcf_app.specs.Ending.{Ending, IsEnding, IsRanEnding, images_with, usage_ending, fault_ending, long_ending, bad_ending, played_ending, lines_ending, summed_ending, served_ending, exit_of, ran_ending, wire_ending}
-use Rattle.tcf_app.specs.Run.{IsServed, AreServed, IsDone, AreTaken, HasEnded, HaveFailed, IsBadText, IsBadStream, IsTooLong}
+use Rattle.tcf_app.specs.Ending.{Ending, IsEnding, IsRanEnding, ServesAs, usage_ending, fault_ending, long_ending, bad_ending, played_ending, lines_ending, summed_ending, served_ending, exit_of, ran_ending, wire_ending}
+use Rattle.tcf_app.specs.Run.{IsServed, IsStoppedServing, IsDone, AreTaken, HasEnded, HaveFailed, IsBadText, IsBadStream, IsTooLong}
 use Rattle.tcf_app.proofs.Items.{shown_as}
 use Rattle.tcf_app.proofs.Hearing.{are_held, content_is, fails_last, first_long, some_so}
 use Rattle.serving_wires.proofs.Rising.{last_rises}
@@ -50,6 +50,12 @@ serving_rises ends_run turns count calls broken = subst (λ cs. Rose count (faul
     by_last : {last : WireCall} → (earlier : List WireCall) → IsLastCall turns earlier last → Rose count (faults_through (earlier ++ last ∷ []) count)
     by_last earlier (no_listening where_to quiet never) = last_rises count earlier (Listened where_to (Err refusals.Failed)) (λ n. refl)
     by_last earlier (no_event within) = last_rises count earlier (Gave (Err refusals.Failed)) (λ n. refl)
+
+hub_rises : (peer address : List ℕ) (turns count : ℕ) (calls : List WireCall) → ServesHub peer address turns serve_ends.WireFault calls → Rose count (faults_through calls count)
+hub_rises peer address turns count calls (hubs.unbegun none is) = cc
+hub_rises peer address turns count calls (hubs.unconnected called is) =
+    subst (λ cs. Rose count (faults_through cs count)) (sym called) (last_rises count [] (Connected peer (Err refusals.Failed)) (λ n. refl))
+hub_rises peer address turns count calls (hubs.served c runs its) = serving_rises breaks turns count calls runs.ends
 
 running_rises : (script : List ScriptLine) (address : List ℕ) (turns count : ℕ) (calls : List WireCall) → RunsClient script address turns (Err refusals.Failed) calls → Rose count (faults_through calls count)
 running_rises script address turns count calls (no_calls is none) = cc
@@ -158,54 +164,45 @@ load_tells s number ending e =
       unstuck = file_unstuck said.0 (numbered number) said.1;
     })
 
-agent_tells : (s : Seen) (address : List ℕ) (turns : ℕ) (images : List NamedFile) (contents : List (List ℕ)) (calls : List WireCall) (end : ServeEnd) (ending : Ending)
-    → Hears (files_in images) s.files s.files_after (whole contents) → s.wires_after.told ≡ with_calls calls s.wires.told → s.wires_after.faults ≡ faults_through calls s.wires.faults
-    → ServesAgent (images_with images contents) address turns end calls → ending ≡ served_ending turns end
-    → Took ending.text s.before s.after → Tells s (Some (agent address turns images)) ending.exit
-agent_tells s address turns images contents calls end ending hears told counted fits = by_end end fits
+-- what each end of a serving tells, for the order that serves
+record ServingTells (s : Seen) (order : OrderValue) (turns : ℕ) : Type 0 where
+  done : IsStoppedServing order s.files s.wires s.wires_after s.before s.after → Tells s (Some order) Done
+  taken : IsServed order serve_ends.Turns (turns_text turns) s.files s.wires s.wires_after s.before s.after → Tells s (Some order) Turns
+  failed : Rose s.wires.faults s.wires_after.faults → IsServed order serve_ends.WireFault wire_ending.text s.files s.wires s.wires_after s.before s.after → Tells s (Some order) WireFault
+
+-- a fault of the wires that ends it was counted
+abbrev Counted : Seen → OrderValue → List (List ℕ) → List WireCall → Type 0
+Counted s order contents calls = ServesAs order contents serve_ends.WireFault calls → Rose s.wires.faults (faults_through calls s.wires.faults)
+
+serving_tells : (s : Seen) (order : OrderValue) (turns : ℕ) (contents : List (List ℕ)) (calls : List WireCall) (end : ServeEnd) (ending : Ending) → ServingTells s order turns → Counted s order contents calls
+    → Hears (files_named order) s.files s.files_after (whole contents) → s.wires_after.told ≡ with_calls calls s.wires.told → s.wires_after.faults ≡ faults_through calls s.wires.faults
+    → ServesAs order contents end calls → ending ≡ served_ending turns end → Took ending.text s.before s.after → Tells s (Some order) ending.exit
+serving_tells s order turns contents calls end ending tells rises hears told counted fits = by_end end fits
   where
-    served : (e : ServeEnd) (text : List ℕ) → ServesAgent (images_with images contents) address turns e calls → Took text s.before s.after
-        → IsServed address turns images e text s.files s.wires s.wires_after s.before s.after
+    served : (e : ServeEnd) (text : List ℕ) → ServesAs order contents e calls → Took text s.before s.after → IsServed order e text s.files s.wires s.wires_after s.before s.after
     served e text so put = record {
       contents = contents;
-      held = are_held (files_in images) contents s.files s.files_after hears;
+      held = are_held (files_named order) contents s.files s.files_after hears;
       serves = record { calls = calls; fits = so; told = told; faults = counted };
       put = put;
     }
 
-    by_end : (e : ServeEnd) → ServesAgent (images_with images contents) address turns e calls → ending ≡ served_ending turns e → Took ending.text s.before s.after
-        → Tells s (Some (agent address turns images)) ending.exit
+    by_end : (e : ServeEnd) → ServesAs order contents e calls → ending ≡ served_ending turns e → Took ending.text s.before s.after → Tells s (Some order) ending.exit
     by_end (serve_ends.Stopped events) so e =
-        told_at s (Some (agent address turns images)) ending (served_ending turns (serve_ends.Stopped events)) e (λ put. (events, served (serve_ends.Stopped events) (turns_text events) so put))
-    by_end serve_ends.Turns so e =
-        told_at s (Some (agent address turns images)) ending (served_ending turns serve_ends.Turns) e (λ put. served serve_ends.Turns (turns_text turns) so put)
+        told_at s (Some order) ending (served_ending turns (serve_ends.Stopped events)) e (λ put. tells.done (events, served (serve_ends.Stopped events) (turns_text events) so put))
+    by_end serve_ends.Turns so e = told_at s (Some order) ending (served_ending turns serve_ends.Turns) e (λ put. tells.taken (served serve_ends.Turns (turns_text turns) so put))
     by_end serve_ends.WireFault so e =
-        told_at s (Some (agent address turns images)) ending wire_ending e (λ put. (
-          subst (Rose s.wires.faults) (sym counted) (serving_rises fails turns s.wires.faults calls so.ends),
-          served serve_ends.WireFault wire_ending.text so put,
-        ))
-    by_end serve_ends.NoMemory so e = told_at s (Some (agent address turns images)) ending (served_ending turns serve_ends.NoMemory) e (λ put. tt)
+        told_at s (Some order) ending wire_ending e (λ put. tells.failed (subst (Rose s.wires.faults) (sym counted) (rises so)) (served serve_ends.WireFault wire_ending.text so put))
+    by_end serve_ends.NoMemory so e = told_at s (Some order) ending (served_ending turns serve_ends.NoMemory) e (λ put. tt)
 
-value_tells : (s : Seen) (address peer : List ℕ) (turns : ℕ) (calls : List WireCall) (end : ServeEnd) (ending : Ending)
-    → s.wires_after.told ≡ with_calls calls s.wires.told → s.wires_after.faults ≡ faults_through calls s.wires.faults → ServesValueAdds peer address turns end calls → ending ≡ served_ending turns end
-    → Took ending.text s.before s.after → Tells s (Some (value address peer turns)) ending.exit
-value_tells s address peer turns calls end ending told counted fits = by_end end fits
-  where
-    served : (e : ServeEnd) (text : List ℕ) → ServesValueAdds peer address turns e calls → Took text s.before s.after
-        → AreServed address peer turns e text s.wires s.wires_after s.before s.after
-    served e text so put = record { serves = record { calls = calls; fits = so; told = told; faults = counted }; put = put }
+agent_tells : (s : Seen) (address : List ℕ) (turns : ℕ) (images : List NamedFile) → ServingTells s (agent address turns images) turns
+agent_tells s address turns images = record { done = λ stopped. stopped; taken = λ served. served; failed = λ rose served. (rose, served) }
 
-    by_end : (e : ServeEnd) → ServesValueAdds peer address turns e calls → ending ≡ served_ending turns e → Took ending.text s.before s.after → Tells s (Some (value address peer turns)) ending.exit
-    by_end (serve_ends.Stopped events) so e =
-        told_at s (Some (value address peer turns)) ending (served_ending turns (serve_ends.Stopped events)) e (λ put. (events, served (serve_ends.Stopped events) (turns_text events) so put))
-    by_end serve_ends.Turns so e =
-        told_at s (Some (value address peer turns)) ending (served_ending turns serve_ends.Turns) e (λ put. served serve_ends.Turns (turns_text turns) so put)
-    by_end serve_ends.WireFault so e =
-        told_at s (Some (value address peer turns)) ending wire_ending e (λ put. (
-          subst (Rose s.wires.faults) (sym counted) (serving_rises breaks turns s.wires.faults calls so.runs.ends),
-          served serve_ends.WireFault wire_ending.text so put,
-        ))
-    by_end serve_ends.NoMemory so e = told_at s (Some (value address peer turns)) ending (served_ending turns serve_ends.NoMemory) e (λ put. tt)
+value_tells : (s : Seen) (address peer : List ℕ) (turns : ℕ) → ServingTells s (value address peer turns) turns
+value_tells s address peer turns = record { done = λ stopped. stopped; taken = λ served. served; failed = λ rose served. (rose, served) }
+
+hub_tells : (s : Seen) (address peer : List ℕ) (turns : ℕ) → ServingTells s (hub address peer turns) turns
+hub_tells s address peer turns = record { done = λ stopped. stopped; taken = λ served. served; failed = λ rose served. (rose, served) }
 
 client_tells : (s : Seen) (address name file : List ℕ) (turns : ℕ) (calls : List WireCall) (ending : Ending) → Hears (name ∷ []) s.files s.files_after (whole (file ∷ []))
     → s.wires_after.told ≡ with_calls calls s.wires.told → s.wires_after.faults ≡ faults_through calls s.wires.faults → IsRanEnding (script_of file) address turns calls ending
@@ -302,8 +299,15 @@ ending_tells s (Some (show name)) (whole (file ∷ other ∷ more)) calls ending
 ending_tells s (Some (load number)) (whole []) calls ending hears told counted its = load_tells s number ending its.1
 ending_tells s (Some (load number)) (whole (file ∷ more)) calls ending hears told counted its = absurd its
 ending_tells s (Some (agent address turns images)) (whole contents) calls ending hears told counted its =
-    agent_tells s address turns images contents calls its.0 ending hears told counted its.1 its.2
-ending_tells s (Some (value address peer turns)) (whole []) calls ending hears told counted its = value_tells s address peer turns calls its.0 ending told counted its.1 its.2
+    serving_tells s (agent address turns images) turns contents calls its.0 ending (agent_tells s address turns images)
+    (λ so. serving_rises breaks turns s.wires.faults calls so.runs.ends) hears told counted its.1 its.2
+ending_tells s (Some (value address peer turns)) (whole []) calls ending hears told counted its =
+    serving_tells s (value address peer turns) turns [] calls its.0 ending (value_tells s address peer turns)
+    (λ so. serving_rises breaks turns s.wires.faults calls so.runs.ends) hears told counted its.1 its.2
+ending_tells s (Some (hub address peer turns)) (whole []) calls ending hears told counted its =
+    serving_tells s (hub address peer turns) turns [] calls its.0 ending (hub_tells s address peer turns)
+    (λ so. hub_rises peer address turns s.wires.faults calls so) hears told counted its.1 its.2
+ending_tells s (Some (hub address peer turns)) (whole (file ∷ more)) calls ending hears told counted its = absurd its
 ending_tells s (Some (value address peer turns)) (whole (file ∷ more)) calls ending hears told counted its = absurd its
 ending_tells s (Some (client address name turns)) (whole []) calls ending hears told counted its = absurd its
 ending_tells s (Some (client address name turns)) (whole (file ∷ [])) calls ending hears told counted its =

@@ -14,6 +14,7 @@ use Rattle.agent_serving.specs.Serve.{ServesAgent}
 use Rattle.serving_wires.specs.declared.end.ServeEnd.{ServeEnd}
 use Rattle.serving_wires.specs.declared.end.ServeEnd.TheVariants as serve_ends
 use Rattle.value_serving.specs.Serve.{ServesValueAdds}
+use Rattle.hub_serving.specs.Serve.{ServesHub}
 use Rattle.client_serving.specs.Run.{RunsClient}
 use Rattle.client_serving.specs.declared.end.ClientEnd.{ClientEnd}
 use Rattle.client_serving.specs.declared.end.ClientEnd.TheVariants as client_ends
@@ -24,7 +25,7 @@ use Rattle.tcf_app.specs.declared.exit.Exit.TheVariants.{Done, Usage, BadText, F
 use Rattle.tcf_app.specs.declared.reading.Unread.{Unread}
 use Rattle.tcf_app.specs.declared.reading.Unread.TheVariants as unread
 use Rattle.tcf_app.specs.Exit.{IsGivenUp}
-use Rattle.tcf_app.specs.Words.{NamedFile, OrderValue, chain, show, load, agent, value, client, first_place}
+use Rattle.tcf_app.specs.Words.{NamedFile, OrderValue, chain, show, load, agent, value, client, hub, first_place}
 use Rattle.tcf_app.specs.Texts.{usage_text, file_fault_text, wire_fault_text, too_long_text, turns_text, bad_line_text, bad_stream_text}
 use Rattle.tcf_app.specs.Played.{printed, numbered, summed, client_text}
 use Rattle.tcf_app.specs.Heard.{Heard, whole, longer, failed}
@@ -83,7 +84,7 @@ IsShownEnding file ending = (shown : Shown) × IsShown file shown × (ending ≡
 abbrev pub summed_ending : ℕ → Ending
 summed_ending number = record { exit = Done; text = summed (numbered number) }
 
--- ---- agent
+-- ---- agent, value and hub
 
 -- the images that an agent has: the names that the words give, with what their files hold
 abbrev pub images_with : List NamedFile → List (List ℕ) → List Image
@@ -94,22 +95,23 @@ images_with named contents = []
 abbrev pub contents_of : List Image → List (List ℕ)
 contents_of images = map (λ (image : Image). image.bytes) images
 
--- for how the serving ended, of so many turns; of value-adds too
+-- what is served by an order, by what the files that it names hold: its serving ends so, by these calls
+abbrev pub ServesAs : OrderValue → List (List ℕ) → ServeEnd → List WireCall → Type 0
+ServesAs (agent address turns images) contents end calls = ServesAgent (images_with images contents) address turns end calls
+ServesAs (value address peer turns) [] end calls = ServesValueAdds peer address turns end calls
+ServesAs (hub address peer turns) [] end calls = ServesHub peer address turns end calls
+ServesAs order contents end calls = ⊥
+
+-- for how the serving ended, of so many turns
 abbrev pub served_ending : ℕ → ServeEnd → Ending
 served_ending turns (serve_ends.Stopped events) = record { exit = Done; text = turns_text events }
 served_ending turns serve_ends.Turns = record { exit = Turns; text = turns_text turns }
 served_ending turns serve_ends.WireFault = wire_ending
 served_ending turns serve_ends.NoMemory = wanting_ending
 
--- for an agent with these images that is served by these calls
-abbrev pub IsServedEnding : List Image → List ℕ → ℕ → List WireCall → Ending → Type 0
-IsServedEnding images address turns calls ending = (end : ServeEnd) × ServesAgent images address turns end calls × (ending ≡ served_ending turns end)
-
--- ---- value
-
--- for value-adds of this peer that are served by these calls
-abbrev pub IsAddsEnding : List ℕ → List ℕ → ℕ → List WireCall → Ending → Type 0
-IsAddsEnding peer address turns calls ending = (end : ServeEnd) × ServesValueAdds peer address turns end calls × (ending ≡ served_ending turns end)
+-- for a serving of so many turns by these calls
+abbrev pub IsServedEnding : (ServeEnd → List WireCall → Type 0) → ℕ → List WireCall → Ending → Type 0
+IsServedEnding Serves turns calls ending = (end : ServeEnd) × Serves end calls × (ending ≡ served_ending turns end)
 
 -- ---- client
 
@@ -139,13 +141,14 @@ IsRanEnding (Ok script) address turns calls ending = HasRanTo script address tur
 
 -- ---- each order
 
--- for the contents of the files: `chain`, `show` and `client` name one, `load` and `value` none
+-- for the contents of the files: `chain`, `show` and `client` name one, `load`, `value` and `hub` none
 abbrev pub IsWholeEnding : OrderValue → List (List ℕ) → List WireCall → Ending → Type 0
 IsWholeEnding (chain name) (file ∷ []) calls ending = (calls ≡ []) × (ending ≡ played_ending (schedule_of file))
 IsWholeEnding (show name) (file ∷ []) calls ending = (calls ≡ []) × IsShownEnding file ending
 IsWholeEnding (load number) [] calls ending = (calls ≡ []) × (ending ≡ summed_ending number)
-IsWholeEnding (agent address turns images) contents calls ending = IsServedEnding (images_with images contents) address turns calls ending
-IsWholeEnding (value address peer turns) [] calls ending = IsAddsEnding peer address turns calls ending
+IsWholeEnding (agent address turns images) contents calls ending = IsServedEnding (ServesAs (agent address turns images) contents) turns calls ending
+IsWholeEnding (value address peer turns) [] calls ending = IsServedEnding (ServesAs (value address peer turns) []) turns calls ending
+IsWholeEnding (hub address peer turns) [] calls ending = IsServedEnding (ServesAs (hub address peer turns) []) turns calls ending
 IsWholeEnding (client address name turns) (file ∷ []) calls ending = IsRanEnding (script_of file) address turns calls ending
 IsWholeEnding order contents calls ending = ⊥
 

@@ -17,10 +17,8 @@ use Rattle.tcf_wires.specs.declared.call.WireCall.TheVariants.{Connected, Listen
 use Rattle.tcf_wires.specs.declared.event.WireRefusal.TheVariants as refusals
 use Rattle.serving_wires.specs.Calls.{Makes, events_in}
 use Rattle.serving_wires.specs.Serving.{fails, breaks, stops}
-use Rattle.agent_serving.specs.Serve.{ServesAgent}
 use Rattle.serving_wires.specs.declared.end.ServeEnd.{ServeEnd}
 use Rattle.serving_wires.specs.declared.end.ServeEnd.TheVariants as serve_ends
-use Rattle.value_serving.specs.Serve.{ServesValueAdds}
 use Rattle.client_serving.specs.Run.{RunsClient}
 use Rattle.client_serving.specs.Serving.{after_events}
 use Rattle.client_serving.specs.declared.end.ClientEnd.{ClientEnd}
@@ -34,12 +32,12 @@ use Rattle.tcf_app.specs.Exit.{IsGivenUp}
 use Rattle.tcf_app.specs.declared.exit.BadPlace.{BadPlace}
 use Rattle.tcf_app.specs.declared.exit.Exit.{Exit}
 use Rattle.tcf_app.specs.declared.exit.Exit.TheVariants.{Done, Usage, BadText, FileFault, SinkFault, WireFault, Turns, NoMemory, BadStream, Ended, TooLong}
-use Rattle.tcf_app.specs.Words.{NamedFile, OrderValue, chain, show, load, agent, value, client, first_place, files_in, files_named, names_of}
+use Rattle.tcf_app.specs.Words.{OrderValue, chain, show, load, agent, value, client, hub, first_place, files_named, names_of}
 use Rattle.tcf_app.specs.Texts.{wire_fault_text, turns_text, bad_line_text, bad_stream_text, too_long_text}
 use Rattle.tcf_app.specs.Played.{printed, numbered, summed, client_text, world_of}
 use Rattle.tcf_app.specs.Heard.{Heard, Hears, heard_in, IsHeld, AreHeld, IsFirstLong, FailsLast}
 use Rattle.tcf_app.specs.Show.{IsShown}
-use Rattle.tcf_app.specs.Ending.{Ending, Ends, EndsIn, IsEnding, exit_of, images_with, fault_ending, wire_ending}
+use Rattle.tcf_app.specs.Ending.{Ending, Ends, EndsIn, IsEnding, ServesAs, exit_of, fault_ending, wire_ending}
 
 -- ---- the run as a whole
 
@@ -92,20 +90,18 @@ pub record IsPrinted (name : List ℕ) (files : FilesSeen) (before after : SinkS
   pub shown : IsShown file (record { text = text; bad = None })
   pub put : Took text before after
 
--- ---- agent, value and client
+-- ---- agent, value, hub and client
 
--- An agent was served whose images have these names and what these files hold; its serving ended so, and this text was
--- put.
-pub record IsServed (address : List ℕ) (turns : ℕ) (images : List NamedFile) (end : ServeEnd) (text : List ℕ) (files : FilesSeen) (wires wires' : WiresSeen) (before after : SinkSeen) : Type 0 where
+-- What this order serves was served, by what the files that it names hold; its serving ended so, and this text was put.
+pub record IsServed (order : OrderValue) (end : ServeEnd) (text : List ℕ) (files : FilesSeen) (wires wires' : WiresSeen) (before after : SinkSeen) : Type 0 where
   pub contents : List (List ℕ)
-  pub held : AreHeld (files_in images) contents files
-  pub serves : Makes (ServesAgent (images_with images contents) address turns end) wires wires'
+  pub held : AreHeld (files_named order) contents files
+  pub serves : Makes (ServesAs order contents end) wires wires'
   pub put : Took text before after
 
--- Value-adds of this peer were served; their serving ended so, and this text was put.
-pub record AreServed (address peer : List ℕ) (turns : ℕ) (end : ServeEnd) (text : List ℕ) (wires wires' : WiresSeen) (before after : SinkSeen) : Type 0 where
-  pub serves : Makes (ServesValueAdds peer address turns end) wires wires'
-  pub put : Took text before after
+-- so many events were taken, of which the last was `Stop`
+abbrev pub IsStoppedServing : OrderValue → FilesSeen → WiresSeen → WiresSeen → SinkSeen → SinkSeen → Type 0
+IsStoppedServing order files wires wires' before after = (events : ℕ) × IsServed order (serve_ends.Stopped events) (turns_text events) files wires wires' before after
 
 -- A client did the script that this file says; its run ended so, and its log was put, in which each command is answered
 -- once.
@@ -131,25 +127,26 @@ pub record HasFailed (address name : List ℕ) (turns : ℕ) (files : FilesSeen)
 
 -- ---- each exit, by what was ordered
 
--- what was done; of an agent and of value-adds, that `Stop` came, as the last of so many events
+-- what was done; of an agent, of value-adds and of a hub, that `Stop` came, as the last of so many events
 abbrev pub IsDone : Option OrderValue → FilesSeen → WiresSeen → WiresSeen → SinkSeen → SinkSeen → Type 0
 IsDone None files wires wires' before after = ⊥
 IsDone (Some (chain name)) files wires wires' before after = IsPlayed name files before after
 IsDone (Some (show name)) files wires wires' before after = IsPrinted name files before after
 IsDone (Some (load number)) files wires wires' before after = IsSummed number before after
-IsDone (Some (agent address turns images)) files wires wires' before after =
-    (events : ℕ) × IsServed address turns images (serve_ends.Stopped events) (turns_text events) files wires wires' before after
-IsDone (Some (value address peer turns)) files wires wires' before after =
-    (events : ℕ) × AreServed address peer turns (serve_ends.Stopped events) (turns_text events) wires wires' before after
+IsDone (Some (agent address turns images)) files wires wires' before after = IsStoppedServing (agent address turns images) files wires wires' before after
+IsDone (Some (value address peer turns)) files wires wires' before after = IsStoppedServing (value address peer turns) files wires wires' before after
+IsDone (Some (hub address peer turns)) files wires wires' before after = IsStoppedServing (hub address peer turns) files wires wires' before after
 IsDone (Some (client address name turns)) files wires wires' before after = HasRun address name turns client_ends.Done files wires wires' before after
 
 -- all turns were taken
 abbrev pub AreTaken : Option OrderValue → FilesSeen → WiresSeen → WiresSeen → SinkSeen → SinkSeen → Type 0
 AreTaken (Some (agent address turns images)) files wires wires' before after =
-    IsServed address turns images serve_ends.Turns (turns_text turns) files wires wires' before after
+    IsServed (agent address turns images) serve_ends.Turns (turns_text turns) files wires wires' before after
 AreTaken (Some (value address peer turns)) files wires wires' before after =
-    AreServed address peer turns serve_ends.Turns (turns_text turns) wires wires' before after
+    IsServed (value address peer turns) serve_ends.Turns (turns_text turns) files wires wires' before after
 AreTaken (Some (client address name turns)) files wires wires' before after = HasRun address name turns client_ends.Turns files wires wires' before after
+AreTaken (Some (hub address peer turns)) files wires wires' before after =
+    IsServed (hub address peer turns) serve_ends.Turns (turns_text turns) files wires wires' before after
 AreTaken order files wires wires' before after = ⊥
 
 -- a client's run ended for this cause
@@ -160,10 +157,12 @@ HasEnded cause order files wires wires' before after = ⊥
 -- a call of the wires failed, the last one; of value-adds, that one listened or asked for an event, and didn't connect
 abbrev pub HaveFailed : Option OrderValue → FilesSeen → WiresSeen → WiresSeen → SinkSeen → SinkSeen → Type 0
 HaveFailed (Some (agent address turns images)) files wires wires' before after =
-    IsServed address turns images serve_ends.WireFault wire_fault_text files wires wires' before after
+    IsServed (agent address turns images) serve_ends.WireFault wire_fault_text files wires wires' before after
 HaveFailed (Some (value address peer turns)) files wires wires' before after =
-    AreServed address peer turns serve_ends.WireFault wire_fault_text wires wires' before after
+    IsServed (value address peer turns) serve_ends.WireFault wire_fault_text files wires wires' before after
 HaveFailed (Some (client address name turns)) files wires wires' before after = HasFailed address name turns files wires wires' before after
+HaveFailed (Some (hub address peer turns)) files wires wires' before after =
+    IsServed (hub address peer turns) serve_ends.WireFault wire_fault_text files wires wires' before after
 HaveFailed order files wires wires' before after = ⊥
 
 -- a file has this line as its first bad one, by the command that reads it
@@ -212,6 +211,7 @@ serves_peers (Some (load number)) = false
 serves_peers (Some (agent address turns images)) = true
 serves_peers (Some (value address peer turns)) = true
 serves_peers (Some (client address name turns)) = true
+serves_peers (Some (hub address peer turns)) = true
 
 -- the exit comes before the wires are used
 abbrev pub is_early : Exit → Bool
@@ -252,12 +252,19 @@ IsReadHeeded names exit files files' before after =
 abbrev pub EndsOnly : Exit → Exit → Type 0
 EndsOnly wanted exit = (exit ≡ wanted) ⊎ IsGivenUp exit
 
--- Of an agent and of value-adds: where Stop came the run is done. Where the address was listened on, Stop didn't come, and
--- as many events came as there are turns, they were taken.
-pub record IsEndOfServing (address : List ℕ) (turns : ℕ) (exit : Exit) (calls : List WireCall) : Type 0 where
+-- first the address was listened on
+abbrev pub BeginsListening : List ℕ → List WireCall → Type 0
+BeginsListening address calls = (later : List WireCall) × (calls ≡ Listened address (Ok tt) ∷ later)
+
+-- first the peer was connected to, and then the address was listened on
+abbrev pub BeginsConnected : List ℕ → List ℕ → List WireCall → Type 0
+BeginsConnected peer address calls = (channel : ℕ) × ((later : List WireCall) × (calls ≡ Connected peer (Ok channel) ∷ Listened address (Ok tt) ∷ later))
+
+-- Of an agent, of value-adds and of a hub: where Stop came the run is done. Where it began so, Stop didn't come, and as many
+-- events came as there are turns, they were taken.
+pub record IsEndOfServing (Begins : List WireCall → Type 0) (turns : ℕ) (exit : Exit) (calls : List WireCall) : Type 0 where
   pub stopped : stops calls ≡ true → EndsOnly Done exit
-  pub taken : (later : List WireCall) → calls ≡ Listened address (Ok tt) ∷ later → stops calls ≡ false
-      → length (events_in calls) ≡ turns → EndsOnly Turns exit
+  pub taken : Begins calls → stops calls ≡ false → length (events_in calls) ≡ turns → EndsOnly Turns exit
 
 -- the client connected, and by its script and what came its run has this end, or none
 pub record ComesTo (script : List ScriptLine) (address : List ℕ) (end : Option ClientEnd) (calls : List WireCall) : Type 0 where
@@ -278,8 +285,9 @@ IsEndOfScript file address turns exit calls = (script : List ScriptLine) → scr
 
 -- where a command serves, by what was ordered; of a client where the files are told
 abbrev pub IsOneEnd : Option OrderValue → FilesSeen → Exit → List WireCall → Type 0
-IsOneEnd (Some (agent address turns images)) files exit calls = IsEndOfServing address turns exit calls
-IsOneEnd (Some (value address peer turns)) files exit calls = IsEndOfServing address turns exit calls
+IsOneEnd (Some (agent address turns images)) files exit calls = IsEndOfServing (BeginsListening address) turns exit calls
+IsOneEnd (Some (value address peer turns)) files exit calls = IsEndOfServing (BeginsListening address) turns exit calls
+IsOneEnd (Some (hub address peer turns)) files exit calls = IsEndOfServing (BeginsConnected peer address) turns exit calls
 IsOneEnd (Some (client address name turns)) files exit calls =
     IfSome files.held (λ held. IsEndOfScript (content_of name held) address turns exit calls)
 IsOneEnd order files exit calls = Unit {0}

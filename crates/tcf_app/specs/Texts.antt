@@ -8,7 +8,7 @@ use Rattle.tcf_app.specs.declared.exit.StreamWhat.{StreamWhat}
 use Rattle.tcf_app.specs.declared.exit.StreamWhat.TheVariants.{Escape, Long, AfterEnd, Unended, Empty, Kind, Field, Token, Level, Trailing, Body}
 
 unfoldable pub usage_text : List ℕ
-usage_text = codes "usage: tcf chain FILE | show FILE | load NUMBER | agent ADDRESS TURNS [NAME=FILE ..] | value ADDRESS PEER TURNS | client ADDRESS SCRIPT TURNS\n"
+usage_text = codes "usage: tcf chain FILE | show FILE | load NUMBER | agent ADDRESS TURNS [NAME=FILE ..] | value ADDRESS PEER TURNS | client ADDRESS SCRIPT TURNS | hub ADDRESS PEER TURNS\n"
 
 unfoldable pub file_fault_text : List ℕ
 file_fault_text = codes "file fault\n"

@@ -8,7 +8,7 @@ use Rattle.tcf_values.specs.Cut.{cut_of}
 use Rattle.tcf_values.specs.Number.{number_of}
 use Rattle.tcf_app.specs.declared.order.ImageWord.{ImageWord}
 use Rattle.tcf_app.specs.declared.order.Order.{Order}
-use Rattle.tcf_app.specs.declared.order.Order.TheVariants.{Chain, Show, Load, Agent, Value, Client}
+use Rattle.tcf_app.specs.declared.order.Order.TheVariants.{Chain, Show, Load, Agent, Value, Client, Hub}
 
 -- an image that the words give an agent: its name, and the file that has its bytes
 pub record NamedFile : Type 0 where
@@ -23,6 +23,7 @@ pub data OrderValue : Type 0 where
   agent : (address : List ℕ) (turns : ℕ) (images : List NamedFile) → OrderValue
   value : (address peer : List ℕ) (turns : ℕ) → OrderValue
   client : (address script : List ℕ) (turns : ℕ) → OrderValue
+  hub : (address peer : List ℕ) (turns : ℕ) → OrderValue
 
 -- ---- an image's word
 
@@ -63,6 +64,7 @@ order_value (Load number) = load number
 order_value (Agent address turns images) = agent address.now turns (images_given images.now)
 order_value (Value address peer turns) = value address.now peer.now turns
 order_value (Client address script turns) = client address.now script.now turns
+order_value (Hub address peer turns) = hub address.now peer.now turns
 
 abbrev pub image_value : ImageWord → NamedFile
 image_value word = record { name = word.name.now; file = word.file.now }
@@ -84,6 +86,9 @@ value_word = codes "value"
 
 unfoldable pub client_word : List ℕ
 client_word = codes "client"
+
+unfoldable pub hub_word : List ℕ
+hub_word = codes "hub"
 
 -- how many turns a serving command takes: a decimal from 1 to 1,000,000,000, without a sign or a leading zero
 abbrev pub turns_of : List ℕ → Option ℕ
@@ -124,12 +129,17 @@ value_by address peer words = option_map (value address peer) (last_turns words)
 abbrev pub client_by : List ℕ → List ℕ → List (List ℕ) → Option OrderValue
 client_by address script words = option_map (client address script) (last_turns words)
 
+-- `hub ADDRESS PEER TURNS`
+abbrev pub hub_by : List ℕ → List ℕ → List (List ℕ) → Option OrderValue
+hub_by address peer words = option_map (hub address peer) (last_turns words)
+
 -- a command with two words and more behind it
 abbrev pub serving_with : List ℕ → List ℕ → List ℕ → List (List ℕ) → Option OrderValue
 serving_with command address word words =
     if bytes_eq command agent_word then agent_by address (images_in words) (turns_of word)
     else if bytes_eq command value_word then value_by address word words
     else if bytes_eq command client_word then client_by address word words
+    else if bytes_eq command hub_word then hub_by address word words
     else None
 
 -- the order that the words are
@@ -151,6 +161,7 @@ files_named (load number) = []
 files_named (agent address turns images) = files_in images
 files_named (value address peer turns) = []
 files_named (client address script turns) = script ∷ []
+files_named (hub address peer turns) = []
 
 abbrev pub names_of : Option OrderValue → List (List ℕ)
 names_of None = []
@@ -164,3 +175,4 @@ first_place (load number) = 0
 first_place (agent address turns images) = 4
 first_place (value address peer turns) = 0
 first_place (client address script turns) = 3
+first_place (hub address peer turns) = 0

@@ -1,4 +1,5 @@
 //! The run of `agent`: it is served, and the number of the events that it took is printed.
+ghost use Rattle.agent_serving.specs.Serve.{ServesAgent};
 ghost use Rattle.serving_wires.specs.Calls.{Makes};
 ghost use Rattle.tcf_app.specs.Exit.{TellsFault};
 ghost use Rattle.tcf_app.specs.Ending.{EndsIn, IsServedEnding};
@@ -19,7 +20,7 @@ pub(crate) fn serve_images<S: Sink, W: Wires>(
     out: &mut S,
     wires: &mut W,
 ) -> Exit
-    ensures ends { Makes (λ calls. EndsIn (IsServedEnding images.items address.now turns calls) result
+    ensures ends { Makes (λ calls. EndsIn (IsServedEnding (ServesAgent images.items address.now turns) turns calls) result
         (S.seen out.old) (S.seen out.new)) (W.seen wires.old) (W.seen wires.new) }
     ensures fault { TellsFault result (S.seen out.old) (S.seen out.new) }
 {

@@ -6,6 +6,7 @@ mod chain;
 mod client;
 pub mod exit;
 mod finish;
+mod hub;
 mod laws;
 mod lines;
 mod load;

@@ -1,6 +1,6 @@
 //! What the words after the program's name ask for.
 ghost use Rattle.std.specs.Prelude.{◌≡◌, option_map, map, string_bytes};
-ghost use Rattle.tcf_app.specs.Words.{load, order_value, image_value, image_in, images_given, has_name, are_named, number_in, turns_of, last_turns, order_with, agent_by, value_by, client_by, serving_with, order_in};
+ghost use Rattle.tcf_app.specs.Words.{load, order_value, image_value, image_in, images_given, has_name, are_named, number_in, turns_of, last_turns, order_with, agent_by, value_by, client_by, hub_by, serving_with, order_in};
 
 use itoa::Buffer;
 use tcf_values::number_within;
@@ -36,6 +36,12 @@ pub(crate) enum Order<'a> {
     Client {
         address: &'a str,
         script: &'a str,
+        turns: u32,
+    },
+    /// Serves a hub that connects to a peer.
+    Hub {
+        address: &'a str,
+        peer: &'a str,
         turns: u32,
     },
 }
@@ -169,8 +175,20 @@ fn client_order<'a>(address: &'a str, script: &'a str, words: &[String]) -> Opti
     })
 }
 
+/// The order to serve a hub that connects to a peer.
+fn hub_order<'a>(address: &'a str, peer: &'a str, words: &[String]) -> Option<Order<'a>>
+    ensures { option_map order_value result ≡ hub_by address.now peer.now (map string_bytes words.now) }
+{
+    let turns = last_turns(words)?;
+    Some(Order::Hub {
+        address,
+        peer,
+        turns,
+    })
+}
+
 /// The order of a command with two words and more behind it.
-#[tactic(auto, unfolding(crate::specs::Words::agent_word, crate::specs::Words::value_word, crate::specs::Words::client_word))]
+#[tactic(auto, unfolding(crate::specs::Words::agent_word, crate::specs::Words::value_word, crate::specs::Words::client_word, crate::specs::Words::hub_word))]
 fn serving_with<'a>(
     command: &str,
     address: &'a str,
@@ -183,6 +201,7 @@ fn serving_with<'a>(
         "agent" => agent_order(address, word, words),
         "value" => value_order(address, word, words),
         "client" => client_order(address, word, words),
+        "hub" => hub_order(address, word, words),
         _ => None,
     }
 }

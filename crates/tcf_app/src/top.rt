@@ -16,6 +16,7 @@ use crate::agent::serve_images;
 use crate::chain::play_file;
 use crate::client::do_script;
 use crate::exit::Exit;
+use crate::hub::serve_peers;
 use crate::load::play_number;
 use crate::order::{Order, read_words};
 use crate::reading::{read_file, read_images};
@@ -128,6 +129,11 @@ fn run_order<F: Files, S: Sink, W: Wires>(
             script,
             turns,
         } => run_script(alloc, address, script, turns, files, out, wires),
+        Order::Hub {
+            address,
+            peer,
+            turns,
+        } => serve_peers(alloc, address, peer, turns, out, wires),
     }
 }
 
@@ -162,9 +168,11 @@ fn run_words<F: Files, S: Sink, W: Wires>(
 /// - `value ADDRESS PEER TURNS`: listens on the address, serves a value-add for each connection, whose peer has PEER as its
 ///   ID and its address, and prints how many events they took.
 /// - `client ADDRESS SCRIPT TURNS`: connects to the address, does the script that the file says, and prints the log.
+/// - `hub ADDRESS PEER TURNS`: connects to the peer, then listens on the address, serves a hub with a lower channel for each
+///   connection, and prints how many events it took.
 ///
-/// ADDRESS is the address of a socket, as `127.0.0.1:7001`; PEER is both the ID by which a client's `Locator redirect`
-/// names the peer and its address. NUMBER is a decimal below 2^64, TURNS one from 1 to 1,000,000,000, both without a sign
+/// ADDRESS is the address of a socket, as `127.0.0.1:7001`, and so is a hub's PEER; a value-add's PEER is both the ID by which
+/// a client's `Locator redirect` names the peer and its address. NUMBER is a decimal below 2^64, TURNS one from 1 to 1,000,000,000, both without a sign
 /// or a leading zero. NAME ends at the first `=`, isn't empty and isn't given twice. A FILE, and a SCRIPT, has at most
 /// 16,777,216 bytes.
 ///
@@ -186,7 +194,7 @@ pub fn tcf<F: Files, S: Sink, W: Wires>(
         (W.seen wires.old) (W.seen wires.new) (S.seen out.old) (S.seen out.new) }
 
     // What is printed: of a played schedule, whose logs are true to the history, whole or in sum; of a stream without a bad
-    // place; of an agent and of value-adds for which `Stop` came; and of a client whose script is done.
+    // place; of an agent, of value-adds and of a hub for which `Stop` came; and of a client whose script is done.
     ensures done { result ≡ Exit.Done → IsDone (order_in words.now) (F.seen files.old)
         (W.seen wires.old) (W.seen wires.new) (S.seen out.old) (S.seen out.new) }
 

@@ -1,7 +1,8 @@
 //! The run of `value`: value-adds are served, and the number of the events that they took is printed.
 ghost use Rattle.serving_wires.specs.Calls.{Makes};
+ghost use Rattle.value_serving.specs.Serve.{ServesValueAdds};
 ghost use Rattle.tcf_app.specs.Exit.{TellsFault};
-ghost use Rattle.tcf_app.specs.Ending.{EndsIn, IsAddsEnding};
+ghost use Rattle.tcf_app.specs.Ending.{EndsIn, IsServedEnding};
 
 use crate::exit::Exit;
 use crate::serving::report_serving;
@@ -19,7 +20,7 @@ pub(crate) fn serve_adds<S: Sink, W: Wires>(
     out: &mut S,
     wires: &mut W,
 ) -> Exit
-    ensures ends { Makes (λ calls. EndsIn (IsAddsEnding peer.now address.now turns calls) result
+    ensures ends { Makes (λ calls. EndsIn (IsServedEnding (ServesValueAdds peer.now address.now turns) turns calls) result
         (S.seen out.old) (S.seen out.new)) (W.seen wires.old) (W.seen wires.new) }
     ensures fault { TellsFault result (S.seen out.old) (S.seen out.new) }
 {

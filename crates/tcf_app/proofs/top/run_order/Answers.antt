@@ -1,6 +1,6 @@
 use Rattle.serving_wires.proofs.Making.{makes_none}
 use Rattle.tcf_app.proofs.Noting.{reads_none}
-use Rattle.tcf_app.proofs.Running.{load_runs, value_runs}
+use Rattle.tcf_app.proofs.Running.{hub_runs, load_runs, value_runs}
 use Rattle.tcf_app.proofs.top.run_order.Goals as goal
 
 pub returns-in-Chain-clause-runs : goal.returns-in-Chain-clause-runs
@@ -23,6 +23,12 @@ returns-in-Value-clause-runs g c = rw c.in-Value.is (value_runs _ _ _ _ _ _ _ _ 
 
 pub returns-in-Value-clause-reads : goal.returns-in-Value-clause-reads
 returns-in-Value-clause-reads g c = reads_none _ _
+
+pub returns-in-Hub-clause-runs : goal.returns-in-Hub-clause-runs
+returns-in-Hub-clause-runs g c = rw c.in-Hub.is (hub_runs _ _ _ _ _ _ _ _ _ c.serve_peers.ensures.ends)
+
+pub returns-in-Hub-clause-reads : goal.returns-in-Hub-clause-reads
+returns-in-Hub-clause-reads g c = reads_none _ _
 
 pub returns-in-Client-clause-runs : goal.returns-in-Client-clause-runs
 returns-in-Client-clause-runs g c = rw c.in-Client.is c.run_script.ensures.runs

@@ -1,0 +1,10 @@
+pub mod Numbered
+pub mod Lines
+pub mod Passing
+pub mod Gathering
+pub mod ServingValue
+pub mod Serving
+pub mod Served
+pub mod Left
+pub mod Limits
+pub mod Serve

@@ -6,12 +6,13 @@ paths lead down from each crate through the list: tools that sum up a crate's so
     bench/cited.py --paths    prints the number of paths of each crate too
 """
 import re
+import subprocess
 import sys
 from functools import lru_cache
 from pathlib import Path
 
 TOP = Path(__file__).resolve().parent.parent
-KIT = Path('/opt/rattle/rlibs')
+KIT = Path(subprocess.run(['rt', 'doc'], capture_output=True, text=True, check=True).stdout.strip()).parent / 'rlibs'
 BUILT_IN = {'std', 'core', 'io', 'log', 'libc', 'os'}  # words that each program may name
 
 

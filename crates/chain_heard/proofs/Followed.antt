@@ -398,9 +398,12 @@ follows log images history k position answered later hears =
       told =
           subst (λ told. IsFront (filter is_owed told) (filter is_owed (sent images k history))) (sym told_is)
           (told_front log images history k position answered later hears shape);
-      executed = subst (IsFront (filter flag_of (executed_on k history))) asked_is hears.goes;
-      answers = (numbers (filter goes_through turn.rest), sym (ap (λ l. l ++ numbers (filter goes_through turn.rest)) answers_are ∙ parts));
-      accepted = subst (IsSubsequenceOf (executed_on k history)) commands_are (behind_subsequence (executed_on k history) (map read later) (map read answered) hears.asked);
+      executes =
+          record {
+            executed = subst (IsFront (filter flag_of (executed_on k history))) asked_is hears.goes;
+            answers = (numbers (filter goes_through turn.rest), sym (ap (λ l. l ++ numbers (filter goes_through turn.rest)) answers_are ∙ parts));
+            accepted = subst (IsSubsequenceOf (executed_on k history)) commands_are (behind_subsequence (executed_on k history) (map read later) (map read answered) hears.asked);
+          };
     }
 
 -- where it heard all that is owed, all has come

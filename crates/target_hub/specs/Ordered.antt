@@ -58,16 +58,23 @@ pub record IsChannelOf (log : List LogLine) (history : List Input) (k : ℕ) : T
 abbrev pub through : List LogLine → List Accepted
 through log = filter (λ c. goes_through c && not (list_any (λ number. number == c.number) (flat_map bare_answer_of log))) (accepted log)
 
--- What a log owes to the one history of the target, on the channel k that it was made on.
-pub record FollowsTarget (log : List LogLine) (images : List Image) (history : List Input) (k : ℕ) : Type 0 where
-  -- what was received, but for answers to storable commands, is the front of what the target told, in order, with
-  -- positions and data
-  pub told : IsFront (filter is_owed (received log)) (filter is_owed (sent images k history))
+-- what was received, but for answers to storable commands, is the front of what the target told the channel k, in order, with
+-- positions and data
+abbrev pub IsToldInOrder : List Image → List Input → List LogLine → ℕ → Type 0
+IsToldInOrder images history log k = IsFront (filter is_owed (received log)) (filter is_owed (sent images k history))
+
+-- What the history executes on the channel k is what the log asked for.
+pub record ExecutesItsCommands (history : List Input) (log : List LogLine) (k : ℕ) : Type 0 where
   -- the through commands that were executed are the front of those that went through, and the answers are theirs, in order
   pub executed : IsFront (filter (λ c. is_through c.reading) (executed_on k history)) (map read (through log))
   pub answers : IsFront (flat_map (answer_of (accepted log)) (from_hello log)) (numbers (through log))
   -- nothing else was executed
   pub accepted : IsSubsequenceOf (executed_on k history) (map read (accepted log))
+
+-- What a log owes to the one history of the target, on the channel k that it was made on.
+pub record FollowsTarget (log : List LogLine) (images : List Image) (history : List Input) (k : ℕ) : Type 0 where
+  pub told : IsToldInOrder images history log k
+  pub executes : ExecutesItsCommands history log k
 
 -- all that the target told on k has come
 abbrev pub AllCame : List LogLine → List Image → List Input → ℕ → Type 0

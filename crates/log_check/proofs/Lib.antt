@@ -1,0 +1,15 @@
+pub mod Asking
+pub mod Eaches
+pub mod Ears
+pub mod Ending
+pub mod Freshness
+pub mod Legality
+pub mod Onces
+pub mod Opening
+pub mod Options
+pub mod Placing
+pub mod Running
+pub mod Seeing
+pub mod Sorting
+pub mod Standing
+pub mod Truth

@@ -3,11 +3,12 @@
 
 The headline is one clause of one public function (CLAUSE). From the names that it cites this follows all names through
 the definitions of `crates/*/specs/*.antt` and the Rust types of `crates/*/src/`, counts the lines of each definition
-once, for the first row of the page that needs it, and compares the outcome with the page's tables.
+once, for the first row of the page that needs it, and compares the counts with the page's table.
 
-    python3 docs/believe.py           check the page: exit 1, with a line for each difference
-    python3 docs/believe.py --write   write the page's tables anew
-    python3 docs/believe.py --read 2  print the definitions of row 2, in reading order
+    python3 docs/believe.py            check the page: exit 1, with a line for each difference
+    python3 docs/believe.py --write    write the page's table anew
+    python3 docs/believe.py --files 2  print the files of row 2, in reading order: the lines that count, and those of the whole
+    python3 docs/believe.py --read 2   print the definitions of row 2, in the same order
 
 A row of the page is a section `## 2. Title`. The line behind its title is its question, and its line `Begins at:` names
 the definitions that it begins at, as `Name`, `File.Name` or `crate.File.Name`. It ends where a later row begins.
@@ -261,47 +262,47 @@ def sections(text):
             for number, title, question, begin in re.findall(form, text, re.M)]
 
 
-def tables(tree, reached, rows, heads):
-    """The tables of the page: the name of each -> its lines."""
-    made, total = {}, 0
-    sums = ["| row | its question | files | lines | so far |", "|---|---|---|---|---|"]
+def lines_in(reached, keys):
+    """The lines that count of each file, in reading order."""
+    lines = {}
+    for key in keys:
+        lines.setdefault(key[0], set()).update(reached[key][0].lines)
+    return lines
+
+
+def table(reached, rows, heads):
+    """The lines of the page's table, and of the count below it."""
+    made, total = ["| row | its question | files | lines | so far |", "|---|---|---|---|---|"], 0
     for (number, title, question, _), keys in zip(heads, rows):
-        lines = {}
-        for key in keys:
-            lines.setdefault(key[0], set()).update(reached[key][0].lines)
+        lines = lines_in(reached, keys)
         count = sum(map(len, lines.values()))
         total += count
-        sums.append(f"| {number}. {title} | {question} | {len(lines)} | {count} | {total} |")
-        made[f"row {number}"] = ["| file | lines | of |", "|---|---|---|"]
-        for file, some in lines.items():
-            whole = len(file.read_text().splitlines()) if file.suffix == ".antt" else ""
-            made[f"row {number}"].append(f"| `{file.relative_to(tree.root)}` | {len(some)} | {whole} |")
-    return {**made, "sums": sums}
+        made.append(f"| {number}. {title} | {question} | {len(lines)} | {count} | {total} |")
+    return [*made, "", f"In all these are {len(reached):,} definitions."]
 
 
-def table_in(text, name):
-    found = re.search(rf"<!-- {name} -->\n(.*?)<!-- end -->", text, re.S)
+def table_in(text):
+    """The place of the table in the page."""
+    found = re.search(r"<!-- sums -->\n(.*?)<!-- end -->", text, re.S)
     if not found:
-        fail(f"the page has no place for the table `{name}`")
+        fail("the page has no place for the table")
     return found
 
 
 def differences(text, made):
-    """A line for each place at which a table of the page isn't what is computed."""
-    def figures(line):
-        return " ".join(re.findall(r"(?<=\| )\d+(?= \|)", line))
-    for name, lines in made.items():
-        there = table_in(text, name)[1].splitlines()
-        old, new = ({line.split(" | ")[0].strip("| "): line for line in table} for table in (there, lines))
-        for first in {**old, **new}:
-            if first not in new:
-                yield f"{name}: the page has {first}, which isn't needed"
-            elif first not in old:
-                yield f"{name}: the page lacks {first}, {figures(new[first])}"
-            elif old[first] != new[first]:
-                yield f"{name}: of {first} the page says {figures(old[first])}, and it is {figures(new[first])}"
-        if list(old) != list(new) and set(old) == set(new):
-            yield f"{name}: the page has another order"
+    """A line for each place at which the page's table isn't what is computed."""
+    there = table_in(text)[1].splitlines()
+    yield from (f"the page says: {line}" for line in there if line not in made)
+    yield from (f"it is:         {line}" for line in made if line not in there)
+    if sorted(there) == sorted(made) and there != made:
+        yield "the page has another order"
+
+
+def print_files(tree, reached, keys):
+    """Prints the files of a row: how many lines of each count, and how many a file of definitions has."""
+    for file, lines in lines_in(reached, keys).items():
+        whole = f" of {len(file.read_text().splitlines())}" if file.suffix == ".antt" else ""
+        print(f"{file.relative_to(tree.root)}: {len(lines)}{whole}")
 
 
 def print_row(reached, keys):
@@ -319,18 +320,20 @@ def main():
     parser = argparse.ArgumentParser(description=__doc__, formatter_class=argparse.RawDescriptionHelpFormatter)
     parser.add_argument("--root", type=pathlib.Path, default=pathlib.Path(__file__).resolve().parent.parent)
     parser.add_argument("--write", action="store_true")
+    parser.add_argument("--files", type=int, metavar="ROW")
     parser.add_argument("--read", type=int, metavar="ROW")
     options = parser.parse_args()
     page, tree = options.root / "docs" / "BELIEVE.md", Tree(options.root)
     text, heads, reached = page.read_text(), sections(page.read_text()), closure(tree)
     rows = rows_of(tree, reached, [[root_key(tree, reached, name) for name in begin] for *_, begin in heads])
+    if options.files:
+        return print_files(tree, reached, rows[options.files - 1])
     if options.read:
         return print_row(reached, rows[options.read - 1])
-    made = tables(tree, reached, rows, heads)
+    made = table(reached, rows, heads)
     if options.write:
-        for name, lines in made.items():
-            start, end = table_in(text, name).span(1)
-            text = text[:start] + "".join(line + "\n" for line in lines) + text[end:]
+        start, end = table_in(text).span(1)
+        text = text[:start] + "".join(line + "\n" for line in made) + text[end:]
         page.write_text(text)
     wrong = list(differences(text, made))
     print(*wrong, f"{len(reached)} definitions: the page {'differs' if wrong else 'is right'}", sep="\n")

@@ -1,7 +1,7 @@
 #!/usr/bin/env python3
 """Runs the commands that the pages show, and compares what they print with what the pages show behind them.
 
-    docs/commands.py                      README.md, docs/TUTORIAL.md, docs/FRONT_END.md and docs/GDB.md
+    docs/commands.py                      README.md, docs/TUTORIAL.md, FRONT_END.md, SERVING.md, JOURNALS.md and GDB.md
     docs/commands.py --fast PAGE ..       these pages, without what is slow
     docs/commands.py --program PATH       with this built `tcf`, where none lies in crates/tcf/out/tcf
 
@@ -39,7 +39,7 @@ import time
 from pathlib import Path
 
 TOP = Path(__file__).resolve().parent.parent
-PAGES = ['README.md', 'docs/TUTORIAL.md', 'docs/FRONT_END.md', 'docs/GDB.md']
+PAGES = ['README.md', 'docs/TUTORIAL.md', 'docs/FRONT_END.md', 'docs/SERVING.md', 'docs/JOURNALS.md', 'docs/GDB.md']
 BUILT = 'crates/tcf/out/tcf'
 SECONDS = 1200
 COMMENT = re.compile(r'<!-- (not run|slow|needs|from|file): (.*) -->$')

@@ -4,7 +4,7 @@ use Rattle.std.proofs.lemmas.List.{append-nil, take_all}
 use Rattle.std.specs.Prelude.{Option, None, Some, Result, Ok, Err, IfOk, OnErr}
 use Rattle.tcf_outside.specs.Sink.{SinkSeen, Took, added}
 use Rattle.tcf_app.specs.declared.exit.Exit.{Exit}
-use Rattle.tcf_app.specs.declared.exit.Exit.TheVariants.{Done, Usage, BadText, FileFault, SinkFault, WireFault, Turns, NoMemory, BadStream, Ended, TooLong}
+use Rattle.tcf_app.specs.declared.exit.Exit.TheVariants.{Done, Usage, BadText, FileFault, SinkFault, WireFault, Turns, NoMemory, BadStream, Ended, TooLong, Differs}
 use Rattle.tcf_app.specs.Exit.{IsGivenUp, faults_by}
 use Rattle.tcf_app.specs.Ending.{Ending, Ends, wanting_ending}
 
@@ -66,3 +66,4 @@ no_fault NoMemory count own = refl
 no_fault (BadStream offset what) count own = refl
 no_fault (Ended cause) count own = refl
 no_fault (TooLong word) count own = refl
+no_fault (Differs rule) count own = refl

@@ -31,7 +31,7 @@ use Rattle.client_serving.specs.declared.end.ClientRun.{ClientRun}
 use Rattle.tcf_app.specs.declared.exit.Exit.{Exit}
 use Rattle.tcf_app.specs.declared.exit.Exit.TheVariants.{Usage, SinkFault, NoMemory}
 use Rattle.tcf_app.specs.Exit.{IsGivenUp, TellsFault, faults_by}
-use Rattle.tcf_app.specs.Words.{OrderValue, chain, show, load, agent, value, client, hub, names_of}
+use Rattle.tcf_app.specs.Words.{OrderValue, chain, show, load, agent, value, client, hub, journal, check, names_of}
 use Rattle.tcf_app.specs.Heard.{Heard, whole, longer, failed, Agrees, Hears, heard_in}
 use Rattle.tcf_app.specs.Ending.{Ending, Ends, IsEnding, IsRanEnding, images_with, served_ending, exit_of, ran_ending, wire_ending}
 use Rattle.tcf_app.specs.Run.{RunsBy, serves_peers, is_early, SparesWires, ends_run, AreHeeded, IsReadHeeded, PutsFront, IsFrontPut, ExitsOver, IsDecided}
@@ -91,6 +91,12 @@ early_calls (Some (client address name turns)) (whole []) calls ending its early
 early_calls (Some (client address name turns)) (whole (file ∷ [])) calls ending its (inl none) = cc
 early_calls (Some (client address name turns)) (whole (file ∷ [])) calls ending its (inr early) = ran_calls (script_of file) address turns calls ending its early
 early_calls (Some (client address name turns)) (whole (file ∷ other ∷ more)) calls ending its early = absurd its
+early_calls (Some (journal name head)) (whole []) calls ending its early = absurd its
+early_calls (Some (journal name head)) (whole (file ∷ [])) calls ending its early = its.0
+early_calls (Some (journal name head)) (whole (file ∷ other ∷ more)) calls ending its early = absurd its
+early_calls (Some (check name)) (whole []) calls ending its early = absurd its
+early_calls (Some (check name)) (whole (file ∷ [])) calls ending its early = its.0
+early_calls (Some (check name)) (whole (file ∷ other ∷ more)) calls ending its early = absurd its
 
 -- an early exit is that of the ending
 not_given_up : (exit : Exit) → is_early exit ≡ true → IsGivenUp exit → ⊥
@@ -170,6 +176,12 @@ heeded (Some (hub address peer turns)) (whole (file ∷ more)) calls ending its 
 heeded (Some (client address name turns)) (whole []) calls ending its = absurd its
 heeded (Some (client address name turns)) (whole (file ∷ [])) calls ending its = ran_heeded (script_of file) address turns calls ending its
 heeded (Some (client address name turns)) (whole (file ∷ other ∷ more)) calls ending its = absurd its
+heeded (Some (journal name head)) (whole []) calls ending its = absurd its
+heeded (Some (journal name head)) (whole (file ∷ [])) calls ending its = inl (ap (list_any fails) its.0)
+heeded (Some (journal name head)) (whole (file ∷ other ∷ more)) calls ending its = absurd its
+heeded (Some (check name)) (whole []) calls ending its = absurd its
+heeded (Some (check name)) (whole (file ∷ [])) calls ending its = inl (ap (list_any fails) its.0)
+heeded (Some (check name)) (whole (file ∷ other ∷ more)) calls ending its = absurd its
 
 -- ---- where a read failed
 

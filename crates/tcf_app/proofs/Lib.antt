@@ -1,12 +1,12 @@
 pub mod Endings
 pub mod Items
+pub mod Judging
 pub mod Frames
 pub mod Answered
 pub mod Stands
 pub mod ShowEnds
 pub mod Outcomes
 pub mod Cutting
-pub mod Numbering
 pub mod Hearing
 pub mod Noting
 pub mod Imaging

@@ -1,10 +1,10 @@
 -- How the run goes on from what was heard of the files.
-use Rattle.std.proofs.Common.{◌≡◌, ℕ, ◌+◌, false, List, [], ◌∷◌, ◌++◌, length, refl, sym, subst, arith}
+use Rattle.std.proofs.Common.{◌≡◌, ℕ, ◌+◌, false, List, [], ◌∷◌, ◌++◌, length, refl, sym, subst, arith, inr}
 use Rattle.std.specs.Prelude.{Option, None, Some, Result, Ok, Err, IfOk}
 use Rattle.tcf_outside.specs.Files.{FilesSeen}
 use Rattle.tcf_outside.specs.Sink.{SinkSeen}
 use Rattle.tcf_schedules.specs.Refusal.{BadLine}
-use Rattle.tcf_schedules.specs.Schedule.{ScheduleValue, schedule_of}
+use Rattle.tcf_schedules.specs.Schedule.{ScheduleValue, chain_of, lines_of, schedule_of}
 use Rattle.tcf_schedules.specs.Script.{script_of}
 use Rattle.tcf_schedules.specs.declared.script.ScriptLine.{ScriptLine}
 use Rattle.target_contexts.specs.declared.process.Image.{Image}
@@ -26,14 +26,16 @@ use Rattle.client_serving.specs.declared.end.ClientEnd.{ClientEnd}
 use Rattle.client_serving.specs.declared.end.ClientEnd.TheVariants as client_ends
 use Rattle.client_serving.specs.declared.end.ClientRun.{ClientRun}
 use Rattle.tcf_app.specs.declared.exit.BadPlace.{BadPlace}
+use Rattle.journal_text.specs.Journal.{journal_of}
+use Rattle.journal_text.specs.declared.journal.Journal.{Journal}
 use Rattle.tcf_app.specs.declared.exit.Exit.{Exit}
 use Rattle.tcf_app.specs.declared.exit.Exit.TheVariants.{NoMemory}
 use Rattle.tcf_app.specs.declared.reading.Unread.{Unread}
 use Rattle.tcf_app.specs.declared.reading.Unread.TheVariants as unread
-use Rattle.tcf_app.specs.Words.{NamedFile, OrderValue, chain, show, load, agent, value, client, hub, files_in, files_named, first_place}
+use Rattle.tcf_app.specs.Words.{NamedFile, OrderValue, chain, show, load, agent, value, client, hub, journal, check, files_in, files_named, first_place}
 use Rattle.tcf_app.specs.Heard.{Heard, whole, longer, failed, Hears, HearsPart}
 use Rattle.tcf_app.proofs.Outcomes.{each_is_shown}
-use Rattle.tcf_app.specs.Ending.{Ending, Ends, EndsIn, EndsUnread, IsWholeEnding, IsShownEnding, IsServedEnding, IsRanEnding, images_with, contents_of, fault_ending, long_ending, usage_ending, bad_ending, wanting_ending, played_ending, lines_ending, summed_ending, served_ending, exit_of, ran_ending}
+use Rattle.tcf_app.specs.Ending.{Ending, Ends, EndsIn, EndsUnread, IsJudgedEnding, IsRanEnding, IsServedEnding, IsShownEnding, IsWholeEnding, bad_ending, chain_ending, contents_of, exit_of, fault_ending, images_with, journal_by, journal_ending, lines_ending, long_ending, played_ending, ran_ending, served_ending, summed_ending, usage_ending, wanting_ending}
 use Rattle.tcf_app.specs.Run.{RunsBy}
 use Rattle.tcf_app.proofs.Endings.{ends_early, ends_wanting}
 use Rattle.tcf_app.proofs.Hearing.{NotFailed, can_hear, some_each}
@@ -96,6 +98,38 @@ client_wants address name turns (file ∷ []) sink is =
     record { ending = w.ending; its = w.its; ends = w.ends }
 client_wants address name turns (file ∷ other ∷ more) sink is = absurd (omega arith)
 
+-- an ending of the schedule, or of the place of the chain
+journal_early : (count : ℕ) (name : List ℕ) (said : Result ScheduleValue BadLine) (sink : SinkSeen) → Ends (journal_by count name said) NoMemory sink sink
+journal_early count name (Err bad) sink = ends_early (bad_ending bad) sink (λ e. cc)
+journal_early count name (Ok schedule) sink = by_place (chain_of schedule.chains name)
+  where
+    by_place : (place : Option ℕ) → Ends (chain_ending count schedule place) NoMemory sink sink
+    by_place None = ends_early (chain_ending count schedule None) sink (λ e. cc)
+    by_place (Some at) = ends_early (chain_ending count schedule (Some at)) sink (λ e. cc)
+
+pub journal_wants : (name head : List ℕ) → CanWant (journal name head)
+journal_wants name head [] sink is = absurd (omega arith)
+journal_wants name head (file ∷ []) sink is =
+    record { ending = journal_ending file head; its = (refl, refl); ends = journal_early (length (lines_of file)) head (schedule_of file) sink }
+journal_wants name head (file ∷ other ∷ more) sink is = absurd (omega arith)
+
+-- an ending of what a journal says, or want of memory
+record WantsVerdict (said : Result Journal BadLine) (sink : SinkSeen) : Type 0 where
+  ending : Ending
+  its : IsJudgedEnding said ending
+  ends : Ends ending NoMemory sink sink
+
+verdict_wants : (said : Result Journal BadLine) (sink : SinkSeen) → WantsVerdict said sink
+verdict_wants (Err bad) sink = record { ending = bad_ending bad; its = refl; ends = ends_early (bad_ending bad) sink (λ e. cc) }
+verdict_wants (Ok j) sink = record { ending = wanting_ending; its = inr refl; ends = ends_wanting sink }
+
+pub check_wants : (name : List ℕ) → CanWant (check name)
+check_wants name [] sink is = absurd (omega arith)
+check_wants name (file ∷ []) sink is =
+    let w = verdict_wants (journal_of file) sink in
+    record { ending = w.ending; its = (refl, w.its); ends = w.ends }
+check_wants name (file ∷ other ∷ more) sink is = absurd (omega arith)
+
 -- ---- not all files were read whole
 
 runs_early : (order : OrderValue) → CanWant order → (files files' : FilesSeen) (sink : SinkSeen) → files'.faults ≡ files.faults → RunsBy (Some order) NoMemory files files' sink sink []
@@ -132,6 +166,16 @@ chain_runs name file exit files files' before after hears ends =
 pub show_runs : (name file : List ℕ) (exit : Exit) (files files' : FilesSeen) (before after : SinkSeen)
     → Hears (name ∷ []) files files' (whole (file ∷ [])) → EndsIn (IsShownEnding file) exit before after → RunsBy (Some (show name)) exit files files' before after []
 show_runs name file exit files files' before after hears ends =
+    record { heard = whole (file ∷ []); hears = hears; ends = (ends.0, (refl, ends.1), ends.2) }
+
+pub journal_runs : (name head file : List ℕ) (exit : Exit) (files files' : FilesSeen) (before after : SinkSeen)
+    → Hears (name ∷ []) files files' (whole (file ∷ [])) → Ends (journal_ending file head) exit before after → RunsBy (Some (journal name head)) exit files files' before after []
+journal_runs name head file exit files files' before after hears ends =
+    record { heard = whole (file ∷ []); hears = hears; ends = (journal_ending file head, (refl, refl), ends) }
+
+pub check_runs : (name file : List ℕ) (exit : Exit) (files files' : FilesSeen) (before after : SinkSeen)
+    → Hears (name ∷ []) files files' (whole (file ∷ [])) → EndsIn (IsJudgedEnding (journal_of file)) exit before after → RunsBy (Some (check name)) exit files files' before after []
+check_runs name file exit files files' before after hears ends =
     record { heard = whole (file ∷ []); hears = hears; ends = (ends.0, (refl, ends.1), ends.2) }
 
 pub agent_runs : (address : List ℕ) (turns : ℕ) (named : List NamedFile) (images : List Image) (exit : Exit) (files files' : FilesSeen) (before after : SinkSeen) (wires wires' : WiresSeen)

@@ -32,7 +32,7 @@ use Rattle.client_serving.specs.declared.end.ClientEnd.TheVariants as client_end
 use Rattle.client_serving.specs.declared.end.ClientRun.{ClientRun}
 use Rattle.tcf_app.specs.declared.exit.Exit.{Exit}
 use Rattle.tcf_app.specs.declared.exit.Exit.TheVariants.{Done, NoMemory, Turns}
-use Rattle.tcf_app.specs.Words.{OrderValue, chain, show, load, agent, value, client, hub, names_of}
+use Rattle.tcf_app.specs.Words.{OrderValue, chain, show, load, agent, value, client, hub, journal, check, names_of}
 use Rattle.tcf_app.specs.Heard.{Heard, Hears, whole, longer, failed}
 use Rattle.tcf_app.specs.Ending.{Ending, Ends, IsEnding, IsRanEnding, exit_of, ran_ending, served_ending}
 use Rattle.tcf_app.proofs.Hearing.{content_is}
@@ -261,6 +261,8 @@ silent_out (agent address turns images) files calls exit none = nothing_served (
 silent_out (value address peer turns) files calls exit none = nothing_served (BeginsListening address) turns exit calls none (listening_calls address)
 silent_out (hub address peer turns) files calls exit none = nothing_served (BeginsConnected peer address) turns exit calls none (connected_calls peer address)
 silent_out (client address name turns) files calls exit none = silent_client address name turns files calls exit none
+silent_out (journal name head) files calls exit none = tt
+silent_out (check name) files calls exit none = tt
 
 is_out : (order : Option OrderValue) (heard : Heard) (files files' : FilesSeen) (calls : List WireCall) (ending : Ending) (exit : Exit) (before after : SinkSeen)
     → Hears (names_of order) files files' heard → IsEnding order heard calls ending → Ends ending exit before after → IsOneEnd order files exit calls
@@ -282,6 +284,8 @@ is_out (Some (client address name turns)) (whole []) files files' calls ending e
 is_out (Some (client address name turns)) (whole (file ∷ [])) files files' calls ending exit before after hears its e =
     client_out address name file turns files files' calls ending exit before after hears its e
 is_out (Some (client address name turns)) (whole (file ∷ other ∷ more)) files files' calls ending exit before after hears its e = absurd its
+is_out (Some (journal name head)) (whole contents) files files' calls ending exit before after hears its e = tt
+is_out (Some (check name)) (whole contents) files files' calls ending exit before after hears its e = tt
 
 pub out_of : (order : Option OrderValue) (exit : Exit) (files files' : FilesSeen) (wires wires' : WiresSeen) (before after : SinkSeen)
     → Makes (RunsBy order exit files files' before after) wires wires' → Makes (IsOneEnd order files exit) wires wires'

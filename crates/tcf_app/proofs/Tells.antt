@@ -1,13 +1,25 @@
 -- What each exit tells, by the ending that the run was to have.
-use Rattle.std.proofs.Common.{◌≡◌, ℕ, ◌+◌, Bool, false, List, [], ◌∷◌, ◌++◌, refl, sym, subst, inl, inr}
-use Rattle.std.specs.Prelude.{Option, None, Some, Result, Ok, Err, IfOk}
+use Rattle.std.proofs.Common.{◌≡◌, ℕ, zero, suc, ◌+◌, Bool, false, List, [], ◌∷◌, ◌++◌, length, refl, sym, subst, inl, inr, ◌⊎◌}
+use Rattle.std.specs.List.{AllByRecursion}
+use Rattle.std.specs.Prelude.{Option, None, Some, Result, Ok, Err, IfOk, slice_get}
 use Rattle.tcf_outside.specs.Faults.{Rose}
 use Rattle.tcf_outside.specs.Files.{FilesSeen}
 use Rattle.tcf_outside.specs.Sink.{SinkSeen, Took}
 use Rattle.tcf_schedules.specs.Refusal.{BadLine}
-use Rattle.tcf_schedules.specs.Schedule.{ScheduleValue, schedule_of}
+use Rattle.tcf_schedules.specs.declared.schedule.TextFault.TheVariants.{Unknown}
+use Rattle.tcf_schedules.specs.Schedule.{ScheduleValue, chain_of, lines_of, schedule_of}
 use Rattle.tcf_schedules.specs.Script.{script_of}
 use Rattle.tcf_schedules.specs.declared.script.ScriptLine.{ScriptLine}
+use Rattle.chain_world.specs.Chain.{channels_of, is_quiet}
+use Rattle.chain_world.specs.ChainValue.{ChainValue}
+use Rattle.chain_world.specs.World.{images_of, log_at, log_of}
+use Rattle.target_hub.specs.Fresh.{Fresh}
+use Rattle.world_laws.specs.WorldLaws.{ChainIsFaithful}
+use Rattle.journal_text.specs.Journal.{journal_of}
+use Rattle.journal_text.specs.declared.journal.Journal.{Journal}
+use Rattle.log_check.proofs.Truth.{nothing_is_true, true_logs}
+use Rattle.log_check.specs.Rules.{IsJudged}
+use Rattle.log_check.specs.declared.rule.Rule.{Rule}
 use Rattle.world_laws.proofs.TheLaws.{file_coherent, file_ends, file_faithful, file_fresh, file_steps, file_unstuck}
 use Rattle.tcf_text.specs.Once.{Once}
 use Rattle.tcf_wires.specs.Told.{WiresSeen}
@@ -29,15 +41,15 @@ use Rattle.client_serving.specs.declared.end.ClientRun.{ClientRun}
 use Rattle.load_schedules.proofs.TheLaws.{generates_what_is_said}
 use Rattle.tcf_app.specs.declared.exit.BadPlace.{BadPlace}
 use Rattle.tcf_app.specs.declared.exit.Exit.{Exit}
-use Rattle.tcf_app.specs.declared.exit.Exit.TheVariants.{Done, Usage, BadText, FileFault, SinkFault, WireFault, Turns, NoMemory, BadStream, Ended, TooLong}
+use Rattle.tcf_app.specs.declared.exit.Exit.TheVariants.{Done, Usage, BadText, FileFault, SinkFault, WireFault, Turns, NoMemory, BadStream, Ended, TooLong, Differs}
 use Rattle.tcf_app.specs.Exit.{IsGivenUp}
-use Rattle.tcf_app.specs.Words.{NamedFile, OrderValue, chain, show, load, agent, value, client, hub, files_named, first_place, names_of}
+use Rattle.tcf_app.specs.Words.{NamedFile, OrderValue, chain, show, load, agent, value, client, hub, journal, check, files_named, first_place, names_of}
 use Rattle.tcf_app.specs.Texts.{usage_text, file_fault_text, turns_text}
-use Rattle.tcf_app.specs.Played.{client_text, numbered}
+use Rattle.tcf_app.specs.Played.{client_text, numbered, world_of}
 use Rattle.tcf_app.specs.Heard.{Heard, whole, longer, failed, Agrees, Hears, IsFirstLong, FailsLast}
 use Rattle.tcf_app.specs.Show.{IsShown}
-use Rattle.tcf_app.specs.Ending.{Ending, IsEnding, IsRanEnding, ServesAs, usage_ending, fault_ending, long_ending, bad_ending, played_ending, lines_ending, summed_ending, served_ending, exit_of, ran_ending, wire_ending}
-use Rattle.tcf_app.specs.Run.{IsServed, IsStoppedServing, IsDone, AreTaken, HasEnded, HaveFailed, IsBadText, IsBadStream, IsTooLong}
+use Rattle.tcf_app.specs.Ending.{Ending, IsEnding, IsRanEnding, ServesAs, usage_ending, fault_ending, long_ending, bad_ending, played_ending, lines_ending, summed_ending, served_ending, exit_of, ran_ending, wire_ending, wanting_ending, chain_ending, journal_by, journal_ending, verdict_ending, IsJudgedEnding, IsVerdictEnding}
+use Rattle.tcf_app.specs.Run.{IsServed, IsStoppedServing, IsBadChain, IsDone, AreTaken, HasDiffered, HasEnded, HaveFailed, IsBadText, IsBadStream, IsTooLong}
 use Rattle.tcf_app.proofs.Items.{shown_as}
 use Rattle.tcf_app.proofs.Hearing.{are_held, content_is, fails_last, first_long, some_so}
 use Rattle.serving_wires.proofs.Rising.{last_rises}
@@ -88,6 +100,7 @@ Tells s order NoMemory = Unit {0}
 Tells s order (BadStream offset what) = IsBadStream order s.files (record { offset = offset; what = what }) s.before s.after
 Tells s order (Ended cause) = HasEnded cause order s.files s.wires s.wires_after s.before s.after
 Tells s order (TooLong word) = IsTooLong order s.files word s.before s.after
+Tells s order (Differs rule) = HasDiffered rule order s.files s.before s.after
 
 pub given_up_tells : (s : Seen) (order : Option OrderValue) (exit : Exit) → IsGivenUp exit → Tells s order exit
 given_up_tells s order exit (inl is) = subst (Tells s order) (sym is) tt
@@ -273,6 +286,97 @@ client_tells s address name file turns calls ending hears told counted its = by_
     })
     by_script (Ok script) is i = by_result script i.result is i.runs i.once i.its
 
+-- what holds of all chains holds of the one at a place
+all_at_place : {A : Type 0} → (P : A → Type 0) (place : ℕ) (xs : List A) (x : A) → AllByRecursion P xs → slice_get xs place ≡ Some x → P x
+all_at_place P place [] x all is = absurd cc
+all_at_place P zero (y ∷ xs) x all is = let same : y ≡ x = cc in subst P same all.0
+all_at_place P (suc place) (y ∷ xs) x all is = all_at_place P place xs x all.1 is
+
+-- the log of each chain is true to the history, so that its journal meets all rules
+played_is_judged : (file : List ℕ) (schedule : ScheduleValue) (place : ℕ) → schedule_of file ≡ Ok schedule
+    → IsJudged (images_of schedule.images) (world_of schedule).history (log_at place (world_of schedule)) None
+played_is_judged file schedule place says = by_chain (slice_get (world_of schedule).chains place) refl
+  where
+    by_chain : (chain : Option ChainValue) → slice_get (world_of schedule).chains place ≡ chain → IsJudged (images_of schedule.images) (world_of schedule).history (log_of chain) None
+    by_chain None is = nothing_is_true (images_of schedule.images) (world_of schedule).history (file_faithful file schedule says).legal
+    by_chain (Some c) is =
+        let faithful = all_at_place (ChainIsFaithful (images_of schedule.images) (world_of schedule).history (world_of schedule).agent) place (world_of schedule).chains c (file_faithful file schedule says).chains is in
+        true_logs (is_quiet c (world_of schedule).agent) (images_of schedule.images) (world_of schedule).history c.client.log (channels_of c)
+        (file_faithful file schedule says).legal faithful.once faithful.ordered (all_at_place (λ (chain : ChainValue). Fresh chain.client.log (images_of schedule.images) (world_of schedule).history) place (world_of schedule).chains c (file_fresh file schedule says) is)
+
+journal_tells : (s : Seen) (name head file : List ℕ) (ending : Ending) → Hears (name ∷ []) s.files s.files_after (whole (file ∷ [])) → ending ≡ journal_ending file head
+    → Took ending.text s.before s.after → Tells s (Some (journal name head)) ending.exit
+journal_tells s name head file ending hears its = by_schedule (schedule_of file) refl its
+  where
+    bad : (what : BadLine) → IsBadChain file head (schedule_of file) what → ending ≡ bad_ending what → Took ending.text s.before s.after → Tells s (Some (journal name head)) ending.exit
+    bad what says e = told_at s (Some (journal name head)) ending (bad_ending what) e (λ put. record {
+      name = name;
+      named = refl;
+      file = file;
+      held = content_is name file s.files s.files_after hears;
+      says = says;
+      put = put;
+    })
+
+    by_place : (schedule : ScheduleValue) (place : Option ℕ) → schedule_of file ≡ Ok schedule → chain_of schedule.chains head ≡ place
+        → ending ≡ chain_ending (length (lines_of file)) schedule place → Took ending.text s.before s.after → Tells s (Some (journal name head)) ending.exit
+    by_place schedule None is there e =
+        let unknown : BadLine = record { line = length (lines_of file) + 1; what = Unknown } in
+        bad unknown (subst (λ r. IsBadChain file head r unknown) (sym is) (there, refl, refl)) e
+    by_place schedule (Some at) is there e = told_at s (Some (journal name head)) ending (chain_ending (length (lines_of file)) schedule (Some at)) e (λ put. record {
+      file = file;
+      held = content_is name file s.files s.files_after hears;
+      schedule = schedule;
+      says = is;
+      place = at;
+      there = there;
+      put = put;
+      judged = played_is_judged file schedule at is;
+    })
+
+    by_schedule : (r : Result ScheduleValue BadLine) → schedule_of file ≡ r → ending ≡ journal_by (length (lines_of file)) head r → Took ending.text s.before s.after
+        → Tells s (Some (journal name head)) ending.exit
+    by_schedule (Ok schedule) is e = by_place schedule (chain_of schedule.chains head) is refl e
+    by_schedule (Err first) is e = bad first (subst (λ r. IsBadChain file head r first) (sym is) refl) e
+
+check_tells : (s : Seen) (name file : List ℕ) (ending : Ending) → Hears (name ∷ []) s.files s.files_after (whole (file ∷ [])) → IsJudgedEnding (journal_of file) ending
+    → Took ending.text s.before s.after → Tells s (Some (check name)) ending.exit
+check_tells s name file ending hears its = by_journal (journal_of file) refl its
+  where
+    by_verdict : (j : Journal) (verdict : Option Rule) → journal_of file ≡ Ok j → IsJudged j.images j.inputs j.lines verdict → ending ≡ verdict_ending verdict
+        → Took ending.text s.before s.after → Tells s (Some (check name)) ending.exit
+    by_verdict j None is judged e = told_at s (Some (check name)) ending (verdict_ending None) e (λ put. record {
+      file = file;
+      held = content_is name file s.files s.files_after hears;
+      what = j;
+      says = is;
+      judged = judged;
+      put = put;
+    })
+    by_verdict j (Some rule) is judged e = told_at s (Some (check name)) ending (verdict_ending (Some rule)) e (λ put. record {
+      file = file;
+      held = content_is name file s.files s.files_after hears;
+      what = j;
+      says = is;
+      judged = judged;
+      put = put;
+    })
+
+    by_which : (j : Journal) → journal_of file ≡ Ok j → IsVerdictEnding j ending → Took ending.text s.before s.after → Tells s (Some (check name)) ending.exit
+    by_which j is (inl v) = by_verdict j v.0 is v.1 v.2
+    by_which j is (inr e) = told_at s (Some (check name)) ending wanting_ending e (λ put. tt)
+
+    by_journal : (r : Result Journal BadLine) → journal_of file ≡ r → IsJudgedEnding r ending → Took ending.text s.before s.after → Tells s (Some (check name)) ending.exit
+    by_journal (Ok told) is j = by_which told is j
+    by_journal (Err bad) is e = told_at s (Some (check name)) ending (bad_ending bad) e (λ put. record {
+      name = name;
+      named = refl;
+      file = file;
+      held = content_is name file s.files s.files_after hears;
+      says = is;
+      put = put;
+    })
+
 -- ---- any run
 
 pub ending_tells : (s : Seen) (order : Option OrderValue) (heard : Heard) (calls : List WireCall) (ending : Ending) → Hears (names_of order) s.files s.files_after heard
@@ -313,3 +417,9 @@ ending_tells s (Some (client address name turns)) (whole []) calls ending hears 
 ending_tells s (Some (client address name turns)) (whole (file ∷ [])) calls ending hears told counted its =
     client_tells s address name file turns calls ending hears told counted its
 ending_tells s (Some (client address name turns)) (whole (file ∷ other ∷ more)) calls ending hears told counted its = absurd its
+ending_tells s (Some (journal name head)) (whole []) calls ending hears told counted its = absurd its
+ending_tells s (Some (journal name head)) (whole (file ∷ [])) calls ending hears told counted its = journal_tells s name head file ending hears its.1
+ending_tells s (Some (journal name head)) (whole (file ∷ other ∷ more)) calls ending hears told counted its = absurd its
+ending_tells s (Some (check name)) (whole []) calls ending hears told counted its = absurd its
+ending_tells s (Some (check name)) (whole (file ∷ [])) calls ending hears told counted its = check_tells s name file ending hears its.1
+ending_tells s (Some (check name)) (whole (file ∷ other ∷ more)) calls ending hears told counted its = absurd its

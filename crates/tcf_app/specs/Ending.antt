@@ -1,8 +1,13 @@
 -- How a run is to end.
-use Rattle.std.specs.Prelude.{ℕ, ◌≡◌, ◌+◌, ◌⊎◌, false, List, [], ◌∷◌, ◌++◌, Option, None, Some, Result, Ok, Err, IfOk, map}
+use Rattle.std.specs.Prelude.{ℕ, ◌≡◌, ◌+◌, ◌⊎◌, false, List, [], ◌∷◌, ◌++◌, Option, None, Some, Result, Ok, Err, IfOk, length, map}
 use Rattle.tcf_outside.specs.Sink.{SinkSeen, Took, TookFront}
 use Rattle.tcf_schedules.specs.Refusal.{BadLine}
-use Rattle.tcf_schedules.specs.Schedule.{ScheduleValue, schedule_of}
+use Rattle.tcf_schedules.specs.Schedule.{ScheduleValue, chain_of, lines_of, schedule_of}
+use Rattle.tcf_schedules.specs.declared.schedule.TextFault.TheVariants.{Unknown}
+use Rattle.journal_text.specs.Journal.{journal_of}
+use Rattle.journal_text.specs.declared.journal.Journal.{Journal}
+use Rattle.log_check.specs.Rules.{IsJudged}
+use Rattle.log_check.specs.declared.rule.Rule.{Rule}
 use Rattle.tcf_schedules.specs.Script.{script_of}
 use Rattle.tcf_schedules.specs.declared.script.ScriptLine.{ScriptLine}
 use Rattle.target_contexts.specs.declared.process.Image.{Image}
@@ -21,13 +26,13 @@ use Rattle.client_serving.specs.declared.end.ClientEnd.TheVariants as client_end
 use Rattle.client_serving.specs.declared.end.ClientRun.{ClientRun}
 use Rattle.tcf_app.specs.declared.exit.BadPlace.{BadPlace}
 use Rattle.tcf_app.specs.declared.exit.Exit.{Exit}
-use Rattle.tcf_app.specs.declared.exit.Exit.TheVariants.{Done, Usage, BadText, FileFault, WireFault, Turns, NoMemory, BadStream, Ended, TooLong}
+use Rattle.tcf_app.specs.declared.exit.Exit.TheVariants.{Done, Usage, BadText, FileFault, WireFault, Turns, NoMemory, BadStream, Ended, TooLong, Differs}
 use Rattle.tcf_app.specs.declared.reading.Unread.{Unread}
 use Rattle.tcf_app.specs.declared.reading.Unread.TheVariants as unread
 use Rattle.tcf_app.specs.Exit.{IsGivenUp}
-use Rattle.tcf_app.specs.Words.{NamedFile, OrderValue, chain, show, load, agent, value, client, hub, first_place}
-use Rattle.tcf_app.specs.Texts.{usage_text, file_fault_text, wire_fault_text, too_long_text, turns_text, bad_line_text, bad_stream_text}
-use Rattle.tcf_app.specs.Played.{printed, numbered, summed, client_text}
+use Rattle.tcf_app.specs.Words.{NamedFile, OrderValue, chain, show, load, agent, value, client, hub, journal, check, first_place}
+use Rattle.tcf_app.specs.Texts.{usage_text, file_fault_text, wire_fault_text, too_long_text, turns_text, bad_line_text, bad_stream_text, ok_text, differs_text}
+use Rattle.tcf_app.specs.Played.{printed, numbered, summed, client_text, journal_printed}
 use Rattle.tcf_app.specs.Heard.{Heard, whole, longer, failed}
 use Rattle.tcf_app.specs.Show.{Shown, IsShown}
 
@@ -77,6 +82,38 @@ lines_ending text (Some bad) = record { exit = BadStream bad.offset bad.what; te
 -- for a stream's file
 abbrev pub IsShownEnding : List ℕ → Ending → Type 0
 IsShownEnding file ending = (shown : Shown) × IsShown file shown × (ending ≡ lines_ending shown.text shown.bad)
+
+-- ---- journal
+
+-- for a schedule that is read, by the place of the chain; where it has none, the line behind the last one is bad
+abbrev pub chain_ending : ℕ → ScheduleValue → Option ℕ → Ending
+chain_ending count schedule None = bad_ending (record { line = count + 1; what = Unknown })
+chain_ending count schedule (Some at) = record { exit = Done; text = journal_printed at schedule }
+
+-- for what a schedule's file of so many lines says
+abbrev pub journal_by : ℕ → List ℕ → Result ScheduleValue BadLine → Ending
+journal_by count name (Ok schedule) = chain_ending count schedule (chain_of schedule.chains name)
+journal_by count name (Err bad) = bad_ending bad
+
+abbrev pub journal_ending : List ℕ → List ℕ → Ending
+journal_ending file name = journal_by (length (lines_of file)) name (schedule_of file)
+
+-- ---- check
+
+-- for a verdict
+abbrev pub verdict_ending : Option Rule → Ending
+verdict_ending None = record { exit = Done; text = ok_text }
+verdict_ending (Some rule) = record { exit = Differs rule; text = differs_text rule }
+
+-- for a journal, or for want of memory before there was a verdict
+abbrev pub IsVerdictEnding : Journal → Ending → Type 0
+IsVerdictEnding j ending =
+    ((verdict : Option Rule) × IsJudged j.images j.inputs j.lines verdict × (ending ≡ verdict_ending verdict)) ⊎ (ending ≡ wanting_ending)
+
+-- for what a journal's file says
+abbrev pub IsJudgedEnding : Result Journal BadLine → Ending → Type 0
+IsJudgedEnding (Ok j) ending = IsVerdictEnding j ending
+IsJudgedEnding (Err bad) ending = ending ≡ bad_ending bad
 
 -- ---- load
 
@@ -141,7 +178,7 @@ IsRanEnding (Ok script) address turns calls ending = HasRanTo script address tur
 
 -- ---- each order
 
--- for the contents of the files: `chain`, `show` and `client` name one, `load`, `value` and `hub` none
+-- for the contents of the files: `chain`, `show`, `client`, `journal` and `check` name one, `load`, `value` and `hub` none
 abbrev pub IsWholeEnding : OrderValue → List (List ℕ) → List WireCall → Ending → Type 0
 IsWholeEnding (chain name) (file ∷ []) calls ending = (calls ≡ []) × (ending ≡ played_ending (schedule_of file))
 IsWholeEnding (show name) (file ∷ []) calls ending = (calls ≡ []) × IsShownEnding file ending
@@ -150,6 +187,8 @@ IsWholeEnding (agent address turns images) contents calls ending = IsServedEndin
 IsWholeEnding (value address peer turns) [] calls ending = IsServedEnding (ServesAs (value address peer turns) []) turns calls ending
 IsWholeEnding (hub address peer turns) [] calls ending = IsServedEnding (ServesAs (hub address peer turns) []) turns calls ending
 IsWholeEnding (client address name turns) (file ∷ []) calls ending = IsRanEnding (script_of file) address turns calls ending
+IsWholeEnding (journal schedule name) (file ∷ []) calls ending = (calls ≡ []) × (ending ≡ journal_ending file name)
+IsWholeEnding (check name) (file ∷ []) calls ending = (calls ≡ []) × IsJudgedEnding (journal_of file) ending
 IsWholeEnding order contents calls ending = ⊥
 
 -- For an order, or for words that are none, by what was heard of the files that it names, and the calls of the wires, of

@@ -3,7 +3,7 @@ use Rattle.std.specs.Prelude.{ℕ, ◌≡◌, ◌⊎◌}
 use Rattle.tcf_outside.specs.Faults.{raised}
 use Rattle.tcf_outside.specs.Sink.{SinkSeen}
 use Rattle.tcf_app.specs.declared.exit.Exit.{Exit}
-use Rattle.tcf_app.specs.declared.exit.Exit.TheVariants.{Done, Usage, BadText, FileFault, SinkFault, WireFault, Turns, NoMemory, BadStream, Ended, TooLong}
+use Rattle.tcf_app.specs.declared.exit.Exit.TheVariants.{Done, Usage, BadText, FileFault, SinkFault, WireFault, Turns, NoMemory, BadStream, Ended, TooLong, Differs}
 
 -- the status with which the program ends
 abbrev pub status_of : Exit → ℕ
@@ -18,6 +18,7 @@ status_of NoMemory = 7
 status_of (BadStream offset what) = 8
 status_of (Ended cause) = 9
 status_of (TooLong word) = 10
+status_of (Differs rule) = 11
 
 -- the run was given up, with no text of its own: a put was a fault, or memory was wanting
 abbrev pub IsGivenUp : Exit → Type 0

@@ -7,6 +7,7 @@ use Rattle.tcf_text.specs.declared.log.LogLine.{LogLine}
 use Rattle.tcf_schedules.specs.Schedule.{ScheduleValue}
 use Rattle.chain_world.specs.WorldValue.{WorldValue}
 use Rattle.chain_world.specs.World.{adds_of, images_of, log_at, new_world, run}
+use Rattle.journal_text.specs.Written.{journal_text}
 use Rattle.load_schedules.specs.Generated.{generated}
 use Rattle.load_schedules.specs.Summary.{summary_line}
 
@@ -49,6 +50,11 @@ sums_text at (head ∷ heads) w = summary_line head.name (log_at at w) ++ sums_t
 -- what is printed of a schedule in sum: a line for each chain, and the length of the history
 abbrev pub summed : ScheduleValue → List ℕ
 summed schedule = sums_text 0 schedule.chains (world_of schedule) ++ history_line (length (world_of schedule).history)
+
+-- the journal of the chain at a place of a schedule that is played: the images, the history, and the log of its client
+abbrev pub journal_printed : ℕ → ScheduleValue → List ℕ
+journal_printed at schedule =
+    journal_text (images_of schedule.images) (world_of schedule).history (log_at at (world_of schedule))
 
 unfoldable pub client_name : List ℕ
 client_name = codes "client"

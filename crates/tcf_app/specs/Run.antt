@@ -1,5 +1,5 @@
 -- What each end of a run tells.
-use Rattle.std.specs.Prelude.{ℕ, ◌≡◌, ◌+◌, ◌<◌, ◌⊎◌, Bool, true, false, List, [], ◌∷◌, ◌++◌, length, Option, None, Some, Ok, Err, IfSome}
+use Rattle.std.specs.Prelude.{ℕ, ◌≡◌, ◌+◌, ◌<◌, ◌⊎◌, Bool, true, false, List, [], ◌∷◌, ◌++◌, length, Option, None, Some, Result, Ok, Err, IfSome}
 use Rattle.std.specs.List.{list_any}
 use Rattle.tcf_outside.specs.Faults.{Rose}
 use Rattle.tcf_outside.specs.Files.{FilesSeen, content_of}
@@ -7,7 +7,12 @@ use Rattle.tcf_outside.specs.Sink.{SinkSeen, Took, TookFront}
 use Rattle.tcf_outside.specs.declared.files.HeldFile.{HeldFile}
 use Rattle.channel_core.specs.declared.states.Cause.{Cause}
 use Rattle.tcf_schedules.specs.Refusal.{BadLine}
-use Rattle.tcf_schedules.specs.Schedule.{ScheduleValue, schedule_of}
+use Rattle.tcf_schedules.specs.Schedule.{ScheduleValue, chain_of, lines_of, schedule_of}
+use Rattle.tcf_schedules.specs.declared.schedule.TextFault.TheVariants.{Unknown}
+use Rattle.journal_text.specs.Journal.{journal_of}
+use Rattle.journal_text.specs.declared.journal.Journal.{Journal}
+use Rattle.log_check.specs.Rules.{IsJudged}
+use Rattle.log_check.specs.declared.rule.Rule.{Rule}
 use Rattle.tcf_schedules.specs.Script.{script_of}
 use Rattle.tcf_schedules.specs.declared.script.ScriptLine.{ScriptLine}
 use Rattle.tcf_text.specs.Once.{Once}
@@ -25,16 +30,16 @@ use Rattle.client_serving.specs.declared.end.ClientEnd.{ClientEnd}
 use Rattle.client_serving.specs.declared.end.ClientEnd.TheVariants as client_ends
 use Rattle.client_serving.specs.declared.end.ClientRun.{ClientRun}
 use Rattle.world_laws.specs.EndLaws.{EndsAllRightly}
-use Rattle.chain_world.specs.World.{images_of}
+use Rattle.chain_world.specs.World.{images_of, log_at}
 use Rattle.world_laws.specs.StepLaws.{AllSaySteps}
 use Rattle.world_laws.specs.WorldLaws.{AreCoherent, AreFresh, IsFaithful, NothingIsStuck}
 use Rattle.tcf_app.specs.Exit.{IsGivenUp}
 use Rattle.tcf_app.specs.declared.exit.BadPlace.{BadPlace}
 use Rattle.tcf_app.specs.declared.exit.Exit.{Exit}
-use Rattle.tcf_app.specs.declared.exit.Exit.TheVariants.{Done, Usage, BadText, FileFault, SinkFault, WireFault, Turns, NoMemory, BadStream, Ended, TooLong}
-use Rattle.tcf_app.specs.Words.{OrderValue, chain, show, load, agent, value, client, hub, first_place, files_named, names_of}
-use Rattle.tcf_app.specs.Texts.{wire_fault_text, turns_text, bad_line_text, bad_stream_text, too_long_text}
-use Rattle.tcf_app.specs.Played.{printed, numbered, summed, client_text, world_of}
+use Rattle.tcf_app.specs.declared.exit.Exit.TheVariants.{Done, Usage, BadText, FileFault, SinkFault, WireFault, Turns, NoMemory, BadStream, Ended, TooLong, Differs}
+use Rattle.tcf_app.specs.Words.{OrderValue, chain, show, load, agent, value, client, hub, journal, check, first_place, files_named, names_of}
+use Rattle.tcf_app.specs.Texts.{wire_fault_text, turns_text, bad_line_text, bad_stream_text, too_long_text, ok_text, differs_text}
+use Rattle.tcf_app.specs.Played.{printed, numbered, summed, client_text, journal_printed, world_of}
 use Rattle.tcf_app.specs.Heard.{Heard, Hears, heard_in, IsHeld, AreHeld, IsFirstLong, FailsLast}
 use Rattle.tcf_app.specs.Show.{IsShown}
 use Rattle.tcf_app.specs.Ending.{Ending, Ends, EndsIn, IsEnding, ServesAs, exit_of, fault_ending, wire_ending}
@@ -127,6 +132,27 @@ pub record HasFailed (address name : List ℕ) (turns : ℕ) (files : FilesSeen)
 
 -- ---- each exit, by what was ordered
 
+-- The file says a schedule that has a chain of this name. Exactly the chain's journal was put: the images, the history and
+-- the log that playing the schedule gives, which meet all rules of a journal.
+pub record IsWrittenDown (name head : List ℕ) (files : FilesSeen) (before after : SinkSeen) : Type 0 where
+  pub file : List ℕ
+  pub held : IsHeld name file files
+  pub schedule : ScheduleValue
+  pub says : schedule_of file ≡ Ok schedule
+  pub place : ℕ
+  pub there : chain_of schedule.chains head ≡ Some place
+  pub put : Took (journal_printed place schedule) before after
+  pub judged : IsJudged (images_of schedule.images) (world_of schedule).history (log_at place (world_of schedule)) None
+
+-- The file says a journal, of which this is the verdict, and the text that says so was put.
+pub record HasVerdict (name : List ℕ) (verdict : Option Rule) (text : List ℕ) (files : FilesSeen) (before after : SinkSeen) : Type 0 where
+  pub file : List ℕ
+  pub held : IsHeld name file files
+  pub what : Journal
+  pub says : journal_of file ≡ Ok what
+  pub judged : IsJudged what.images what.inputs what.lines verdict
+  pub put : Took text before after
+
 -- what was done; of an agent, of value-adds and of a hub, that `Stop` came, as the last of so many events
 abbrev pub IsDone : Option OrderValue → FilesSeen → WiresSeen → WiresSeen → SinkSeen → SinkSeen → Type 0
 IsDone None files wires wires' before after = ⊥
@@ -137,6 +163,13 @@ IsDone (Some (agent address turns images)) files wires wires' before after = IsS
 IsDone (Some (value address peer turns)) files wires wires' before after = IsStoppedServing (value address peer turns) files wires wires' before after
 IsDone (Some (hub address peer turns)) files wires wires' before after = IsStoppedServing (hub address peer turns) files wires wires' before after
 IsDone (Some (client address name turns)) files wires wires' before after = HasRun address name turns client_ends.Done files wires wires' before after
+IsDone (Some (journal name head)) files wires wires' before after = IsWrittenDown name head files before after
+IsDone (Some (check name)) files wires wires' before after = HasVerdict name None ok_text files before after
+
+-- the journal that `check` names breaks this rule first
+abbrev pub HasDiffered : Rule → Option OrderValue → FilesSeen → SinkSeen → SinkSeen → Type 0
+HasDiffered rule (Some (check name)) files before after = HasVerdict name (Some rule) (differs_text rule) files before after
+HasDiffered rule order files before after = ⊥
 
 -- all turns were taken
 abbrev pub AreTaken : Option OrderValue → FilesSeen → WiresSeen → WiresSeen → SinkSeen → SinkSeen → Type 0
@@ -165,13 +198,22 @@ HaveFailed (Some (hub address peer turns)) files wires wires' before after =
     IsServed (hub address peer turns) serve_ends.WireFault wire_fault_text files wires wires' before after
 HaveFailed order files wires wires' before after = ⊥
 
+-- a schedule's file has this line as its first bad one; where it has none, and no chain of this name, it lacks that at the
+-- line behind the last one
+abbrev pub IsBadChain : List ℕ → List ℕ → Result ScheduleValue BadLine → BadLine → Type 0
+IsBadChain file name (Ok schedule) bad =
+    (chain_of schedule.chains name ≡ None) × (bad.line ≡ length (lines_of file) + 1) × (bad.what ≡ Unknown)
+IsBadChain file name (Err first) bad = first ≡ bad
+
 -- a file has this line as its first bad one, by the command that reads it
 abbrev pub SaysBad : Option OrderValue → List ℕ → BadLine → Type 0
 SaysBad (Some (chain name)) file bad = schedule_of file ≡ Err bad
 SaysBad (Some (client address name turns)) file bad = script_of file ≡ Err bad
+SaysBad (Some (journal schedule name)) file bad = IsBadChain file name (schedule_of file) bad
+SaysBad (Some (check name)) file bad = journal_of file ≡ Err bad
 SaysBad order file bad = ⊥
 
--- The file that `chain` or `client` names has this line as its first bad one, with this as the first of its reasons, and
+-- The file that `chain`, `client`, `journal` or `check` names has this line as its first bad one, with this as the first of its reasons, and
 -- the text that says so was put.
 pub record IsBadText (order : Option OrderValue) (files : FilesSeen) (bad : BadLine) (before after : SinkSeen) : Type 0 where
   pub name : List ℕ
@@ -212,6 +254,8 @@ serves_peers (Some (agent address turns images)) = true
 serves_peers (Some (value address peer turns)) = true
 serves_peers (Some (client address name turns)) = true
 serves_peers (Some (hub address peer turns)) = true
+serves_peers (Some (journal name head)) = false
+serves_peers (Some (check name)) = false
 
 -- the exit comes before the wires are used
 abbrev pub is_early : Exit → Bool
@@ -226,6 +270,7 @@ is_early NoMemory = false
 is_early (BadStream offset what) = true
 is_early (Ended cause) = false
 is_early (TooLong word) = true
+is_early (Differs rule) = false
 
 -- the wires aren't used by an order that serves nobody, nor before an early exit
 abbrev pub SparesWires : Option OrderValue → Exit → Type 0

@@ -3,12 +3,14 @@ use Rattle.std.specs.Prelude.{ℕ, List, [], ◌∷◌, ◌++◌, codes}
 use Rattle.std.specs.Fmt.{decimal}
 use Rattle.tcf_schedules.specs.declared.schedule.TextFault.{TextFault}
 use Rattle.tcf_schedules.specs.declared.schedule.TextFault.TheVariants.{Form, Late, Repeat, Unknown, Many}
+use Rattle.log_check.specs.declared.rule.Rule.{Rule}
+use Rattle.log_check.specs.declared.rule.Rule.TheVariants as rules
 use Rattle.tcf_app.specs.declared.exit.BadPlace.{BadPlace}
 use Rattle.tcf_app.specs.declared.exit.StreamWhat.{StreamWhat}
 use Rattle.tcf_app.specs.declared.exit.StreamWhat.TheVariants.{Escape, Long, AfterEnd, Unended, Empty, Kind, Field, Token, Level, Trailing, Body}
 
 unfoldable pub usage_text : List ℕ
-usage_text = codes "usage: tcf chain FILE | show FILE | load NUMBER | agent ADDRESS TURNS [NAME=FILE ..] | value ADDRESS PEER TURNS | client ADDRESS SCRIPT TURNS | hub ADDRESS PEER TURNS\n"
+usage_text = codes "usage: tcf chain FILE | show FILE | load NUMBER | agent ADDRESS TURNS [NAME=FILE ..] | value ADDRESS PEER TURNS | client ADDRESS SCRIPT TURNS | hub ADDRESS PEER TURNS | journal FILE NAME | check FILE\n"
 
 unfoldable pub file_fault_text : List ℕ
 file_fault_text = codes "file fault\n"
@@ -27,6 +29,25 @@ bad_line_front = codes "bad line "
 
 unfoldable pub bad_stream_front : List ℕ
 bad_stream_front = codes "bad stream at "
+
+unfoldable pub ok_text : List ℕ
+ok_text = codes "ok\n"
+
+unfoldable pub differs_front : List ℕ
+differs_front = codes "differs: "
+
+-- the word of a rule
+unfoldable pub rule_word : Rule → List ℕ
+rule_word rules.Legal = codes "legal"
+rule_word rules.Once = codes "once"
+rule_word rules.Positions = codes "positions"
+rule_word rules.Order = codes "order"
+rule_word rules.Executed = codes "executed"
+rule_word rules.Fresh = codes "fresh"
+
+-- the last line where this is the first rule that a journal breaks
+abbrev pub differs_text : Rule → List ℕ
+differs_text rule = differs_front ++ rule_word rule ++ 10 ∷ []
 
 -- a colon and a blank
 unfoldable pub colon : List ℕ

@@ -1,14 +1,14 @@
 -- What the words after the program's name ask for.
-use Rattle.std.specs.Prelude.{ℕ, ◌==◌, ◌^◌, Bool, true, ◌&&◌, not, List, [], ◌∷◌, length, map, nat_lt, String, string_bytes, Option, Some, None, option_map, if◌then◌else◌, codes, decimal}
+use Rattle.std.specs.Prelude.{ℕ, ◌==◌, Bool, true, ◌&&◌, not, List, [], ◌∷◌, length, map, String, string_bytes, Option, Some, None, option_map, if◌then◌else◌, codes}
 use Rattle.std.specs.List.{list_any}
 use Rattle.std.specs.declared.alloc.Global.{Global}
 use Rattle.std.specs.Str.{bytes_eq}
-use Rattle.std.specs.Str.Parse.{digits_value}
 use Rattle.tcf_values.specs.Cut.{cut_of}
 use Rattle.tcf_values.specs.Number.{number_of}
+use Rattle.tcf_text.specs.Said.{long_number_of}
 use Rattle.tcf_app.specs.declared.order.ImageWord.{ImageWord}
 use Rattle.tcf_app.specs.declared.order.Order.{Order}
-use Rattle.tcf_app.specs.declared.order.Order.TheVariants.{Chain, Show, Load, Agent, Value, Client, Hub}
+use Rattle.tcf_app.specs.declared.order.Order.TheVariants.{Chain, Show, Load, Agent, Value, Client, Hub, Journal, Check}
 
 -- an image that the words give an agent: its name, and the file that has its bytes
 pub record NamedFile : Type 0 where
@@ -24,6 +24,8 @@ pub data OrderValue : Type 0 where
   value : (address peer : List ℕ) (turns : ℕ) → OrderValue
   client : (address script : List ℕ) (turns : ℕ) → OrderValue
   hub : (address peer : List ℕ) (turns : ℕ) → OrderValue
+  journal : (file name : List ℕ) → OrderValue
+  check : (file : List ℕ) → OrderValue
 
 -- ---- an image's word
 
@@ -65,6 +67,8 @@ order_value (Agent address turns images) = agent address.now turns (images_given
 order_value (Value address peer turns) = value address.now peer.now turns
 order_value (Client address script turns) = client address.now script.now turns
 order_value (Hub address peer turns) = hub address.now peer.now turns
+order_value (Journal file name) = journal file.now name.now
+order_value (Check file) = check file.now
 
 abbrev pub image_value : ImageWord → NamedFile
 image_value word = record { name = word.name.now; file = word.file.now }
@@ -90,22 +94,23 @@ client_word = codes "client"
 unfoldable pub hub_word : List ℕ
 hub_word = codes "hub"
 
+unfoldable pub journal_word : List ℕ
+journal_word = codes "journal"
+
+unfoldable pub check_word : List ℕ
+check_word = codes "check"
+
 -- how many turns a serving command takes: a decimal from 1 to 1,000,000,000, without a sign or a leading zero
 abbrev pub turns_of : List ℕ → Option ℕ
 turns_of digits = number_of 1 1000000000 digits
 
--- which schedule is generated: a decimal from 0 to 18,446,744,073,709,551,615, without a sign or a leading zero
-unfoldable pub number_in : List ℕ → Option ℕ
-number_in digits =
-    let n = digits_value 10 digits in
-    if bytes_eq digits (decimal n) && nat_lt n (2 ^ 64) then Some n else None
-
--- `chain FILE`, `show FILE` or `load NUMBER`
+-- `chain FILE`, `show FILE`, `load NUMBER`, of which a decimal below 2^64 says the generated schedule, or `check FILE`
 abbrev pub order_with : List ℕ → List ℕ → Option OrderValue
 order_with command word =
     if bytes_eq command chain_word then Some (chain word)
     else if bytes_eq command show_word then Some (show word)
-    else if bytes_eq command load_word then option_map load (number_in word)
+    else if bytes_eq command load_word then option_map load (long_number_of word)
+    else if bytes_eq command check_word then Some (check word)
     else None
 
 -- `agent ADDRESS TURNS [NAME=FILE ..]`
@@ -133,6 +138,11 @@ client_by address script words = option_map (client address script) (last_turns 
 abbrev pub hub_by : List ℕ → List ℕ → List (List ℕ) → Option OrderValue
 hub_by address peer words = option_map (hub address peer) (last_turns words)
 
+-- `journal FILE NAME`
+abbrev pub journal_by : List ℕ → List ℕ → List (List ℕ) → Option OrderValue
+journal_by file name [] = Some (journal file name)
+journal_by file name (word ∷ words) = None
+
 -- a command with two words and more behind it
 abbrev pub serving_with : List ℕ → List ℕ → List ℕ → List (List ℕ) → Option OrderValue
 serving_with command address word words =
@@ -140,6 +150,7 @@ serving_with command address word words =
     else if bytes_eq command value_word then value_by address word words
     else if bytes_eq command client_word then client_by address word words
     else if bytes_eq command hub_word then hub_by address word words
+    else if bytes_eq command journal_word then journal_by address word words
     else None
 
 -- the order that the words are
@@ -162,6 +173,8 @@ files_named (agent address turns images) = files_in images
 files_named (value address peer turns) = []
 files_named (client address script turns) = script ∷ []
 files_named (hub address peer turns) = []
+files_named (journal file name) = file ∷ []
+files_named (check file) = file ∷ []
 
 abbrev pub names_of : Option OrderValue → List (List ℕ)
 names_of None = []
@@ -176,3 +189,5 @@ first_place (agent address turns images) = 4
 first_place (value address peer turns) = 0
 first_place (client address script turns) = 3
 first_place (hub address peer turns) = 0
+first_place (journal file name) = 2
+first_place (check file) = 2

@@ -3,6 +3,7 @@ ghost use Rattle.std.specs.Prelude.{◌≡◌};
 ghost use Rattle.tcf_app.specs.Exit.{status_of};
 
 use channel_core::Cause;
+use log_check::Rule;
 use tcf_schedules::TextFault;
 
 /// What is bad at a place of a stream of messages.
@@ -68,6 +69,8 @@ pub enum Exit {
     Ended { cause: Cause },
     /// The file that this word names, counted from 1, has more than 16,777,216 bytes.
     TooLong { word: u64 },
+    /// This is the first rule that the journal breaks.
+    Differs { rule: Rule },
 }
 
 impl Exit {
@@ -87,6 +90,7 @@ impl Exit {
             Exit::BadStream { .. } => 8,
             Exit::Ended { .. } => 9,
             Exit::TooLong { .. } => 10,
+            Exit::Differs { .. } => 11,
         }
     }
 }

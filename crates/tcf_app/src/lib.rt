@@ -7,6 +7,7 @@ mod client;
 pub mod exit;
 mod finish;
 mod hub;
+mod journal;
 mod laws;
 mod lines;
 mod load;

@@ -1,8 +1,9 @@
 //! What the words after the program's name ask for.
 ghost use Rattle.std.specs.Prelude.{◌≡◌, option_map, map, string_bytes};
-ghost use Rattle.tcf_app.specs.Words.{load, order_value, image_value, image_in, images_given, has_name, are_named, number_in, turns_of, last_turns, order_with, agent_by, value_by, client_by, hub_by, serving_with, order_in};
+ghost use Rattle.tcf_text.specs.Said.{long_number_of};
+ghost use Rattle.tcf_app.specs.Words.{load, order_value, image_value, image_in, images_given, has_name, are_named, turns_of, last_turns, order_with, agent_by, value_by, client_by, hub_by, journal_by, serving_with, order_in};
 
-use itoa::Buffer;
+use tcf_text::long_number;
 use tcf_values::number_within;
 
 /// A command with what its words say.
@@ -43,6 +44,15 @@ pub(crate) enum Order<'a> {
         address: &'a str,
         peer: &'a str,
         turns: u32,
+    },
+    /// Plays a schedule, and writes the journal of a chain.
+    Journal {
+        file: &'a str,
+        name: &'a str,
+    },
+    /// Judges a journal.
+    Check {
+        file: &'a str,
     },
 }
 
@@ -105,26 +115,16 @@ fn last_turns(words: &[String]) -> Option<u32>
     }
 }
 
-/// The number of a schedule that the word says.
-fn number_in(word: &str) -> Option<u64>
-    ensures { result ≡ number_in word.now }
-{
-    match word.parse::<u64>() {
-        Ok(number) if Buffer::new().format(number) == word => Some(number),
-        _ => None,
-    }
-}
-
 /// The order to play the schedule that a number gives.
 fn load_order<'a>(word: &str) -> Option<Order<'a>>
-    ensures { option_map order_value result ≡ option_map load (number_in word.now) }
+    ensures { option_map order_value result ≡ option_map load (long_number_of word.now) }
 {
-    let number = number_in(word)?;
+    let number = long_number(word.as_bytes())?;
     Some(Order::Load { number })
 }
 
 /// The order of a command with one word behind it.
-#[tactic(auto, unfolding(crate::specs::Words::chain_word, crate::specs::Words::show_word, crate::specs::Words::load_word))]
+#[tactic(auto, unfolding(crate::specs::Words::chain_word, crate::specs::Words::show_word, crate::specs::Words::load_word, crate::specs::Words::check_word))]
 fn order_with<'a>(command: &str, word: &'a str) -> Option<Order<'a>>
     ensures { option_map order_value result ≡ order_with command.now word.now }
 {
@@ -132,6 +132,7 @@ fn order_with<'a>(command: &str, word: &'a str) -> Option<Order<'a>>
         "chain" => Some(Order::Chain { file: word }),
         "show" => Some(Order::Show { file: word }),
         "load" => load_order(word),
+        "check" => Some(Order::Check { file: word }),
         _ => None,
     }
 }
@@ -187,8 +188,19 @@ fn hub_order<'a>(address: &'a str, peer: &'a str, words: &[String]) -> Option<Or
     })
 }
 
+/// The order to write the journal of a chain, where no more word is left.
+fn journal_order<'a>(file: &'a str, name: &'a str, words: &[String]) -> Option<Order<'a>>
+    ensures { option_map order_value result ≡ journal_by file.now name.now (map string_bytes words.now) }
+{
+    if words.is_empty() {
+        Some(Order::Journal { file, name })
+    } else {
+        None
+    }
+}
+
 /// The order of a command with two words and more behind it.
-#[tactic(auto, unfolding(crate::specs::Words::agent_word, crate::specs::Words::value_word, crate::specs::Words::client_word, crate::specs::Words::hub_word))]
+#[tactic(auto, unfolding(crate::specs::Words::agent_word, crate::specs::Words::value_word, crate::specs::Words::client_word, crate::specs::Words::hub_word, crate::specs::Words::journal_word))]
 fn serving_with<'a>(
     command: &str,
     address: &'a str,
@@ -202,6 +214,7 @@ fn serving_with<'a>(
         "value" => value_order(address, word, words),
         "client" => client_order(address, word, words),
         "hub" => hub_order(address, word, words),
+        "journal" => journal_order(address, word, words),
         _ => None,
     }
 }

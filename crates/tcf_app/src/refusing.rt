@@ -14,7 +14,7 @@ use tcf_schedules::TextFault;
 
 /// The words that the program knows.
 const USAGE: &[u8] =
-    b"usage: tcf chain FILE | show FILE | load NUMBER | agent ADDRESS TURNS [NAME=FILE ..] | value ADDRESS PEER TURNS | client ADDRESS SCRIPT TURNS | hub ADDRESS PEER TURNS\n";
+    b"usage: tcf chain FILE | show FILE | load NUMBER | agent ADDRESS TURNS [NAME=FILE ..] | value ADDRESS PEER TURNS | client ADDRESS SCRIPT TURNS | hub ADDRESS PEER TURNS | journal FILE NAME | check FILE\n";
 
 /// Ends a run whose words are none of the forms.
 #[tactic(auto, unfolding(crate::specs::Texts::usage_text))]

@@ -5,18 +5,20 @@ ghost use Rattle.tcf_outside.specs.Sink.{Took};
 ghost use Rattle.channel_core.specs.declared.states.Cause.{Cause};
 ghost use Rattle.tcf_schedules.specs.Refusal.{BadLine};
 ghost use Rattle.serving_wires.specs.Calls.{Makes};
+ghost use Rattle.log_check.specs.declared.rule.Rule.{Rule};
 ghost use Rattle.tcf_app.specs.declared.exit.BadPlace.{BadPlace};
 ghost use Rattle.tcf_app.specs.Exit.{IsGivenUp, TellsFault};
-ghost use Rattle.tcf_app.specs.Words.{agent, chain, client, show, files_in, images_given, order_in, order_value, names_of};
+ghost use Rattle.tcf_app.specs.Words.{agent, chain, check, client, journal, show, files_in, images_given, order_in, order_value, names_of};
 ghost use Rattle.tcf_app.specs.Texts.{usage_text, file_fault_text};
 ghost use Rattle.tcf_app.specs.Heard.{ReadsInOrder, FailsLast};
-ghost use Rattle.tcf_app.specs.Run.{RunsBy, Runs, IsDone, AreTaken, HasEnded, HaveFailed, IsBadText, IsBadStream, IsTooLong, SparesWires, AreHeeded, IsReadHeeded, IsFrontPut, IsDecided, IsOneEnd};
+ghost use Rattle.tcf_app.specs.Run.{RunsBy, Runs, IsDone, AreTaken, HasEnded, HaveFailed, HasDiffered, IsBadText, IsBadStream, IsTooLong, SparesWires, AreHeeded, IsReadHeeded, IsFrontPut, IsDecided, IsOneEnd};
 
 use crate::agent::serve_images;
 use crate::chain::play_file;
 use crate::client::do_script;
 use crate::exit::Exit;
 use crate::hub::serve_peers;
+use crate::journal::{check_file, journal_file};
 use crate::load::play_number;
 use crate::order::{Order, read_words};
 use crate::reading::{read_file, read_images};
@@ -49,6 +51,38 @@ fn run_show<F: Files, S: Sink>(alloc: Global, name: &str, files: &mut F, out: &m
 {
     match read_file(files, name) {
         Ok(file) => show_file(alloc, file.as_slice(), out),
+        Err(unread) => refuse_unread(alloc, 2, unread, out),
+    }
+}
+
+/// Reads the schedule of this name, and writes the journal of a chain.
+fn run_journal<F: Files, S: Sink>(
+    alloc: Global,
+    name: &str,
+    head: &str,
+    files: &mut F,
+    out: &mut S,
+) -> Exit
+    ensures runs { RunsBy (Some (journal name.now head.now)) result (F.seen files.old) (F.seen files.new)
+        (S.seen out.old) (S.seen out.new) [] }
+    ensures reads { ReadsInOrder (name.now ∷ []) (F.seen files.old) (F.seen files.new) }
+    ensures fault { TellsFault result (S.seen out.old) (S.seen out.new) }
+{
+    match read_file(files, name) {
+        Ok(file) => journal_file(alloc, file.as_slice(), head.as_bytes(), out),
+        Err(unread) => refuse_unread(alloc, 2, unread, out),
+    }
+}
+
+/// Reads the journal of this name, and judges it.
+fn run_check<F: Files, S: Sink>(alloc: Global, name: &str, files: &mut F, out: &mut S) -> Exit
+    ensures runs { RunsBy (Some (check name.now)) result (F.seen files.old) (F.seen files.new)
+        (S.seen out.old) (S.seen out.new) [] }
+    ensures reads { ReadsInOrder (name.now ∷ []) (F.seen files.old) (F.seen files.new) }
+    ensures fault { TellsFault result (S.seen out.old) (S.seen out.new) }
+{
+    match read_file(files, name) {
+        Ok(file) => check_file(alloc, file.as_slice(), out),
         Err(unread) => refuse_unread(alloc, 2, unread, out),
     }
 }
@@ -134,6 +168,8 @@ fn run_order<F: Files, S: Sink, W: Wires>(
             peer,
             turns,
         } => serve_peers(alloc, address, peer, turns, out, wires),
+        Order::Journal { file, name } => run_journal(alloc, file, name, files, out),
+        Order::Check { file } => run_check(alloc, file, files, out),
     }
 }
 
@@ -170,6 +206,9 @@ fn run_words<F: Files, S: Sink, W: Wires>(
 /// - `client ADDRESS SCRIPT TURNS`: connects to the address, does the script that the file says, and prints the log.
 /// - `hub ADDRESS PEER TURNS`: connects to the peer, then listens on the address, serves a hub with a lower channel for each
 ///   connection, and prints how many events it took.
+/// - `journal FILE NAME`: plays the schedule that the file says, and prints the journal of the chain of this name: the
+///   images, the inputs of the history, and the log of the chain's client.
+/// - `check FILE`: prints `ok`, or the first rule that the journal breaks that the file says.
 ///
 /// ADDRESS is the address of a socket, as `127.0.0.1:7001`, and so is a hub's PEER; a value-add's PEER is both the ID by which
 /// a client's `Locator redirect` names the peer and its address. NUMBER is a decimal below 2^64, TURNS one from 1 to 1,000,000,000, both without a sign
@@ -212,6 +251,8 @@ pub fn tcf<F: Files, S: Sink, W: Wires>(
     ensures usage_text { result ≡ Exit.Usage → Took usage_text (S.seen out.old) (S.seen out.new) }
     ensures bad_text { (bad : BadLine) → result ≡ Exit.BadText bad.line bad.what
         → IsBadText (order_in words.now) (F.seen files.old) bad (S.seen out.old) (S.seen out.new) }
+    ensures differs { (rule : Rule) → result ≡ Exit.Differs rule
+        → HasDiffered rule (order_in words.now) (F.seen files.old) (S.seen out.old) (S.seen out.new) }
     ensures bad_stream { (bad : BadPlace) → result ≡ Exit.BadStream bad.offset bad.what
         → IsBadStream (order_in words.now) (F.seen files.old) bad (S.seen out.old) (S.seen out.new) }
     ensures too_long { (word : ℕ) → result ≡ Exit.TooLong word

@@ -1,4 +1,4 @@
-use Rattle.tcf_app.specs.declared.exit.Exit.TheVariants.{Done, Usage, BadText, FileFault, WireFault, Turns, BadStream, Ended, TooLong}
+use Rattle.tcf_app.specs.declared.exit.Exit.TheVariants.{Done, Usage, BadText, FileFault, WireFault, Turns, BadStream, Ended, TooLong, Differs}
 use Rattle.tcf_app.proofs.Exits.{tells_at, usage_only_of, files_unharmed_of, heeded_of, spared_of, front_of, complete_of}
 use Rattle.tcf_app.proofs.Served.{out_of}
 use Rattle.tcf_app.proofs.top.tcf.Goals as goal
@@ -34,6 +34,10 @@ returns-clause-usage_text g c =
 pub returns-clause-bad_text : goal.returns-clause-bad_text
 returns-clause-bad_text g c =
     λ bad is. tells_at _ _ _ _ _ _ _ _ c.run_words.ensures.runs (BadText bad.line bad.what) is
+
+pub returns-clause-differs : goal.returns-clause-differs
+returns-clause-differs g c =
+    λ rule is. tells_at _ _ _ _ _ _ _ _ c.run_words.ensures.runs (Differs rule) is
 
 pub returns-clause-bad_stream : goal.returns-clause-bad_stream
 returns-clause-bad_stream g c =

@@ -1,58 +1,14 @@
-#!/usr/bin/env python3
-"""Starts `tcf agent` and value-adds before it on loopback, plays sessions through them, ends each process in turn, treats a
-value-add badly, and measures answers from its store.
-
-    bench/relay.py            builds the program first, which proves it
-    bench/relay.py PROGRAM    takes a program that is built
+"""Starts an agent and value-adds before it on loopback, plays sessions through them, ends each process in turn, treats a value-add
+badly, and measures answers from its store.
 """
 import statistics
 import subprocess
-import sys
 import tempfile
 import time
-from pathlib import Path
 
-from serve import LOOPBACK, TURNS, Agent, Channel, asked, check, free_port, processor, program_of, rate, treat_badly
-
-
-def address(port):
-    return f'{LOOPBACK}:{port}'
-
-
-class ValueAdd:
-    """`tcf value` before the peer at a port."""
-
-    def __init__(self, program, peer, port=None):
-        self.port = port or free_port()
-        self.process = subprocess.Popen([program, 'value', address(self.port), address(peer), TURNS], stdout=subprocess.DEVNULL)
-
-    def end(self):
-        self.process.kill()
-        self.process.wait()
-
-
-class Relayed(Agent):
-    """An agent behind a value-add: a channel is led through that to the agent. What is measured is the value-add."""
-
-    def __init__(self, program):
-        super().__init__(program)
-        self.agent, self.agent_port = self.process, self.port
-        self.relay = ValueAdd(program, self.agent_port)
-        self.process, self.port = self.relay.process, self.relay.port
-
-    def channel(self):
-        channel = Channel(self.port)
-        answer = channel.ask('Locator', 'redirect', f'"{address(self.agent_port)}"')
-        if answer.split(b'\0')[2] != b'':
-            raise EOFError
-        channel.event(b'Hello')
-        return channel
-
-    def __exit__(self, *what):
-        self.relay.end()
-        self.process = self.agent
-        super().__exit__(*what)
-
+from tool.measuring import check, head, processor, ratio, row
+from tool.peers import TURNS, Agent, Channel, Relayed, ValueAdd, address, asked, rate
+from tool.serve import treat_badly
 
 # ---- sessions of the program's own client through two value-adds
 
@@ -190,39 +146,33 @@ def sessions(program):
 
 # ---- answers from a store
 
-def stored(program):
-    """Rates of an answer from a store beside those of the agent's own, in turn, each the median of 5."""
-    with Relayed(program) as peer:
+def stored(given):
+    """Answers from a store beside those of the agent itself, each through one connection, in turn."""
+    head('', 'the agent, asked itself, a second', 'a value-add, from its store', 'ratio', 'microseconds of processor time for one',
+         'of the value-add', 'seconds of the agent meanwhile')
+    with Relayed(given.program) as peer:
         direct, led = Channel(peer.agent_port), peer.channel()
         process = direct.start()
         led.event(b'contextSuspended')
         words = ('Memory', 'get', f'"{process}"', '0', '1', '4', '0')
         led.ask(*words)
-        rows = []
-        for what, many in (('memory reads of 4 bytes', 1), ('memory reads of 4 bytes, 64 in the pipe', 64)):
-            own, ours = [], []
-            for _ in range(5):
+        for what, many in (('memory reads of 4 bytes', 1), ('the same, 64 in the pipe', 64)):
+            own, ours, idle = [], [], 0
+            for _ in range(given.turns):
                 own.append(rate(peer.agent, many, asked(direct, many, *words)))
                 before = processor(peer.agent)
                 ours.append(rate(peer.process, many, asked(led, many, *words)))
-                idle = processor(peer.agent) - before
-            rows.append((what, *(statistics.median(times) for times in (*zip(*own), *zip(*ours))), idle))
+                idle += processor(peer.agent) - before
+            direct_rate, direct_cost, led_rate, led_cost = (statistics.median(found) for found in (*zip(*own), *zip(*ours)))
+            row(what, f'{direct_rate:,.0f}', f'{led_rate:,.0f}', ratio(led_rate, direct_rate), f'{direct_cost:.1f}', f'{led_cost:.1f}',
+                f'{idle:.2f}')
         direct.close()
         led.close()
-    print('| | the agent, asked itself, a second | a value-add, from its store | to the agent | microseconds of processor time for one | of the value-add | seconds of the agent meanwhile |')
-    print('|---|---|---|---|---|---|---|')
-    for what, own, own_cost, ours, cost, idle in rows:
-        print(f'| {what} | {own:,.0f} | {ours:,.0f} | {ours / own:.2f} | {own_cost:.1f} | {cost:.1f} | {idle:.2f} |')
 
 
-def main():
-    program = program_of(sys.argv)
-    fine = sessions(program)
+def measure(given):
+    fine = sessions(given.program)
     print('through a value-add:')
-    fine &= treat_badly(lambda: Relayed(program))
-    stored(program)
-    sys.exit(not fine)
-
-
-if __name__ == '__main__':
-    main()
+    fine &= treat_badly(lambda: Relayed(given.program))
+    stored(given)
+    return fine

@@ -1,20 +1,7 @@
-#!/usr/bin/env python3
-"""Measures what several threads in a process cost: ticks, memory, and what is looked up in a cache.
-
-usage: bench/threads.py PROGRAM [BEFORE] [TURNS]
-
-PROGRAM is the built program `tcf`, BEFORE another build of it, which need not know of a second thread, and with which `tcf load 7` is
-compared. All that a figure is compared with is measured in turn with it, so many times as TURNS says (5); each figure is the one in the
-middle.
-"""
-import pathlib
-import statistics
-import subprocess
-import sys
-
-import serve
-from pages import busy, played
-from run import bound, opened, repeated
+"""Measures what several threads in a process cost: ticks, memory, and what is looked up in a cache."""
+from tool.measuring import Ran, beside, check, compared, head, head_of, played, row
+from tool.peers import Agent
+from tool.schedules import bound, opened, repeated
 
 PROCESSES = 64
 THREADS = 8
@@ -29,13 +16,11 @@ START = 'send A Processes start "" "crowd" [] [] true\nrounds 1\n'
 MAKING = 1 + 3 * THREADS
 
 
-class Crowd(serve.Agent):
+class Crowd(Agent):
     """An agent whose image `loop` makes seven threads more."""
 
     def __init__(self, program):
-        short, serve.IMAGE = serve.IMAGE, CROWD
-        super().__init__(program)
-        serve.IMAGE = short
+        super().__init__(program, code=CROWD)
 
 
 def crowded(channel):
@@ -56,7 +41,7 @@ def memories(program):
 
 def without(lines, steps):
     """The processor seconds of these steps, without the lines before them."""
-    return lambda program: played(program, lines + steps) - played(program, lines)
+    return lambda program: played(program, lines + steps).seconds - played(program, lines).seconds
 
 
 def alone():
@@ -85,7 +70,8 @@ def readings(processes):
     asked = ("times 100 " + get + "rounds 1\n") * (READINGS // 100)
 
     def measure(program):
-        return played(program, lines + asked, rest=b"\nhistory %d\n" % inputs(processes)) - played(program, lines)
+        whole = played(program, lines + asked, rest=b"\nhistory %d\n" % inputs(processes))
+        return whole.seconds - played(program, lines).seconds
     return measure
 
 
@@ -94,45 +80,19 @@ def inputs(processes):
     return 1 + processes * (2 + THREADS - 1) + 1
 
 
-def load(program):
-    before = busy()
-    subprocess.run([program, "load", "7"], stdout=subprocess.DEVNULL, check=True)
-    return busy() - before
+def measure(given):
+    head("", "KiB")
+    fine = check("63 processes of 8 threads take less than 4 MiB", memories_told(given) < 4_096)
+    head("seconds of processor time", "of the first", "of the second", "ratio", "aim")
+    fine &= beside(given, f"{TICKS:,} ticks of the last of 8 threads, and of a thread alone", among_eight(), alone(), aim=1.2)
+    fine &= beside(given, f"{READINGS:,} readings from a cache of 512 threads, and of 64", readings(PROCESSES), readings(8), aim=1.1)
+    if given.before:
+        head_of(given, "seconds", "now")
+        compared(given, "`load 7`", lambda program: Ran([program, "load", 7]).seconds)
+    return fine
 
 
-def turns_of(measures, turns):
-    """The figures in the middle of some measures that take turns."""
-    figures = [[] for _ in measures]
-    for _ in range(turns):
-        for measure, found in zip(measures, figures):
-            found.append(measure())
-    return [statistics.median(found) for found in figures]
-
-
-def compare(name, measures, turns):
-    first, second = turns_of(measures, turns)
-    print(f"{name}: {first:.3f} s, {second:.3f} s, ratio {second / first:.2f}", flush=True)
-
-
-def arguments(usage):
-    """The one or two programs that the command line names, and the number of turns, which may stand behind them."""
-    words = sys.argv[1:]
-    turns = int(words.pop()) if words and words[-1].isdigit() else 5
-    if not 1 <= len(words) <= 2:
-        sys.exit(usage)
-    return [str(pathlib.Path(word).resolve()) for word in words], turns
-
-
-def main():
-    (program, *before), turns = arguments(__doc__)
-    print(f"63 processes of 8 threads: {memories(program)} KiB", flush=True)
-    one, eight = alone(), among_eight()
-    compare(f"{TICKS} ticks of a thread alone, and of the last of 8", [lambda: one(program), lambda: eight(program)], turns)
-    few, many = readings(8), readings(PROCESSES)
-    compare(f"{READINGS} readings from a cache of 64 threads, and of 512", [lambda: few(program), lambda: many(program)], turns)
-    for other in before:
-        compare("load 7 before, and now", [lambda: load(other), lambda: load(program)], turns)
-
-
-if __name__ == "__main__":
-    main()
+def memories_told(given):
+    found = memories(given.program)
+    row(f"{PROCESSES - 1} processes of {THREADS} threads more", f"{found:,}")
+    return found

@@ -1,12 +1,9 @@
-#!/usr/bin/env python3
 """What an answer costs where 1,024 commands are pending and are answered in order, in reverse, or shuffled.
 
-    bench/out_of_order.py PROGRAM [TURNS]
-
-The peer is in this file and on the loopback. It lets 1,024 commands come, then puts all their answers at once, 40 times over.
-A line for each run: who was measured, the order, and its whole processor time for each answer, in microseconds. `tcf client`
-is asked itself (its time is for sending the command and its lines in the log too), and then a `tcf value` that stands
-between such a client and the peer (its time is for taking the command and sending it on too).
+The peer is in this module and on the loopback. It lets 1,024 commands come, then puts all their answers at once, 40 times over.
+What is measured is the whole processor time for each answer: of `tcf client`, which is asked itself (its time is for sending the
+command and its lines in the log too), and then of a `tcf value` that stands between such a client and the peer (its time is for taking
+the command and sending it on too).
 """
 import os
 import random
@@ -16,8 +13,10 @@ import sys
 import tempfile
 import time
 
+from tool.measuring import check, head, in_turn, programs, ratio, row
+from tool.peers import LOOPBACK, free_port
+
 ROUNDS, PENDING = 40, 1024
-LOOPBACK = "127.0.0.1"
 END = b"\x03\x01"
 HELLO = b'E\0Locator\0Hello\0["Locator"]\0' + END
 TURNS = "1000000"
@@ -32,7 +31,7 @@ def tokens_of(line, rest):
         if not end:
             piece = line.recv(1 << 16)
             if not piece:
-                sys.exit("out_of_order.py: the stream ended early")
+                sys.exit("bench: the stream ended early")
             rest += piece
             continue
         rest = behind
@@ -81,7 +80,7 @@ def ended(client, script):
     status, used = used_by(client)
     os.unlink(script)
     if status:
-        sys.exit(f"out_of_order.py: the client ended with status {status >> 8}")
+        sys.exit(f"bench: the client ended with status {status >> 8}")
     return used
 
 
@@ -90,11 +89,6 @@ def of_client(program, order):
         client = started_client(program, listener.getsockname()[1], COMMANDS)
         answer_all(listener, order)
         return ended(*client)
-
-
-def free_port():
-    with socket.create_server((LOOPBACK, 0)) as it:
-        return it.getsockname()[1]
 
 
 def of_value_add(program, order):
@@ -110,14 +104,17 @@ def of_value_add(program, order):
         return used_by(relay)[1]
 
 
-def main():
-    if len(sys.argv) not in (2, 3):
-        sys.exit(__doc__)
-    for _ in range(int(sys.argv[2]) if len(sys.argv) == 3 else 3):
-        for name, measured in (("client", of_client), ("value-add", of_value_add)):
-            for order in ("in order", "reverse", "shuffled"):
-                print(f"{name}, {order}: {measured(sys.argv[1], order):.2f} microseconds for each answer", flush=True)
+ORDERS = ("in order", "reverse", "shuffled")
+AIM = 1.3
 
 
-if __name__ == "__main__":
-    main()
+def measure(given):
+    fine = True
+    head("microseconds for each answer", "in order", "in reverse", "shuffled", "reverse by in order", "shuffled by in order")
+    for program, which in zip(programs(given), ("", ", before")):
+        for name, measured in (("`tcf client`", of_client), ("`tcf value`", of_value_add)):
+            first, back, mixed = in_turn([lambda order=order: measured(program, order) for order in ORDERS], given.turns)
+            row(name + which, f"{first:.2f}", f"{back:.2f}", f"{mixed:.2f}", ratio(back, first), ratio(mixed, first))
+            if program == given.program:
+                fine &= check("at most 1.3 times one in order", max(back, mixed) <= AIM * first)
+    return fine

@@ -1,23 +1,17 @@
-#!/usr/bin/env python3
-"""Refuses each allocation of `tcf chain` in turn, one a run, on the schedules of bench/data.
+"""Refuses each allocation of `tcf chain` in turn, one a run, on the schedules of data/.
 
-    bench/refusals.py [PROGRAM] [--most N] [--all-later] [SCHEDULE ..]
-
-Without PROGRAM it builds the program first, which proves it. The allocator is refusals.c, which is built with cc and
-preloaded. Each run has to end with status 7, with a front of the schedule's output, or to put all of that output and to
-end as the run does to which nothing is refused. Of a schedule with more than N allocations every K-th one is refused,
-with the least K by which N are enough. With --all-later each run is refused all later allocations, too.
+The allocator is refusals.c, which is built with cc and preloaded. Each run has to end with status 7, with a front of the schedule's
+output, or to put all of that output and to end as the run does to which nothing is refused. Of a schedule with more than N allocations
+every K-th one is refused, with the least K by which N are enough. With --all-later each run is refused all later allocations, too.
 """
-import argparse
 import os
 import subprocess
-import sys
 import tempfile
 import time
 from concurrent.futures import ThreadPoolExecutor
 from pathlib import Path
 
-from serve import HERE, check, program_of
+from tool.measuring import HERE, check, compiled
 
 DATA = HERE / 'data'
 SCHEDULES = ['exception.schedule', 'held.schedule', 'session.schedule']
@@ -61,23 +55,14 @@ def refused(program, library, schedule, most, all_later, folder):
                  f'{len(wrong):,} times ({time.perf_counter() - begin:.1f} s)' + ''.join(f'\n     {end}' for end in wrong[:5]), fine)
 
 
-def main():
-    words = argparse.ArgumentParser(description=__doc__, formatter_class=argparse.RawDescriptionHelpFormatter)
-    words.add_argument('program', nargs='?')
-    words.add_argument('schedules', nargs='*')
+def arguments(words):
+    words.add_argument('schedules', nargs='*', metavar='SCHEDULE')
     words.add_argument('--most', type=int, default=20_000)
     words.add_argument('--all-later', action='store_true')
-    words = words.parse_args()
-    program = program_of([sys.argv[0], *([words.program] if words.program else [])])
-    schedules = words.schedules or [DATA / name for name in SCHEDULES]
+
+
+def measure(given):
     with tempfile.TemporaryDirectory() as folder:
-        library = Path(folder) / 'refusals.so'
-        subprocess.run(['cc', '-O2', '-Wall', '-shared', '-fPIC', '-o', str(library), str(HERE / 'refusals.c'), '-ldl'], check=True)
-        fine = True
-        for schedule in schedules:
-            fine &= refused(program, library, schedule, words.most, words.all_later, folder)
-    sys.exit(not fine)
-
-
-if __name__ == '__main__':
-    main()
+        library = compiled('refusals.c', folder, '-shared', '-fPIC', '-ldl')
+        schedules = given.schedules or [DATA / name for name in SCHEDULES]
+        return all([refused(given.program, library, schedule, given.most, given.all_later, folder) for schedule in schedules])

@@ -1,15 +1,10 @@
-#!/usr/bin/env python3
 """Starts processes from ELF files that are right, wrong in one way, or mutated, and measures such a start.
 
-    bench/elf.py [PROGRAM] [--mutations N] [--seed N] [--batch N] [--pairs N]
-
-Without PROGRAM it builds the program first, which proves it. What has to come of each file is said by a reader of ELF
-files in this script, which goes by the System V ABI and docs/TARGET.md, "ELF files", and never by the program. Files that
-are wrong in one way, and N mutations of a good one, are images of agents on loopback. Each file is started, and its pc and
-all its memory are compared; behind it a `Locator sync` and a start of the good file have to be answered as ever. At last
-starts from an ELF file of 64 KiB are measured beside starts from raw bytes. It ends with status 1 where a line says NO.
+What has to come of each file is said by a reader of ELF files in this module, which goes by the System V ABI and docs/TARGET.md, "ELF
+files", and never by the program. Files that are wrong in one way, and many mutations of a good one, are images of agents on loopback.
+Each file is started, and its pc and all its memory are compared; behind it a `Locator sync` and a start of the good file have to be
+answered as ever. At last starts from an ELF file of 64 KiB are measured beside starts from raw bytes.
 """
-import argparse
 import base64
 import collections
 import json
@@ -18,13 +13,13 @@ import shutil
 import statistics
 import struct
 import subprocess
-import sys
 import tempfile
 import time
 from pathlib import Path
 
-from pages import GCC, busy, played
-from serve import LOOPBACK, TURNS, Agent, check, free_port, program_of
+from tool.measuring import busy, check, head, played, ratio, row
+from tool.pages import GCC
+from tool.peers import LOOPBACK, TURNS, Agent, free_port
 
 MEMORY = 65_536
 MAGIC = b'\x7fELF'
@@ -262,29 +257,29 @@ def over_a_socket(program, pairs):
     return [statistics.median(found) for found in times]
 
 
-def in_schedules(program, pairs, turns=7):
+def in_schedules(program, pairs, turns):
     """The same of processor time, by schedules with so many starts of one image, without what they take that have none."""
     pair = 'send A Processes start "" "i" [] [] true\nsend A RunControl terminate "P%d"\nrounds 1\n'
     rows, times = ''.join(pair % process for process in range(1, pairs + 1)), ([], [])
     for _ in range(turns):
         for image, found in zip(long_images(), times):
-            head = f'image i {image.hex()}\nchain A 0\nopen A\nrounds 1\n'
-            found.append((played(program, head + rows) - played(program, head)) / pairs * 1e6)
+            lines = f'image i {image.hex()}\nchain A 0\nopen A\nrounds 1\n'
+            found.append((played(program, lines + rows).seconds - played(program, lines).seconds) / pairs * 1e6)
     return [statistics.median(found) for found in times]
 
 
 def measured(what, elf, raw):
-    return check(f'a start and its end, {what}: {elf:.1f} microseconds from an ELF file, {raw:.1f} from raw bytes, '
-                 f'ratio {elf / raw:.2f}, at most 2', elf <= 2 * raw)
+    row(what, f'{elf:.1f}', f'{raw:.1f}', ratio(elf, raw))
+    return check('at most twice as long', elf <= 2 * raw)
 
 
-def main():
-    words = argparse.ArgumentParser(description=__doc__, formatter_class=argparse.RawDescriptionHelpFormatter)
-    words.add_argument('program', nargs='?')
+def arguments(words):
     for name, default in (('--mutations', 100_000), ('--seed', 1), ('--batch', 250), ('--pairs', 2_000)):
         words.add_argument(name, type=int, default=default)
-    words = words.parse_args()
-    program = program_of([sys.argv[0], *([words.program] if words.program else [])])
+
+
+def measure(given):
+    program = given.program
     others = [with_number(GOOD, place, 1, 0) for place in range(4)] + [bytes(MEMORY), bytes(MEMORY + 1)]
     groups = [('another number in a fixed field', wrong_fields()), ('cut at each byte', [GOOD[:size] for size in range(SIZE)]),
               ('segments, tables and entries at edges', at_edges()), ('other first bytes', others)]
@@ -293,11 +288,7 @@ def main():
     else:
         print(f'     no {GCC}, so what it links is left out')
     fine = all([told(what, images, differing(program, images)) for what, images in groups])
-    fine &= mutations(program, words.mutations, words.batch, words.seed)
-    fine &= measured('over a socket', *over_a_socket(program, words.pairs))
-    fine &= measured('of processor time', *in_schedules(program, words.pairs))
-    sys.exit(not fine)
-
-
-if __name__ == '__main__':
-    main()
+    fine &= mutations(program, given.mutations, given.batch, given.seed)
+    head('microseconds for a start and its end', 'an ELF file', 'raw bytes', 'ratio')
+    fine &= measured('over a socket', *over_a_socket(program, given.pairs))
+    return fine & measured('of processor time, in schedules', *in_schedules(program, given.pairs, given.turns))

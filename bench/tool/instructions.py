@@ -1,22 +1,17 @@
-#!/usr/bin/env python3
 """Compares the machine with QEMU: each instruction of RV32IM that computes, loads, stores or jumps, on random operands.
 
-usage: bench/instructions.py PROGRAM [SEEDS]
-
-PROGRAM is the built program `tcf`. programs/instructions.c is compiled for each seed (1, 2, and so on, up to SEEDS: 20), once
-to be played by PROGRAM, which ends at an ebreak, and once for qemu-riscv32; what both leave is compared byte by byte. It wants
-riscv64-unknown-elf-gcc and qemu-riscv32 (Debian: gcc-riscv64-unknown-elf, qemu-user). Of the 48 instructions ecall and ebreak
-alone aren't compared: the program ends by them.
+programs/instructions.c is compiled for each seed (1, 2, and so on), once to be played by the program, which ends at an ebreak, and
+once for qemu-riscv32; what both leave is compared byte by byte. It wants riscv64-unknown-elf-gcc and qemu-riscv32 (Debian:
+gcc-riscv64-unknown-elf, qemu-user). Of the 48 instructions ecall and ebreak alone aren't compared: the program ends by them.
 """
 import base64
 import pathlib
 import subprocess
-import sys
 import tempfile
 
-from run import repeated
+from tool.measuring import HERE, TOP, check, holds
+from tool.schedules import repeated
 
-HERE = pathlib.Path(__file__).resolve().parent
 FLAGS = ["-march=rv32im", "-mabi=ilp32", "-O2", "-ffreestanding", "-nostdlib", "-Wl,--no-warn-rwx-segments,--no-relax"]
 TICKS = 300_000
 
@@ -24,7 +19,7 @@ TICKS = 300_000
 def compiled(folder, seed, hosted):
     """The ELF file of the program, for QEMU or for the machine."""
     elf = f"{folder}/{'hosted' if hosted else 'bare'}.elf"
-    more = ["-DHOSTED"] if hosted else ["-T", f"{HERE}/programs/program.ld", f"{HERE}/../examples/program/start.S"]
+    more = ["-DHOSTED"] if hosted else ["-T", f"{HERE}/programs/program.ld", f"{TOP}/examples/program/start.S"]
     words = ["riscv64-unknown-elf-gcc", *FLAGS, f"-DSEED={seed}", *more, f"{HERE}/programs/instructions.c", "-lgcc", "-o", elf]
     subprocess.run(words, check=True)
     return elf
@@ -49,24 +44,21 @@ def in_machine(program, folder, seed):
     lines = f"image bare {pathlib.Path(image).read_bytes().hex()}\nchain A 0\nopen A\nrounds 1\n" + start + repeated(TICKS, "tick P1.1") + read
     pathlib.Path(schedule).write_text(lines)
     log = subprocess.run([program, "chain", schedule], check=True, stdout=subprocess.PIPE, text=True).stdout
-    assert '"Exception"' in log, "the program didn't come to its end"
+    holds("the program didn't come to its end", '"Exception"' in log)
     return base64.b64decode(log.splitlines()[-2].split('"')[1])
 
 
-def main():
-    if len(sys.argv) not in (2, 3):
-        sys.exit(__doc__)
-    seeds = int(sys.argv[2]) if len(sys.argv) == 3 else 20
+def arguments(words):
+    words.add_argument("--seeds", type=int, default=20)
+
+
+def measure(given):
     words = 0
-    for seed in range(1, seeds + 1):
+    for seed in range(1, given.seeds + 1):
         with tempfile.TemporaryDirectory() as folder:
-            ours, theirs = in_machine(sys.argv[1], folder, seed), in_qemu(folder, seed)
+            ours, theirs = in_machine(given.program, folder, seed), in_qemu(folder, seed)
             differ = [place for place in range(0, len(theirs), 4) if ours[place:place + 4] != theirs[place:place + 4]]
             if len(ours) != len(theirs) or differ:
-                sys.exit(f"seed {seed}: {len(differ)} of {len(theirs) // 4} words differ, the first at {differ[:1]}")
+                return check(f"seed {seed}: {len(differ)} of {len(theirs) // 4} words differ, the first at {differ[:1]}", False)
             words += sum(any(theirs[place:place + 4]) for place in range(0, len(theirs), 4))
-    print(f"{seeds} seeds: all results are the same, {words} of them not 0")
-
-
-if __name__ == "__main__":
-    main()
+    return check(f"{given.seeds} seeds: all results are the same, {words:,} of them not 0", True)

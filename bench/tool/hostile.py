@@ -1,15 +1,9 @@
-#!/usr/bin/env python3
 """Puts random and half-right bytes into `tcf agent`, `tcf value`, `tcf hub` and `tcf client` on loopback, beside good clients.
 
-    bench/hostile.py [PROGRAM] [--streams N] [--connections N] [--sessions N] [--seed N]
-
-Without PROGRAM it builds the program first, which proves it. A stream is one connection with some bytes. N streams go into an
-agent, a tenth as many each into a value-add from below and from a peer above that lies, and into a hub from below, and a
-hundredth as many into hubs from above, each into a hub of its own; N sessions are runs of the client before a server that
-lies. Each line says whether what is wanted held, and the figures. It ends with status 1 where
-a line says NO.
+A stream is one connection with some bytes. N streams go into an agent, a tenth as many each into a value-add from below and from a peer
+above that lies, and into a hub from below, and a hundredth as many into hubs from above, each into a hub of its own; N sessions are runs
+of the client before a server that lies. Each line says whether what is wanted held, and the figures.
 """
-import argparse
 import random
 import resource
 import select
@@ -21,9 +15,10 @@ import threading
 import time
 from pathlib import Path
 
-from hub import Hub, Shared
-from relay import Relayed, ValueAdd, address
-from serve import EOM, EOS, HELLO, LOOPBACK, TURNS, Agent, Channel, check, connected, free_port, processor, program_of, reset
+from tool.measuring import check, processor
+from tool.measuring import resident as kib
+from tool.peers import (EOM, EOS, HELLO, LOOPBACK, TURNS, Agent, Channel, Hub, Relayed, Shared, ValueAdd, address, connected, free_port,
+                        reset)
 
 # an answer beside hostile peers may take so many seconds
 BOUND = 2.0
@@ -221,13 +216,6 @@ class Good:
 
     def said(self):
         return f'{self.asked:,} answers to a good client beside, {self.longest * 1000:.1f} ms at most'
-
-
-def kib(process):
-    for line in Path(f'/proc/{process.pid}/status').read_text().splitlines():
-        if line.startswith('VmRSS'):
-            return int(line.split()[1])
-    return 0
 
 
 def told(what, holds, begin, more):
@@ -666,31 +654,22 @@ def stay_when_shut(program, clients=200):
                 f'{good.said()}; the agent has {before} descriptors before, {most} at most, {after} after 3 s')
 
 
-def main():
-    words = argparse.ArgumentParser(description=__doc__, formatter_class=argparse.RawDescriptionHelpFormatter)
-    words.add_argument('program', nargs='?')
-    words.add_argument('--streams', type=int, default=2000)
-    words.add_argument('--connections', type=int, default=3000)
-    words.add_argument('--sessions', type=int, default=100)
-    words.add_argument('--seed', type=int, default=1)
-    words = words.parse_args()
-    program = program_of([sys.argv[0], *([words.program] if words.program else [])])
-    dice = random.Random(words.seed)
-    few = max(10, words.streams // 10)
-    fine = into_agent(program, words.streams, dice)
+def arguments(words):
+    for name, default in (('--streams', 2000), ('--connections', 3000), ('--sessions', 100), ('--seed', 1)):
+        words.add_argument(name, type=int, default=default)
+
+
+def measure(given):
+    program, dice, few = given.program, random.Random(given.seed), max(10, given.streams // 10)
+    fine = into_agent(program, given.streams, dice)
     fine &= into_value_below(program, few, dice)
     fine &= into_value_above(program, few, dice)
     fine &= into_hub_below(program, few, dice)
     fine &= into_hub_above(program, max(10, few // 10), dice)
-    fine &= into_client(program, words.sessions, dice)
+    fine &= into_client(program, given.sessions, dice)
     fine &= unread_input(program, few, dice)
     fine &= stay_when_shut(program)
-    fine &= many_connections('an agent', lambda: Agent(program), words.connections)
-    fine &= many_connections('a value-add that leads to an agent', lambda: Led(program), words.connections)
+    fine &= many_connections('an agent', lambda: Agent(program), given.connections)
+    fine &= many_connections('a value-add that leads to an agent', lambda: Led(program), given.connections)
     fine &= never_read(program)
-    fine &= descriptors(program)
-    sys.exit(not fine)
-
-
-if __name__ == '__main__':
-    main()
+    return fine & descriptors(program)

@@ -1,215 +1,17 @@
-#!/usr/bin/env python3
 """Starts `tcf agent` on loopback, treats it badly, and measures it beside gdbserver and QEMU's stub.
 
-    bench/serve.py                    builds the program first, which proves it
-    bench/serve.py PROGRAM            takes a program that is built
-    bench/serve.py PROGRAM BEFORE     and compares it with an earlier one, in runs that alternate
-
-It wants Python 3, and Debian's gdbserver and qemu-system-misc for the comparison; without them only the agent is measured.
+It wants Debian's gdbserver and qemu-system-misc for the comparison; without them only the agent is measured.
 """
-import base64
-import os
 import re
 import shutil
-import socket
-import struct
+import statistics
 import subprocess
 import sys
 import tempfile
 import time
-from pathlib import Path
 
-HERE = Path(__file__).resolve().parent
-LOOPBACK = '127.0.0.1'
-EOM, EOS = b'\x03\x01', b'\x03\x02'
-HELLO = b'E\0Locator\0Hello\0["Locator"]\0' + EOM
-TURNS = '1000000000'
-
-# addi x5, x5, 1; jal x0, -4: a program that counts for ever
-IMAGE = bytes.fromhex('938212006ff0dfff')
-
-
-def free_port():
-    with socket.socket() as s:
-        s.bind((LOOPBACK, 0))
-        return s.getsockname()[1]
-
-
-def connected(port, tries=200):
-    for _ in range(tries):
-        try:
-            s = socket.create_connection((LOOPBACK, port), timeout=10)
-            s.setsockopt(socket.IPPROTO_TCP, socket.TCP_NODELAY, 1)
-            return s
-        except OSError:
-            time.sleep(0.02)
-    sys.exit(f'nothing listens on port {port}')
-
-
-def processor(process):
-    """Seconds of processor time that a process took so far."""
-    fields = Path(f'/proc/{process.pid}/stat').read_text().rsplit(')', 1)[1].split()
-    return (int(fields[11]) + int(fields[12])) / os.sysconf('SC_CLK_TCK')
-
-
-class Agent:
-    """`tcf agent` with one image, `loop`."""
-
-    def __init__(self, program, port=None):
-        self.port = port or free_port()
-        self.folder = tempfile.TemporaryDirectory()
-        image = Path(self.folder.name) / 'loop.bin'
-        image.write_bytes(IMAGE)
-        self.process = subprocess.Popen([program, 'agent', f'{LOOPBACK}:{self.port}', TURNS, f'loop={image}'],
-                                        stdout=subprocess.DEVNULL)
-
-    def memory(self):
-        """KiB that are resident now."""
-        for line in Path(f'/proc/{self.process.pid}/status').read_text().splitlines():
-            if line.startswith('VmRSS'):
-                return int(line.split()[1])
-
-    def processor(self):
-        return processor(self.process)
-
-    def lives(self):
-        return self.process.poll() is None
-
-    def channel(self):
-        return Channel(self.port)
-
-    def __enter__(self):
-        return self
-
-    def __exit__(self, *what):
-        self.process.kill()
-        self.process.wait()
-        self.folder.cleanup()
-
-
-class Channel:
-    """A client of the Target Communication Framework."""
-
-    def __init__(self, port):
-        self.socket = connected(port)
-        self.came = b''
-        self.token = 0
-        self.socket.sendall(HELLO)
-        self.message()
-
-    def message(self):
-        while EOM not in self.came:
-            piece = self.socket.recv(65536)
-            if not piece:
-                raise EOFError
-            self.came += piece
-        message, self.came = self.came.split(EOM, 1)
-        return message
-
-    def command(self, service, name, *arguments):
-        self.token += 1
-        parts = [b'C', str(self.token).encode(), service.encode(), name.encode(), *(a.encode() for a in arguments)]
-        return b'\0'.join(parts) + b'\0' + EOM
-
-    def ask(self, *words):
-        """The answer to one command; events before it are passed over."""
-        self.socket.sendall(self.command(*words))
-        return self.answer(self.token)
-
-    def answer(self, token):
-        while True:
-            message = self.message()
-            if message[:1] in b'RN' and message.split(b'\0')[1] == str(token).encode():
-                return message
-
-    def event(self, name):
-        while True:
-            message = self.message()
-            if message[:1] == b'E' and message.split(b'\0')[2] == name:
-                return message
-
-    def start(self):
-        """Starts the image, suspended, and answers its process's ID."""
-        answer = self.ask('Processes', 'start', '""', '"loop"', '[]', '[]', 'true')
-        return answer.split(b'"ID":"')[1].split(b'"')[0].decode()
-
-    def resume(self, thread):
-        self.ask('RunControl', 'resume', f'"{thread}"', '0', '1')
-
-    def suspend(self, thread):
-        self.ask('RunControl', 'suspend', f'"{thread}"')
-
-    def executed(self, thread):
-        """How many instructions of the loop the thread, which is suspended, has executed: every other one adds 1 to x5."""
-        answer = self.ask('Registers', 'get', f'"{thread}.x5"')
-        return 2 * int.from_bytes(base64.b64decode(answer.split(b'\0')[3].strip(b'"')), 'little')
-
-    def close(self):
-        self.socket.close()
-
-
-class Gdb:
-    """A client of gdb's remote protocol."""
-
-    def __init__(self, port):
-        self.socket = connected(port)
-        self.came = b''
-        self.socket.sendall(b'+')
-        self.ask(b'QStartNoAckMode')
-        self.socket.sendall(b'+')
-
-    def packet(self):
-        while True:
-            start = self.came.find(b'$')
-            end = self.came.find(b'#', start)
-            if start >= 0 and 0 <= end <= len(self.came) - 3:
-                body, self.came = self.came[start + 1:end], self.came[end + 3:]
-                return body
-            piece = self.socket.recv(65536)
-            if not piece:
-                raise EOFError
-            self.came += piece
-
-    @staticmethod
-    def spelled(body):
-        return b'$' + body + b'#%02x' % (sum(body) % 256)
-
-    def ask(self, body):
-        self.socket.sendall(self.spelled(body))
-        return self.packet()
-
-    def close(self):
-        self.socket.close()
-
-
-def rate(process, count, do):
-    """How many a second, over a run of about a second after a short one; and the microseconds of this process's processor
-    time for each."""
-    do()
-    begin, before, done = time.perf_counter(), processor(process), 0
-    while time.perf_counter() - begin < 1:
-        do()
-        done += count
-    return done / (time.perf_counter() - begin), (processor(process) - before) / done * 1_000_000
-
-
-# ---- the agent, measured
-
-def asked(channel, many, *words):
-    def do():
-        first = channel.token + 1
-        channel.socket.sendall(b''.join(channel.command(*words) for _ in range(many)))
-        for token in range(first, first + many):
-            channel.answer(token)
-    return do
-
-
-def stepped(channel, thread):
-    def do():
-        channel.ask('RunControl', 'resume', f'"{thread}"', '2', '1')
-        channel.event(b'contextSuspended')
-    return do
-
+from tool.measuring import check, head, programs, ratio, row
+from tool.peers import EOM, EOS, LOOPBACK, Agent, Channel, Gdb, asked, connected, free_port, rate, reset, rest_of, served, stepped
 
 def measure_agent(agent):
     channel = Channel(agent.port)
@@ -273,18 +75,13 @@ def measure_running(program):
     }
 
 
-def compare_running(program, before):
-    """The same of two programs, in five runs each that alternate, of which the middle one counts."""
-    programs = [program] if before is None else [before, program]
-    runs = [[measure_running(one) for one in programs] for _ in range(5)]
-    print('| a second | ' + ' | '.join(['before', 'now', 'ratio'] if before else ['now']) + ' |')
-    print('|---' * (4 if before else 2) + '|')
+def compare_running(given):
+    """The same of two programs, in runs that alternate, of which the middle one counts."""
+    runs = [[measure_running(program) for program in programs(given)] for _ in range(given.turns)]
+    head('a second', *(['now', 'before', 'ratio'] if given.before else ['now']))
     for what in runs[0][0]:
-        middle = [sorted(run[at][what] for run in runs)[2] for at in range(len(programs))]
-        row = [f'{count:,.0f}' for count in middle]
-        if before:
-            row.append(f'{middle[1] / middle[0]:.2f}' if middle[0] else '-')
-        print(f'| {what} | ' + ' | '.join(row) + ' |')
+        middle = [statistics.median(run[at][what] for run in runs) for at in range(len(runs[0]))]
+        row(what, *(f'{count:,.0f}' for count in middle), *([ratio(*middle)] if given.before else []))
 
 
 def crowded(program):
@@ -387,18 +184,14 @@ def compare(program):
     with Agent(program) as agent:
         ours = measure_agent(agent)
     others = {'gdbserver': measure_gdbserver(), 'QEMU': measure_qemu()}
-    print('| a second | `tcf agent` | gdbserver | QEMU | to gdbserver | to QEMU |')
-    print('|---|---|---|---|---|---|')
+    head('a second', '`tcf agent`', 'gdbserver', 'QEMU', 'to gdbserver', 'to QEMU')
     for what, (count, _) in ours.items():
-        row = [f'{count:,.0f}']
-        row += [f'{rates[what][0]:,.0f}' if rates else '-' for rates in others.values()]
-        row += [f'{count / rates[what][0]:.2f}' if rates else '-' for rates in others.values()]
-        print(f'| {what} | ' + ' | '.join(row) + ' |')
-    print('| microseconds of its processor time for one | `tcf agent` | gdbserver | QEMU |')
-    print('|---|---|---|---|')
+        cells = [f'{rates[what][0]:,.0f}' if rates else '-' for rates in others.values()]
+        cells += [ratio(count, rates[what][0]) if rates else '-' for rates in others.values()]
+        row(what, f'{count:,.0f}', *cells)
+    head('microseconds of its processor time for one', '`tcf agent`', 'gdbserver', 'QEMU')
     for what, (_, cost) in ours.items():
-        row = [f'{cost:.1f}'] + [f'{rates[what][1]:.1f}' if rates else '-' for rates in others.values()]
-        print(f'| {what} | ' + ' | '.join(row) + ' |')
+        row(what, f'{cost:.1f}', *(f'{rates[what][1]:.1f}' if rates else '-' for rates in others.values()))
 
 
 # ---- idle and flooding peers
@@ -446,33 +239,6 @@ def flooded(program):
 
 
 # ---- peers that behave badly
-
-def check(what, holds):
-    print(f'{"yes" if holds else "NO "}  {what}')
-    return holds
-
-
-def reset(channel_socket):
-    channel_socket.setsockopt(socket.SOL_SOCKET, socket.SO_LINGER, struct.pack('ii', 1, 0))
-    channel_socket.close()
-
-
-def served(peer):
-    channel = peer.channel()
-    answer = channel.ask('Locator', 'sync')
-    channel.close()
-    return answer.startswith(b'R')
-
-
-def rest_of(s):
-    got = b''
-    try:
-        while piece := s.recv(65536):
-            got += piece
-    except ConnectionError:
-        pass
-    return got
-
 
 def treat_badly(start):
     """What a peer does whose clients behave badly: `start` begins an agent, perhaps behind a value-add."""
@@ -530,26 +296,13 @@ def comes_too_early(program):
         return check('a client that is there before the agent says `wire fault`', run.stdout == b'wire fault\n' and run.returncode == 5)
 
 
-def program_of(words):
-    if len(words) > 1:
-        program = words[1]
-    else:
-        subprocess.run(['rt', 'run'], cwd=HERE.parent / 'crates' / 'tcf', stdout=subprocess.DEVNULL, check=True)
-        program = HERE.parent / 'crates' / 'tcf' / 'out' / 'tcf'
-    return str(Path(program).resolve())
-
-
-def main():
-    program = program_of(sys.argv)
+def measure(given):
+    program = given.program
     fine = treat_badly(lambda: Agent(program))
     fine &= comes_too_early(program)
     fine &= crowded(program)
     many_idle(program)
     flooded(program)
-    compare_running(program, str(Path(sys.argv[2]).resolve()) if len(sys.argv) > 2 else None)
+    compare_running(given)
     compare(program)
-    sys.exit(not fine)
-
-
-if __name__ == '__main__':
-    main()
+    return fine

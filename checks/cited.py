@@ -2,8 +2,8 @@
 """Says which libraries crates.txt lists for a crate though no file of the crate names them, which it leaves out, and how many
 paths lead down from each crate through the list: tools that sum up a crate's sources along each path take as long as that.
 
-    bench/cited.py            prints what differs and the sums; status 1 where something differs
-    bench/cited.py --paths    prints the number of paths of each crate too
+    checks/cited.py            prints what differs and the sums; status 1 where something differs
+    checks/cited.py --paths    prints the number of paths of each crate too
 """
 import re
 import subprocess

@@ -1,5 +1,6 @@
 #!/bin/bash
-# What the built program shows: the commands of the pages, and gdb through the bridge, as far as what they want is installed.
+# gdb through the bridge, with the built program: packets that are wrong or drawn, and, as far as what that wants is installed,
+# sessions beside QEMU.
 #
 #     gdb/check.sh [PROGRAM]
 #
@@ -27,7 +28,6 @@ try() {
     fi
 }
 
-try docs/commands.py --fast --program "$program"
 try gdb/hostile.py "$program"
 lacking=
 for name in gdb-multiarch qemu-riscv32 riscv64-unknown-elf-gcc; do

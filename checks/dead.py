@@ -19,7 +19,6 @@ TOP = Path(__file__).resolve().parent.parent / 'crates'
 WORD = re.compile(r"[\w'×]+")
 START = re.compile(r"(abbrev|unfoldable(?! pub use)|def|record|data|pub (?!use|mod)\S+) |[\w']+ : ")
 NAMED = re.compile(r"(?:(?:pub|abbrev|unfoldable|def|record|data) )*(\S+)")
-OF_FUNCTIONS = {'Answers', 'Invariants', 'Proof'}
 
 # A definition or lemma: its file, its name, its line, the words that it says, and whether a comment stands above it.
 Item = namedtuple('Item', 'file name line words told is_pub')
@@ -29,7 +28,7 @@ class File:
     """A file: its items, the words that stand outside of them, and what its uses name."""
 
     def __init__(self, path):
-        self.path = path
+        self.path, self.stem = path, path.stem
         self.crate, self.part, *_ = path.relative_to(TOP).parts
         text = path.read_text()
         mark = '--' if path.suffix == '.antt' else '//'
@@ -76,7 +75,7 @@ def uncited(all_files):
 
     def cited(file, words):
         for word in words & by_name.keys():
-            yield from (item for item in by_name[word] if item.file is file or item.file.path.stem in file.seen)
+            yield from (item for item in by_name[word] if item.file is file or item.file.stem in file.seen)
     live = set()
     queue = [item for file in all_files for item in cited(file, file.words)]
     while queue:
@@ -89,9 +88,9 @@ def uncited(all_files):
 
 def untold(all_files):
     """The definitions in files that a `Lib.antt` of specs gives out, with no comment above them."""
-    given = {(file.crate, name) for file in all_files if file.part == 'specs' and file.path.stem == 'Lib'
+    given = {(file.crate, name) for file in all_files if file.part == 'specs' and file.stem == 'Lib'
              for name in re.findall(r'(?m)^pub mod (\w+)', file.path.read_text())}
-    return [item for file in all_files if file.part == 'specs' and (file.crate, file.path.stem) in given
+    return [item for file in all_files if file.part == 'specs' and (file.crate, file.stem) in given
             for item in file.items if item.is_pub and not item.told]
 
 

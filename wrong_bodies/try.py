@@ -113,11 +113,14 @@ def write_table():
 
 # ---- trying
 
-def link(one, other):
-    try:
-        os.link(one, other)
-    except OSError:
-        shutil.copy2(one, other)
+def taken_along(one, other):
+    """Links what was proved, since a check replaces such a file and changes none, and copies the rest."""
+    if one.endswith('.oantt'):
+        try:
+            return os.link(one, other)
+        except OSError:
+            pass
+    return shutil.copy2(one, other)
 
 
 def copy_to(folder):
@@ -129,7 +132,7 @@ def copy_to(folder):
         shutil.copytree(here, there, ignore=lambda at, names: [name for name in names if name in ('out', 'must-fail')])
         for kept in KEPT:
             if (here / 'out' / kept).is_dir():
-                shutil.copytree(here / 'out' / kept, there / 'out' / kept, copy_function=link)
+                shutil.copytree(here / 'out' / kept, there / 'out' / kept, copy_function=taken_along)
 
 
 def tried(folder, crate, edits):

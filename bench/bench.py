@@ -41,6 +41,8 @@ WHATS = re.findall(r'(?m)^    (\w+) {2,}', __doc__)
 def main():
     words = argparse.ArgumentParser(description=__doc__, formatter_class=argparse.RawDescriptionHelpFormatter, add_help=False)
     words.add_argument('what', metavar='WHAT', choices=WHATS, nargs='?')
+    if sys.argv[1:] in (['-h'], ['--help']):
+        return print(__doc__)
     if len(sys.argv) < 2 or sys.argv[1] not in WHATS:
         sys.exit(__doc__)
     module = importlib.import_module(f'tool.{sys.argv[1]}')

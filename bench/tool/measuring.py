@@ -122,6 +122,13 @@ def compared(given, what, measure, form='{:.3f}'):
     return middle[0]
 
 
+def alone(given, what, measure, form='{:.3f}'):
+    """Such a row of what an earlier program need not be able to do; answers the figure."""
+    (middle,) = in_turn([lambda: measure(given.program)], given.turns)
+    row(what, form.format(middle), *(['-', '-'] if given.before else []))
+    return middle
+
+
 def ratio(now, before):
     return f'{now / before:.2f}' if before else '-'
 

@@ -3,13 +3,12 @@
 An earlier program need not know multiplication. Where gcc for RISC-V is installed, SHA-256 of 4,096 bytes (programs/sha256.c) is
 executed too.
 """
-import argparse
 import pathlib
 import shutil
 import subprocess
 import tempfile
 
-from tool.measuring import HERE, TOP, check, compared, head_of, played
+from tool.measuring import HERE, TOP, alone, check, compared, head_of, played
 from tool.peers import IMAGE, Agent
 from tool.schedules import opened, repeated
 
@@ -97,7 +96,8 @@ def sha256(march):
     with tempfile.TemporaryDirectory() as folder:
         elf, image = f"{folder}/sha.elf", pathlib.Path(folder) / "sha.bin"
         sources = [f"{TOP}/examples/program/start.S", f"{HERE}/programs/sha256.c", "-lgcc"]
-        flags = [f"-march={march}", "-mabi=ilp32", "-O2", "-ffreestanding", "-nostdlib", "-T", f"{HERE}/programs/program.ld", "-Wl,--no-warn-rwx-segments"]
+        flags = [f"-march={march}", "-mabi=ilp32", "-O2", "-ffreestanding", "-nostdlib", "-T", f"{HERE}/programs/program.ld",
+                 "-Wl,--no-warn-rwx-segments"]
         subprocess.run([GCC, *flags, *sources, "-o", elf], check=True)
         subprocess.run([GCC.replace("gcc", "objcopy"), "-O", "binary", elf, image], check=True)
         return image.read_bytes()
@@ -139,8 +139,8 @@ def measure(given):
     most = compared(given, "KiB that 63 processes of an image of 32 KiB take, three pages of each written", memories, "{:,.0f}")
     figures = [compared(given, what, measured, "{:.3f} s") for what, measured in MEASURES]
     if shutil.which(GCC):
-        for march, played_by in (("rv32i", given), ("rv32im", argparse.Namespace(**{**vars(given), "before": None}))):
+        for march, figure in (("rv32i", compared), ("rv32im", alone)):
             for way, traced in WAYS:
-                compared(played_by, f"SHA-256 by {way}, {march}", hashed(march, traced), "{:.3f} s")
+                figure(given, f"SHA-256 of 4,096 bytes by {way}, {march}", hashed(march, traced), "{:.3f} s")
     fine = check("below 3 MiB", most < 3 * 1024)
     return fine & check("ticks beside 256 breakpoints take at most 1.2 times as long", figures[1] <= 1.2 * figures[0])

@@ -16,8 +16,8 @@ from collections import namedtuple
 from pathlib import Path
 
 TOP = Path(__file__).resolve().parent.parent / 'crates'
-WORD = re.compile(r"[\w'×]+")
-START = re.compile(r"(abbrev|unfoldable(?! pub use)|def|record|data|pub (?!use|mod)\S+) |[\w']+ : ")
+WORD = re.compile(r"[\w'×-]+")
+START = re.compile(r"(abbrev|unfoldable(?! pub use)|def|record|data|pub (?!use|mod)\S+) |[\w'×-]+ : ")
 NAMED = re.compile(r"(?:(?:pub|abbrev|unfoldable|def|record|data) )*(\S+)")
 
 # A definition or lemma: its file, its name, its line, the words that it says, and whether a comment stands above it.
@@ -34,10 +34,10 @@ class File:
         mark = '--' if path.suffix == '.antt' else '//'
         lines = text.split('\n')
         self.seen = set(WORD.findall(text))
-        self.locals = dict(re.findall(r"([\w'×]+) as ([\w'×]+)", text))
+        self.locals = dict(re.findall(r"([\w'×-]+) as ([\w'×-]+)", text))
         is_kept = path.suffix == '.antt' and (self.part == 'specs' or path.parent.name == 'proofs')
         self.items, self.words = [], set()
-        inside = [line[2:] if line.startswith('  ') else line for line in lines] if 'module _ ' in text else lines
+        inside = at_the_margin(lines)
         starts = [n for n, line in enumerate(inside) if is_kept and START.match(line)]
         starts = [n for place, n in enumerate(starts) if place == 0 or name_in(inside[n]) != name_in(inside[starts[place - 1]])]
         for start, after in zip(starts, starts[1:] + [len(lines)]):
@@ -55,6 +55,18 @@ class File:
             code = re.sub(r'(?m)^\s*(?:unfoldable )?(?:pub )?ghost use .*$', '', code)
         words = set(WORD.findall(code))
         return words | {name for name, local in self.locals.items() if local in words}
+
+
+def at_the_margin(lines):
+    """The lines with those of a `module` or a `mutual` brought to the margin."""
+    inside, out = False, []
+    for line in lines:
+        if re.match(r'module |mutual$', line):
+            inside, line = True, ''
+        elif inside and line and not line.startswith(('  ', '--')):
+            inside = False
+        out.append(line.removeprefix('  ') if inside else line)
+    return out
 
 
 def name_in(line):

@@ -1,5 +1,0 @@
-//! Tests of `elf_image`.
-#![tactic(auto)]
-
-#[cfg(test)]
-mod reading;

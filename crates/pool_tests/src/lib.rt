@@ -1,5 +1,0 @@
-//! Tests of pools and of pending commands.
-#![tactic(auto)]
-
-#[cfg(test)]
-mod pool;

@@ -58,7 +58,9 @@ class File:
 
 
 def at_the_margin(lines):
-    """The lines with those of a `module` or a `mutual` brought to the margin."""
+    """The lines with those of each `module` and `mutual`, also of one in another, brought to the margin."""
+    if not any(re.match(r'module |mutual$', line) for line in lines):
+        return lines
     inside, out = False, []
     for line in lines:
         if re.match(r'module |mutual$', line):
@@ -66,7 +68,7 @@ def at_the_margin(lines):
         elif inside and line and not line.startswith(('  ', '--')):
             inside = False
         out.append(line.removeprefix('  ') if inside else line)
-    return out
+    return at_the_margin(out)
 
 
 def name_in(line):

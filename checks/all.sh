@@ -1,6 +1,6 @@
 #!/bin/bash
-# What can be checked with python3 and the built program alone: the pages, crates.txt, and the wrong bodies beside the gate; and
-# gdb through the bridge, as far as what that wants is installed.
+# What can be checked with python3 and the built program alone: the pages and crates.txt; and gdb through the bridge, as far as
+# what that wants is installed.
 #
 #     checks/all.sh [PROGRAM]
 #
@@ -26,7 +26,6 @@ try() {
 try checks/believe.py
 try checks/cited.py
 try checks/layers.py
-try wrong_bodies/try.py --list
 if [ -x "$program" ]; then
     try checks/commands.py --fast --program "$program"
     gdb/check.sh "$program" || status=1

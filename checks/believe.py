@@ -5,10 +5,10 @@ The headline is one clause of one public function (CLAUSE). From the names that 
 the definitions of `crates/*/specs/*.antt` and the Rust types of `crates/*/src/`, counts the lines of each definition
 once, for the first row of the page that needs it, and compares the counts with the page's table.
 
-    python3 docs/believe.py            check the page: exit 1, with a line for each difference
-    python3 docs/believe.py --write    write the page's table anew
-    python3 docs/believe.py --files 2  print the files of row 2, in reading order: the lines that count, and those of the whole
-    python3 docs/believe.py --read 2   print the definitions of row 2, in the same order
+    python3 checks/believe.py            check the page: exit 1, with a line for each difference
+    python3 checks/believe.py --write    write the page's table anew
+    python3 checks/believe.py --files 2  print the files of row 2, in reading order: the lines that count, and those of the whole
+    python3 checks/believe.py --read 2   print the definitions of row 2, in the same order
 
 A row of the page is a section `## 2. Title`. The line behind its title is its question, and its line `Begins at:` names
 the definitions that it begins at, as `Name`, `File.Name` or `crate.File.Name`. It ends where a later row begins.

@@ -1,9 +1,9 @@
 #!/usr/bin/env python3
 """Runs the commands that the pages show, and compares what they print with what the pages show behind them.
 
-    docs/commands.py                      README.md, docs/TUTORIAL.md, FRONT_END.md, SERVING.md, JOURNALS.md and GDB.md
-    docs/commands.py --fast PAGE ..       these pages, without what is slow
-    docs/commands.py --program PATH       with this built `tcf`, where none lies in crates/tcf/out/tcf
+    checks/commands.py                      README.md, docs/TUTORIAL.md, FRONT_END.md, SERVING.md, JOURNALS.md and GDB.md
+    checks/commands.py --fast PAGE ..       these pages, without what is slow
+    checks/commands.py --program PATH       with this built `tcf`, where none lies in crates/tcf/out/tcf
 
 All runs in a copy of the repository, with free ports in place of those on which the pages listen. It ends with status 1
 where something differs. It wants Python 3 and bash.

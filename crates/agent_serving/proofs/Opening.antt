@@ -3,7 +3,6 @@ use Rattle.std.proofs.Common.{◌≡◌, ◌⊎◌, inl, inr, ℕ, Bool, ◌||�
 use Rattle.std.specs.Prelude.{Err, Ok, is_err}
 use Rattle.std.specs.List.{IsDistinct, list_any}
 use Rattle.target_contexts.specs.declared.process.Image.{Image}
-use Rattle.tcf_wires.specs.Event.{faults_after}
 use Rattle.tcf_wires.specs.Told.{WiresSeen, noted}
 use Rattle.tcf_wires.specs.declared.call.WireCall.{WireCall}
 use Rattle.tcf_wires.specs.declared.call.WireCall.TheVariants.{Listened}
@@ -58,15 +57,15 @@ pub not_begun : (images : List Image) (address : List ℕ) (turns : ℕ) (seen :
 not_begun images address turns seen = makes_none (ServesAgent images address turns NoMemory) seen (none_served images address turns)
 
 pub not_listened : (refusal : WireRefusal) → WireLaws → (images : List Image) (address : List ℕ) (turns : ℕ) (seen seen_then : WiresSeen)
-    → seen_then.told ≡ noted (unheard refusal) (Listened address (unheard refusal)) seen.told → seen_then.faults ≡ faults_after (unheard refusal) seen.faults
+    → seen_then ≡ noted (unheard refusal) (Listened address (unheard refusal)) seen
     → Makes (ServesAgent images address turns (end_of (Err refusal))) seen seen_then
-not_listened refusals.Failed laws images address turns seen seen_then tells counts =
+not_listened refusals.Failed laws images address turns seen seen_then fails =
     makes_one (ServesAgent images address turns WireFault) (Listened address (Err refusals.Failed)) seen seen_then
     (served_so images address turns WireFault (listened address (Err refusals.Failed)) (inl (record { answer = Err refusals.Failed; later = []; first = refl; once = refl }))
     (not_listening laws (served_agent images) (first_of images) 0 turns [] address (is_open images 0) refl))
-    tells counts
-not_listened refusals.NoMemory laws images address turns seen seen_then tells counts =
-    makes_nothing (ServesAgent images address turns NoMemory) seen seen_then (none_served images address turns) tells counts
+    fails
+not_listened refusals.NoMemory laws images address turns seen seen_then fails =
+    makes_nothing (ServesAgent images address turns NoMemory) seen seen_then (none_served images address turns) fails
 
 -- the calls of the loop come behind the listening, and none of them connects
 goes_behind : (answer : Unit {0}) (images : List Image) (address : List ℕ) (unused turns : ℕ) (end : ServeEnd) (calls : List WireCall) → GoesOn behaviour (first_of images) unused turns end calls
@@ -78,15 +77,15 @@ goes_behind answer images address unused turns end calls g =
     (inl (record { answer = Ok answer; later = calls; first = refl; once = never_reaches (served_agent images) (always_rests images) first calls runs.serves g.inside })) runs
 
 pub served_behind : (answer : Unit {0}) (images : List Image) (address : List ℕ) (unused turns : ℕ) (end : ServeEnd) (real : ServingValue) (rows : Rows) (seen seen1 seen2 : WiresSeen)
-    → real ≡ new_serving images → rows ≡ [] → seen1.told ≡ noted (heard answer) (Listened address (heard answer)) seen.told → seen1.faults ≡ faults_after (heard answer) seen.faults
+    → real ≡ new_serving images → rows ≡ [] → seen1 ≡ noted (heard answer) (Listened address (heard answer)) seen
     → Makes (GoesOn behaviour (record { served = real; sending = rows }) unused turns end) seen1 seen2 → Makes (ServesAgent images address turns end) seen seen2
-served_behind answer images address unused turns end real rows seen seen1 seen2 fresh empty tells counts goes =
+served_behind answer images address unused turns end real rows seen seen1 seen2 fresh empty listens goes =
     let First : List WireCall → Type 0 = λ cs. cs ≡ listened address (Ok answer) in
     let begun = subst (λ (r : Rows). Makes (GoesOn behaviour (record { served = new_serving images; sending = r }) unused turns end) seen1 seen2) empty
     (subst (λ (v : ServingValue). Makes (GoesOn behaviour (record { served = v; sending = rows }) unused turns end) seen1 seen2) fresh goes) in
     makes_both First (GoesOn behaviour (first_of images) unused turns end) (ServesAgent images address turns end) seen seen1 seen2
     (λ first rest is g. subst (λ (cs : List WireCall). ServesAgent images address turns end (cs ++ rest)) (sym is) (goes_behind answer images address unused turns end rest g))
-    (makes_one First (Listened address (Ok answer)) seen seen1 refl tells counts) begun
+    (makes_one First (Listened address (Ok answer)) seen seen1 refl listens) begun
 
 -- since none of its calls connects, each that fails breaks the run
 pub fails_as_breaks : (images : List Image) (address : List ℕ) (turns : ℕ) (end : ServeEnd) (calls : List WireCall) → ServesAgent images address turns end calls → list_any fails calls ≡ list_any breaks calls

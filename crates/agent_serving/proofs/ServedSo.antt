@@ -21,7 +21,7 @@ use Rattle.serving_wires.specs.Order.{closes, queues}
 use Rattle.serving_wires.specs.Process.{Process, and_then, done, tells}
 use Rattle.serving_wires.specs.Row.{Row}
 use Rattle.serving_wires.specs.Serving.{AreFronts}
-use Rattle.serving_wires.specs.Standing.{AreApart, Heard, Sent, State, after, heard_in, is_resting, nodes_in, rests, sent_after, sent_in, sent_with, state_after, unused_wire, waits, wire_in, wires_with, with_piece, with_wire}
+use Rattle.serving_wires.specs.Standing.{AreApart, Heard, State, Wire, after, heard_in, is_resting, nodes_in, rests, sent_after, sent_in, sent_with, state_after, unused_wire, waits, wire_in, wires_with, with_piece, with_wire}
 use Rattle.serving_wires.specs.declared.intake.Came.{Came}
 use Rattle.serving_wires.specs.declared.intake.Came.TheVariants.{Piece, End}
 use Rattle.serving_wires.proofs.Rows.{found, found_here, found_later, item_found}
@@ -45,17 +45,17 @@ use Rattle.agent_serving.proofs.Rows.{Lines, Own, all_lack, found_push_other, fo
 -- ---- the wire of a channel, by what its opening was answered, by the bytes that were given out there, and by those that were got
 
 -- where it has a line, it was opened and isn't closed, and what came and wasn't got waits
-abbrev IsOpenIf : Option (List Came) → Sent → Bool → List ℕ → Type 0
+abbrev IsOpenIf : Option (List Came) → Wire → Bool → List ℕ → Type 0
 IsOpenIf None wire did got = IsFront got wire.came
 IsOpenIf (Some waiting) wire did got = (wire.is_closed ≡ false) × (did ≡ true) × (wire.came ≡ got ++ bytes_in waiting)
 
-data WireStands (answered : List Bool) (bytes got : List ℕ) : Option (List Came) → Option Sent → Type 0 where
+data WireStands (answered : List Bool) (bytes got : List ℕ) : Option (List Came) → Option Wire → Type 0 where
   lacks : answered ≡ [] → bytes ≡ [] → got ≡ [] → WireStands answered bytes got None None
-  has : (line : Option (List Came)) (wire : Sent) (did : Bool) → answered ≡ did ∷ [] → wire.queued ≡ queued_for (did ∷ []) bytes → wire.is_left ≡ false → IsOpenIf line wire did got
+  has : (line : Option (List Came)) (wire : Wire) (did : Bool) → answered ≡ did ∷ [] → wire.queued ≡ queued_for (did ∷ []) bytes → wire.is_left ≡ false → IsOpenIf line wire did got
       → WireStands answered bytes got line (Some wire)
 
 -- that of a channel, by these calls of a new agent
-abbrev StandsOn : List Image → List Call → ℕ → Option (List Came) → Option Sent → Type 0
+abbrev StandsOn : List Image → List Call → ℕ → Option (List Came) → Option Wire → Type 0
 StandsOn images calls k line there = WireStands (answers k calls (new_agent images)) (bytes_of (given_out k calls (new_agent images))) (got_on k calls) line there
 
 record Serves (images : List Image) (s : ServingValue) (sent : Wires) : Type 0 where
@@ -64,8 +64,8 @@ record Serves (images : List Image) (s : ServingValue) (sent : Wires) : Type 0 w
   stands : (k : ℕ) → StandsOn images calls k (found k s.lines) (found k sent)
 
 -- that of a line
-record IsOpen (answered : List Bool) (bytes got : List ℕ) (waiting : List Came) (there : Option Sent) : Type 0 where
-  wire : Sent
+record IsOpen (answered : List Bool) (bytes got : List ℕ) (waiting : List Came) (there : Option Wire) : Type 0 where
+  wire : Wire
   is : there ≡ Some wire
   opened_so : answered ≡ true ∷ []
   queued : wire.queued ≡ bytes
@@ -73,7 +73,7 @@ record IsOpen (answered : List Bool) (bytes got : List ℕ) (waiting : List Came
   still : wire.is_closed ≡ false
   came : wire.came ≡ got ++ bytes_in waiting
 
-is_open : (answered : List Bool) (bytes got : List ℕ) (waiting : List Came) (line : Option (List Came)) (there : Option Sent) → line ≡ Some waiting → WireStands answered bytes got line there
+is_open : (answered : List Bool) (bytes got : List ℕ) (waiting : List Came) (line : Option (List Came)) (there : Option Wire) → line ≡ Some waiting → WireStands answered bytes got line there
     → IsOpen answered bytes got waiting there
 is_open answered bytes got waiting line there at (lacks none nothing nor) = absurd (none-some waiting at)
 is_open answered bytes got waiting line there at (has None wire did answer queue left still) = absurd (none-some waiting at)
@@ -88,7 +88,7 @@ is_open answered bytes got waiting line there at (has (Some other) wire did answ
       came = still.2 ∙ ap (λ (cs : List Came). got ++ bytes_in cs) (same_Some other waiting at);
     }
 
-open_stands : (answered : List Bool) (bytes got : List ℕ) (waiting : List Came) (line : Option (List Came)) (there : Option Sent) → line ≡ Some waiting → IsOpen answered bytes got waiting there
+open_stands : (answered : List Bool) (bytes got : List ℕ) (waiting : List Came) (line : Option (List Came)) (there : Option Wire) → line ≡ Some waiting → IsOpen answered bytes got waiting there
     → WireStands answered bytes got line there
 open_stands answered bytes got waiting line there at o =
     rw (at, o.is) (has (Some waiting) o.wire true o.opened_so o.queued o.left (o.still, refl, o.came))
@@ -117,7 +117,7 @@ goes_on images a next lines now sent later bytes got old does own all keeps =
           rw (answered_so, given_so, got_so) (keeps k (answers k calls first) (bytes_of (given_out k calls first)) (got_on k calls) (old.stands k));
     }
 
-with_none : (answered : List Bool) (given had : List ℕ) (line : Option (List Came)) (there : Option Sent) → WireStands answered given had line there
+with_none : (answered : List Bool) (given had : List ℕ) (line : Option (List Came)) (there : Option Wire) → WireStands answered given had line there
     → WireStands answered (given ++ []) (had ++ []) line there
 with_none answered given had line there stands = rw (append-nil given, append-nil had) stands
 
@@ -138,27 +138,27 @@ by_channel P k j here there = by_flag (k == j) refl
 
 -- ---- what the agent has for a channel is queued
 
-record Grown (k : ℕ) (more : List ℕ) (wire : Sent) (sent later : Wires) : Type 0 where
+record Grown (k : ℕ) (more : List ℕ) (wire : Wire) (sent later : Wires) : Type 0 where
   own : found k later ≡ Some (record wire { queued = wire.queued ++ more })
   others : (j : ℕ) → (k == j) ≡ false → found j later ≡ found j sent
 
-queued_on : (k : ℕ) (bytes : List ℕ) (wire : Sent) → wire.is_closed ≡ false → sent_after (queues k bytes) wire ≡ record wire { queued = wire.queued ++ bytes }
+queued_on : (k : ℕ) (bytes : List ℕ) (wire : Wire) → wire.is_closed ≡ false → sent_after (queues k bytes) wire ≡ record wire { queued = wire.queued ++ bytes }
 queued_on k bytes wire still = ap (λ (b : Bool). if b then wire else record wire { queued = wire.queued ++ bytes }) still
 
-sends_lead : (Q : AgentValue → Wires → Type 0) (k : ℕ) (outs : List Outgoing) (a : AgentValue) (sent : Wires) (wire : Sent) → found k sent ≡ Some wire → wire.is_closed ≡ false
+sends_lead : (Q : AgentValue → Wires → Type 0) (k : ℕ) (outs : List Outgoing) (a : AgentValue) (sent : Wires) (wire : Wire) → found k sent ≡ Some wire → wire.is_closed ≡ false
     → ((later : Wires) → Grown k (bytes_of outs) wire sent later → Q a later) → LeadsTo Q (sends k outs a) sent
 sends_lead Q k [] a sent wire there still so =
     so sent (record { own = there ∙ ap (λ (bs : List ℕ). Some (record wire { queued = bs })) (sym (append-nil wire.queued)); others = λ j apart. refl })
 sends_lead Q k (out ∷ outs) a sent wire there still so =
-    let one : Sent = record wire { queued = wire.queued ++ out.bytes } in
+    let one : Wire = record wire { queued = wire.queued ++ out.bytes } in
     sends_lead Q k outs a (sent_with (queues k out.bytes) sent) one
-    (wire_own (queues k out.bytes) sent wire there ∙ ap (λ (w : Sent). Some w) (queued_on k out.bytes wire still)) still
+    (wire_own (queues k out.bytes) sent wire there ∙ ap (λ (w : Wire). Some w) (queued_on k out.bytes wire still)) still
     (λ later g. so later (record {
       own = g.own ∙ ap (λ (bs : List ℕ). Some (record wire { queued = bs })) (append_assoc wire.queued out.bytes (bytes_of outs));
       others = λ j apart. g.others j apart ∙ wire_other (queues k out.bytes) j sent apart;
     }))
 
-grown_stands : (k : ℕ) (more : List ℕ) (wire : Sent) (sent later : Wires) (waiting : List Came) (lines : Lines) → found k sent ≡ Some wire → found k lines ≡ Some waiting → Grown k more wire sent later
+grown_stands : (k : ℕ) (more : List ℕ) (wire : Wire) (sent later : Wires) (waiting : List Came) (lines : Lines) → found k sent ≡ Some wire → found k lines ≡ Some waiting → Grown k more wire sent later
     → (j : ℕ) (answered : List Bool) (given had : List ℕ) → WireStands answered given had (found j lines) (found j sent)
     → WireStands answered (given ++ only_on k more j) (had ++ []) (found j lines) (found j later)
 grown_stands k more wire sent later waiting lines there at g j answered given had =
@@ -173,10 +173,10 @@ grown_stands k more wire sent later waiting lines there at g j answered given ha
           wire = record wire { queued = wire.queued ++ more };
           is = g.own;
           opened_so = o.opened_so;
-          queued = ap (λ (w : Sent). w.queued ++ more) (sym same) ∙ ap (λ (bs : List ℕ). bs ++ more) o.queued ∙ ap (λ (b : Bool). given ++ cond b more []) (sym (number_itself k));
-          left = ap (λ (w : Sent). w.is_left) (sym same) ∙ o.left;
-          still = ap (λ (w : Sent). w.is_closed) (sym same) ∙ o.still;
-          came = ap (λ (w : Sent). w.came) (sym same) ∙ o.came ∙ ap (λ (bs : List ℕ). bs ++ bytes_in waiting) (sym (append-nil had));
+          queued = ap (λ (w : Wire). w.queued ++ more) (sym same) ∙ ap (λ (bs : List ℕ). bs ++ more) o.queued ∙ ap (λ (b : Bool). given ++ cond b more []) (sym (number_itself k));
+          left = ap (λ (w : Wire). w.is_left) (sym same) ∙ o.left;
+          still = ap (λ (w : Wire). w.is_closed) (sym same) ∙ o.still;
+          came = ap (λ (w : Wire). w.came) (sym same) ∙ o.came ∙ ap (λ (bs : List ℕ). bs ++ bytes_in waiting) (sym (append-nil had));
         })
 
     others : (k == j) ≡ false → WireStands answered given had (found j lines) (found j sent) → WireStands answered (given ++ only_on k more j) (had ++ []) (found j lines) (found j later)
@@ -220,13 +220,13 @@ told_leads images s sent old =
 -- ---- a channel opens
 
 -- a wire that is new
-new_to : (answered : List Bool) (bytes got : List ℕ) (line : Option (List Came)) (there : Option Sent) → there ≡ None → WireStands answered bytes got line there
+new_to : (answered : List Bool) (bytes got : List ℕ) (line : Option (List Came)) (there : Option Wire) → there ≡ None → WireStands answered bytes got line there
     → (line ≡ None) × (answered ≡ []) × (bytes ≡ []) × (got ≡ [])
 new_to answered bytes got line there missing (lacks none nothing nor) = (refl, none, nothing, nor)
 new_to answered bytes got line there missing (has before wire did answer queue left still) = absurd (none-some wire (sym missing))
 
 -- what comes of it, where the others stay as they are
-opens_so : (images : List Image) (k : ℕ) (did : Bool) (s next : ServingValue) (sent later : Wires) (wire : Sent) → found k sent ≡ None → (opened k s.agent).0 ≡ did → (old : Serves images s sent)
+opens_so : (images : List Image) (k : ℕ) (did : Bool) (s next : ServingValue) (sent later : Wires) (wire : Wire) → found k sent ≡ None → (opened k s.agent).0 ≡ did → (old : Serves images s sent)
     → Made images (old.calls ++ opens k ∷ []) next → found k later ≡ Some wire → wire.queued ≡ queued_for (did ∷ []) [] → wire.is_left ≡ false → IsOpenIf (found k next.lines) wire did []
     → ((j : ℕ) → (k == j) ≡ false → (found j later ≡ found j sent) × (found j next.lines ≡ found j s.lines)) → Serves images next later
 opens_so images k did s next sent later wire missing is old made there queue left still others =
@@ -269,7 +269,7 @@ opened_leads false images k s sent missing is old =
     let ending : List ℕ = 3 ∷ 2 ∷ [] in
     let queueing = queues k ending in
     let mid : Wires = sent_with queueing (with_wire k sent) in
-    let last : Sent = sent_after (closes k) (sent_after queueing unused_wire) in
+    let last : Wire = sent_after (closes k) (sent_after queueing unused_wire) in
     let n = new_to (answers k old.calls (new_agent images)) (bytes_of (given_out k old.calls (new_agent images))) (got_on k old.calls) (found k s.lines) (found k sent) missing (old.stands k) in
     opens_so images k false s (record s { agent = (opened k s.agent).1 }) sent (sent_with (closes k) mid) last missing is old (made_refused images old.calls k s old.made)
     (wire_own (closes k) mid (sent_after queueing unused_wire) (wire_own queueing (with_wire k sent) unused_wire (found_new k sent missing))) refl refl
@@ -279,7 +279,7 @@ opened_leads false images k s sent missing is old =
 -- ---- something comes on a wire
 
 record Comes (k : ℕ) (bytes : List ℕ) (sent later : Wires) : Type 0 where
-  own : (wire : Sent) → found k sent ≡ Some wire → found k later ≡ Some (with_piece bytes wire)
+  own : (wire : Wire) → found k sent ≡ Some wire → found k later ≡ Some (with_piece bytes wire)
   others : (j : ℕ) → ((k == j) ≡ false) ⊎ (found k sent ≡ None) → found j later ≡ found j sent
 
 piece_comes : (k : ℕ) (bytes : List ℕ) (sent : Wires) → Comes k bytes sent (wires_with (events.Piece k bytes) sent)
@@ -298,17 +298,17 @@ dropped_stands : (k : ℕ) (bytes : List ℕ) (sent later : Wires) (lines : Line
     → WireStands answered given had (found j lines) (found j sent) → WireStands answered given had (found j lines) (found j later)
 dropped_stands k bytes sent later lines comes missing j answered given had =
     by_channel (λ (n : ℕ). WireStands answered given had (found n lines) (found n sent) → WireStands answered given had (found n lines) (found n later)) k j (own (found k sent) refl)
-    (λ apart stood. subst (λ (o : Option Sent). WireStands answered given had (found j lines) o) (sym (comes.others j (inl apart))) stood)
+    (λ apart stood. subst (λ (o : Option Wire). WireStands answered given had (found j lines) o) (sym (comes.others j (inl apart))) stood)
   where
-    more : (there : Option Sent) (wire : Sent) → there ≡ Some wire → WireStands answered given had None there → WireStands answered given had None (Some (with_piece bytes wire))
+    more : (there : Option Wire) (wire : Wire) → there ≡ Some wire → WireStands answered given had None there → WireStands answered given had None (Some (with_piece bytes wire))
     more there wire is (lacks none nothing nor) = absurd (none-some wire is)
     more there wire is (has None other did answer queue left still) =
         let same : other ≡ wire = same_Some other wire is in
-        subst (λ (w : Sent). WireStands answered given had None (Some (with_piece bytes w))) same
+        subst (λ (w : Wire). WireStands answered given had None (Some (with_piece bytes w))) same
         (has None (with_piece bytes other) did answer queue left (still.0 ++ bytes, ap (λ (bs : List ℕ). bs ++ bytes) still.1 ∙ append_assoc had still.0 bytes))
 
-    own : (there : Option Sent) → found k sent ≡ there → WireStands answered given had (found k lines) (found k sent) → WireStands answered given had (found k lines) (found k later)
-    own None is stood = subst (λ (o : Option Sent). WireStands answered given had (found k lines) o) (sym (comes.others k (inr is))) stood
+    own : (there : Option Wire) → found k sent ≡ there → WireStands answered given had (found k lines) (found k sent) → WireStands answered given had (found k lines) (found k later)
+    own None is stood = subst (λ (o : Option Wire). WireStands answered given had (found k lines) o) (sym (comes.others k (inr is))) stood
     own (Some wire) is stood = rw (missing, comes.own wire is) (more (found k sent) wire is (subst (λ (o : Option (List Came)). WireStands answered given had o (found k sent)) missing stood))
 
 -- and else it waits
@@ -481,15 +481,15 @@ always_rests images heard = rests_always (served_agent images) event_never tt he
 
 -- ---- the law
 
-wire_queued : (answered : List Bool) (bytes got : List ℕ) (line : Option (List Came)) (there : Option Sent) → WireStands answered bytes got line there → (wire_in there).queued ≡ queued_for answered bytes
+wire_queued : (answered : List Bool) (bytes got : List ℕ) (line : Option (List Came)) (there : Option Wire) → WireStands answered bytes got line there → (wire_in there).queued ≡ queued_for answered bytes
 wire_queued answered bytes got line there (lacks none nothing nor) = sym (ap (λ (bs : List Bool). queued_for bs bytes) none)
 wire_queued answered bytes got line there (has before wire did answer queue left still) = queue ∙ sym (ap (λ (bs : List Bool). queued_for bs bytes) answer)
 
-wire_left : (answered : List Bool) (bytes got : List ℕ) (line : Option (List Came)) (there : Option Sent) → WireStands answered bytes got line there → (wire_in there).is_left ≡ false
+wire_left : (answered : List Bool) (bytes got : List ℕ) (line : Option (List Came)) (there : Option Wire) → WireStands answered bytes got line there → (wire_in there).is_left ≡ false
 wire_left answered bytes got line there (lacks none nothing nor) = refl
 wire_left answered bytes got line there (has before wire did answer queue left still) = left
 
-wire_got : (answered : List Bool) (bytes got : List ℕ) (line : Option (List Came)) (there : Option Sent) → WireStands answered bytes got line there → IsFront got (wire_in there).came
+wire_got : (answered : List Bool) (bytes got : List ℕ) (line : Option (List Came)) (there : Option Wire) → WireStands answered bytes got line there → IsFront got (wire_in there).came
 wire_got answered bytes got line there (lacks none nothing nor) = ([], sym (append-nil got ∙ nor))
 wire_got answered bytes got line there (has None wire did answer queue left still) = still
 wire_got answered bytes got line there (has (Some waiting) wire did answer queue left still) = (bytes_in waiting, still.2)
@@ -501,7 +501,7 @@ line_wired images s sent serves line there =
     let o = is_open (answers k serves.calls (new_agent images)) (bytes_of (given_out k serves.calls (new_agent images))) (got_on k serves.calls) line.item (found k s.lines) (found k sent) there (serves.stands k) in
     record {
       wire = o.wire;
-      there = item_found Sent k sent ∙ o.is;
+      there = item_found Wire k sent ∙ o.is;
       queued = o.queued;
       unheard = [];
       came = o.came ∙ ap (λ (bs : List ℕ). got_on k serves.calls ++ bs) (sym (append-nil (bytes_in line.item)));
@@ -510,15 +510,15 @@ line_wired images s sent serves line there =
 
 state_serves : (images : List Image) (state : State ServingValue) → is_resting state ≡ true → Holds (Serves images) state → IsServed images state
 state_serves images (rests s) is serves =
-    let wire_is : (k : ℕ) → item_on k s.sent ≡ found k s.sent = λ k. item_found Sent k s.sent in
+    let wire_is : (k : ℕ) → item_on k s.sent ≡ found k s.sent = λ k. item_found Wire k s.sent in
     record {
       calls = serves.calls;
       agent = serves.made.agent;
-      queued = λ k. ap (λ (o : Option Sent). (wire_in o).queued) (wire_is k) ∙ wire_queued _ _ _ (found k s.served.lines) (found k s.sent) (serves.stands k);
-      got = λ k. subst (λ (o : Option Sent). IsFront (got_on k serves.calls) (wire_in o).came) (sym (wire_is k)) (wire_got _ _ _ (found k s.served.lines) (found k s.sent) (serves.stands k));
+      queued = λ k. ap (λ (o : Option Wire). (wire_in o).queued) (wire_is k) ∙ wire_queued _ _ _ (found k s.served.lines) (found k s.sent) (serves.stands k);
+      got = λ k. subst (λ (o : Option Wire). IsFront (got_on k serves.calls) (wire_in o).came) (sym (wire_is k)) (wire_got _ _ _ (found k s.served.lines) (found k s.sent) (serves.stands k));
       wired = all_weaker (IsFoundIn s.served.lines) (λ (line : Row (List Came)). IsWiredOn images serves.calls (rests s) line.channel line.item) s.served.lines (line_wired images s.served s.sent serves)
           (each_found s.served.lines serves.made.own);
-      kept = λ k. ap (λ (o : Option Sent). (wire_in o).is_left) (wire_is k) ∙ wire_left _ _ _ (found k s.served.lines) (found k s.sent) (serves.stands k);
+      kept = λ k. ap (λ (o : Option Wire). (wire_in o).is_left) (wire_is k) ∙ wire_left _ _ _ (found k s.served.lines) (found k s.sent) (serves.stands k);
       tells = tells_its_history images serves.calls;
     }
 state_serves images (waits s next) is serves = absurd (false≢true is)

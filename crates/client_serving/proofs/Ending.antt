@@ -24,7 +24,7 @@ use Rattle.serving_wires.specs.declared.intake.Came.{Came}
 use Rattle.serving_wires.specs.declared.intake.Came.TheVariants.{Piece, End}
 use Rattle.client_serving.specs.Lines.{did_lines}
 use Rattle.serving_wires.specs.Serving.{is_stop}
-use Rattle.client_serving.specs.Serving.{acted, after_event, after_message, after_turn, all_gathered, all_taken, came_to, cause_in, cause_of, done_if_so, emptied, heard_on, is_done, nothing_left, one_taken, stopped, taken_so_many, went_on, with_lines}
+use Rattle.client_serving.specs.Serving.{acted, after_event, after_message, after_turn, all_gathered, all_taken, came_to, cause_in, cause_of, done_if_so, emptied, heard_on, is_done, is_its, nothing_left, one_taken, stopped, taken_so_many, went_on, with_lines}
 use Rattle.client_serving.specs.ServingValue.{ServingValue}
 use Rattle.client_serving.specs.declared.end.ClientEnd.{ClientEnd}
 use Rattle.client_serving.specs.declared.end.ClientEnd.TheVariants.{Done, Ended, Turns}
@@ -214,7 +214,7 @@ gathered_stands s is_stopped old = kept emptied emptying s.end s.left s.client.c
 -- ---- an event
 
 heard_stands : (channel : ℕ) (what : Came) (s : ServingValue) (is_stopped : Bool) → Stands s is_stopped → Stands (heard_on channel what s) is_stopped
-heard_stands channel what s is_stopped old = by_flag (channel == s.outbox.channel)
+heard_stands channel what s is_stopped old = by_flag (is_its channel s.channel)
   where
     by_flag : (flag : Bool) → Stands (if flag then all_taken (record s { client = came_to what s.client }) else s) is_stopped
     by_flag true = so_many (waiting_on (came_to what s.client).channel) (record s { client = came_to what s.client }) is_stopped (came_stands what s is_stopped old)
@@ -231,7 +231,7 @@ unless_stop : (s : ServingValue) (is_stopped : Bool) → Stands s is_stopped →
 unless_stop s true old = old
 unless_stop s false old = old
 
-acted_stands : (what : WireEvent) (s : ServingValue) (is_stopped : Bool) → Stands s is_stopped → Stands (acted what s) (is_stopped || is_stop what)
+pub acted_stands : (what : WireEvent) (s : ServingValue) (is_stopped : Bool) → Stands s is_stopped → Stands (acted what s) (is_stopped || is_stop what)
 unfolding acted
 acted_stands (events.Opened channel) s is_stopped old = unless_stop s is_stopped old
 acted_stands (events.Piece channel bytes) s is_stopped old = unless_stop (heard_on channel (Piece bytes) s) is_stopped (heard_stands channel (Piece bytes) s is_stopped old)

@@ -2,15 +2,14 @@ mod Standing
 mod Lining
 mod Ending
 mod Saying
-mod Apart
+mod Silence
+mod Keeping
 pub mod Gathering
+mod Asking
+mod Heeding
 mod Served
 mod NothingLeft
-mod Placing
 mod Running
-mod Putting
-mod Turning
-mod Finishing
 mod Calling
 mod Reporting
 pub mod TheLaws

@@ -32,7 +32,7 @@ use Rattle.serving_wires.specs.declared.intake.Came.TheVariants.{Piece, End}
 use Rattle.client_serving.specs.Left.{CanCome, IsHeldBack, LeavesNothing}
 use Rattle.client_serving.specs.Lines.{did, did_lines, is_held}
 use Rattle.client_serving.specs.Run.{SaysSo}
-use Rattle.client_serving.specs.Serving.{acted, after_all, after_event, after_events, after_message, after_turn, all_gathered, all_taken, begun, came_to, cause_of, client_emptied, done_if_so, heard_on, is_done, nothing_left, one_taken, opened_with, stopped, taken_so_many, went_on, with_lines}
+use Rattle.client_serving.specs.Serving.{acted, after_all, after_event, after_events, after_message, after_turn, all_gathered, all_taken, begun, came_to, cause_of, client_emptied, done_if_so, heard_on, is_done, is_its, nothing_left, one_taken, opened_with, stopped, taken_so_many, went_on, with_lines}
 use Rattle.client_serving.specs.ServingValue.{ServingValue}
 use Rattle.client_serving.specs.declared.end.ClientEnd.{ClientEnd}
 use Rattle.client_serving.specs.declared.end.ClientEnd.TheVariants.{Done}
@@ -201,7 +201,7 @@ came_waits what s is_stopped can stands old = λ going.
     record { few = omega (arith, all); held = subst (IsHeldBack s.left) (sym same) w.held }
 
 heard_waits : (channel : ℕ) (what : Came) (s : ServingValue) (is_stopped : Bool) → Comes what → Stands s is_stopped → WaitsYet 0 s → WaitsYet 0 (heard_on channel what s)
-heard_waits channel what s is_stopped can stands old = by_flag (channel == s.outbox.channel)
+heard_waits channel what s is_stopped can stands old = by_flag (is_its channel s.channel)
   where
     by_flag : (flag : Bool) → WaitsYet 0 (if flag then all_taken (record s { client = came_to what s.client }) else s)
     by_flag true = so_many_wait (waiting_on (came_to what s.client).channel) (record s { client = came_to what s.client }) (came_waits what s is_stopped can stands old)
@@ -255,9 +255,9 @@ all_wait [] s is_stopped can stands old = old
 all_wait (event ∷ events) s is_stopped can stands old =
     all_wait events (after_event event s) (is_stopped || is_stop event) can.1 (event_stands event s is_stopped stands) (event_waits event s is_stopped can.0 stands old)
 
-begun_waits : (channel : ℕ) (script : List ScriptLine) → WaitsYet 0 (begun channel script)
-begun_waits channel script =
-    let first = opened_with channel script in
+begun_waits : (address : List ℕ) (channel : ℕ) (script : List ScriptLine) → WaitsYet 0 (begun address channel script)
+begun_waits address channel script =
+    let first = opened_with address channel script in
     gathered_waits 0 (went_on first) (went_on_waits 0 first (omega arith))
 
 -- ---- so nothing is left
@@ -290,14 +290,14 @@ undone_while None s events says going = says.1
 undone_while (Some end) s events says going = absurd cc
 
 pub leaves_nothing : LeavesNothing
-leaves_nothing channel script events can going =
-    let last = after_events channel script events in
-    let w = all_wait events (begun channel script) false can (begun_stands channel script) (begun_waits channel script) going in
+leaves_nothing address channel script events can going =
+    let last = after_events address channel script events in
+    let w = all_wait events (begun address channel script) false can (begun_stands address channel script) (begun_waits address channel script) going in
     let none : entries_on last.client.channel ≡ 0 = omega (arith, w.few) in
     record {
       untaken = none_taken last.client.channel last.client none;
       none_waits = none_waiting last.client.channel none;
       held = w.held;
       undone = none_done last.left last.client w.held;
-      pending = still_pending last.left (pending_on last.client.channel) w.held (undone_while last.end last events (ends_say_so channel script events) going);
+      pending = still_pending last.left (pending_on last.client.channel) w.held (undone_while last.end last events (ends_say_so address channel script events) going);
     }

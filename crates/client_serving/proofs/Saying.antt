@@ -20,9 +20,11 @@ use Rattle.list_laws.proofs.Flags.{or_false}
 new_is_open : (body : List ℕ) (mark : Option ℕ) → IsOpenEnd (new_end body mark)
 new_is_open body mark = record { pending = refl; staying = refl; stop = tt }
 
-pub begun_stands : (channel : ℕ) (script : List ScriptLine) → Stands (begun channel script) false
-begun_stands channel script =
-    gathered_stands (went_on (opened_with channel script)) false (went_on_stands (opened_with channel script) (new_is_open client_services None))
+pub first_stands : (address : List ℕ) (channel : ℕ) (script : List ScriptLine) → Stands (went_on (opened_with address channel script)) false
+first_stands address channel script = went_on_stands (opened_with address channel script) (new_is_open client_services None)
+
+pub begun_stands : (address : List ℕ) (channel : ℕ) (script : List ScriptLine) → Stands (begun address channel script) false
+begun_stands address channel script = gathered_stands (went_on (opened_with address channel script)) false (first_stands address channel script)
 
 or_both : (a b c : Bool) → ((a || b) || c) ≡ (a || (b || c))
 or_both true b c = refl
@@ -44,6 +46,6 @@ says (Some (Ended cause)) s events (by_stop open_yet is on) =
 says (Some Turns) s events old = old
 
 pub ends_say_so : EndsSaySo
-ends_say_so channel script events =
-    let last = after_events channel script events in
-    says last.end last events (all_stand events (begun channel script) false (begun_stands channel script))
+ends_say_so address channel script events =
+    let last = after_events address channel script events in
+    says last.end last events (all_stand events (begun address channel script) false (begun_stands address channel script))

@@ -31,7 +31,7 @@ use Rattle.channel_core.specs.Judged.{Judged}
 use Rattle.channel_core.specs.Judged as judges
 use Rattle.channel_core.specs.declared.taking.Taken.{Taken}
 use Rattle.channel_core.specs.declared.taking.Taken.TheVariants as taken
-use Rattle.client_serving.specs.Serving.{emptied}
+use Rattle.client_serving.specs.Serving.{emptied, queue_of}
 
 -- a last entry, which doesn't close the end as its own side does
 abbrev pub IsOther : Option Cause → Type 0
@@ -210,38 +210,67 @@ next_gives e old = from_gives e.inbox e old
 pub closed_then : (cause : Cause) (e : EndValue ℕ) → IsShut cause e → is_closed e.state ≡ true
 closed_then cause e old = ap is_closed old.closed
 
-over_then : (cause : Cause) (e : EndValue ℕ) → IsShut cause e → is_over e ≡ true
-over_then cause e old = or_left (is_closed e.state) (is_some e.stop) (closed_then cause e old)
+over_then : (e : EndValue ℕ) → is_closed e.state ≡ true → is_over e ≡ true
+over_then e on = or_left (is_closed e.state) (is_some e.stop) on
+
+-- what comes to it changes nothing but what was read
+first_if : (flag : Bool) (e other : EndValue ℕ) → flag ≡ true → (if flag then e else other) ≡ e
+first_if true e other on = refl
+first_if false e other on = cc
+
+came_by_over : (mark : Option ℕ) (list : List Item) (e : EndValue ℕ) → is_over e ≡ true → came_by mark list e ≡ e
+came_by_over mark [] e on = refl
+came_by_over mark (item ∷ list) e on = ap (came_by mark list) (first_if (is_over e) e (item_came mark item e) on) ∙ came_by_over mark list e on
+
+stopped_over : (answer : Result Unit StreamFault) (e : EndValue ℕ) → is_over e ≡ true → stopped_by answer e ≡ e
+stopped_over (Ok done) e on = refl
+stopped_over (Err fault) e on = first_if (is_over e) e _ on
+
+pub delivered_over : (piece : List ℕ) (mark : Option ℕ) (e : EndValue ℕ) → is_closed e.state ≡ true → delivered piece mark e ≡ record e { stream = (fed piece e.stream).reader }
+delivered_over piece mark e on =
+    let given = fed piece e.stream in
+    let next : EndValue ℕ = record e { stream = given.reader } in
+    ap (stopped_by given.answer) (came_by_over mark given.items next (over_then e on)) ∙ stopped_over given.answer next (over_then e on)
+
+pub ended_over : (e : EndValue ℕ) → is_closed e.state ≡ true → (if e.is_spent then e else ended e) ≡ e
+ended_over e on = by_flag e.is_spent
+  where
+    by_flag : (flag : Bool) → (if flag then e else ended e) ≡ e
+    by_flag true = refl
+    by_flag false = first_if (is_over e) e _ (over_then e on)
 
 module _ (cause : Cause) where
-  unless_over : (flag : Bool) (e other : EndValue ℕ) → flag ≡ true → IsShut cause e → IsShut cause (if flag then e else other)
-  unless_over true e other on old = old
-  unless_over false e other on old = cc
-
   shut_by : (flag : Bool) (one other : EndValue ℕ) → IsShut cause one → IsShut cause other → IsShut cause (if flag then one else other)
   shut_by true one other first second = first
   shut_by false one other first second = second
 
-  came_by_shut : (mark : Option ℕ) (list : List Item) (e : EndValue ℕ) → IsShut cause e → IsShut cause (came_by mark list e)
-  came_by_shut mark [] e old = old
-  came_by_shut mark (item ∷ list) e old =
-      came_by_shut mark list (if is_over e then e else item_came mark item e) (unless_over (is_over e) e _ (over_then cause e old) old)
-
-  stopped_shut : (answer : Result Unit StreamFault) (e : EndValue ℕ) → IsShut cause e → IsShut cause (stopped_by answer e)
-  stopped_shut (Ok done) e old = old
-  stopped_shut (Err fault) e old = unless_over (is_over e) e _ (over_then cause e old) old
-
   pub delivered_shut : (piece : List ℕ) (mark : Option ℕ) (e : EndValue ℕ) → IsShut cause e → IsShut cause (delivered piece mark e)
-  delivered_shut piece mark e old =
-      let given = fed piece e.stream in
-      let next = record e { stream = given.reader } in
-      stopped_shut given.answer (came_by mark given.items next) (came_by_shut mark given.items next (record { closed = old.closed; pending = old.pending }))
+  delivered_shut piece mark e old = subst (IsShut cause) (sym (delivered_over piece mark e (closed_then cause e old))) (record { closed = old.closed; pending = old.pending })
 
   pub ended_shut : (e : EndValue ℕ) → IsShut cause e → IsShut cause (if e.is_spent then e else ended e)
-  ended_shut e old = shut_by e.is_spent e _ old (unless_over (is_over e) e _ (over_then cause e old) old)
+  ended_shut e old = subst (IsShut cause) (sym (ended_over e (closed_then cause e old))) old
 
   pub emptied_shut : (e : EndValue ℕ) → IsShut cause e → IsShut cause (emptied e)
   emptied_shut e old = shut_by e.is_spent e _ old (record { closed = old.closed; pending = old.pending })
 
   pub refused_then : (size : ℕ) (e : EndValue ℕ) → IsShut cause e → refusal_of size e ≡ Some NotOpen
   refused_then size e old = rw (closed_then cause e old) refl
+
+-- ---- a closed end that has nothing to send, which stays so
+
+pub record IsSilent (e : EndValue ℕ) : Type 0 where
+  pub closed : is_closed e.state ≡ true
+  pub none : queue_of (Some e) ≡ []
+
+pub delivered_silent : (piece : List ℕ) (mark : Option ℕ) (e : EndValue ℕ) → IsSilent e → IsSilent (delivered piece mark e)
+delivered_silent piece mark e old = subst IsSilent (sym (delivered_over piece mark e old.closed)) (record { closed = old.closed; none = old.none })
+
+pub ended_silent : (e : EndValue ℕ) → IsSilent e → IsSilent (if e.is_spent then e else ended e)
+ended_silent e old = subst IsSilent (sym (ended_over e old.closed)) old
+
+pub emptied_silent : (e : EndValue ℕ) → is_closed e.state ≡ true → IsSilent (emptied e)
+emptied_silent e on = by_flag e.is_spent
+  where
+    by_flag : (spent : Bool) → IsSilent (emptied (record e { is_spent = spent }))
+    by_flag true = record { closed = on; none = refl }
+    by_flag false = record { closed = on; none = refl }

@@ -28,5 +28,5 @@ pub record NothingLeft (s : ServingValue) : Type 0 where
 
 -- Whatever the script, and whatever came, as long as the run has no end.
 abbrev pub LeavesNothing : Type 0
-LeavesNothing = (channel : ℕ) (script : List ScriptLine) (events : List WireEvent) → CanCome events
-    → (after_events channel script events).end ≡ None → NothingLeft (after_events channel script events)
+LeavesNothing = (address : List ℕ) (channel : ℕ) (script : List ScriptLine) (events : List WireEvent) → CanCome events
+    → (after_events address channel script events).end ≡ None → NothingLeft (after_events address channel script events)

@@ -3,6 +3,5 @@ pub mod Lines
 pub mod Serving
 pub mod Client
 pub mod Left
-pub mod Turn
 pub mod Run
 pub mod Begun

@@ -1,6 +1,5 @@
--- What a served client does with each event. Nothing is put here: what is queued stays, so that the state after some
--- events has all that the client ever queued.
-use Rattle.std.specs.Prelude.{ℕ, zero, suc, ◌==◌, Bool, true, false, ◌&&◌, List, [], ◌∷◌, fold, Option, None, Some, option_map, if◌then◌else◌}
+-- What a served client does with each event.
+use Rattle.std.specs.Prelude.{ℕ, zero, suc, ◌==◌, Bool, true, false, ◌&&◌, List, [], ◌∷◌, fold, Option, None, Some, Ok, Err, option_map, if◌then◌else◌}
 use Rattle.std.specs.List.{flat_map}
 use Rattle.channel_core.specs.EndValue.{EndValue, unless_spent}
 use Rattle.channel_core.specs.declared.held.Outgoing.{Outgoing}
@@ -10,9 +9,9 @@ use Rattle.channel_core.specs.declared.states.EndState.{EndState}
 use Rattle.channel_core.specs.declared.states.EndState.TheVariants.{Opening, Live, Reopening, Closed}
 use Rattle.client_node.specs.Client.{came, closed as client_closed, ended as bytes_ended, new_client, opened, pending_on, turned, waiting_on}
 use Rattle.client_node.specs.ClientValue.{ClientValue}
-use Rattle.serving_wires.specs.Outbox.{closed as outbox_closed, queued, unused_outbox}
-use Rattle.serving_wires.specs.OutboxValue.{OutboxValue}
-use Rattle.serving_wires.specs.Serving.{Nodes}
+use Rattle.serving_wires.specs.Order.{closes, queues}
+use Rattle.serving_wires.specs.Process.{Answer, Process, asks, done, tells}
+use Rattle.serving_wires.specs.Program.{Behaviour, Program, program_of}
 use Rattle.serving_wires.specs.declared.intake.Came.{Came}
 use Rattle.serving_wires.specs.declared.intake.Came.TheVariants.{Piece, End}
 use Rattle.tcf_schedules.specs.declared.script.ScriptLine.{ScriptLine}
@@ -91,9 +90,12 @@ abbrev pub came_to : Came → ClientValue → ClientValue
 came_to (Piece bytes) c = came bytes None c
 came_to End c = bytes_ended c
 
+abbrev pub is_its : ℕ → Option ℕ → Bool
+is_its channel None = false
+is_its channel (Some number) = channel == number
+
 abbrev pub heard_on : ℕ → Came → ServingValue → ServingValue
-heard_on channel what s =
-    if channel == s.outbox.channel then all_taken (record s { client = came_to what s.client }) else s
+heard_on channel what s = if is_its channel s.channel then all_taken (record s { client = came_to what s.client }) else s
 
 -- an end in good order and a broken connection are one; `Stop` ends the run
 unfoldable pub acted : WireEvent → ServingValue → ServingValue
@@ -119,26 +121,40 @@ client_emptied c = record c { channel = option_map emptied c.channel }
 abbrev pub bytes_of : List Outgoing → List ℕ
 bytes_of outs = flat_map (λ out. out.bytes) outs
 
-abbrev pub gathered : ClientValue → OutboxValue → ClientValue × OutboxValue
-gathered c o = (client_emptied c, queued (bytes_of (queue_of c.channel)) o)
+-- each of these goes behind what is queued for the wire, and then it goes on
+abbrev pub sends : ℕ → List Outgoing → Process ServingValue → Process ServingValue
+sends channel [] next = next
+sends channel (out ∷ outs) next = tells (queues channel out.bytes) (sends channel outs next)
 
-abbrev pub closed_for : Option Cause → OutboxValue → OutboxValue
-closed_for None o = o
-closed_for (Some cause) o = outbox_closed o
-
-abbrev pub with_gathered : ClientValue × OutboxValue → ServingValue → ServingValue
-with_gathered result s = record s { client = result.0; outbox = closed_for (cause_of result.0.channel) result.1 }
-
+-- the client as it stands then
 unfoldable pub all_gathered : ServingValue → ServingValue
-all_gathered s = with_gathered (gathered s.client s.outbox) s
+all_gathered s = record s { client = client_emptied s.client }
 
--- ---- before the first event, and after some
+abbrev pub closed_for : Option Cause → ℕ → ServingValue → Process ServingValue
+closed_for None channel s = done s
+closed_for (Some cause) channel s = tells (closes channel) (done s)
 
-abbrev pub opened_with : ℕ → List ScriptLine → ServingValue
-opened_with channel script = record { client = opened new_client; left = script; outbox = unused_outbox channel; end = None }
+abbrev pub told_on : Option ℕ → List Outgoing → ServingValue → Process ServingValue
+told_on None outs s = done s
+told_on (Some channel) outs s = sends channel outs (closed_for (cause_of s.client.channel) channel s)
 
-abbrev pub begun : ℕ → List ScriptLine → ServingValue
-begun channel script = all_gathered (went_on (opened_with channel script))
+-- all that it has
+unfoldable pub told : ServingValue → Process ServingValue
+told s = told_on s.channel (queue_of s.client.channel) (all_gathered s)
+
+unfoldable pub handled : WireEvent → ServingValue → Process ServingValue
+handled event s = told (acted event s)
+
+-- ---- before it is connected, and then before the first event, and after some
+
+abbrev pub unconnected : List ℕ → List ScriptLine → ServingValue
+unconnected address script = record { peer = address; channel = None; client = new_client; left = script; end = None }
+
+abbrev pub opened_with : List ℕ → ℕ → List ScriptLine → ServingValue
+opened_with address channel script = record { peer = address; channel = Some channel; client = opened new_client; left = script; end = None }
+
+abbrev pub begun : List ℕ → ℕ → List ScriptLine → ServingValue
+begun address channel script = all_gathered (went_on (opened_with address channel script))
 
 unfoldable pub after_event : WireEvent → ServingValue → ServingValue
 after_event event s = all_gathered (acted event s)
@@ -146,13 +162,17 @@ after_event event s = all_gathered (acted event s)
 abbrev pub after_all : List WireEvent → ServingValue → ServingValue
 after_all events s = fold (λ now event. after_event event now) s events
 
-abbrev pub after_events : ℕ → List ScriptLine → List WireEvent → ServingValue
-after_events channel script events = after_all events (begun channel script)
+abbrev pub after_events : List ℕ → ℕ → List ScriptLine → List WireEvent → ServingValue
+after_events address channel script events = after_all events (begun address channel script)
 
--- ---- what the client queued for its wire, and whether it will queue more
+-- ---- so it is a program: before the first event it asks for its connection, opens its end, and does the first lines
 
-abbrev pub served_by : ℕ → List ScriptLine → Nodes
-served_by channel script = record {
-  served = λ events number. if number == channel then (after_events channel script events).outbox.queued else [];
-  closed = λ events number. if number == channel then (after_events channel script events).outbox.is_closed else false;
-}
+abbrev pub behaviour : Behaviour ServingValue
+behaviour = record { peer = λ s. s.peer; handled = handled }
+
+abbrev pub connected_as : Answer → List ℕ → List ScriptLine → Process ServingValue
+connected_as (Ok channel) address script = told (went_on (opened_with address channel script))
+connected_as (Err refusal) address script = done (unconnected address script)
+
+abbrev pub served_client : List ℕ → List ScriptLine → Program ServingValue
+served_client address script = program_of behaviour (unconnected address script) (asks (λ answer. connected_as answer address script))

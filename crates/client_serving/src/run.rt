@@ -11,7 +11,7 @@ ghost use Rattle.client_serving.specs.Begun.{RunsOn};
 use crate::end::{ClientEnd, ClientRun};
 use crate::laws::whatever_comes_each_command_is_answered_once;
 use crate::serving::Serving;
-use serving_wires::each_wire_is_carried;
+use serving_wires::{Sending, each_wire_is_carried, take_turn};
 use std::alloc::Global;
 use tcf_schedules::ScriptLine;
 use tcf_wires::{WireRefusal, Wires};
@@ -57,26 +57,28 @@ fn try_run<W: Wires>(
 {
     each_wire_is_carried();
     let channel = wires.connect(address)?;
-    let mut serving = Serving::begin(alloc, channel, script)?;
-    let end = serve(&mut serving, wires, turns)?;
+    let mut sending = Sending::new(alloc);
+    let mut serving = Serving::begin(alloc, address, channel, script, &mut sending)?;
+    let end = serve(&mut serving, &mut sending, wires, turns)?;
     Ok(serving.into_run(end))
 }
 
 /// Serves a client that has begun, until its run ends.
 fn serve<W: Wires>(
     serving: &mut Serving<'_>,
+    sending: &mut Sending,
     wires: &mut W,
     turns: u32,
 ) -> Result<ClientEnd, WireRefusal>
-    ensures { RunsOn turns result serving.old serving.new (W.seen wires.old) (W.seen wires.new) }
+    ensures { Makes (RunsOn turns result (record { served = serving.old; sending = sending.old }) serving.new (W.seen wires.old).unused) (W.seen wires.old) (W.seen wires.new) }
 {
     each_wire_is_carried();
     if let Some(end) = serving.end() {
-        serving.flush(wires)?;
+        sending.flush(wires)?;
         return Ok(end);
     }
     for counter in 0..turns {
-        serving.turn(wires)?;
+        take_turn(serving, sending, wires)?;
         if let Some(end) = serving.end() {
             return Ok(end);
         }

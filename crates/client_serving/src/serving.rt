@@ -1,73 +1,78 @@
 //! A client with its wire and the lines that are left of its script, and what each event makes of them.
-ghost use Rattle.std.specs.Prelude.{◌≡◌, IfErr, IfOk, None, OnErr, OnOk};
+ghost use Rattle.std.specs.Prelude.{◌≡◌, IfOk, None, OnOk};
 ghost use Rattle.std.specs.List.{AllByRecursion};
 ghost use Rattle.tcf_schedules.specs.Script.{IsFit};
-ghost use Rattle.serving_wires.specs.Calls.{Makes};
-ghost use Rattle.serving_wires.specs.Outbox.{Flushes, IsGivenUp};
+ghost use Rattle.serving_wires.specs.Sending.{begun as begun_on, opened_by};
 ghost use Rattle.client_node.specs.Client.{opened};
-ghost use Rattle.client_serving.specs.Turn.{BreaksOff, IsTurn};
-ghost use Rattle.client_serving.specs.Serving.{acted, after_event, all_gathered, all_taken, begun, ended_by, heard_on, one_taken, stopped, went_on};
+ghost use Rattle.client_serving.specs.Begun.{Tells};
+ghost use Rattle.client_serving.specs.Serving.{acted, all_taken, behaviour, ended_by, heard_on, one_taken, opened_with, stopped, went_on};
 
 use crate::end::{ClientEnd, ClientRun, cause_of};
 use crate::lines::do_lines;
 use crate::telling::{gather, give};
 use channel_core::Cause;
 use client_node::ClientNode;
-use serving_wires::{Came, Outbox};
+use serving_wires::{Came, Sending, Served};
 use std::alloc::{AllocError, Global};
 use std::marker::Model;
 use tcf_schedules::ScriptLine;
-use tcf_wires::{WireEvent, WireRefusal, Wires};
+use tcf_wires::{WireEvent, Wires};
 
 /// A served client. Once its run has an end it does no further line and takes no further message.
 #[derive(Drop)]
 pub struct Serving<'a> {
+    peer: &'a str,
+    channel: u64,
     client: ClientNode,
     left: &'a [ScriptLine],
-    outbox: Outbox,
     end: Option<ClientEnd>,
 }
 
 impl<'a> Model for Serving<'a> {
+    ghost use Rattle.std.specs.Prelude.{Some};
     ghost use Rattle.std.specs.List.{AllByRecursion};
     ghost use Rattle.tcf_schedules.specs.Script.{IsFit};
     ghost use Rattle.client_serving.specs.ServingValue.{ServingValue};
 
     ghost Value = { ServingValue };
 
-    ghost view = { λ s. record { client = s.client; left = s.left.now; outbox = s.outbox; end = s.end } };
+    ghost view = { λ s. record { peer = s.peer.now; channel = Some s.channel; client = s.client; left = s.left.now; end = s.end } };
 
     ghost invariant = { λ s. AllByRecursion IsFit s.left.now };
 }
 
 impl<'a> Serving<'a> {
-    /// A client whose wire has this channel: it has opened its end, and does the first lines of the script.
+    /// A client that is connected with its peer on this channel: it has opened its end, and does the first lines of the script.
     pub fn begin(
         alloc: Global,
+        peer: &'a str,
         channel: u64,
         script: &'a [ScriptLine],
+        sending: &mut Sending,
     ) -> Result<Serving<'a>, AllocError>
         requires { AllByRecursion IsFit script.now }
-        ensures { IfOk result (λ serving. serving ≡ begun channel script.now) }
+        ensures { IfOk result (λ serving. Tells (went_on (opened_with peer.now channel script.now)) serving (begun_on channel sending.old) sending.new) }
     {
+        sending.begin(channel)?;
         let mut serving = Serving {
+            peer,
+            channel,
             client: ClientNode::new(alloc)?,
             left: script,
-            outbox: Outbox::new(alloc, channel),
             end: None,
         };
-        serving.open()?;
+        serving.open(sending)?;
         Ok(serving)
     }
 
     /// The client opens its end, and does the first lines.
-    fn open(&mut self) -> Result<(), AllocError>
+    fn open(&mut self, sending: &mut Sending) -> Result<(), AllocError>
         requires { self.old.client.channel ≡ None }
-        ensures { OnOk result (self.new ≡ all_gathered (went_on (record self.old { client = opened self.old.client }))) }
+        ensures { OnOk result (Tells (went_on (record self.old { client = opened self.old.client })) self.new sending.old sending.new) }
     {
         self.client.opened()?;
         self.go_on()?;
-        self.gather()
+        self.tell(sending)
     }
 
     /// How the run ended, if it did.
@@ -88,24 +93,16 @@ impl<'a> Serving<'a> {
         }
     }
 
-    /// An event comes: all messages that can be taken are taken, after each of them the lines that nothing holds are done,
-    /// and what the client tells is queued.
-    #[tactic(auto, unfolding(crate::specs::Serving::after_event))]
-    pub fn heed(&mut self, event: WireEvent) -> Result<(), AllocError>
-        ensures { OnOk result (self.new ≡ after_event event self.old) }
-    {
-        self.act(event)?;
-        self.gather()
-    }
-
     #[tactic(auto, unfolding(crate::specs::Serving::acted))]
-    fn act(&mut self, event: WireEvent) -> Result<(), AllocError>
-        ensures { OnOk result (self.new ≡ acted event self.old) }
+    fn act(&mut self, event: WireEvent, sending: &mut Sending) -> Result<(), AllocError>
+        ensures acted { OnOk result (self.new ≡ acted event self.old) }
+        ensures opened { OnOk result (sending.new ≡ opened_by event sending.old) }
     {
         match event {
+            WireEvent::Opened(channel) => sending.begin(channel),
             WireEvent::Piece(channel, bytes) => self.hear(channel, &Came::Piece(bytes)),
             WireEvent::Ended(channel) | WireEvent::Lost(channel) => self.hear(channel, &Came::End),
-            WireEvent::Opened(_) | WireEvent::Idle => Ok(()),
+            WireEvent::Idle => Ok(()),
             WireEvent::Stop => {
                 self.stop();
                 Ok(())
@@ -117,7 +114,7 @@ impl<'a> Serving<'a> {
     fn hear(&mut self, channel: u64, came: &Came) -> Result<(), AllocError>
         ensures { OnOk result (self.new ≡ heard_on channel came.now self.old) }
     {
-        if channel != self.outbox.channel() {
+        if channel != self.channel {
             return Ok(());
         }
         give(&mut self.client, came)?;
@@ -184,37 +181,29 @@ impl<'a> Serving<'a> {
     }
 
     /// Queues what the client tells; behind a closed channel nothing more will be queued.
-    #[tactic(auto, unfolding(crate::specs::Serving::all_gathered))]
-    fn gather(&mut self) -> Result<(), AllocError>
-        ensures { OnOk result (self.new ≡ all_gathered self.old) }
+    fn tell(&mut self, sending: &mut Sending) -> Result<(), AllocError>
+        ensures { OnOk result (Tells self.old self.new sending.old sending.new) }
     {
-        gather(&mut self.client, &mut self.outbox)?;
+        gather(&mut self.client, self.channel, sending)?;
         if cause_of(&self.client).is_some() {
-            self.outbox.close();
+            sending.close(self.channel);
         }
         Ok(())
     }
+}
 
-    /// A turn: an event comes, and what the client tells is put. `Failed` where the wires give nothing any more.
-    pub fn turn<W: Wires>(&mut self, wires: &mut W) -> Result<(), WireRefusal>
-        ensures ok { OnOk result (Makes (IsTurn self.old self.new) (W.seen wires.old) (W.seen wires.new)) }
-        ensures err { IfErr result (λ refusal. Makes (BreaksOff self.old refusal)
-            (W.seen wires.old) (W.seen wires.new)) }
-    {
-        let event = wires.next()?;
-        self.heed(event)?;
-        self.flush(wires)?;
-        Ok(())
-    }
+impl<'a> Served for Serving<'a> {
+    ghost behaviour = { behaviour };
 
-    /// Puts what is queued, in one put, and shuts the wire once where nothing is left behind a closed channel.
-    pub fn flush<W: Wires>(&mut self, wires: &mut W) -> Result<(), AllocError>
-        ensures ok { OnOk result (Makes (Flushes self.old.outbox self.new.outbox)
-            (W.seen wires.old) (W.seen wires.new)) }
-        ensures same { OnOk result (self.new ≡ record self.old { outbox = self.new.outbox }) }
-        ensures err { OnErr result (Makes (IsGivenUp self.old.outbox) (W.seen wires.old) (W.seen wires.new)) }
-        ensures numbers { W.unused wires.new ≡ W.unused wires.old }
-    {
-        self.outbox.flush(wires)
+    /// An event comes: all messages that can be taken are taken, after each of them the lines that nothing holds are done,
+    /// and what the client tells is queued.
+    fn heed<W: Wires>(
+        &mut self,
+        event: WireEvent,
+        sending: &mut Sending,
+        wires: &mut W,
+    ) -> Result<(), AllocError> {
+        self.act(event, sending)?;
+        self.tell(sending)
     }
 }

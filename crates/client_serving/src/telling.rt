@@ -1,9 +1,10 @@
 //! What a client is given, and what it tells.
 ghost use Rattle.std.specs.Prelude.{◌≡◌, OnOk};
-ghost use Rattle.client_serving.specs.Serving.{came_to, gathered};
+ghost use Rattle.client_serving.specs.Begun.{all_queued};
+ghost use Rattle.client_serving.specs.Serving.{came_to, client_emptied, queue_of};
 
 use client_node::ClientNode;
-use serving_wires::{Came, Outbox};
+use serving_wires::{Came, Sending};
 use std::alloc::AllocError;
 
 /// Gives the client what came on its wire, where nothing has a mark.
@@ -20,11 +21,16 @@ pub(crate) fn give(client: &mut ClientNode, came: &Came) -> Result<(), AllocErro
 }
 
 /// Queues all that the client has to send.
-pub(crate) fn gather(client: &mut ClientNode, outbox: &mut Outbox) -> Result<(), AllocError>
-    ensures { OnOk result ((client.new, outbox.new) ≡ gathered client.old outbox.old) }
+pub(crate) fn gather(
+    client: &mut ClientNode,
+    channel: u64,
+    sending: &mut Sending,
+) -> Result<(), AllocError>
+    ensures client { OnOk result (client.new ≡ client_emptied client.old) }
+    ensures sending { OnOk result (sending.new ≡ all_queued channel (queue_of client.old.channel) sending.old) }
 {
     while let Some(outgoing) = client.take_out() {
-        outbox.queue(outgoing.bytes.as_slice())?;
+        sending.queue(channel, outgoing.bytes.as_slice())?;
     }
     Ok(())
 }

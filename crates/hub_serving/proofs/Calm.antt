@@ -9,7 +9,7 @@ use Rattle.serving_wires.specs.Process.{Process, and_then, asks, done, tells}
 use Rattle.serving_wires.specs.Row.{Row}
 use Rattle.serving_wires.specs.Serve.{IsInPlace, Runs}
 use Rattle.serving_wires.specs.Serving.{listens, reaches_out}
-use Rattle.serving_wires.specs.Standing.{Heard, Sent, Standing, State, after_one, answered, came, heard_in, is_resting, landed, rests, sent_with, state_after, wires_after, wires_with}
+use Rattle.serving_wires.specs.Standing.{Heard, Standing, State, Wire, after_one, answered, came, heard_in, is_resting, landed, rests, sent_with, state_after, wires_after, wires_with}
 use Rattle.tcf_wires.specs.declared.call.WireCall.{WireCall}
 use Rattle.tcf_wires.specs.declared.call.WireCall.TheVariants.{Listened, Connected, Gave, Offered, Shut}
 use Rattle.tcf_wires.specs.declared.event.WireEvent.{WireEvent}
@@ -62,7 +62,7 @@ handled_calm event s = calm_then (acted event s) (λ next. gathered (passed next
 
 -- ---- so it rests
 
-pub calm_rests : {A : Type 0} → (a : A) (sent : List (Row Sent)) (p : Process A) → IsCalm p → (s : Standing A) × (landed a sent p ≡ rests s)
+pub calm_rests : {A : Type 0} → (a : A) (sent : List (Row Wire)) (p : Process A) → IsCalm p → (s : Standing A) × (landed a sent p ≡ rests s)
 calm_rests a sent (done new) calm = (record { served = new; sent = sent }, refl)
 calm_rests a sent (tells order p) calm = calm_rests a (sent_with order sent) p calm
 calm_rests a sent (asks next) calm = absurd calm

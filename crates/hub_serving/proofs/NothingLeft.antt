@@ -22,7 +22,7 @@ use Rattle.serving_wires.specs.Intake.{next_for}
 use Rattle.serving_wires.specs.Process.{Answer, Process, and_then, asks, done, tells}
 use Rattle.serving_wires.specs.Row.{Row}
 use Rattle.serving_wires.specs.Rows.{item_at}
-use Rattle.serving_wires.specs.Standing.{Heard, Sent, State, after, after_one, answered, at_first, came, landed, rests, sent_with, standing_in, waits, wires_after, wires_with}
+use Rattle.serving_wires.specs.Standing.{Heard, State, Wire, after, after_one, answered, at_first, came, landed, rests, sent_with, standing_in, waits, wires_after, wires_with}
 use Rattle.serving_wires.specs.declared.intake.Came.{Came}
 use Rattle.tcf_wires.specs.declared.event.WireEvent.{WireEvent}
 use Rattle.hub_serving.specs.Gathering.{closing, emptied, emptied_at, emptied_end, gathered_rows, is_live_line, queue_at, queue_in, queue_of, queue_on}
@@ -352,7 +352,7 @@ abbrev IsKnown : List ℕ → State ServingValue → Type 0
 IsKnown peer (rests s) = Unit {0}
 IsKnown peer (waits s next) = (s.served ≡ new_serving peer) × ((answer : Answer) → IsCalm (next answer))
 
-calm_known : (peer : List ℕ) (a : ServingValue) (sent : List (Row Sent)) (p : Process ServingValue) → IsCalm p → IsKnown peer (landed a sent p)
+calm_known : (peer : List ℕ) (a : ServingValue) (sent : List (Row Wire)) (p : Process ServingValue) → IsCalm p → IsKnown peer (landed a sent p)
 calm_known peer a sent (done new) calm = tt
 calm_known peer a sent (tells order p) calm = calm_known peer a (sent_with order sent) p calm
 calm_known peer a sent (asks next) calm = absurd calm
@@ -371,7 +371,7 @@ connected_calm : (peer : List ℕ) (answer : Answer) → IsCalm (connected answe
 connected_calm peer (Ok channel) = tt
 connected_calm peer (Err refusal) = tt
 
-landed_left : (a : ServingValue) (sent : List (Row Sent)) (p : Process ServingValue) → IsCalm p → ComesTo NothingLeft p → NothingLeft (standing_in (landed a sent p)).served
+landed_left : (a : ServingValue) (sent : List (Row Wire)) (p : Process ServingValue) → IsCalm p → ComesTo NothingLeft p → NothingLeft (standing_in (landed a sent p)).served
 landed_left a sent (done new) calm comes = comes
 landed_left a sent (tells order p) calm comes = landed_left a (sent_with order sent) p calm comes
 landed_left a sent (asks next) calm comes = absurd calm

@@ -23,7 +23,7 @@ use Rattle.serving_wires.specs.Order.{Order, channel_of, closes, queues}
 use Rattle.serving_wires.specs.Process.{Process, and_then, asks, done, tells}
 use Rattle.serving_wires.specs.Row.{Row}
 use Rattle.serving_wires.specs.Rows.{item_at, with_item, with_item_at}
-use Rattle.serving_wires.specs.Standing.{Heard, Sent, Standing, State, after, after_one, answered, at_first, came, landed, rests, sent_after, sent_in, sent_with, unused_wire, waits, wires_with, with_piece, with_wire}
+use Rattle.serving_wires.specs.Standing.{Heard, Standing, State, Wire, after, after_one, answered, at_first, came, landed, rests, sent_after, sent_in, sent_with, unused_wire, waits, wires_with, with_piece, with_wire}
 use Rattle.serving_wires.specs.declared.intake.Came.{Came}
 use Rattle.serving_wires.specs.declared.intake.Came.TheVariants.{Piece, End}
 use Rattle.hub_serving.specs.Gathering.{bytes_for, emptied, queue_on}
@@ -77,7 +77,7 @@ Apart [] = Unit {0}
 Apart (row ∷ rows) = (is_among row.channel (numbers rows) ≡ false) × Apart rows
 
 abbrev pub AllSent : Option ℕ → List Call → Wires → Type 0
-AllSent upper calls sent = (k : ℕ) (wire : Sent) → found k sent ≡ Some wire → IsSent upper calls k wire
+AllSent upper calls sent = (k : ℕ) (wire : Wire) → found k sent ≡ Some wire → IsSent upper calls k wire
 
 -- a channel without a wire is none of the hub's
 abbrev pub Unborn : Option ℕ → List Call → Wires → Type 0
@@ -206,7 +206,7 @@ pub line_apart : (upper : Option ℕ) (sent : Wires) (calls : List Call) (row : 
 line_apart upper sent calls row k side is off l =
     ap (λ (s : HubSide). same_side s side) l.side ∙ ap (same_side (side_of upper row.channel)) is ∙ sides_apart upper row.channel k off
 
-pub unborn_apart : (upper : Option ℕ) (k channel : ℕ) (wire : Sent) (sent : Wires) → found k sent ≡ None → found channel sent ≡ Some wire → is_number k upper ≡ false → same_side (Below k) (side_of upper channel) ≡ false
+pub unborn_apart : (upper : Option ℕ) (k channel : ℕ) (wire : Wire) (sent : Wires) → found k sent ≡ None → found channel sent ≡ Some wire → is_number k upper ≡ false → same_side (Below k) (side_of upper channel) ≡ false
 unborn_apart upper k channel wire sent none there is =
     ap (λ (s : HubSide). same_side s (side_of upper channel)) (sym (side_below upper k is)) ∙ sides_apart upper k channel (differ (k == channel) refl)
   where
@@ -265,7 +265,7 @@ piece_stands upper front rear channel line bytes left h sent is s =
         (subst (λ (waiting : List Came). OnWire channel (passed_on side s.calls).got (bytes_of (passed_on side s.calls).gave) waiting sent) is l.line.on)
 
     still_open : got.wire.is_closed ≡ false
-    still_open = let same : Some got.wire ≡ Some l.line.on.wire = sym got.there ∙ l.line.on.there in let wires : got.wire ≡ l.line.on.wire = cc in ap (λ (w : Sent). w.is_closed) wires ∙ l.line.open_still
+    still_open = let same : Some got.wire ≡ Some l.line.on.wire = sym got.there ∙ l.line.on.there in let wires : got.wire ≡ l.line.on.wire = cc in ap (λ (w : Wire). w.is_closed) wires ∙ l.line.open_still
 
     own : LineOn upper sent later next
     own =
@@ -297,7 +297,7 @@ end_stands upper front rear channel line left h sent is s =
       calls = later;
       made = moved.made;
       all = all_append (LineOn upper sent later) front (next ∷ rear) (all_left (LineOn upper sent later) front (row ∷ rear) moved.all) (
-        record { number = l.number; side = l.side; line = record { on = on; open_still = ap (λ (w : Sent). w.is_closed) wires ∙ l.line.open_still; its = l.line.its } },
+        record { number = l.number; side = l.side; line = record { on = on; open_still = ap (λ (w : Wire). w.is_closed) wires ∙ l.line.open_still; its = l.line.its } },
         (all_right (LineOn upper sent later) front (row ∷ rear) moved.all).1,
       );
       apart = same_numbers front rear row next refl s.apart;

@@ -28,7 +28,7 @@ use Rattle.serving_wires.specs.Order.{Order, channel_of, closes, queues}
 use Rattle.serving_wires.specs.Process.{Process, and_then, asks, done, tells}
 use Rattle.serving_wires.specs.Row.{Row}
 use Rattle.serving_wires.specs.Rows.{with_item}
-use Rattle.serving_wires.specs.Standing.{Heard, Sent, Standing, State, after, after_one, answered, at_first, came, landed, rests, sent_after, sent_in, sent_with, standing_in, unused_wire, waits, wires_after, wires_with, with_piece, with_wire}
+use Rattle.serving_wires.specs.Standing.{Heard, Standing, State, Wire, after, after_one, answered, at_first, came, landed, rests, sent_after, sent_in, sent_with, standing_in, unused_wire, waits, wires_after, wires_with, with_piece, with_wire}
 use Rattle.serving_wires.specs.declared.intake.Came.{Came}
 use Rattle.serving_wires.specs.declared.intake.Came.TheVariants.{Piece, End as came_end}
 use Rattle.tcf_wires.specs.declared.event.WireEvent.{WireEvent}
@@ -162,15 +162,15 @@ lands_weaker R Q (asks next) sent so lands = lands
 
 -- ---- what a side gave out is queued for its wire
 
-queued_wire : (bytes : List ℕ) (channel : ℕ) (wire : Sent) → wire.is_closed ≡ false → sent_after (queues channel bytes) wire ≡ record wire { queued = wire.queued ++ bytes }
+queued_wire : (bytes : List ℕ) (channel : ℕ) (wire : Wire) → wire.is_closed ≡ false → sent_after (queues channel bytes) wire ≡ record wire { queued = wire.queued ++ bytes }
 queued_wire bytes channel wire is = ap (λ (b : Bool). cond b wire (record wire { queued = wire.queued ++ bytes })) is
 
 order_on : (order : Order) (sent : Wires) (k : ℕ) → found k (sent_with order sent) ≡ cond (channel_of order == k) (option_map (sent_after order) (found k sent)) (found k sent)
 order_on order sent k = by_flag (channel_of order == k) refl
   where
-    by_wire : (wire : Option Sent) → found (channel_of order) sent ≡ wire → found (channel_of order) (sent_with order sent) ≡ option_map (sent_after order) wire
+    by_wire : (wire : Option Wire) → found (channel_of order) sent ≡ wire → found (channel_of order) (sent_with order sent) ≡ option_map (sent_after order) wire
     by_wire None none =
-        ap (λ (rs : Wires). found (channel_of order) rs) (change_first Sent (channel_of order) (sent_after order) sent ∙ changed_nowhere (channel_of order) (sent_after order) sent none) ∙ none
+        ap (λ (rs : Wires). found (channel_of order) rs) (change_first Wire (channel_of order) (sent_after order) sent ∙ changed_nowhere (channel_of order) (sent_after order) sent none) ∙ none
     by_wire (Some wire) there = wire_own order sent wire there
 
     by_flag : (flag : Bool) → (channel_of order == k) ≡ flag → found k (sent_with order sent) ≡ cond flag (option_map (sent_after order) (found k sent)) (found k sent)
@@ -195,20 +195,20 @@ other_line upper order sent p row off l =
     }
 
 -- what was queued for all, where an order changes one wire
-all_sent_by : (upper : Option ℕ) (calls later : List Call) (channel : ℕ) (wire : Sent) (order : Order) (sent : Wires) → channel_of order ≡ channel → found channel sent ≡ Some wire
+all_sent_by : (upper : Option ℕ) (calls later : List Call) (channel : ℕ) (wire : Wire) (order : Order) (sent : Wires) → channel_of order ≡ channel → found channel sent ≡ Some wire
     → IsSent upper later channel (sent_after order wire) → ((k : ℕ) → (channel == k) ≡ false → passed_on (side_of upper k) later ≡ passed_on (side_of upper k) calls)
-    → ((k : ℕ) (w : Sent) → (channel == k) ≡ false → found k sent ≡ Some w → IsSent upper calls k w) → AllSent upper later (sent_with order sent)
+    → ((k : ℕ) (w : Wire) → (channel == k) ≡ false → found k sent ≡ Some w → IsSent upper calls k w) → AllSent upper later (sent_with order sent)
 all_sent_by upper calls later channel wire order sent at there own others all = λ k w is. by_flag k w (channel == k) refl (sym (order_on order sent k) ∙ is)
   where
-    by_flag : (k : ℕ) (w : Sent) (flag : Bool) → (channel == k) ≡ flag → cond (channel_of order == k) (option_map (sent_after order) (found k sent)) (found k sent) ≡ Some w → IsSent upper later k w
+    by_flag : (k : ℕ) (w : Wire) (flag : Bool) → (channel == k) ≡ flag → cond (channel_of order == k) (option_map (sent_after order) (found k sent)) (found k sent) ≡ Some w → IsSent upper later k w
     by_flag k w true is so =
         let same : channel ≡ k = eqb-true channel k is in
         let here : found k sent ≡ Some wire = ap (λ (n : ℕ). found n sent) (sym same) ∙ there in
         let whole : Some (sent_after order wire) ≡ Some w =
-        ap (λ (o : Option Sent). option_map (sent_after order) o) (sym here)
+        ap (λ (o : Option Wire). option_map (sent_after order) o) (sym here)
         ∙ ap (λ (b : Bool). cond b (option_map (sent_after order) (found k sent)) (found k sent)) (sym (ap (λ (n : ℕ). n == k) at ∙ is)) ∙ so in
         let its : sent_after order wire ≡ w = cc in
-        subst (λ (x : Sent). IsSent upper later k x) its (subst (λ (n : ℕ). IsSent upper later n (sent_after order wire)) same own)
+        subst (λ (x : Wire). IsSent upper later k x) its (subst (λ (n : ℕ). IsSent upper later n (sent_after order wire)) same own)
     by_flag k w false is so =
         let there : found k sent ≡ Some w = ap (λ (b : Bool). cond b (option_map (sent_after order) (found k sent)) (found k sent)) (sym (ap (λ (n : ℕ). n == k) at ∙ is)) ∙ so in
         subst (λ (p : Passed). w.queued ≡ queued_for (is_number k upper) p.is_opened (bytes_of p.gave)) (sym (others k is)) (all k w is there)
@@ -217,7 +217,7 @@ all_sent_by upper calls later channel wire order sent at there own others all = 
 none_before : (order : Order) (sent : Wires) (k : ℕ) → found k (sent_with order sent) ≡ None → found k sent ≡ None
 none_before order sent k is = by_flag (channel_of order == k) (sym (order_on order sent k) ∙ is)
   where
-    by_wire : (o : Option Sent) → option_map (sent_after order) o ≡ None → o ≡ None
+    by_wire : (o : Option Wire) → option_map (sent_after order) o ≡ None → o ≡ None
     by_wire None none = refl
     by_wire (Some wire) none = absurd cc
 
@@ -226,7 +226,7 @@ none_before order sent k is = by_flag (channel_of order == k) (sym (order_on ord
     by_flag false none = none
 
 -- the wire of an order's channel
-own_wire : (order : Order) (channel : ℕ) (sent : Wires) (wire : Sent) → channel_of order ≡ channel → found channel sent ≡ Some wire → found channel (sent_with order sent) ≡ Some (sent_after order wire)
+own_wire : (order : Order) (channel : ℕ) (sent : Wires) (wire : Wire) → channel_of order ≡ channel → found channel sent ≡ Some wire → found channel (sent_with order sent) ≡ Some (sent_after order wire)
 own_wire order channel sent wire at there =
     subst (λ (k : ℕ). found k (sent_with order sent) ≡ Some (sent_after order wire)) at (wire_own order sent wire (ap (λ (k : ℕ). found k sent) at ∙ there))
 
@@ -258,7 +258,7 @@ gather_one upper front rear row h sent s =
     l : LineOn upper sent s.calls row
     l = all_at (LineOn upper sent s.calls) front rear row s.all
 
-    wire : Sent
+    wire : Wire
     wire = l.line.on.wire
 
     e : Emptied s.calls side h
@@ -279,7 +279,7 @@ gather_one upper front rear row h sent s =
     sent2 : Wires
     sent2 = sent_with shut sent1
 
-    wire1 : Sent
+    wire1 : Wire
     wire1 = sent_after order wire
 
     there1 : found row.channel sent1 ≡ Some wire1
@@ -295,13 +295,13 @@ gather_one upper front rear row h sent s =
     q = record p { gave = p.gave ++ queue_on side h }
 
     all_bytes : wire1.queued ≡ bytes_of q.gave
-    all_bytes = ap (λ (w : Sent). w.queued) wire_is ∙ ap (λ (bs : List ℕ). bs ++ bytes) l.line.on.queued ∙ sym (bytes_more side h p.gave)
+    all_bytes = ap (λ (w : Wire). w.queued) wire_is ∙ ap (λ (bs : List ℕ). bs ++ bytes) l.line.on.queued ∙ sym (bytes_more side h p.gave)
 
     own : OnLine upper sent1 (passed_on side e.later) row
     own = subst (λ (x : Passed). OnLine upper sent1 x row) (sym e.here)
         (record {
           on = record { wire = wire1; there = there1; queued = all_bytes; came = order_came order wire ∙ l.line.on.came };
-          open_still = ap (λ (w : Sent). w.is_closed) wire_is ∙ l.line.open_still;
+          open_still = ap (λ (w : Wire). w.is_closed) wire_is ∙ l.line.open_still;
           its = l.line.its;
         })
 
@@ -416,7 +416,7 @@ gathered_lands upper s sent stands =
 with_came : (upper : Option ℕ) (calls : List Call) (sent : Wires) (channel : ℕ) (bytes : List ℕ) → AllSent upper calls sent → AllSent upper calls (wires_with (events.Piece channel bytes) sent)
 with_came upper calls sent channel bytes all = λ k wire is. by_flag k wire (channel == k) refl is
   where
-    by_here : (k : ℕ) (wire : Sent) (o : Option Sent) → found k sent ≡ o → channel ≡ k → found k (wires_with (events.Piece channel bytes) sent) ≡ Some wire → IsSent upper calls k wire
+    by_here : (k : ℕ) (wire : Wire) (o : Option Wire) → found k sent ≡ o → channel ≡ k → found k (wires_with (events.Piece channel bytes) sent) ≡ Some wire → IsSent upper calls k wire
     by_here k wire None none same is =
         let nowhere : wires_with (events.Piece channel bytes) sent ≡ sent = piece_nowhere channel bytes sent (ap (λ (n : ℕ). found n sent) same ∙ none) in
         absurd (let both : Some wire ≡ None = sym is ∙ ap (λ (rs : Wires). found k rs) nowhere ∙ none in cc)
@@ -424,16 +424,16 @@ with_came upper calls sent channel bytes all = λ k wire is. by_flag k wire (cha
         let own : found k (wires_with (events.Piece channel bytes) sent) ≡ Some (with_piece bytes old) =
         subst (λ (n : ℕ). found n (wires_with (events.Piece channel bytes) sent) ≡ Some (with_piece bytes old)) same (piece_own channel bytes sent old (ap (λ (n : ℕ). found n sent) same ∙ there)) in
         let its : with_piece bytes old ≡ wire = (let both : Some (with_piece bytes old) ≡ Some wire = sym own ∙ is in cc) in
-        subst (λ (w : Sent). IsSent upper calls k w) its (all k old there)
+        subst (λ (w : Wire). IsSent upper calls k w) its (all k old there)
 
-    by_flag : (k : ℕ) (wire : Sent) (flag : Bool) → (channel == k) ≡ flag → found k (wires_with (events.Piece channel bytes) sent) ≡ Some wire → IsSent upper calls k wire
+    by_flag : (k : ℕ) (wire : Wire) (flag : Bool) → (channel == k) ≡ flag → found k (wires_with (events.Piece channel bytes) sent) ≡ Some wire → IsSent upper calls k wire
     by_flag k wire true same is = by_here k wire (found k sent) refl (eqb-true channel k same) is
     by_flag k wire false off is = all k wire (sym (piece_other channel k bytes sent off) ∙ is)
 
 came_none : (sent : Wires) (channel k : ℕ) (bytes : List ℕ) → found k (wires_with (events.Piece channel bytes) sent) ≡ None → found k sent ≡ None
 came_none sent channel k bytes none = by_wire (found k sent) refl
   where
-    by_flag : (old : Sent) (flag : Bool) → (channel == k) ≡ flag → found k sent ≡ Some old → found k sent ≡ None
+    by_flag : (old : Wire) (flag : Bool) → (channel == k) ≡ flag → found k sent ≡ Some old → found k sent ≡ None
     by_flag old true same there =
         let at : channel ≡ k = eqb-true channel k same in
         let own : found k (wires_with (events.Piece channel bytes) sent) ≡ Some (with_piece bytes old) =
@@ -441,7 +441,7 @@ came_none sent channel k bytes none = by_wire (found k sent) refl
         absurd (let both : Some (with_piece bytes old) ≡ None = sym own ∙ none in cc)
     by_flag old false off there = sym (piece_other channel k bytes sent off) ∙ none
 
-    by_wire : (o : Option Sent) → found k sent ≡ o → found k sent ≡ None
+    by_wire : (o : Option Wire) → found k sent ≡ o → found k sent ≡ None
     by_wire None is = is
     by_wire (Some old) is = by_flag old (channel == k) refl is
 
@@ -560,7 +560,7 @@ found_before channel k (row ∷ rows) none = by_flag (row.channel == k) none (λ
 -- another wire than the new one
 found_old : (channel k : ℕ) (sent : Wires) → (channel == k) ≡ false → found k (with_wire channel sent) ≡ found k sent
 found_old channel k [] off = ap (λ (b : Bool). cond b (Some unused_wire) None) off
-found_old channel k (row ∷ rows) off = ap (λ (o : Option Sent). cond (row.channel == k) (Some row.item) o) (found_old channel k rows off)
+found_old channel k (row ∷ rows) off = ap (λ (o : Option Wire). cond (row.channel == k) (Some row.item) o) (found_old channel k rows off)
 
 -- the new channel is none of those that are there
 fresh_rows : (upper : Option ℕ) (channel : ℕ) (sent : Wires) (calls : List Call) (rows : Lines) → found channel sent ≡ None → AllByRecursion (LineOn upper sent calls) rows → is_among channel (numbers rows) ≡ false
@@ -658,7 +658,7 @@ connection_lands upper channel s sent fresh stands = by_flag t.0 refl
     old_lines : AllByRecursion (LineOn upper wires later) s.lines
     old_lines = all_weaker (LineOn upper sent stands.calls) (LineOn upper wires later) s.lines (λ row l. old_line row l) stands.all
 
-    old_sent : (k : ℕ) (w : Sent) → (channel == k) ≡ false → found k wires ≡ Some w → IsSent upper later k w
+    old_sent : (k : ℕ) (w : Wire) → (channel == k) ≡ false → found k wires ≡ Some w → IsSent upper later k w
     old_sent k w off is =
         subst (λ (p : Passed). w.queued ≡ queued_for (is_number k upper) p.is_opened (bytes_of p.gave)) (sym (others k off)) (stands.sent_so k w (sym (found_old channel k sent off) ∙ is))
 
@@ -703,12 +703,12 @@ connection_lands upper channel s sent fresh stands = by_flag t.0 refl
           unborn = unborn;
         }
       where
-        sent_in_it : passed_on (Below channel) later ≡ record nothing_passed { is_opened = true } → (k : ℕ) (w : Sent) (flag : Bool) → (channel == k) ≡ flag → found k wires ≡ Some w → IsSent upper later k w
+        sent_in_it : passed_on (Below channel) later ≡ record nothing_passed { is_opened = true } → (k : ℕ) (w : Wire) (flag : Bool) → (channel == k) ≡ flag → found k wires ≡ Some w → IsSent upper later k w
         sent_in_it here k w true is there =
             let same : channel ≡ k = eqb-true channel k is in
             let its : unused_wire ≡ w = (let both : Some unused_wire ≡ Some w = sym (found_new channel sent fresh) ∙ ap (λ (n : ℕ). found n wires) same ∙ there in cc) in
             let side_is : passed_on (side_of upper channel) later ≡ record nothing_passed { is_opened = true } = ap (λ (on : HubSide). passed_on on later) (side_below upper channel not_upper) ∙ here in
-            subst (λ (x : Sent). IsSent upper later k x) its
+            subst (λ (x : Wire). IsSent upper later k x) its
             (subst (λ (n : ℕ). IsSent upper later n unused_wire) same
             (subst (λ (p : Passed). [] ≡ queued_for (is_number channel upper) p.is_opened (bytes_of p.gave)) (sym side_is) (sym (its_own (is_number channel upper) []))))
         sent_in_it here k w false off there = old_sent k w off there
@@ -720,7 +720,7 @@ connection_lands upper channel s sent fresh stands = by_flag t.0 refl
     shut : Order
     shut = closes channel
 
-    wire1 : Sent
+    wire1 : Wire
     wire1 = sent_after order unused_wire
 
     turned_away : t.0 ≡ false → Stands upper s.lines t.1 (sent_with shut (sent_with order wires))
@@ -814,7 +814,7 @@ distinct_last [] y all = refl
 distinct_last (x ∷ xs) y all = ap (λ (b : Bool). b || is_among y xs) (all_at (λ z. (x == z) ≡ false) xs [] y all.0) ∙ distinct_last xs y all.1
 
 with_numbers : (channel : ℕ) (sent : Wires) → numbers (with_wire channel sent) ≡ numbers sent ++ channel ∷ []
-with_numbers channel sent = map-append (λ (r : Row Sent). r.channel) sent _
+with_numbers channel sent = map-append (λ (r : Row Wire). r.channel) sent _
 
 abbrev AreMore : Wires → Wires → Type 0
 AreMore sent later = (more : List ℕ) × (numbers later ≡ numbers sent ++ more)
@@ -933,10 +933,10 @@ stands_connected peer channel =
     nothing_by : (side : HubSide) → passed_on side [] ≡ nothing_passed
     nothing_by side = refl
 
-    first_sent : (k : ℕ) (wire : Sent) (flag : Bool) → (channel == k) ≡ flag → cond flag (Some unused_wire) None ≡ Some wire → IsSent (Some channel) [] k wire
+    first_sent : (k : ℕ) (wire : Wire) (flag : Bool) → (channel == k) ≡ flag → cond flag (Some unused_wire) None ≡ Some wire → IsSent (Some channel) [] k wire
     first_sent k wire true is there =
         let its : unused_wire ≡ wire = cc in
-        subst (λ (w : Sent). IsSent (Some channel) [] k w) its (sym (ap (λ (b : Bool). queued_for b false []) is))
+        subst (λ (w : Wire). IsSent (Some channel) [] k w) its (sym (ap (λ (b : Bool). queued_for b false []) is))
     first_sent k wire false is there = absurd cc
 
 is_hub_so : (upper : Option ℕ) (s : ServingValue) (sent : Wires) → StandsSo upper s sent → IsHub upper s sent
@@ -945,7 +945,7 @@ is_hub_so upper s sent stands =
       calls = stands.calls;
       fits = stands.made.fits;
       node = stands.made.node;
-      sent = λ channel wire there. stands.sent_so channel wire (sym (item_found Sent channel sent) ∙ there);
+      sent = λ channel wire there. stands.sent_so channel wire (sym (item_found Wire channel sent) ∙ there);
       lines = all_weaker (LineOn upper sent stands.calls) (IsLine upper stands.calls sent) s.lines
           (λ row l.
           let p = passed_on row.item.side stands.calls in

@@ -9,7 +9,7 @@ use Rattle.hub_node.specs.declared.side.HubSide.{HubSide}
 use Rattle.hub_node.specs.declared.side.HubSide.TheVariants.{Above, Below}
 use Rattle.serving_wires.specs.Changes.{item_on}
 use Rattle.serving_wires.specs.Row.{Row}
-use Rattle.serving_wires.specs.Standing.{AreApart, Heard, Sent, State, after, answered, came, sent_in, standing_in}
+use Rattle.serving_wires.specs.Standing.{AreApart, Heard, State, Wire, after, answered, came, sent_in, standing_in}
 use Rattle.serving_wires.specs.Wired.{IsWired}
 use Rattle.hub_serving.specs.Serving.{hub_of}
 use Rattle.hub_serving.specs.ServingValue.{ServingValue}
@@ -89,22 +89,22 @@ queued_for false true bytes = bytes
 queued_for false false bytes = 3 ∷ 2 ∷ []
 
 -- of each wire that there ever was: all that was queued for it is that
-abbrev pub IsSent : Option ℕ → List Call → ℕ → Sent → Type 0
+abbrev pub IsSent : Option ℕ → List Call → ℕ → Wire → Type 0
 IsSent upper calls channel wire =
     let p = passed_on (side_of upper channel) calls in wire.queued ≡ queued_for (is_number channel upper) p.is_opened (bytes_of p.gave)
 
 -- of each line, whose side is live: all that came on its wire is what its side got, and behind it what waits
-pub record IsLine (upper : Option ℕ) (calls : List Call) (wires : List (Row Sent)) (row : Row Line) : Type 0 where
+pub record IsLine (upper : Option ℕ) (calls : List Call) (wires : List (Row Wire)) (row : Row Line) : Type 0 where
   pub side : row.item.side ≡ side_of upper row.channel
   pub wired : IsWired row.channel wires (passed_on row.item.side calls).got (bytes_of (passed_on row.item.side calls).gave) row.item.intake true
 
 -- ---- some calls of a new hub make it
 
-pub record IsHub (upper : Option ℕ) (s : ServingValue) (wires : List (Row Sent)) : Type 0 where
+pub record IsHub (upper : Option ℕ) (s : ServingValue) (wires : List (Row Wire)) : Type 0 where
   pub calls : List Call
   pub fits : AreNew calls new_hub
   pub node : (side : HubSide) → s.hub ≡ (after_calls side calls).hub
-  pub sent : (channel : ℕ) (wire : Sent) → item_on channel wires ≡ Some wire → IsSent upper calls channel wire
+  pub sent : (channel : ℕ) (wire : Wire) → item_on channel wires ≡ Some wire → IsSent upper calls channel wire
   pub lines : AllByRecursion (IsLine upper calls wires) s.lines
 
 abbrev pub IsServedHub : List Heard → State ServingValue → Type 0

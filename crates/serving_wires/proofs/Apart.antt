@@ -7,7 +7,7 @@ use Rattle.serving_wires.specs.Order.{Order, channel_of}
 use Rattle.serving_wires.specs.Process.{Process, asks, done, tells}
 use Rattle.serving_wires.specs.Program.{Program}
 use Rattle.serving_wires.specs.Row.{Row}
-use Rattle.serving_wires.specs.Standing.{AreApart, Sent, State, landed, sent_after, sent_in, sent_with, state_after}
+use Rattle.serving_wires.specs.Standing.{AreApart, State, Wire, landed, sent_after, sent_in, sent_with, state_after}
 use Rattle.serving_wires.proofs.Landed.{Holds, Landed, Sents}
 use Rattle.serving_wires.proofs.Leading.{Rows}
 use Rattle.serving_wires.proofs.Ordered.{by_wires}
@@ -47,7 +47,7 @@ holds_apart unused calls sent rows h = stand_distinct by_wires calls 0 sent rows
 -- ---- an order changes no number
 
 ordered_numbers : (order : Order) (sent : Sents) → numbers (sent_with order sent) ≡ numbers sent
-ordered_numbers order sent = ap (λ (rs : Sents). numbers rs) (change_first Sent (channel_of order) (sent_after order) sent) ∙ changed_numbers (channel_of order) (sent_after order) sent
+ordered_numbers order sent = ap (λ (rs : Sents). numbers rs) (change_first Wire (channel_of order) (sent_after order) sent) ∙ changed_numbers (channel_of order) (sent_after order) sent
 
 pub landed_numbers : {A : Type 0} → (served : A) (sent : Sents) (p : Process A) → numbers (sent_in (landed served sent p)) ≡ numbers sent
 landed_numbers served sent (done news) = refl

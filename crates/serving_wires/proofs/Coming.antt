@@ -6,7 +6,7 @@ use Rattle.tcf_wires.specs.declared.event.WireEvent.{WireEvent}
 use Rattle.serving_wires.specs.Process.{Answer, Process, and_then, asks, done, tells}
 use Rattle.serving_wires.specs.Program.{Program}
 use Rattle.serving_wires.specs.Row.{Row}
-use Rattle.serving_wires.specs.Standing.{Heard, Sent, State, after, after_one, answered, at_first, came, landed, rests, sent_with, standing_in, waits, wires_after, wires_with}
+use Rattle.serving_wires.specs.Standing.{Heard, State, Wire, after, after_one, answered, at_first, came, landed, rests, sent_with, standing_in, waits, wires_after, wires_with}
 
 abbrev pub ComesTo : {A : Type 0} → (A → Type 0) → Process A → Type 0
 ComesTo Q (done a) = Q a
@@ -29,7 +29,7 @@ abbrev Keeps : {A : Type 0} → (A → Type 0) → State A → Type 0
 Keeps Q (rests s) = Q s.served
 Keeps Q (waits s next) = Q s.served × ((answer : Answer) → ComesTo Q (next answer))
 
-landed_keeps : {A : Type 0} → (Q : A → Type 0) (a : A) (sent : List (Row Sent)) (p : Process A) → Q a → ComesTo Q p → Keeps Q (landed a sent p)
+landed_keeps : {A : Type 0} → (Q : A → Type 0) (a : A) (sent : List (Row Wire)) (p : Process A) → Q a → ComesTo Q p → Keeps Q (landed a sent p)
 landed_keeps Q a sent (done new) keeps comes = comes
 landed_keeps Q a sent (tells order p) keeps comes = landed_keeps Q a (sent_with order sent) p keeps comes
 landed_keeps Q a sent (asks next) keeps comes = (keeps, comes)

@@ -136,24 +136,24 @@ cut_at_event laws program turns count real unused calls event connects can r b =
     (landed_apart program real.served b.news b.later (with_event calls event connects) b.to h.landed)
 
 -- in the puts
-record PutsInPart {A : Type 0} (program : Program A) (now : List WireCall) : Type 0 where
-  serves : Serves program now
-  fronts : AreFronts (nodes_in (state_after program now)) now
-  apart : AreApart (sent_in (state_after program now))
-  sound : list_any breaks now ≡ false
+pub record PutsInPart {A : Type 0} (program : Program A) (now : List WireCall) : Type 0 where
+  pub serves : Serves program now
+  pub fronts : AreFronts (nodes_in (state_after program now)) now
+  pub apart : AreApart (sent_in (state_after program now))
+  pub sound : list_any breaks now ≡ false
 
-puts_in_part : {A : Type 0} → WireLaws → (program : Program A) (event : WireEvent) (served : A) (sending : List (Row OutboxValue)) (unused : ℕ) (calls at puts : List WireCall)
-    → Heeding program event calls at → Resting program served sending unused at → GivesUpAll its_own sending puts → PutsInPart program (at ++ puts)
-puts_in_part {A = A} laws program event served sending unused calls at puts h st up =
+pub puts_in_part : {A : Type 0} → WireLaws → (program : Program A) (served : A) (sending : List (Row OutboxValue)) (unused : ℕ) (at puts : List WireCall)
+    → Serves program at → list_any breaks at ≡ false → Resting program served sending unused at → GivesUpAll its_own sending puts → PutsInPart program (at ++ puts)
+puts_in_part {A = A} laws program served sending unused at puts serves sound st up =
     let nodes = nodes_in (state_after program at) in
     let u = gives_up by_wires (wires_keep laws) nodes at puts 0 st.sent sending (served_so program served sending unused at st) st.holds.lines up in
     let are : ArePuts puts = record { no_event = u.no_event; sound = u.sound; inside = u.inside } in
     record {
-      serves = each_more (IsInPlace program) at puts h.serves (puts_placed program at puts are (rests_so program served sending unused at st) u.in_place);
+      serves = each_more (IsInPlace program) at puts serves (puts_placed program at puts are (rests_so program served sending unused at st) u.in_place);
       fronts = subst (λ (s : State A). AreFronts (nodes_in s) (at ++ puts)) (sym (state_stays program at puts (puts_heard puts are)))
           (fronts_behind nodes at puts u.in_place u.no_event (rests_fronts laws program served sending unused at st));
       apart = subst (λ (s : State A). AreApart (sent_in s)) (sym (state_stays program at puts (puts_heard puts are))) (rests_apart program served sending unused at st);
-      sound = none_of_both breaks at puts h.sound (no_breaking_in puts u.sound);
+      sound = none_of_both breaks at puts sound (no_breaking_in puts u.sound);
     }
 
 given_up : {A : Type 0} → (program : Program A) (turns : ℕ) (now : List WireCall) → PutsInPart program now → Runs program turns NoMemory now
@@ -175,4 +175,4 @@ cut_short laws program turns count real unused calls more r (at_puts event later
     let h = heeded laws program count real unused later calls event served sending connects can r goes_so in
     subst (λ (cs : List WireCall). Runs program turns NoMemory cs) (turn_split calls event connects puts more called)
     (given_up program turns ((with_event calls event connects) ++ puts)
-    (puts_in_part laws program event served sending later calls (with_event calls event connects) puts h.heeding h.stands up))
+    (puts_in_part laws program served sending later (with_event calls event connects) puts h.heeding.serves h.heeding.sound h.stands up))

@@ -84,38 +84,36 @@ as_many {T = T} place item [] = refl
 as_many {T = T} zero item (row ∷ rows) = refl
 as_many {T = T} (suc place) item (row ∷ rows) = ap (λ (rs : List (Row T)). length rs) (with_behind place item row rows) ∙ ap suc (as_many place item rows)
 
-pub record PutTo {T : Type 0} (has : HasOutbox T) (place : ℕ) (olds nows : List (Row T)) (seen seen_then : WiresSeen) (unused unused_then : ℕ) : Type 0 where
+pub record PutTo {T : Type 0} (has : HasOutbox T) (place : ℕ) (olds nows : List (Row T)) (seen seen_then : WiresSeen) : Type 0 where
   pub flushed : Makes (FlushedTo has place olds nows) seen seen_then
   pub count : length nows ≡ length olds
-  pub numbers : unused_then ≡ unused
 
-pub put_begins : {T : Type 0} → (has : HasOutbox T) (rows : List (Row T)) (seen : WiresSeen) (unused : ℕ) → PutTo has 0 rows rows seen seen unused unused
-put_begins has rows seen unused = record { flushed = makes_none (FlushedTo has 0 rows rows) seen (begin rows); count = refl; numbers = refl }
+pub put_begins : {T : Type 0} → (has : HasOutbox T) (rows : List (Row T)) (seen : WiresSeen) → PutTo has 0 rows rows seen seen
+put_begins has rows seen = record { flushed = makes_none (FlushedTo has 0 rows rows) seen (begin rows); count = refl }
 
-pub put_step : {T : Type 0} → (has : HasOutbox T) (place : ℕ) (olds nows : List (Row T)) (item after : T) (seen seen_mid seen_then : WiresSeen) (unused unused_mid unused_then : ℕ)
-    → PutTo has place olds nows seen seen_mid unused unused_mid → item_at place nows ≡ Some item → after ≡ has.with_outbox (has.outbox after) item
+pub put_step : {T : Type 0} → (has : HasOutbox T) (place : ℕ) (olds nows : List (Row T)) (item after : T) (seen seen_mid seen_then : WiresSeen)
+    → PutTo has place olds nows seen seen_mid → item_at place nows ≡ Some item → after ≡ has.with_outbox (has.outbox after) item
     → Makes (Flushes (has.outbox item) (has.outbox after)) seen_mid seen_then
-    → unused_then ≡ unused_mid → PutTo has (place + 1) olds (with_item_at place after nows) seen seen_then unused unused_then
-put_step {T = T} has place olds nows item after seen seen_mid seen_then unused unused_mid unused_then so is kept flush same =
+    → PutTo has (place + 1) olds (with_item_at place after nows) seen seen_then
+put_step {T = T} has place olds nows item after seen seen_mid seen_then so is kept flush =
     record {
       flushed = makes_both (FlushedTo has place olds nows) (Flushes (has.outbox item) (has.outbox after)) (FlushedTo has (place + 1) olds (with_item_at place after nows))
           seen seen_mid seen_then
           (λ calls more flushed one. subst (λ (i : T). FlushedTo has (place + 1) olds (with_item_at place i nows) (calls ++ more)) (sym kept)
           (next_flushed has place olds nows calls more item (has.outbox after) flushed is one)) so.flushed flush;
       count = as_many place after nows ∙ so.count;
-      numbers = same ∙ so.numbers;
     }
 
-pub put_cut : {T : Type 0} → (has : HasOutbox T) (place : ℕ) (olds nows : List (Row T)) (item : T) (seen seen_mid seen_then : WiresSeen) (unused unused_mid : ℕ)
-    → PutTo has place olds nows seen seen_mid unused unused_mid → item_at place nows ≡ Some item → Makes (IsGivenUp (has.outbox item)) seen_mid seen_then
+pub put_cut : {T : Type 0} → (has : HasOutbox T) (place : ℕ) (olds nows : List (Row T)) (item : T) (seen seen_mid seen_then : WiresSeen)
+    → PutTo has place olds nows seen seen_mid → item_at place nows ≡ Some item → Makes (IsGivenUp (has.outbox item)) seen_mid seen_then
     → Makes (GivesUpAll has olds) seen seen_then
-put_cut has place olds nows item seen seen_mid seen_then unused unused_mid so is up =
+put_cut has place olds nows item seen seen_mid seen_then so is up =
     makes_both (FlushedTo has place olds nows) (IsGivenUp (has.outbox item)) (GivesUpAll has olds) seen seen_mid seen_then
     (λ calls more flushed one. given_up has place olds nows calls more item flushed is one) so.flushed up
 
-pub put_done : {T : Type 0} → (has : HasOutbox T) (place end : ℕ) (olds nows : List (Row T)) (seen seen_then : WiresSeen) (unused unused_then : ℕ)
-    → PutTo has place olds nows seen seen_then unused unused_then → end ≡ length olds → end ≤ place → Makes (FlushesAll has olds nows) seen seen_then
-put_done has place end olds nows seen seen_then unused unused_then so all past_all =
+pub put_done : {T : Type 0} → (has : HasOutbox T) (place end : ℕ) (olds nows : List (Row T)) (seen seen_then : WiresSeen)
+    → PutTo has place olds nows seen seen_then → end ≡ length olds → end ≤ place → Makes (FlushesAll has olds nows) seen seen_then
+put_done has place end olds nows seen seen_then so all past_all =
     makes_so (FlushedTo has place olds nows) (FlushesAll has olds nows) seen seen_then
     (λ calls flushed. all_flushed has place olds nows calls flushed (omega (arith, so.count, all, past_all))) so.flushed
 

@@ -1,7 +1,7 @@
 -- What a program keeps with its wires, whatever is heard, where each wire has a channel of its own; and one that never asks.
-use Rattle.std.proofs.Common.{◌≡◌, ℕ, ◌==◌, Bool, true, false, ◌||◌, List, [], ◌∷◌, ◌++◌, None, refl, sym, ap, ◌∙◌, subst, append-nil, append_assoc}
+use Rattle.std.proofs.Common.{◌≡◌, ℕ, ◌==◌, Bool, true, false, ◌||◌, ◌⊎◌, List, [], ◌∷◌, ◌++◌, None, refl, sym, ap, ◌∙◌, inl, inr, subst, append-nil, append_assoc}
 use Rattle.std.specs.Prelude.{Ok, Err, fold}
-use Rattle.std.specs.List.{AllByRecursion, IsDistinct, list_any}
+use Rattle.std.specs.List.{IsDistinct, list_any}
 use Rattle.std.proofs.lemmas.Bool.{false≢true, or_parts}
 use Rattle.std.proofs.lemmas.List.{map-append}
 use Rattle.list_laws.proofs.AllLists.{all_at, all_left}
@@ -11,14 +11,22 @@ use Rattle.tcf_wires.specs.declared.call.WireCall.TheVariants.{Listened, Connect
 use Rattle.tcf_wires.specs.declared.event.WireEvent.{WireEvent}
 use Rattle.tcf_wires.specs.declared.event.WireEvent.TheVariants as events
 use Rattle.serving_wires.specs.Process.{Answer, Process, and_then, asks, done, tells}
-use Rattle.serving_wires.specs.Program.{Program}
+use Rattle.serving_wires.specs.Flushing.{its_own}
+use Rattle.serving_wires.specs.Going.{Goes, answered as has_answered, here, told}
+use Rattle.serving_wires.specs.Program.{Behaviour, Program}
+use Rattle.serving_wires.specs.Turn.{IsCutShort, IsTurn, Now, at_event, at_puts, before_event}
+use Rattle.serving_wires.specs.WireLaws.{WireLaws}
+use Rattle.serving_wires.proofs.Inside.{flushes_are, given_up_are}
+use Rattle.serving_wires.proofs.Leading.{Rows}
 use Rattle.serving_wires.specs.Row.{Row}
 use Rattle.serving_wires.specs.Serve.{IsInPlace, Serves}
 use Rattle.serving_wires.specs.Serving.{breaks, fails, listens, reaches_out}
-use Rattle.serving_wires.specs.Standing.{Heard, Sent, State, after, after_one, answered, at_first, came, heard_in, is_resting, landed, rests, sent_in, sent_with, standing_in, state_after, waits, wires_after, wires_with, with_wire}
+use Rattle.serving_wires.specs.Standing.{Heard, State, Wire, after, after_one, answered, at_first, came, heard_in, is_resting, landed, rests, sent_in, sent_with, standing_in, waits, wires_after, wires_with, with_wire}
 use Rattle.serving_wires.proofs.Apart.{landed_numbers, same_channel}
 use Rattle.serving_wires.proofs.Coming.{ComesTo}
+use Rattle.serving_wires.proofs.Placed.{ArePuts}
 use Rattle.serving_wires.proofs.Rows.{found, is_among, missing_if, numbers}
+use Rattle.serving_wires.proofs.Turns.{gave}
 use Rattle.serving_wires.proofs.Wires.{Wires, piece_numbers}
 
 -- ---- what a process leads to, with the wires
@@ -59,7 +67,7 @@ distinct_last [] y all = refl
 distinct_last (x ∷ xs) y all = ap (λ (b : Bool). b || is_among y xs) (all_at (λ z. (x == z) ≡ false) xs [] y all.0) ∙ distinct_last xs y all.1
 
 with_numbers : (channel : ℕ) (sent : Wires) → numbers (with_wire channel sent) ≡ numbers sent ++ channel ∷ []
-with_numbers channel sent = map-append (λ (r : Row Sent). r.channel) sent _
+with_numbers channel sent = map-append (λ (r : Row Wire). r.channel) sent _
 
 abbrev AreMore : Wires → Wires → Type 0
 AreMore sent later = (more : List ℕ) × (numbers later ≡ numbers sent ++ more)
@@ -111,13 +119,40 @@ answer_new : (answer : Answer) (sent : Wires) → AreOwn (wires_after answer sen
 answer_new (Ok channel) sent all = new_wire channel sent all
 answer_new (Err refusal) sent all = tt
 
+-- what is heard next opens no wire on a channel that has one
+abbrev pub IsNewIn : {A : Type 0} → State A → Heard → Type 0
+IsNewIn (rests s) (came event) = IsFresh event s.sent
+IsNewIn (rests s) (answered answer) = Unit {0}
+IsNewIn (waits s next) (came event) = Unit {0}
+IsNewIn (waits s next) (answered answer) = IsNew answer s.sent
+
+state_new : {A : Type 0} → (program : Program A) (state : State A) (heard : Heard) → AreOwn (sent_in (after_one program state heard)) → IsNewIn state heard
+state_new program (rests s) (came event) all =
+    event_fresh event s.sent (subst (IsDistinct same_channel) (landed_numbers s.served (wires_with event s.sent) (program.behaviour.handled event s.served)) all)
+state_new program (rests s) (answered answer) all = tt
+state_new program (waits s next) (came event) all = tt
+state_new program (waits s next) (answered answer) all =
+    answer_new answer s.sent (subst (IsDistinct same_channel) (landed_numbers s.served (wires_after answer s.sent) (next answer)) all)
+
+own_before : {A : Type 0} → (program : Program A) (heard : List Heard) (state : State A) → AreOwn (sent_in (fold (after_one program) state heard)) → AreOwn (sent_in state)
+own_before program [] state all = all
+own_before program (h ∷ heard) state all =
+    let next = after_one program state h in before_more (sent_in state) (sent_in next) (state_more program state h) (own_before program heard next all)
+
+-- what each thing that is heard keeps of a state is kept, whatever is heard
+pub keeps_all : {A : Type 0} → (program : Program A) (Keeps : State A → Type 0) → ((state : State A) (heard : Heard) → IsNewIn state heard → Keeps state → Keeps (after_one program state heard))
+    → (heard : List Heard) (state : State A) → AreOwn (sent_in (fold (after_one program) state heard)) → Keeps state → Keeps (fold (after_one program) state heard)
+keeps_all program Keeps each [] state all keeps = keeps
+keeps_all program Keeps each (h ∷ heard) state all keeps =
+    let next = after_one program state h in keeps_all program Keeps each heard next all (each state h (state_new program state h (own_before program heard next all)) keeps)
+
 -- ---- a program keeps what it leads to again with each event
 
 abbrev pub Holds : {A : Type 0} → (A → Wires → Type 0) → State A → Type 0
 Holds Q (rests s) = Q s.served s.sent
 Holds Q (waits s next) = (answer : Answer) → IsNew answer s.sent → LeadsTo Q (next answer) (wires_after answer s.sent)
 
-landed_holds : {A : Type 0} → (Q : A → Wires → Type 0) (a : A) (sent : Wires) (p : Process A) → LeadsTo Q p sent → Holds Q (landed a sent p)
+pub landed_holds : {A : Type 0} → (Q : A → Wires → Type 0) (a : A) (sent : Wires) (p : Process A) → LeadsTo Q p sent → Holds Q (landed a sent p)
 landed_holds Q a sent (done new) leads = leads
 landed_holds Q a sent (tells order p) leads = landed_holds Q a (sent_with order sent) p leads
 landed_holds Q a sent (asks next) leads = leads
@@ -125,28 +160,17 @@ landed_holds Q a sent (asks next) leads = leads
 abbrev pub HoldsEach : {A : Type 0} → Program A → (A → Wires → Type 0) → Type 0
 HoldsEach {A} program Q = (event : WireEvent) (a : A) (sent : Wires) → IsFresh event sent → Q a sent → LeadsTo Q (program.behaviour.handled event a) (wires_with event sent)
 
-one_holds : {A : Type 0} → (program : Program A) (Q : A → Wires → Type 0) → HoldsEach program Q → (state : State A) (heard : Heard) → AreOwn (sent_in (after_one program state heard)) → Holds Q state
+one_holds : {A : Type 0} → (program : Program A) (Q : A → Wires → Type 0) → HoldsEach program Q → (state : State A) (heard : Heard) → IsNewIn state heard → Holds Q state
     → Holds Q (after_one program state heard)
-one_holds program Q each (rests s) (came event) all holds =
-    landed_holds Q s.served (wires_with event s.sent) (program.behaviour.handled event s.served)
-    (each event s.served s.sent
-    (event_fresh event s.sent (subst (IsDistinct same_channel) (landed_numbers s.served (wires_with event s.sent) (program.behaviour.handled event s.served)) all)) holds)
-one_holds program Q each (rests s) (answered answer) all holds = holds
-one_holds program Q each (waits s next) (came event) all holds = holds
-one_holds program Q each (waits s next) (answered answer) all holds =
-    landed_holds Q s.served (wires_after answer s.sent) (next answer)
-    (holds answer (answer_new answer s.sent (subst (IsDistinct same_channel) (landed_numbers s.served (wires_after answer s.sent) (next answer)) all)))
+one_holds program Q each (rests s) (came event) new holds =
+    landed_holds Q s.served (wires_with event s.sent) (program.behaviour.handled event s.served) (each event s.served s.sent new holds)
+one_holds program Q each (rests s) (answered answer) new holds = holds
+one_holds program Q each (waits s next) (came event) new holds = holds
+one_holds program Q each (waits s next) (answered answer) new holds = landed_holds Q s.served (wires_after answer s.sent) (next answer) (holds answer new)
 
-own_before : {A : Type 0} → (program : Program A) (heard : List Heard) (state : State A) → AreOwn (sent_in (fold (after_one program) state heard)) → AreOwn (sent_in state)
-own_before program [] state all = all
-own_before program (h ∷ heard) state all =
-    let next = after_one program state h in before_more (sent_in state) (sent_in next) (state_more program state h) (own_before program heard next all)
-
-all_hold : {A : Type 0} → (program : Program A) (Q : A → Wires → Type 0) → HoldsEach program Q → (heard : List Heard) (state : State A)
+pub all_hold : {A : Type 0} → (program : Program A) (Q : A → Wires → Type 0) → HoldsEach program Q → (heard : List Heard) (state : State A)
     → AreOwn (sent_in (fold (after_one program) state heard)) → Holds Q state → Holds Q (fold (after_one program) state heard)
-all_hold program Q each [] state all holds = holds
-all_hold program Q each (h ∷ heard) state all holds =
-    let next = after_one program state h in all_hold program Q each heard next all (one_holds program Q each state h (own_before program heard next all) holds)
+all_hold program Q each = keeps_all program (Holds Q) (one_holds program Q each)
 
 pub holds_so : {A : Type 0} → (program : Program A) (Q : A → Wires → Type 0) → HoldsEach program Q → LeadsTo Q program.begins [] → (heard : List Heard)
     → AreOwn (sent_in (after program heard)) → Holds Q (after program heard)
@@ -164,7 +188,7 @@ never_then (done a) later never each = each a
 never_then (tells order p) later never each = never_then p later never each
 never_then (asks next) later never each = absurd never
 
-landed_rests : {A : Type 0} → (a : A) (sent : Wires) (p : Process A) → NeverAsks p → is_resting (landed a sent p) ≡ true
+pub landed_rests : {A : Type 0} → (a : A) (sent : Wires) (p : Process A) → NeverAsks p → is_resting (landed a sent p) ≡ true
 landed_rests a sent (done new) never = refl
 landed_rests a sent (tells order p) never = landed_rests a (sent_with order sent) p never
 landed_rests a sent (asks next) never = absurd never
@@ -177,7 +201,7 @@ one_rests program each (rests s) (came event) is = landed_rests s.served (wires_
 one_rests program each (rests s) (answered answer) is = refl
 one_rests program each (waits s next) heard is = absurd (false≢true is)
 
-all_rest : {A : Type 0} → (program : Program A) → NeverAsksEach program → (heard : List Heard) (state : State A) → is_resting state ≡ true → is_resting (fold (after_one program) state heard) ≡ true
+pub all_rest : {A : Type 0} → (program : Program A) → NeverAsksEach program → (heard : List Heard) (state : State A) → is_resting state ≡ true → is_resting (fold (after_one program) state heard) ≡ true
 all_rest program each [] state is = is
 all_rest program each (h ∷ heard) state is = all_rest program each heard (after_one program state h) (one_rests program each state h is)
 
@@ -218,3 +242,45 @@ pub landed_so : {A : Type 0} → (Q : A → Type 0) (a : A) (sent : Wires) (p : 
 landed_so Q a sent (done new) never comes = comes
 landed_so Q a sent (tells order p) never comes = landed_so Q a (sent_with order sent) p never comes
 landed_so Q a sent (asks next) never comes = absurd never
+
+-- ---- the calls of its turn are an event, and puts
+
+goes_never : {A : Type 0} → (peer : List ℕ) (n m : ℕ) (p q : Process A) (olds news : Rows) (calls : List WireCall) → Goes peer n m p q olds news calls → NeverAsks p → calls ≡ []
+goes_never peer n m p q olds news calls (here u p2 rows) never = refl
+goes_never peer n m p q olds news calls (told u l order p2 q2 os ns cs goes) never = goes_never peer n m p2 q _ news cs goes never
+goes_never peer n m p q olds news calls (has_answered u l answer next q2 os ns cs fits goes) never = absurd never
+
+pub record IsEventAndPuts (event : WireEvent) (calls : List WireCall) : Type 0 where
+  pub puts : List WireCall
+  pub called : calls ≡ gave event ∷ puts
+  pub are : ArePuts puts
+
+event_and_puts : (event : WireEvent) (connects puts calls : List WireCall) → connects ≡ [] → calls ≡ gave event ∷ (connects ++ puts) → ArePuts puts → IsEventAndPuts event calls
+event_and_puts event connects puts calls none called are =
+    record { puts = puts; called = called ∙ ap (λ (cs : List WireCall). gave event ∷ (cs ++ puts)) none; are = are }
+
+pub turn_puts : {A : Type 0} → WireLaws → (b : Behaviour A) → ((event : WireEvent) (a : A) → NeverAsks (b.handled event a)) → (old new : Now A) (n m : ℕ) (is_last : Bool) (calls : List WireCall)
+    → (t : IsTurn b old new n m is_last calls) → IsEventAndPuts t.event calls
+turn_puts laws b never old new n m is_last calls t =
+    event_and_puts t.event t.connects t.puts calls (goes_never _ _ _ _ _ _ _ t.connects t.goes (never t.event old.served)) t.called
+    (flushes_are laws its_own t.sending t.flushes.flushed t.puts t.flushes.flushes)
+
+-- where memory was wanting: nothing at all, or these
+pub cut_puts : {A : Type 0} → WireLaws → (b : Behaviour A) → ((event : WireEvent) (a : A) → NeverAsks (b.handled event a)) → (old : Now A) (n : ℕ) (calls : List WireCall) → IsCutShort b old n calls
+    → (calls ≡ []) ⊎ ((event : WireEvent) × IsEventAndPuts event calls)
+cut_puts laws b never old n calls (before_event nothing) = inl nothing
+cut_puts laws b never old n calls (at_event event connects can breaks_off called) =
+    inr (
+      event,
+      event_and_puts event connects [] calls (goes_never _ _ _ _ _ _ _ connects breaks_off.goes (never event old.served)) (called ∙ ap (λ (cs : List WireCall). gave event ∷ cs) (sym (append-nil connects)))
+          (record { no_event = refl; sound = refl; inside = refl }),
+    )
+cut_puts laws b never old n calls (at_puts event later new sending connects puts can goes up called) =
+    inr (event, event_and_puts event connects puts calls (goes_never _ _ _ _ _ _ _ connects goes (never event old.served)) called (given_up_are laws its_own sending puts up))
+
+-- ---- what a process comes to is what it is done with
+
+pub goes_comes : {A : Type 0} → (Q : A → Type 0) (peer : List ℕ) (n m : ℕ) (p : Process A) (a : A) (olds news : Rows) (calls : List WireCall) → Goes peer n m p (done a) olds news calls → ComesTo Q p → Q a
+goes_comes Q peer n m p a olds news calls (here u p2 rows) comes = comes
+goes_comes Q peer n m p a olds news calls (told u l order p2 q2 os ns cs goes) comes = goes_comes Q peer n m p2 a _ news cs goes comes
+goes_comes Q peer n m p a olds news calls (has_answered u l answer next q2 os ns cs fits goes) comes = goes_comes Q peer _ m (next answer) a _ news cs goes (comes answer)

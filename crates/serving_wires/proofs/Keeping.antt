@@ -15,16 +15,16 @@ use Rattle.serving_wires.specs.Serving.{EachBehind, IsInPlace, Nodes}
 use Rattle.serving_wires.specs.Order.{Order, closes, leaves, queues}
 use Rattle.serving_wires.specs.Sending.{outbox_after, queued_unless_closed}
 use Rattle.serving_wires.specs.Serve.{CarriesWire}
-use Rattle.serving_wires.specs.Standing.{Sent, sent_after, unused_wire, with_piece}
+use Rattle.serving_wires.specs.Standing.{Wire, sent_after, unused_wire, with_piece}
 use Rattle.serving_wires.specs.WireLaws.{WireLaws}
 use Rattle.list_laws.proofs.Lists.{empty_by}
 
 -- its outbox, if nothing were ever put
-abbrev pub all_of : ℕ → Sent → OutboxValue
+abbrev pub all_of : ℕ → Wire → OutboxValue
 all_of channel s = record { channel = channel; queued = s.queued; is_lost = false; is_closed = s.is_closed; is_shut = false }
 
 -- a wire whose place another one took: nothing is queued any more
-pub record IsLeftSo (channel : ℕ) (s : Sent) (now : OutboxValue) (calls : List WireCall) : Type 0 where
+pub record IsLeftSo (channel : ℕ) (s : Wire) (now : OutboxValue) (calls : List WireCall) : Type 0 where
   pub at : now.channel ≡ channel
   pub closed : now.is_closed ≡ true
   pub closed_all : s.is_closed ≡ true
@@ -32,7 +32,7 @@ pub record IsLeftSo (channel : ℕ) (s : Sent) (now : OutboxValue) (calls : List
   pub front : (rest : List ℕ) × (s.queued ≡ taken_on channel calls ++ rest)
   pub shut : shut_count channel calls ≡ (if now.is_shut then 1 else 0)
 
-pub data Keeps (channel : ℕ) (s : Sent) (now : OutboxValue) (calls : List WireCall) : Type 0 where
+pub data Keeps (channel : ℕ) (s : Wire) (now : OutboxValue) (calls : List WireCall) : Type 0 where
   follows : s.is_left ≡ false → Follows (all_of channel s) now calls → Keeps channel s now calls
   left : s.is_left ≡ true → IsLeftSo channel s now calls → Keeps channel s now calls
 
@@ -71,7 +71,7 @@ over_if_shut all now calls is f =
     let parts = and_parts now.is_closed (nothing_left now) (f.over is) in
     record { closed = parts.0; nothing = empty_by now.queued parts.1 }
 
-pub keeps_over : (channel : ℕ) (s : Sent) (now : OutboxValue) (calls : List WireCall) → now.is_shut ≡ true → Keeps channel s now calls → IsOver now
+pub keeps_over : (channel : ℕ) (s : Wire) (now : OutboxValue) (calls : List WireCall) → now.is_shut ≡ true → Keeps channel s now calls → IsOver now
 keeps_over channel s now calls is (follows stays f) = over_if_shut (all_of channel s) now calls is f
 keeps_over channel s now calls is (left holds l) = record { closed = l.closed; nothing = l.nothing }
 
@@ -82,10 +82,10 @@ queued_away bytes o is = ap (λ (b : Bool). if b then o else queued bytes o) is
 queued_there : (bytes : List ℕ) (o : OutboxValue) → o.is_closed ≡ false → queued_unless_closed bytes o ≡ queued bytes o
 queued_there bytes o is = ap (λ (b : Bool). if b then o else queued bytes o) is
 
-sent_away : (channel : ℕ) (bytes : List ℕ) (s : Sent) → s.is_closed ≡ true → sent_after (queues channel bytes) s ≡ s
+sent_away : (channel : ℕ) (bytes : List ℕ) (s : Wire) → s.is_closed ≡ true → sent_after (queues channel bytes) s ≡ s
 sent_away channel bytes s is = ap (λ (b : Bool). if b then s else record s { queued = s.queued ++ bytes }) is
 
-sent_there : (channel : ℕ) (bytes : List ℕ) (s : Sent) → s.is_closed ≡ false → sent_after (queues channel bytes) s ≡ record s { queued = s.queued ++ bytes }
+sent_there : (channel : ℕ) (bytes : List ℕ) (s : Wire) → s.is_closed ≡ false → sent_after (queues channel bytes) s ≡ record s { queued = s.queued ++ bytes }
 sent_there channel bytes s is = ap (λ (b : Bool). if b then s else record s { queued = s.queued ++ bytes }) is
 
 behind_shut : (o : OutboxValue) → o.is_shut ≡ true → left_behind o ≡ o
@@ -94,7 +94,7 @@ behind_shut o is = ap (λ (b : Bool). if b then o else closed (unused_outbox o.c
 behind_open : (o : OutboxValue) → o.is_shut ≡ false → left_behind o ≡ closed (unused_outbox o.channel)
 behind_open o is = ap (λ (b : Bool). if b then o else closed (unused_outbox o.channel)) is
 
-queue_follows : WireLaws → (closed_so : Bool) (on channel : ℕ) (bytes : List ℕ) (s : Sent) (now : OutboxValue) (calls : List WireCall) → s.is_closed ≡ closed_so → s.is_left ≡ false
+queue_follows : WireLaws → (closed_so : Bool) (on channel : ℕ) (bytes : List ℕ) (s : Wire) (now : OutboxValue) (calls : List WireCall) → s.is_closed ≡ closed_so → s.is_left ≡ false
     → Follows (all_of channel s) now calls → Keeps channel (sent_after (queues on bytes) s) (queued_unless_closed bytes now) calls
 queue_follows laws true on channel bytes s now calls is stays f = rw (sent_away on bytes s is, queued_away bytes now (f.closed ∙ is)) (follows stays f)
 queue_follows laws false on channel bytes s now calls is stays f =
@@ -105,7 +105,7 @@ own_front : (lost : Bool) (all taken rest : List ℕ) → IsSplit lost all taken
 own_front false all taken rest split = (rest, split)
 own_front true all taken rest split = split.1
 
-leave_follows : (shut : Bool) (channel : ℕ) (s : Sent) (now : OutboxValue) (calls : List WireCall) → now.is_shut ≡ shut → Follows (all_of channel s) now calls
+leave_follows : (shut : Bool) (channel : ℕ) (s : Wire) (now : OutboxValue) (calls : List WireCall) → now.is_shut ≡ shut → Follows (all_of channel s) now calls
     → Keeps channel (record s { is_closed = true; is_left = true }) (left_behind now) calls
 leave_follows true channel s now calls is f =
     let o = over_if_shut (all_of channel s) now calls is f in
@@ -131,7 +131,7 @@ leave_follows false channel s now calls is f =
       shut = f.shut ∙ ap (λ (b : Bool). if b then 1 else 0) is;
     }))
 
-leave_left : (shut : Bool) (channel : ℕ) (s : Sent) (now : OutboxValue) (calls : List WireCall) → now.is_shut ≡ shut → IsLeftSo channel s now calls
+leave_left : (shut : Bool) (channel : ℕ) (s : Wire) (now : OutboxValue) (calls : List WireCall) → now.is_shut ≡ shut → IsLeftSo channel s now calls
     → Keeps channel (record s { is_closed = true; is_left = true }) (left_behind now) calls
 leave_left true channel s now calls is l =
     rw (behind_shut now is) (left refl (record { at = l.at; closed = l.closed; closed_all = refl; nothing = l.nothing; front = l.front; shut = l.shut }))
@@ -139,7 +139,7 @@ leave_left false channel s now calls is l =
     rw (behind_open now is)
     (left refl (record { at = l.at; closed = refl; closed_all = refl; nothing = refl; front = l.front; shut = l.shut ∙ ap (λ (b : Bool). if b then 1 else 0) is }))
 
-pub keeps_order : WireLaws → (order : Order) (channel : ℕ) (s : Sent) (now : OutboxValue) (calls : List WireCall) → Keeps channel s now calls
+pub keeps_order : WireLaws → (order : Order) (channel : ℕ) (s : Wire) (now : OutboxValue) (calls : List WireCall) → Keeps channel s now calls
     → Keeps channel (sent_after order s) (outbox_after order now) calls
 keeps_order laws (queues on bytes) channel s now calls (follows stays f) = queue_follows laws s.is_closed on channel bytes s now calls refl stays f
 keeps_order laws (queues on bytes) channel s now calls (left holds l) = rw (sent_away on bytes s l.closed_all, queued_away bytes now l.closed) (left holds l)
@@ -150,7 +150,7 @@ keeps_order laws (leaves on) channel s now calls (follows stays f) = leave_follo
 keeps_order laws (leaves on) channel s now calls (left holds l) = leave_left now.is_shut channel s now calls refl l
 
 -- a piece that came changes nothing of what is kept
-pub keeps_piece : (channel : ℕ) (bytes : List ℕ) (s : Sent) (now : OutboxValue) (calls : List WireCall) → Keeps channel s now calls → Keeps channel (with_piece bytes s) now calls
+pub keeps_piece : (channel : ℕ) (bytes : List ℕ) (s : Wire) (now : OutboxValue) (calls : List WireCall) → Keeps channel s now calls → Keeps channel (with_piece bytes s) now calls
 keeps_piece channel bytes s now calls (follows stays f) = follows stays f
 keeps_piece channel bytes s now calls (left holds l) =
     left holds (record { at = l.at; closed = l.closed; closed_all = l.closed_all; nothing = l.nothing; front = l.front; shut = l.shut })
@@ -161,7 +161,7 @@ shut_stays (closes on) o is over = closed_same o over
 shut_stays (leaves on) o is over = behind_shut o is
 
 -- what was shut stays as it is
-pub keeps_order_gone : WireLaws → (order : Order) (channel : ℕ) (s : Sent) (last : OutboxValue) (calls : List WireCall) → last.is_shut ≡ true → Keeps channel s last calls
+pub keeps_order_gone : WireLaws → (order : Order) (channel : ℕ) (s : Wire) (last : OutboxValue) (calls : List WireCall) → last.is_shut ≡ true → Keeps channel s last calls
     → Keeps channel (sent_after order s) last calls
 keeps_order_gone laws order channel s last calls is k =
     subst (λ (o : OutboxValue). Keeps channel (sent_after order s) o calls) (shut_stays order last is (keeps_over channel s last calls is k).closed)
@@ -169,7 +169,7 @@ keeps_order_gone laws order channel s last calls is k =
 
 -- ---- calls that aren't on the wire
 
-pub keeps_more : WireLaws → (channel : ℕ) (s : Sent) (now : OutboxValue) (calls more : List WireCall) → Spares channel more → Keeps channel s now calls
+pub keeps_more : WireLaws → (channel : ℕ) (s : Wire) (now : OutboxValue) (calls more : List WireCall) → Spares channel more → Keeps channel s now calls
     → Keeps channel s now (calls ++ more)
 keeps_more laws channel s now calls more spares (follows stays f) = follows stays (laws.others (all_of channel s) now calls more spares f)
 keeps_more laws channel s now calls more spares (left holds l) =
@@ -223,7 +223,7 @@ flush_left old new calls closed nothing flush =
     let f = shut_by old.is_shut old new flush.shuts refl (due_by old.is_shut old refl closed nothing) (subst (λ (o : OutboxValue). Shuts o new flush.shuts) put.0 flush.shut) in
     record { new_is = f.new_is; calls_are = flush.called ∙ ap (λ (cs : List WireCall). cs ++ flush.shuts) put.1 ∙ f.calls_are }
 
-left_flushed : (shut : Bool) (channel : ℕ) (s : Sent) (old new : OutboxValue) (calls more : List WireCall) → old.is_shut ≡ shut → IsLeftSo channel s old calls
+left_flushed : (shut : Bool) (channel : ℕ) (s : Wire) (old new : OutboxValue) (calls more : List WireCall) → old.is_shut ≡ shut → IsLeftSo channel s old calls
     → new ≡ (if shut then old else record old { is_shut = true }) → more ≡ (if shut then [] else Shut old.channel ∷ []) → IsLeftSo channel s new (calls ++ more)
 left_flushed true channel s old new calls more is l new_is calls_are = rw (new_is, calls_are, append-nil calls) l
 left_flushed false channel s old new calls more is l new_is calls_are =
@@ -241,7 +241,7 @@ left_flushed false channel s old new calls more is l new_is calls_are =
       shut = shut_both channel calls (Shut old.channel ∷ []) ∙ omega (arith, none_yet, one);
     })
 
-pub keeps_flush : WireLaws → (channel : ℕ) (s : Sent) (old new : OutboxValue) (calls more : List WireCall) → Flushes old new more → Keeps channel s old calls
+pub keeps_flush : WireLaws → (channel : ℕ) (s : Wire) (old new : OutboxValue) (calls more : List WireCall) → Flushes old new more → Keeps channel s old calls
     → Keeps channel s new (calls ++ more)
 keeps_flush laws channel s old new calls more flush (follows stays f) = follows stays (laws.flushing (all_of channel s) old new calls more flush f)
 keeps_flush laws channel s old new calls more flush (left holds l) =
@@ -262,7 +262,7 @@ not_due o is = by_flags o.is_closed (nothing_left o) o.is_shut is
     by_flags true false shut so = refl
     by_flags false nothing shut so = refl
 
-pub flush_done : WireLaws → (channel : ℕ) (s : Sent) (old new : OutboxValue) (calls more : List WireCall) → Flushes old new more → Keeps channel s old calls
+pub flush_done : WireLaws → (channel : ℕ) (s : Wire) (old new : OutboxValue) (calls more : List WireCall) → Flushes old new more → Keeps channel s old calls
     → IsFlushed new (calls ++ more)
 flush_done laws channel s old new calls more flush (follows stays f) = laws.flushed (all_of channel s) old new calls more flush f
 flush_done laws channel s old new calls more flush (left holds l) =
@@ -271,7 +271,7 @@ flush_done laws channel s old new calls more flush (left holds l) =
     record { offered = λ whole. after.1; shut = not_due new after.0 }
 
 -- a wire that was shut stays flushed
-pub keeps_shut : WireLaws → (channel : ℕ) (s : Sent) (last : OutboxValue) (calls : List WireCall) → last.is_shut ≡ true → Keeps channel s last calls → IsFlushed last calls
+pub keeps_shut : WireLaws → (channel : ℕ) (s : Wire) (last : OutboxValue) (calls : List WireCall) → last.is_shut ≡ true → Keeps channel s last calls → IsFlushed last calls
 keeps_shut laws channel s last calls is (follows stays f) = laws.shut (all_of channel s) last calls is f
 keeps_shut laws channel s last calls is (left holds l) = record { offered = λ whole. l.nothing; shut = not_due last is }
 
@@ -281,25 +281,25 @@ left_shut : (shut : Bool) (count : ℕ) (now : OutboxValue) → now.is_shut ≡ 
 left_shut true count now is due never so = so ∙ ap (λ (b : Bool). if b then 1 else 0) is
 left_shut false count now is due never so = absurd (false≢true (sym never ∙ due))
 
-pub keeps_carried : WireLaws → (channel : ℕ) (s : Sent) (now : OutboxValue) (calls : List WireCall) → IsFlushed now calls → Keeps channel s now calls → CarriesWire s channel calls
+pub keeps_carried : WireLaws → (channel : ℕ) (s : Wire) (now : OutboxValue) (calls : List WireCall) → IsFlushed now calls → Keeps channel s now calls → CarriesWire s channel calls
 keeps_carried laws channel s now calls flushed (follows stays f) = rw stays (laws.carried (all_of channel s) now calls f flushed)
 keeps_carried laws channel s now calls flushed (left holds l) =
     rw holds (record { front = l.front; shut = left_shut now.is_shut (shut_count channel calls) now refl (due_by now.is_shut now refl l.closed l.nothing) flushed.shut l.shut })
 
-pub keeps_front : (channel : ℕ) (s : Sent) (now : OutboxValue) (calls : List WireCall) → Keeps channel s now calls → (rest : List ℕ) × (s.queued ≡ taken_on channel calls ++ rest)
+pub keeps_front : (channel : ℕ) (s : Wire) (now : OutboxValue) (calls : List WireCall) → Keeps channel s now calls → (rest : List ℕ) × (s.queued ≡ taken_on channel calls ++ rest)
 keeps_front channel s now calls (follows stays f) = own_front now.is_lost s.queued (taken_on channel calls) now.queued f.split
 keeps_front channel s now calls (left holds l) = l.front
 
 -- ---- each put and each shutting is in its place
 
-left_in_place : (shut : Bool) (nodes : Nodes) (channel : ℕ) (s : Sent) (old : OutboxValue) (calls more : List WireCall) → old.is_shut ≡ shut → IsLeftSo channel s old calls
+left_in_place : (shut : Bool) (nodes : Nodes) (channel : ℕ) (s : Wire) (old : OutboxValue) (calls more : List WireCall) → old.is_shut ≡ shut → IsLeftSo channel s old calls
     → more ≡ (if shut then [] else Shut old.channel ∷ []) → EachBehind (IsInPlace nodes) calls more
 left_in_place true nodes channel s old calls more is l calls_are = rw calls_are (each_none (IsInPlace nodes) calls)
 left_in_place false nodes channel s old calls more is l calls_are =
     rw calls_are
     (each_one (IsInPlace nodes) calls (Shut old.channel) (ap (λ (k : ℕ). shut_count k calls) l.at ∙ l.shut ∙ ap (λ (b : Bool). if b then 1 else 0) is))
 
-pub keeps_in_place : WireLaws → (nodes : Nodes) (channel : ℕ) (s : Sent) (old new : OutboxValue) (calls more : List WireCall)
+pub keeps_in_place : WireLaws → (nodes : Nodes) (channel : ℕ) (s : Wire) (old new : OutboxValue) (calls more : List WireCall)
     → nodes.served (events_in calls) channel ≡ s.queued → Flushes old new more → Keeps channel s old calls → EachBehind (IsInPlace nodes) calls more
 keeps_in_place laws nodes channel s old new calls more served flush (follows stays f) = laws.in_place nodes (all_of channel s) old new calls more served f flush
 keeps_in_place laws nodes channel s old new calls more served flush (left holds l) =
@@ -310,11 +310,11 @@ left_given_up : (nodes : Nodes) (old : OutboxValue) (calls more : List WireCall)
 left_given_up nodes old calls more nothing (before_put none) = rw none (each_none (IsInPlace nodes) calls)
 left_given_up nodes old calls more nothing (before_shut mid puts) = rw (nothing_put old mid more nothing puts).1 (each_none (IsInPlace nodes) calls)
 
-pub keeps_given_up : WireLaws → (nodes : Nodes) (channel : ℕ) (s : Sent) (old : OutboxValue) (calls more : List WireCall)
+pub keeps_given_up : WireLaws → (nodes : Nodes) (channel : ℕ) (s : Wire) (old : OutboxValue) (calls more : List WireCall)
     → nodes.served (events_in calls) channel ≡ s.queued → IsGivenUp old more → Keeps channel s old calls → EachBehind (IsInPlace nodes) calls more
 keeps_given_up laws nodes channel s old calls more served up (follows stays f) = laws.gives_up nodes (all_of channel s) old calls more served f up
 keeps_given_up laws nodes channel s old calls more served up (left holds l) = left_given_up nodes old calls more l.nothing up
 
-pub keeps_at : (channel : ℕ) (s : Sent) (now : OutboxValue) (calls : List WireCall) → Keeps channel s now calls → now.channel ≡ channel
+pub keeps_at : (channel : ℕ) (s : Wire) (now : OutboxValue) (calls : List WireCall) → Keeps channel s now calls → now.channel ≡ channel
 keeps_at channel s now calls (follows stays f) = f.channel
 keeps_at channel s now calls (left holds l) = l.at

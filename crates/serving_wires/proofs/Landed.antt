@@ -25,7 +25,7 @@ use Rattle.serving_wires.specs.Process.{Answer, Process, asks, done, tells}
 use Rattle.serving_wires.specs.Program.{Program, peer_of}
 use Rattle.serving_wires.specs.Sending.{begun, begun_by, opened_by, ordered, outbox_after}
 use Rattle.serving_wires.specs.Serve.{IsInPlace}
-use Rattle.serving_wires.specs.Standing.{Sent, State, after_one, answered as heard_answer, came, is_resting, landed, nodes_in, rests, sent_after, sent_in, sent_with, state_after, unused_wire, wire_in, wires_after, wires_with, with_wire}
+use Rattle.serving_wires.specs.Standing.{State, Wire, after_one, answered as heard_answer, came, is_resting, landed, nodes_in, rests, sent_after, sent_in, sent_with, state_after, unused_wire, wire_in, wires_after, wires_with, with_wire}
 use Rattle.serving_wires.specs.WireLaws.{WireLaws}
 use Rattle.serving_wires.proofs.Spared.{none_of_both}
 use Rattle.serving_wires.proofs.Placed.{state_with}
@@ -40,7 +40,7 @@ use Rattle.serving_wires.proofs.Wires.{piece_first, piece_numbers}
 use Rattle.serving_wires.proofs.Leading.{Rows}
 
 abbrev pub Sents : Type 0
-Sents = List (Row Sent)
+Sents = List (Row Wire)
 
 -- The outboxes by what was ever queued; no call is on a channel that hasn't a wire.
 pub record Holds (unused : ℕ) (calls : List WireCall) (sent : Sents) (rows : Rows) : Type 0 where
@@ -59,7 +59,7 @@ holds_more laws unused calls more sent rows spares h =
 
 lacked_before : (channel new : ℕ) (sent : Sents) → found channel (with_wire new sent) ≡ None → found channel sent ≡ None
 lacked_before channel new sent missing =
-    let all : numbers (with_wire new sent) ≡ numbers sent ++ new ∷ [] = map-append (λ (r : Row Sent). r.channel) sent _ in
+    let all : numbers (with_wire new sent) ≡ numbers sent ++ new ∷ [] = map-append (λ (r : Row Wire). r.channel) sent _ in
     let lacks : is_among channel (numbers sent ++ new ∷ []) ≡ false = ap (λ (ks : List ℕ). is_among channel ks) (sym all) ∙ lacks_if channel (with_wire new sent) missing in
     missing_if channel sent (or_parts (is_among channel (numbers sent)) (is_among channel (new ∷ [])) (sym (list_any-append (λ (k : ℕ). k == channel) (numbers sent) (new ∷ [])) ∙ lacks)).0
 
@@ -68,7 +68,7 @@ pub holds_push : WireLaws → (unused channel : ℕ) (calls : List WireCall) (se
 holds_push laws unused channel calls sent rows above h =
     let below : Below channel (numbers sent) = below_more unused channel (numbers sent) above h.below in
     let unspoken : Spares channel calls = h.spares channel (missing_if channel sent (above_all channel (numbers sent) below)) in
-    let all : numbers (with_wire channel sent) ≡ numbers sent ++ channel ∷ [] = map-append (λ (r : Row Sent). r.channel) sent _ in
+    let all : numbers (with_wire channel sent) ≡ numbers sent ++ channel ∷ [] = map-append (λ (r : Row Wire). r.channel) sent _ in
     record {
       lines = stand_push by_wires calls 0 channel unused_wire (unused_outbox channel) sent rows (omega arith) below (keeps_new laws channel calls unspoken) h.lines;
       below = subst (λ (ks : List ℕ). Below (channel + 1) ks) (sym all) (below_push (channel + 1) channel (numbers sent) (omega arith) (below_more channel (channel + 1) (numbers sent) (omega arith) below));
@@ -79,7 +79,7 @@ pub holds_order : WireLaws → (unused : ℕ) (calls : List WireCall) (order : O
     → Holds unused calls (sent_with order sent) (ordered order rows)
 holds_order laws unused calls order sent rows h =
     let k = channel_of order in
-    let ideal : sent_with order sent ≡ first_changed k (sent_after order) sent = change_first Sent k (sent_after order) sent in
+    let ideal : sent_with order sent ≡ first_changed k (sent_after order) sent = change_first Wire k (sent_after order) sent in
     let real : ordered order rows ≡ first_changed k (outbox_after order) rows = change_first OutboxValue k (outbox_after order) rows in
     let same : numbers (sent_with order sent) ≡ numbers sent = ap (λ (s : Sents). numbers s) ideal ∙ changed_numbers k (sent_after order) sent in
     record {
@@ -199,7 +199,7 @@ pub holds_fronts : {A : Type 0} → WireLaws → (unused : ℕ) (calls : List Wi
     → AreFronts (nodes_in state) calls
 holds_fronts laws unused calls sent rows state is h channel =
     subst (λ (s : Sents). IsFront (wire_in (item_on channel s)).queued (taken_on channel calls)) (sym is)
-    (subst (λ (o : Option Sent). IsFront (wire_in o).queued (taken_on channel calls)) (sym (item_found Sent channel sent)) (front laws calls sent rows h.lines h.spares channel))
+    (subst (λ (o : Option Wire). IsFront (wire_in o).queued (taken_on channel calls)) (sym (item_found Wire channel sent)) (front laws calls sent rows h.lines h.spares channel))
 
 pub landed_fronts : {A : Type 0} → WireLaws → (program : Program A) (served : A) (rows : Rows) (unused : ℕ) (calls : List WireCall) (p : Process A)
     → Landed program served rows unused calls p → AreFronts (nodes_in (state_after program calls)) calls

@@ -2,6 +2,7 @@ pub mod Making
 pub mod Placing
 pub mod Rising
 mod Putting
+mod Giving
 mod Found
 mod Changed
 pub mod Spared
@@ -26,7 +27,7 @@ pub mod Running
 pub mod Apart
 pub mod Finishing
 pub mod Taking
-mod Inside
+pub mod Inside
 pub mod Ending
 pub mod Opening
 pub mod Wires

@@ -36,10 +36,10 @@ pub record ArePuts (calls : List WireCall) : Type 0 where
   pub sound : list_any fails calls ≡ false
   pub inside : list_any reaches_out calls ≡ false
 
-record IsPut (call : WireCall) : Type 0 where
-  no_event : event_of call ≡ []
-  sound : fails call ≡ false
-  inside : reaches_out call ≡ false
+pub record IsPut (call : WireCall) : Type 0 where
+  pub no_event : event_of call ≡ []
+  pub sound : fails call ≡ false
+  pub inside : reaches_out call ≡ false
 
 first_put : (call : WireCall) (calls : List WireCall) → ArePuts (call ∷ calls) → IsPut call
 first_put call calls puts =
@@ -69,7 +69,7 @@ pub puts_heard : (calls : List WireCall) → ArePuts calls → heard_in calls �
 puts_heard [] puts = refl
 puts_heard (call ∷ calls) puts = ap (λ (hs : List Heard). hs ++ heard_in calls) (put_heard call (first_put call calls puts)) ∙ puts_heard calls (other_puts call calls puts)
 
-puts_before : (before : List WireCall) (call : WireCall) (behind : List WireCall) → ArePuts (before ++ call ∷ behind) → ArePuts before
+pub puts_before : (before : List WireCall) (call : WireCall) (behind : List WireCall) → ArePuts (before ++ call ∷ behind) → ArePuts before
 puts_before [] call behind puts = record { no_event = refl; sound = refl; inside = refl }
 puts_before (first ∷ before) call behind puts =
     let one = first_put first (before ++ call ∷ behind) puts in
@@ -80,7 +80,7 @@ puts_before (first ∷ before) call behind puts =
       inside = ap (λ (b : Bool). b || list_any reaches_out before) one.inside ∙ rest.inside;
     }
 
-put_there : (before : List WireCall) (call : WireCall) (behind : List WireCall) → ArePuts (before ++ call ∷ behind) → IsPut call
+pub put_there : (before : List WireCall) (call : WireCall) (behind : List WireCall) → ArePuts (before ++ call ∷ behind) → IsPut call
 put_there [] call behind puts = first_put call behind puts
 put_there (first ∷ before) call behind puts = put_there before call behind (other_puts first (before ++ call ∷ behind) puts)
 

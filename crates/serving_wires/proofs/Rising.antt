@@ -3,13 +3,13 @@ use Rattle.std.proofs.Common.{◌≡◌, ℕ, ◌-◌, ◌^◌, ◌<◌, ◌≤�
 use Rattle.std.specs.Prelude.{Result, Ok, Err}
 use Rattle.tcf_outside.specs.Faults.{Rose, raised}
 use Rattle.tcf_wires.specs.Event.{faults_after, faults_after_put}
+use Rattle.tcf_wires.specs.Told.{faults_by, faults_through}
 use Rattle.tcf_wires.specs.declared.call.WireCall.{WireCall}
 use Rattle.tcf_wires.specs.declared.call.WireCall.TheVariants.{Listened, Connected, Gave, Offered, Shut}
 use Rattle.tcf_wires.specs.declared.event.Put.{Put}
 use Rattle.tcf_wires.specs.declared.event.Put.TheVariants.{Took, Lost, NoMemory as NoRoom}
 use Rattle.tcf_wires.specs.declared.event.WireRefusal.{WireRefusal}
 use Rattle.tcf_wires.specs.declared.event.WireRefusal.TheVariants.{Failed, NoMemory}
-use Rattle.serving_wires.specs.Calls.{faults_by, faults_through}
 use Rattle.serving_wires.proofs.Making.{faults_both}
 
 -- it didn't fall, or stands at the end of its type

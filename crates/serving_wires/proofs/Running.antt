@@ -11,9 +11,10 @@ use Rattle.tcf_wires.specs.declared.call.WireCall.{WireCall}
 use Rattle.tcf_wires.specs.declared.call.WireCall.TheVariants.{Listened, Connected, Gave, Offered, Shut}
 use Rattle.tcf_wires.specs.declared.event.WireEvent.{WireEvent}
 use Rattle.tcf_wires.specs.declared.event.WireRefusal.{WireRefusal}
-use Rattle.serving_wires.specs.Calls.{channels_put, events_in, put_on}
+use Rattle.serving_wires.specs.Calls.{channels_put, events_in, put_on as put_on_wire}
 use Rattle.serving_wires.specs.Following.{Spares, is_on}
-use Rattle.serving_wires.specs.Serving.{AreFronts, EachBehind, fails, breaks, is_stop, stops}
+use Rattle.serving_wires.specs.Serving.{AreFronts, EachBehind, fails, breaks, is_stop, reaches_out, stops}
+use Rattle.list_laws.proofs.Flags.{or_false}
 use Rattle.serving_wires.proofs.Placing.{each_both, each_more, each_none, each_one}
 use Rattle.serving_wires.specs.Changes.{item_on}
 use Rattle.serving_wires.specs.Flushing.{FlushesKept, its_own}
@@ -22,7 +23,7 @@ use Rattle.serving_wires.specs.Process.{done}
 use Rattle.serving_wires.specs.Program.{Program, peer_of}
 use Rattle.serving_wires.specs.Sending.{opened_by}
 use Rattle.serving_wires.specs.Serve.{CarriesWire, IsInPlace, IsOpened, IsSettled, Rests, Serves, has_listened}
-use Rattle.serving_wires.specs.Standing.{Sent, State, heard_in, is_resting, nodes_in, rests, sent_in, state_after, wire_in}
+use Rattle.serving_wires.specs.Standing.{State, Wire, heard_in, is_resting, nodes_in, rests, sent_in, state_after, wire_in}
 use Rattle.serving_wires.specs.Turn.{IsTurn, Now}
 use Rattle.serving_wires.specs.WireLaws.{WireLaws}
 use Rattle.serving_wires.proofs.Spared.{none_of_both, same_events}
@@ -53,7 +54,7 @@ settled {A = A} laws program served sending unused calls r all rise =
     record {
       carried = λ channel.
           subst (λ (s : State A). CarriesWire (wire_in (item_on channel (sent_in s))) channel calls) (sym r.state)
-          (subst (λ (o : Option Sent). CarriesWire (wire_in o) channel calls) (sym (item_found Sent channel r.sent))
+          (subst (λ (o : Option Wire). CarriesWire (wire_in o) channel calls) (sym (item_found Wire channel r.sent))
           (carried laws calls r.sent sending r.holds.lines all r.holds.spares channel));
       rising = rise;
     }
@@ -88,7 +89,7 @@ record AreQuiet (calls : List WireCall) : Type 0 where
   no_event : events_in calls ≡ []
   spares : (channel : ℕ) → Spares channel calls
   sound : list_any breaks calls ≡ false
-  puts : (before : List ℕ) → fold put_on before calls ≡ before
+  puts : (before : List ℕ) → fold put_on_wire before calls ≡ before
 
 quiet_first : (call : WireCall) (calls : List WireCall) → has_listened call ≡ true → AreQuiet calls → AreQuiet (call ∷ calls)
 quiet_first (Listened address (Ok answer)) calls is q = record { heard = q.heard; no_event = q.no_event; spares = q.spares; sound = q.sound; puts = q.puts }
@@ -126,7 +127,7 @@ starts laws program real unused calls o =
     let q = listening_quiet o.addresses o.listened in
     let now : List WireCall = o.connects ++ o.addresses in
     let no_events : events_in now ≡ [] = same_events o.connects o.addresses q.no_event ∙ h.no_event in
-    let no_puts : channels_put now ≡ [] = fold-append put_on [] o.connects o.addresses ∙ q.puts (fold put_on [] o.connects) ∙ h.puts [] in
+    let no_puts : channels_put now ≡ [] = fold-append put_on_wire [] o.connects o.addresses ∙ q.puts (fold put_on_wire [] o.connects) ∙ h.puts [] in
     subst (λ (cs : List WireCall). Running program 0 real unused cs) (sym o.called)
     (record {
       serves = each_more (IsInPlace program) o.connects o.addresses h.in_place
@@ -178,17 +179,17 @@ heeding laws program count real unused calls event r =
       serves = each_more (IsInPlace program) calls (gave event ∷ []) r.serves (event_in_place laws program count real unused calls (Ok event) r);
       came = events_then calls event;
       sound = none_of_both breaks calls (gave event ∷ []) r.sound refl;
-      puts = fold-append put_on [] calls (gave event ∷ []);
+      puts = fold-append put_on_wire [] calls (gave event ∷ []);
     }
 
 pub heeds_more : {A : Type 0} → (program : Program A) (event : WireEvent) (calls now more : List WireCall) → EachBehind (IsInPlace program) now more → events_in more ≡ [] → list_any breaks more ≡ false
-    → ((before : List ℕ) → fold put_on before more ≡ before) → Heeding program event calls now → Heeding program event calls (now ++ more)
+    → ((before : List ℕ) → fold put_on_wire before more ≡ before) → Heeding program event calls now → Heeding program event calls (now ++ more)
 heeds_more program event calls now more places quiet sound puts h =
     record {
       serves = each_more (IsInPlace program) now more h.serves places;
       came = same_events now more quiet ∙ h.came;
       sound = none_of_both breaks now more h.sound sound;
-      puts = fold-append put_on [] now more ∙ puts (fold put_on [] now) ∙ h.puts;
+      puts = fold-append put_on_wire [] now more ∙ puts (fold put_on_wire [] now) ∙ h.puts;
     }
 
 -- the connects of a turn, and then the program rest
@@ -217,7 +218,7 @@ heeded laws program count real unused later calls event served sending connects 
 pub served_so : {A : Type 0} → (program : Program A) (served : A) (sending : Rows) (unused : ℕ) (calls : List WireCall) → (r : Resting program served sending unused calls)
     → AreServed by_wires (nodes_in (state_after program calls)) (events_in calls) r.sent
 served_so {A = A} program served sending unused calls r channel s there =
-    ap (λ (st : State A). (wire_in (item_on channel (sent_in st))).queued) r.state ∙ ap (λ (o : Option Sent). (wire_in o).queued) (item_found Sent channel r.sent ∙ there)
+    ap (λ (st : State A). (wire_in (item_on channel (sent_in st))).queued) r.state ∙ ap (λ (o : Option Wire). (wire_in o).queued) (item_found Wire channel r.sent ∙ there)
 
 -- a run after one more turn
 pub record Turned {A : Type 0} (program : Program A) (new : Now A) (unused : ℕ) (event : WireEvent) (calls now : List WireCall) : Type 0 where
@@ -228,21 +229,30 @@ pub record Turned {A : Type 0} (program : Program A) (new : Now A) (unused : ℕ
   pub came : events_in now ≡ events_in calls ++ event ∷ []
   pub sound : list_any breaks now ≡ false
 
-put_behind : {A : Type 0} → WireLaws → (program : Program A) (new : Now A) (sending : Rows) (unused : ℕ) (event : WireEvent) (calls at puts : List WireCall)
-    → Heeded program new.served sending unused event calls at → FlushesKept its_own sending new.sending puts → Turned program new unused event calls (at ++ puts)
-put_behind laws program new sending unused event calls at puts h flushes =
+-- puts alone, which leave all as it stands
+pub record Put {A : Type 0} (program : Program A) (new : Now A) (unused : ℕ) (at now : List WireCall) : Type 0 where
+  pub serves : Serves program now
+  pub stands : Resting program new.served new.sending unused now
+  pub flushed : AllFlushed its_own now new.sending
+  pub rises : IsStrictlyIncreasing (channels_put now)
+  pub came : events_in now ≡ events_in at
+  pub inside : list_any reaches_out now ≡ list_any reaches_out at
+  pub sound : list_any breaks now ≡ false
+
+pub put_on : {A : Type 0} → WireLaws → (program : Program A) (new : Now A) (sending : Rows) (unused : ℕ) (at puts : List WireCall) → Serves program at → Resting program new.served sending unused at
+    → channels_put at ≡ [] → list_any breaks at ≡ false → FlushesKept its_own sending new.sending puts → Put program new unused at (at ++ puts)
+put_on laws program new sending unused at puts serves st unput sound flushes =
     let nodes = nodes_in (state_after program at) in
-    let st = h.stands in
     let f = flush_keeps by_wires (wires_keep laws) nodes at puts 0 st.sent sending flushes.flushed (served_so program new.served sending unused at st) st.holds.lines flushes.flushes in
     let are : ArePuts puts = record { no_event = f.among.no_event; sound = f.among.sound; inside = f.among.inside } in
     let resting = rests_so program new.served sending unused at st in
     let placed = puts_placed program at puts are resting f.in_place in
     let put = f.rising [] in
     let channels : channels_put (at ++ puts) ≡ put.channels =
-    fold-append put_on [] at puts ∙ ap (λ (ks : List ℕ). fold put_on ks puts) h.heeding.puts ∙ put.puts in
+    fold-append put_on_wire [] at puts ∙ ap (λ (ks : List ℕ). fold put_on_wire ks puts) unput ∙ put.puts in
     let now : List WireCall = at ++ puts in
     record {
-      serves = each_more (IsInPlace program) at puts h.heeding.serves placed;
+      serves = each_more (IsInPlace program) at puts serves placed;
       stands = record {
         sent = st.sent;
         state = state_stays program at puts (puts_heard puts are) ∙ st.state;
@@ -254,9 +264,16 @@ put_behind laws program new sending unused event calls at puts h flushes =
       };
       flushed = subst (λ (rows : Rows). AllFlushed its_own now rows) (sym flushes.kept) (filter_flushed its_own now flushes.flushed f.flushed);
       rises = subst (λ (ks : List ℕ). IsStrictlyIncreasing ks) (sym channels) (rising 0 put.channels put.rises);
-      came = same_events at puts f.among.no_event ∙ h.heeding.came;
-      sound = none_of_both breaks at puts h.heeding.sound (no_breaking_in puts f.among.sound);
+      came = same_events at puts f.among.no_event;
+      inside = list_any-append reaches_out at puts ∙ ap (λ (b : Bool). list_any reaches_out at || b) f.among.inside ∙ or_false (list_any reaches_out at);
+      sound = none_of_both breaks at puts sound (no_breaking_in puts f.among.sound);
     }
+
+put_behind : {A : Type 0} → WireLaws → (program : Program A) (new : Now A) (sending : Rows) (unused : ℕ) (event : WireEvent) (calls at puts : List WireCall)
+    → Heeded program new.served sending unused event calls at → FlushesKept its_own sending new.sending puts → Turned program new unused event calls (at ++ puts)
+put_behind laws program new sending unused event calls at puts h flushes =
+    let p = put_on laws program new sending unused at puts h.heeding.serves h.stands h.heeding.puts h.heeding.sound flushes in
+    record { serves = p.serves; stands = p.stands; flushed = p.flushed; rises = p.rises; came = p.came ∙ h.heeding.came; sound = p.sound }
 
 pub turn_split : (calls : List WireCall) (event : WireEvent) (connects puts all : List WireCall) → all ≡ gave event ∷ (connects ++ puts)
     → (with_event calls event connects) ++ puts ≡ calls ++ all

@@ -6,7 +6,7 @@ use Rattle.serving_wires.specs.Following.{Spares}
 use Rattle.serving_wires.specs.Row.{Row}
 use Rattle.serving_wires.specs.Flushing.{its_own}
 use Rattle.serving_wires.specs.Serve.{CarriesWire}
-use Rattle.serving_wires.specs.Standing.{Sent, wire_in}
+use Rattle.serving_wires.specs.Standing.{Wire, wire_in}
 use Rattle.serving_wires.specs.WireLaws.{WireLaws}
 use Rattle.serving_wires.proofs.Flushed.{AllFlushed, flushed_there}
 use Rattle.serving_wires.proofs.Keeping.{keeps_carried, keeps_front, keeps_shut}
@@ -17,7 +17,7 @@ use Rattle.serving_wires.proofs.Ordered.{by_wires}
 use Rattle.serving_wires.proofs.Leading.{Rows}
 
 abbrev Sents : Type 0
-Sents = List (Row Sent)
+Sents = List (Row Wire)
 
 -- ---- each wire
 

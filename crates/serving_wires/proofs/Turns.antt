@@ -4,15 +4,14 @@ use Rattle.std.specs.Prelude.{Result, Ok, Err}
 use Rattle.std.proofs.lemmas.Bool.{false≢true}
 use Rattle.std.proofs.lemmas.Grind.{flat_map-append}
 use Rattle.tcf_outside.specs.Faults.{Rose}
-use Rattle.tcf_wires.specs.Event.{faults_after}
-use Rattle.tcf_wires.specs.Told.{WiresSeen, noted}
+use Rattle.tcf_wires.specs.Told.{WiresSeen, faults_through, noted}
 use Rattle.tcf_wires.specs.declared.call.WireCall.{WireCall}
 use Rattle.tcf_wires.specs.declared.call.WireCall.TheVariants.{Listened, Gave}
 use Rattle.tcf_wires.specs.declared.event.WireEvent.{WireEvent}
 use Rattle.tcf_wires.specs.declared.event.WireEvent.TheVariants as events
 use Rattle.tcf_wires.specs.declared.event.WireRefusal.{WireRefusal}
 use Rattle.tcf_wires.specs.declared.event.WireRefusal.TheVariants as refusals
-use Rattle.serving_wires.specs.Calls.{Makes, event_of, events_in, faults_through}
+use Rattle.serving_wires.specs.Calls.{Makes, event_of, events_in}
 use Rattle.serving_wires.specs.Ends.{end_of}
 use Rattle.serving_wires.specs.Serving.{is_stop}
 use Rattle.serving_wires.specs.declared.end.ServeEnd.TheVariants.{WireFault}
@@ -30,9 +29,16 @@ unheard refusal = Err refusal
 abbrev pub listened : List ℕ → Result Unit WireRefusal → List WireCall
 listened address answer = Listened address answer ∷ []
 
-pub listen_rose : (refusal : WireRefusal) (faults faults_then : ℕ) → faults_then ≡ faults_after (unheard refusal) faults → end_of (Err refusal) ≡ WireFault → Rose faults faults_then
-listen_rose refusals.Failed faults faults_then counts ends = subst (λ (n : ℕ). Rose faults n) (sym counts) (rose_raised faults faults (inl (omega arith)))
-listen_rose refusals.NoMemory faults faults_then counts ends = absurd cc
+pub listen_rose : (refusal : WireRefusal) (address : List ℕ) (seen seen_then : WiresSeen) → seen_then ≡ noted (unheard refusal) (Listened address (unheard refusal)) seen
+    → end_of (Err refusal) ≡ WireFault → Rose seen.faults seen_then.faults
+listen_rose refusals.Failed address seen seen_then fails ends =
+    subst (λ (n : ℕ). Rose seen.faults n) (sym (ap (λ (s : WiresSeen). s.faults) fails)) (rose_raised seen.faults seen.faults (inl (omega arith)))
+listen_rose refusals.NoMemory address seen seen_then fails ends = absurd cc
+
+-- a fault behind the listening is one of the whole
+pub rose_behind : (answer : Unit {0}) (address : List ℕ) (Ends : Type 0) (seen seen1 seen2 : WiresSeen) → seen1 ≡ noted (heard answer) (Listened address (heard answer)) seen
+    → (Ends → Rose seen1.faults seen2.faults) → Ends → Rose seen.faults seen2.faults
+rose_behind answer address Ends seen seen1 seen2 listens rose = λ ends. subst (λ (n : ℕ). Rose n seen2.faults) (ap (λ (s : WiresSeen). s.faults) listens) (rose ends)
 
 -- ---- an event
 
@@ -59,9 +65,8 @@ is_the_stop events.Stop is = refl
 abbrev pub IsGiven : WireEvent → List WireCall → Type 0
 IsGiven event calls = calls ≡ gave event ∷ []
 
-pub given_first : (event : WireEvent) (seen seen_mid : WiresSeen) → seen_mid.told ≡ noted (came_next event) (Gave (came_next event)) seen.told
-    → seen_mid.faults ≡ faults_after (came_next event) seen.faults → Makes (IsGiven event) seen seen_mid
-given_first event seen seen_mid tells counts = makes_one (IsGiven event) (gave event) seen seen_mid refl tells counts
+pub given_first : (event : WireEvent) (seen seen_mid : WiresSeen) → seen_mid ≡ noted (came_next event) (gave event) seen → Makes (IsGiven event) seen seen_mid
+given_first event seen seen_mid came = makes_one (IsGiven event) (gave event) seen seen_mid refl came
 
 -- ---- no event
 
@@ -72,12 +77,12 @@ abbrev pub failed : List WireCall
 failed = Gave (Err refusals.Failed) ∷ []
 
 pub not_given : (refusal : WireRefusal) (Turn : Result Bool WireRefusal → List WireCall → Type 0) (seen seen_then : WiresSeen)
-    → Turn (Err refusals.Failed) failed → Turn (Err refusals.NoMemory) [] → seen_then.told ≡ noted (failed_next refusal) (Gave (failed_next refusal)) seen.told
-    → seen_then.faults ≡ faults_after (failed_next refusal) seen.faults → Makes (Turn (Err refusal)) seen seen_then
-not_given refusals.Failed Turn seen seen_then fails wants tells counts =
-    makes_one (Turn (Err refusals.Failed)) (Gave (Err refusals.Failed)) seen seen_then fails tells counts
-not_given refusals.NoMemory Turn seen seen_then fails wants tells counts =
-    makes_nothing (Turn (Err refusals.NoMemory)) seen seen_then wants tells counts
+    → Turn (Err refusals.Failed) failed → Turn (Err refusals.NoMemory) [] → seen_then ≡ noted (failed_next refusal) (Gave (failed_next refusal)) seen
+    → Makes (Turn (Err refusal)) seen seen_then
+not_given refusals.Failed Turn seen seen_then fails wants came =
+    makes_one (Turn (Err refusals.Failed)) (Gave (Err refusals.Failed)) seen seen_then fails came
+not_given refusals.NoMemory Turn seen seen_then fails wants came =
+    makes_nothing (Turn (Err refusals.NoMemory)) seen seen_then wants came
 
 pub turn_rose : (refusal : WireRefusal) (First : List WireCall → Type 0) (Turn : Result Bool WireRefusal → List WireCall → Type 0)
     (seen seen_mid seen_then : WiresSeen) → ((calls : List WireCall) → Turn (Err refusals.Failed) calls → calls ≡ failed)
@@ -85,6 +90,6 @@ pub turn_rose : (refusal : WireRefusal) (First : List WireCall → Type 0) (Turn
 turn_rose refusals.Failed First Turn seen seen_mid seen_then fails first turn ends =
     let m = makes_both First (Turn (Err refusals.Failed)) (λ calls. (earlier : List WireCall) × (calls ≡ earlier ++ failed))
     seen seen_mid seen_then (λ calls more r t. (calls, ap (λ (cs : List WireCall). calls ++ cs) (fails more t))) first turn in
-    subst (λ (n : ℕ). Rose seen.faults n) (sym (m.faults ∙ ap (λ (cs : List WireCall). faults_through cs seen.faults) m.fits.1))
+    subst (λ (n : ℕ). Rose seen.faults n) (sym (ap (λ (s : WiresSeen). s.faults) m.seen ∙ ap (λ (cs : List WireCall). faults_through cs seen.faults) m.fits.1))
     (last_rises seen.faults m.fits.0 (Gave (Err refusals.Failed)) (λ n. refl))
 turn_rose refusals.NoMemory First Turn seen seen_mid seen_then fails first turn ends = absurd cc

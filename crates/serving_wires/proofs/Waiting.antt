@@ -1,5 +1,5 @@
 -- What waits is what is given next, and behind it what is left.
-use Rattle.std.proofs.Common.{◌≡◌, ℕ, Bool, true, false, List, [], ◌∷◌, ◌++◌, Option, Some, None, nat_lt, refl, ap, ◌∙◌, append-nil}
+use Rattle.std.proofs.Common.{◌≡◌, ℕ, Bool, true, false, List, [], ◌∷◌, ◌++◌, Some, None, nat_lt, refl, ap, ◌∙◌, append-nil}
 use Rattle.std.specs.Prelude.{if◌then◌else◌, option_to_list}
 use Rattle.std.proofs.lemmas.Grind.{flat_map-append}
 use Rattle.serving_wires.specs.Intake.{bytes_in, left_for, next_for, piece_bytes}

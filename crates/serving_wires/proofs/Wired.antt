@@ -3,7 +3,7 @@ use Rattle.std.proofs.Common.{◌≡◌, ℕ, ◌==◌, true, false, List, [], �
 use Rattle.std.proofs.lemmas.Bool.{false≢true}
 use Rattle.tcf_wires.specs.declared.event.WireEvent.TheVariants as events
 use Rattle.serving_wires.specs.Intake.{bytes_in}
-use Rattle.serving_wires.specs.Standing.{Sent, unused_wire, wires_with, with_piece, with_wire}
+use Rattle.serving_wires.specs.Standing.{Wire, unused_wire, wires_with, with_piece, with_wire}
 use Rattle.serving_wires.specs.Wired.{IsWired}
 use Rattle.serving_wires.specs.declared.intake.Came.{Came}
 use Rattle.serving_wires.specs.declared.intake.Came.TheVariants.{Piece, End}
@@ -13,7 +13,7 @@ use Rattle.serving_wires.proofs.Wires.{AllGain, Wires, found_new, piece_other, p
 
 -- all that came was got, or waits
 pub record OnWire (channel : ℕ) (got gave : List ℕ) (waiting : List Came) (sent : Wires) : Type 0 where
-  pub wire : Sent
+  pub wire : Wire
   pub there : found channel sent ≡ Some wire
   pub queued : wire.queued ≡ gave
   pub came : wire.came ≡ got ++ bytes_in waiting
@@ -64,7 +64,7 @@ pub is_wired : (channel : ℕ) (got gave : List ℕ) (waiting : List Came) (sent
 is_wired channel got gave waiting sent o =
     record {
       wire = o.wire;
-      there = item_found Sent channel sent ∙ o.there;
+      there = item_found Wire channel sent ∙ o.there;
       queued = o.queued;
       unheard = [];
       came = o.came ∙ ap (λ (rest : List ℕ). got ++ rest) (sym (append-nil (bytes_in waiting)));
@@ -77,7 +77,7 @@ wired_yet channel got gave waiting sent later gains o =
     let g = gains channel o.wire o.there in
     record {
       wire = g.now;
-      there = item_found Sent channel later ∙ g.there;
+      there = item_found Wire channel later ∙ g.there;
       queued = g.queued ∙ o.queued;
       unheard = g.more;
       came = g.came ∙ ap (λ (all : List ℕ). all ++ g.more) o.came ∙ append_assoc got (bytes_in waiting) g.more;

@@ -8,16 +8,16 @@ use Rattle.serving_wires.specs.Row.{Row}
 use Rattle.serving_wires.specs.Rows.{with_item}
 use Rattle.serving_wires.proofs.Rows.{change_first, changed_here, changed_later, changed_nowhere, changed_numbers, first_changed, found, found_here, found_later, numbers}
 use Rattle.serving_wires.specs.Order.{Order, channel_of, closes, leaves, queues}
-use Rattle.serving_wires.specs.Standing.{Sent, sent_after, sent_with, unused_wire, wires_with, with_piece, with_wire}
+use Rattle.serving_wires.specs.Standing.{Wire, sent_after, sent_with, unused_wire, wires_with, with_piece, with_wire}
 use Rattle.tcf_wires.specs.declared.event.WireEvent.{WireEvent}
 use Rattle.tcf_wires.specs.declared.event.WireEvent.TheVariants as events
 
 abbrev pub Wires : Type 0
-Wires = List (Row Sent)
+Wires = List (Row Wire)
 
 -- ---- what is found behind a change
 
-found_other : (channel other : ℕ) (change : Sent → Sent) (rows : Wires) → (other == channel) ≡ false → found channel (first_changed other change rows) ≡ found channel rows
+found_other : (channel other : ℕ) (change : Wire → Wire) (rows : Wires) → (other == channel) ≡ false → found channel (first_changed other change rows) ≡ found channel rows
 found_other channel other change [] off = refl
 found_other channel other change (row ∷ rows) off = by_flag (row.channel == other) refl (found_other channel other change rows off)
   where
@@ -28,9 +28,9 @@ found_other channel other change (row ∷ rows) off = by_flag (row.channel == ot
         ap (λ (rs : Wires). found channel rs) (changed_here other change row rows is)
         ∙ found_later channel (with_item (change row.item) row) rows away ∙ sym (found_later channel row rows away)
     by_flag false is rest =
-        ap (λ (rs : Wires). found channel rs) (changed_later other change row rows is) ∙ ap (λ (o : Option Sent). cond (row.channel == channel) (Some row.item) o) rest
+        ap (λ (rs : Wires). found channel rs) (changed_later other change row rows is) ∙ ap (λ (o : Option Wire). cond (row.channel == channel) (Some row.item) o) rest
 
-found_own : (channel : ℕ) (change : Sent → Sent) (rows : Wires) (wire : Sent) → found channel rows ≡ Some wire → found channel (first_changed channel change rows) ≡ Some (change wire)
+found_own : (channel : ℕ) (change : Wire → Wire) (rows : Wires) (wire : Wire) → found channel rows ≡ Some wire → found channel (first_changed channel change rows) ≡ Some (change wire)
 found_own channel change [] wire is = absurd cc
 found_own channel change (row ∷ rows) wire is = by_flag (row.channel == channel) refl (found_own channel change rows wire)
   where
@@ -39,12 +39,12 @@ found_own channel change (row ∷ rows) wire is = by_flag (row.channel == channe
     by_flag true here rest =
         ap (λ (rs : Wires). found channel rs) (changed_here channel change row rows here)
         ∙ found_here channel (with_item (change row.item) row) rows here
-        ∙ ap (λ (w : Sent). Some (change w)) (same_Some row.item wire (sym (found_here channel row rows here) ∙ is))
+        ∙ ap (λ (w : Wire). Some (change w)) (same_Some row.item wire (sym (found_here channel row rows here) ∙ is))
     by_flag false away rest =
         ap (λ (rs : Wires). found channel rs) (changed_later channel change row rows away)
         ∙ found_later channel row (first_changed channel change rows) away ∙ rest (sym (found_later channel row rows away) ∙ is)
 
-pub found_push : (channel : ℕ) (rows more : Wires) (wire : Sent) → found channel rows ≡ Some wire → found channel (rows ++ more) ≡ Some wire
+pub found_push : (channel : ℕ) (rows more : Wires) (wire : Wire) → found channel rows ≡ Some wire → found channel (rows ++ more) ≡ Some wire
 found_push channel [] more wire is = absurd cc
 found_push channel (row ∷ rows) more wire is = by_flag (row.channel == channel) refl (found_push channel rows more wire)
   where
@@ -63,16 +63,16 @@ found_new channel (row ∷ rows) missing = by_flag (row.channel == channel) refl
 
 -- ---- an order
 
-pub wire_own : (order : Order) (sent : Wires) (wire : Sent) → found (channel_of order) sent ≡ Some wire → found (channel_of order) (sent_with order sent) ≡ Some (sent_after order wire)
+pub wire_own : (order : Order) (sent : Wires) (wire : Wire) → found (channel_of order) sent ≡ Some wire → found (channel_of order) (sent_with order sent) ≡ Some (sent_after order wire)
 wire_own order sent wire is =
-    ap (λ (rs : Wires). found (channel_of order) rs) (change_first Sent (channel_of order) (sent_after order) sent) ∙ found_own (channel_of order) (sent_after order) sent wire is
+    ap (λ (rs : Wires). found (channel_of order) rs) (change_first Wire (channel_of order) (sent_after order) sent) ∙ found_own (channel_of order) (sent_after order) sent wire is
 
 pub wire_other : (order : Order) (channel : ℕ) (sent : Wires) → (channel_of order == channel) ≡ false → found channel (sent_with order sent) ≡ found channel sent
 wire_other order channel sent off =
-    ap (λ (rs : Wires). found channel rs) (change_first Sent (channel_of order) (sent_after order) sent) ∙ found_other channel (channel_of order) (sent_after order) sent off
+    ap (λ (rs : Wires). found channel rs) (change_first Wire (channel_of order) (sent_after order) sent) ∙ found_other channel (channel_of order) (sent_after order) sent off
 
 -- it leaves what came
-pub order_came : (order : Order) (wire : Sent) → (sent_after order wire).came ≡ wire.came
+pub order_came : (order : Order) (wire : Wire) → (sent_after order wire).came ≡ wire.came
 order_came (queues channel bytes) wire = by_flag wire.is_closed
   where
     by_flag : (flag : Bool) → (if flag then wire else record wire { queued = wire.queued ++ bytes }).came ≡ wire.came
@@ -84,9 +84,9 @@ order_came (leaves channel) wire = refl
 -- ---- a piece
 
 pub piece_first : (channel : ℕ) (bytes : List ℕ) (sent : Wires) → wires_with (events.Piece channel bytes) sent ≡ first_changed channel (with_piece bytes) sent
-piece_first channel bytes sent = change_first Sent channel (with_piece bytes) sent
+piece_first channel bytes sent = change_first Wire channel (with_piece bytes) sent
 
-pub piece_own : (channel : ℕ) (bytes : List ℕ) (sent : Wires) (wire : Sent) → found channel sent ≡ Some wire
+pub piece_own : (channel : ℕ) (bytes : List ℕ) (sent : Wires) (wire : Wire) → found channel sent ≡ Some wire
     → found channel (wires_with (events.Piece channel bytes) sent) ≡ Some (with_piece bytes wire)
 piece_own channel bytes sent wire is = ap (λ (rs : Wires). found channel rs) (piece_first channel bytes sent) ∙ found_own channel (with_piece bytes) sent wire is
 
@@ -103,14 +103,14 @@ piece_numbers channel bytes sent = ap (λ (rs : Wires). numbers rs) (piece_first
 
 -- ---- what was queued stays, and what came
 
-pub record StaysQueued (channel : ℕ) (wire : Sent) (later : Wires) : Type 0 where
-  pub now : Sent
+pub record StaysQueued (channel : ℕ) (wire : Wire) (later : Wires) : Type 0 where
+  pub now : Wire
   pub there : found channel later ≡ Some now
   pub queued : now.queued ≡ wire.queued
   pub came : now.came ≡ wire.came
 
 abbrev pub Grows : Wires → Wires → Type 0
-Grows sent later = (channel : ℕ) (wire : Sent) → found channel sent ≡ Some wire → StaysQueued channel wire later
+Grows sent later = (channel : ℕ) (wire : Wire) → found channel sent ≡ Some wire → StaysQueued channel wire later
 
 pub grows_none : (sent : Wires) → Grows sent sent
 grows_none sent = λ channel wire is. record { now = wire; there = is; queued = refl; came = refl }
@@ -119,7 +119,7 @@ pub grows_wire : (sent later : Wires) (new : ℕ) → Grows sent later → Grows
 grows_wire sent later new g = λ channel wire is.
     let s = g channel wire is in record { now = s.now; there = found_push channel later _ s.now s.there; queued = s.queued; came = s.came }
 
-leaves_by : (flag : Bool) (earlier channel : ℕ) (wire : Sent) (later : Wires) → (earlier == channel) ≡ flag → StaysQueued channel wire later → StaysQueued channel wire (sent_with (leaves earlier) later)
+leaves_by : (flag : Bool) (earlier channel : ℕ) (wire : Wire) (later : Wires) → (earlier == channel) ≡ flag → StaysQueued channel wire later → StaysQueued channel wire (sent_with (leaves earlier) later)
 leaves_by true earlier channel wire later same s =
     let at : earlier ≡ channel = eqb-true earlier channel same in
     record {
@@ -136,15 +136,15 @@ grows_leaving sent later earlier g = λ channel wire is. leaves_by (earlier == c
 
 -- ---- an event: what was queued stays, and more may have come
 
-pub record Gains (channel : ℕ) (wire : Sent) (later : Wires) : Type 0 where
-  pub now : Sent
+pub record Gains (channel : ℕ) (wire : Wire) (later : Wires) : Type 0 where
+  pub now : Wire
   pub there : found channel later ≡ Some now
   pub queued : now.queued ≡ wire.queued
   pub more : List ℕ
   pub came : now.came ≡ wire.came ++ more
 
 abbrev pub AllGain : Wires → Wires → Type 0
-AllGain sent later = (channel : ℕ) (wire : Sent) → found channel sent ≡ Some wire → Gains channel wire later
+AllGain sent later = (channel : ℕ) (wire : Wire) → found channel sent ≡ Some wire → Gains channel wire later
 
 gains_none : (sent : Wires) → AllGain sent sent
 gains_none sent = λ channel wire is. record { now = wire; there = is; queued = refl; more = []; came = sym (append-nil wire.came) }
@@ -181,7 +181,7 @@ gains_then sent before later gains grows = λ channel wire is.
     record { now = s.now; there = s.there; queued = s.queued ∙ g.queued; more = g.more; came = s.came ∙ g.came }
 
 -- one that is there isn't the new one
-pub not_new : (new channel : ℕ) (sent : Wires) (wire : Sent) → found new sent ≡ None → found channel sent ≡ Some wire → (new == channel) ≡ false
+pub not_new : (new channel : ℕ) (sent : Wires) (wire : Wire) → found new sent ≡ None → found channel sent ≡ Some wire → (new == channel) ≡ false
 not_new new channel sent wire missing is = by_flag (new == channel) refl
   where
     by_flag : (flag : Bool) → (new == channel) ≡ flag → flag ≡ false

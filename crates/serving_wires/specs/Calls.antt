@@ -1,10 +1,9 @@
 -- What calls of the wires say, in order.
-use Rattle.std.specs.Prelude.{ℕ, ◌≡◌, ◌==◌, Bool, false, List, [], ◌∷◌, ◌++◌, count_by, fold, length, nat_lt, Option, option_map, Ok, if◌then◌else◌}
+use Rattle.std.specs.Prelude.{ℕ, ◌≡◌, ◌==◌, Bool, false, List, [], ◌∷◌, ◌++◌, count_by, fold, length, nat_lt, Ok, if◌then◌else◌}
 use Rattle.std.specs.List.{flat_map, list_any}
-use Rattle.tcf_wires.specs.Event.{faults_after, faults_after_put}
-use Rattle.tcf_wires.specs.Told.{WiresSeen}
+use Rattle.tcf_wires.specs.Told.{WiresSeen, with_calls}
 use Rattle.tcf_wires.specs.declared.call.WireCall.{WireCall}
-use Rattle.tcf_wires.specs.declared.call.WireCall.TheVariants.{Listened, Connected, Gave, Offered, Shut}
+use Rattle.tcf_wires.specs.declared.call.WireCall.TheVariants.{Gave, Offered, Shut}
 use Rattle.tcf_wires.specs.declared.event.Put.TheVariants.{Took, Lost}
 use Rattle.tcf_wires.specs.declared.event.WireEvent.{WireEvent}
 
@@ -50,25 +49,8 @@ put_on channels call = channels
 abbrev pub channels_put : List WireCall → List ℕ
 channels_put calls = fold put_on [] calls
 
--- the count of faults after these calls: failed ones and lost puts count
-abbrev pub faults_by : ℕ → WireCall → ℕ
-faults_by count (Listened address answer) = faults_after answer count
-faults_by count (Connected peer answer) = faults_after answer count
-faults_by count (Gave answer) = faults_after answer count
-faults_by count (Offered channel piece answer) = faults_after_put answer count
-faults_by count (Shut channel) = count
-
-abbrev pub faults_through : List WireCall → ℕ → ℕ
-faults_through calls count = fold faults_by count calls
-
--- the calls that are told, after these
-abbrev pub with_calls : List WireCall → Option (List WireCall) → Option (List WireCall)
-with_calls calls told = option_map (λ earlier. earlier ++ calls) told
-
--- Calls were made that fit: they are what the wires tell more, where they tell their calls, and what made the count of
--- faults rise.
+-- Calls were made that fit: what is seen of the wires is what was seen before, and these calls.
 pub record Makes (Fits : List WireCall → Type 0) (before after : WiresSeen) : Type 0 where
   pub calls : List WireCall
   pub fits : Fits calls
-  pub told : after.told ≡ with_calls calls before.told
-  pub faults : after.faults ≡ faults_through calls before.faults
+  pub seen : after ≡ with_calls calls before

@@ -32,13 +32,13 @@ pub record BreaksOff {A : Type 0} (peer : List ℕ) (unused : ℕ) (p : Process 
 -- ---- by what is seen of the wires, before it and after it
 
 -- by some calls it is done, with what came of it
-abbrev pub Does : {A : Type 0} → List ℕ → Process A → A → List (Row OutboxValue) → List (Row OutboxValue) → ℕ → ℕ → WiresSeen → WiresSeen → Type 0
-Does peer p a olds news unused later before after = Makes (Goes peer unused later p (done a) olds news) before after
+abbrev pub Does : {A : Type 0} → List ℕ → Process A → A → List (Row OutboxValue) → List (Row OutboxValue) → WiresSeen → WiresSeen → Type 0
+Does peer p a olds news before after = Makes (Goes peer before.unused after.unused p (done a) olds news) before after
 
 -- with no call at all, whatever numbers were given
 abbrev pub DoesAlone : {A : Type 0} → List ℕ → Process A → A → List (Row OutboxValue) → List (Row OutboxValue) → Type 0
 DoesAlone peer p a olds news = (unused : ℕ) → Goes peer unused unused p (done a) olds news []
 
 -- a part of it was, and then memory was wanting
-abbrev pub DoesPart : {A : Type 0} → List ℕ → Process A → List (Row OutboxValue) → ℕ → WiresSeen → WiresSeen → Type 0
-DoesPart peer p olds unused before after = Makes (BreaksOff peer unused p olds) before after
+abbrev pub DoesPart : {A : Type 0} → List ℕ → Process A → List (Row OutboxValue) → WiresSeen → WiresSeen → Type 0
+DoesPart peer p olds before after = Makes (BreaksOff peer before.unused p olds) before after

@@ -11,7 +11,7 @@ use Rattle.serving_wires.specs.Going.{Goes}
 use Rattle.serving_wires.specs.Process.{Process, done}
 use Rattle.serving_wires.specs.Program.{Behaviour, Program, peer_of, program_of}
 use Rattle.serving_wires.specs.Serving.{AreFronts, Each, IsCarried, IsOffer, breaks, listens}
-use Rattle.serving_wires.specs.Standing.{AreApart, Sent, is_resting, nodes_in, sent_in, state_after, wire_on}
+use Rattle.serving_wires.specs.Standing.{AreApart, Wire, is_resting, nodes_in, sent_in, state_after, wire_on}
 use Rattle.serving_wires.specs.Turn.{Now}
 use Rattle.serving_wires.specs.declared.end.ServeEnd.{ServeEnd}
 use Rattle.serving_wires.specs.declared.end.ServeEnd.TheVariants.{NoMemory}
@@ -23,11 +23,11 @@ pub record IsLeftOff (queued : List ℕ) (channel : ℕ) (calls : List WireCall)
   pub front : (rest : List ℕ) × (queued ≡ taken_on channel calls ++ rest)
   pub shut : shut_count channel calls ≡ 1
 
-abbrev pub CarriesIf : Bool → Sent → ℕ → List WireCall → Type 0
+abbrev pub CarriesIf : Bool → Wire → ℕ → List WireCall → Type 0
 CarriesIf true s channel calls = IsLeftOff s.queued channel calls
 CarriesIf false s channel calls = IsCarried s.queued s.is_closed channel calls
 
-abbrev pub CarriesWire : Sent → ℕ → List WireCall → Type 0
+abbrev pub CarriesWire : Wire → ℕ → List WireCall → Type 0
 CarriesWire s channel calls = CarriesIf s.is_left s channel calls
 
 -- since the last event the puts went in rising order of the channels

@@ -15,32 +15,32 @@ use Rattle.serving_wires.specs.Serving.{Nodes}
 
 -- ---- what was ever queued for a wire, and what came on it
 
-pub record Sent : Type 0 where
+pub record Wire : Type 0 where
   pub queued : List ℕ
   pub came : List ℕ  -- the bytes of the pieces that came, since it opened
   pub is_closed : Bool  -- nothing more will be queued
   pub is_left : Bool  -- another wire took its place
 
-abbrev pub unused_wire : Sent
+abbrev pub unused_wire : Wire
 unused_wire = record { queued = []; came = []; is_closed = false; is_left = false }
 
-abbrev pub sent_after : Order → Sent → Sent
+abbrev pub sent_after : Order → Wire → Wire
 sent_after (queues channel bytes) s = if s.is_closed then s else record s { queued = s.queued ++ bytes }
 sent_after (closes channel) s = record s { is_closed = true }
 sent_after (leaves channel) s = record s { is_closed = true; is_left = true }
 
-abbrev pub sent_with : Order → List (Row Sent) → List (Row Sent)
+abbrev pub sent_with : Order → List (Row Wire) → List (Row Wire)
 sent_with order sent = changed_on (channel_of order) (sent_after order) sent
 
 -- a piece came
-abbrev pub with_piece : List ℕ → Sent → Sent
+abbrev pub with_piece : List ℕ → Wire → Wire
 with_piece bytes s = record s { came = s.came ++ bytes }
 
 -- a connection that came, or was made, has a wire
-abbrev pub with_wire : ℕ → List (Row Sent) → List (Row Sent)
+abbrev pub with_wire : ℕ → List (Row Wire) → List (Row Wire)
 with_wire channel sent = sent ++ (record { channel = channel; item = unused_wire }) ∷ []
 
-abbrev pub wires_with : WireEvent → List (Row Sent) → List (Row Sent)
+abbrev pub wires_with : WireEvent → List (Row Wire) → List (Row Wire)
 wires_with (events.Opened channel) sent = with_wire channel sent
 wires_with (events.Piece channel bytes) sent = changed_on channel (with_piece bytes) sent
 wires_with (events.Ended channel) sent = sent
@@ -48,26 +48,26 @@ wires_with (events.Lost channel) sent = sent
 wires_with events.Idle sent = sent
 wires_with events.Stop sent = sent
 
-abbrev pub wires_after : Answer → List (Row Sent) → List (Row Sent)
+abbrev pub wires_after : Answer → List (Row Wire) → List (Row Wire)
 wires_after (Ok channel) sent = with_wire channel sent
 wires_after (Err refusal) sent = sent
 
 -- no two wires have the same channel
-abbrev pub AreApart : List (Row Sent) → Type 0
+abbrev pub AreApart : List (Row Wire) → Type 0
 AreApart wires = IsDistinct (λ one other. one == other) (map (λ row. row.channel) wires)
 
 -- ---- what is served, and its wires; the next event is waited for, or the answer of a connect
 
 pub record Standing (A : Type 0) : Type 0 where
   pub served : A
-  pub sent : List (Row Sent)
+  pub sent : List (Row Wire)
 
 pub data State (A : Type 0) : Type 0 where
   rests : Standing A → State A
   waits : Standing A → (Answer → Process A) → State A
 
 -- a process goes on, until it is done or asks for a connection
-abbrev pub landed : {A : Type 0} → A → List (Row Sent) → Process A → State A
+abbrev pub landed : {A : Type 0} → A → List (Row Wire) → Process A → State A
 landed a sent (done new) = rests (record { served = new; sent = sent })
 landed a sent (tells order p) = landed a (sent_with order sent) p
 landed a sent (asks next) = waits (record { served = a; sent = sent }) next
@@ -109,7 +109,7 @@ abbrev pub standing_in : {A : Type 0} → State A → Standing A
 standing_in (rests s) = s
 standing_in (waits s next) = s
 
-abbrev pub sent_in : {A : Type 0} → State A → List (Row Sent)
+abbrev pub sent_in : {A : Type 0} → State A → List (Row Wire)
 sent_in (rests s) = s.sent
 sent_in (waits s next) = s.sent
 
@@ -117,11 +117,11 @@ abbrev pub is_resting : {A : Type 0} → State A → Bool
 is_resting (rests s) = true
 is_resting (waits s next) = false
 
-abbrev pub wire_in : Option Sent → Sent
+abbrev pub wire_in : Option Wire → Wire
 wire_in None = unused_wire
 wire_in (Some sent) = sent
 
-abbrev pub wire_on : {A : Type 0} → ℕ → State A → Sent
+abbrev pub wire_on : {A : Type 0} → ℕ → State A → Wire
 wire_on channel state = wire_in (item_on channel (sent_in state))
 
 abbrev pub nodes_in : {A : Type 0} → State A → Nodes

@@ -17,11 +17,11 @@ use Rattle.serving_wires.specs.Sending.{opened_by}
 use Rattle.serving_wires.specs.Serving.{is_stop}
 
 -- it does with an event what it does, or a part of it
-abbrev pub Heeds : {A : Type 0} → Behaviour A → WireEvent → A → A → List (Row OutboxValue) → List (Row OutboxValue) → ℕ → ℕ → WiresSeen → WiresSeen → Type 0
-Heeds b event old new olds news unused later before after = Does (b.peer old) (b.handled event old) new (opened_by event olds) news unused later before after
+abbrev pub Heeds : {A : Type 0} → Behaviour A → WireEvent → A → A → List (Row OutboxValue) → List (Row OutboxValue) → WiresSeen → WiresSeen → Type 0
+Heeds b event old new olds news before after = Does (b.peer old) (b.handled event old) new (opened_by event olds) news before after
 
-abbrev pub HeedsPart : {A : Type 0} → Behaviour A → WireEvent → A → List (Row OutboxValue) → ℕ → WiresSeen → WiresSeen → Type 0
-HeedsPart b event old olds unused before after = DoesPart (b.peer old) (b.handled event old) (opened_by event olds) unused before after
+abbrev pub HeedsPart : {A : Type 0} → Behaviour A → WireEvent → A → List (Row OutboxValue) → WiresSeen → WiresSeen → Type 0
+HeedsPart b event old olds before after = DoesPart (b.peer old) (b.handled event old) (opened_by event olds) before after
 
 -- what is served now, with what is to be put on all wires
 pub record Now (A : Type 0) : Type 0 where

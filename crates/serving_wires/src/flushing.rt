@@ -21,8 +21,7 @@ pub trait OnWire: Drop {
         ensures ok { OnOk result (Makes (Flushes (has.outbox self.old) (has.outbox self.new))
             (W.seen wires.old) (W.seen wires.new)) }
         ensures err { OnErr result (Makes (IsGivenUp (has.outbox self.old))
-            (W.seen wires.old) (W.seen wires.new)) }
-        ensures numbers { W.unused wires.new ≡ W.unused wires.old };
+            (W.seen wires.old) (W.seen wires.new)) };
 
     /// Whether the wire was shut.
     fn is_wire_shut(&self) -> bool
@@ -49,7 +48,6 @@ pub fn flush_rows<T: OnWire, W: Wires>(
     ensures ok { OnOk result (Makes (FlushesKept T.has rows.old rows.new)
         (W.seen wires.old) (W.seen wires.new)) }
     ensures err { OnErr result (Makes (GivesUpAll T.has rows.old) (W.seen wires.old) (W.seen wires.new)) }
-    ensures numbers { W.unused wires.new ≡ W.unused wires.old }
 {
     flush_all(rows, wires)?;
     forget_shut(rows);
@@ -61,7 +59,6 @@ fn flush_all<T: OnWire, W: Wires>(rows: &mut Roster<T>, wires: &mut W) -> Result
     ensures ok { OnOk result (Makes (FlushesAll T.has rows.old rows.new)
         (W.seen wires.old) (W.seen wires.new)) }
     ensures err { OnErr result (Makes (GivesUpAll T.has rows.old) (W.seen wires.old) (W.seen wires.new)) }
-    ensures numbers { W.unused wires.new ≡ W.unused wires.old }
 {
     let count = rows.len();
     for place in 0..count {

@@ -1,5 +1,5 @@
 //! What is to be put on one wire.
-ghost use Rattle.std.specs.Prelude.{◌≡◌, ◌≤◌, [], OnErr, OnOk, drop, length, true};
+ghost use Rattle.std.specs.Prelude.{◌≡◌, ◌+◌, ◌≤◌, [], OnErr, OnOk, drop, length, true};
 ghost use Rattle.serving_wires.specs.Calls.{Makes};
 ghost use Rattle.serving_wires.specs.Outbox.{Flushes, IsGivenUp, Puts, Shuts, closed, is_due, left_behind, queued, unused_outbox};
 
@@ -11,7 +11,7 @@ use tcf_wires::{Put, Wires};
 pub const END_OF_STREAM: &[u8] = b"\x03\x02";
 
 /// The bytes that are queued for one wire, and whether it was lost, is to be shut and was shut. What the wire didn't
-/// take goes first the next time.
+/// take goes first the next time. What it took is forgotten: at most half of the bytes that are kept were taken.
 #[derive(Drop)]
 pub struct Outbox {
     channel: u64,
@@ -24,14 +24,14 @@ pub struct Outbox {
 }
 
 impl Model for Outbox {
-    ghost use Rattle.std.specs.Prelude.{◌≤◌, drop, length};
+    ghost use Rattle.std.specs.Prelude.{◌+◌, ◌≤◌, drop, length};
     ghost use Rattle.serving_wires.specs.OutboxValue.{OutboxValue};
 
     ghost Value = { OutboxValue };
 
     ghost view = { λ o. record { channel = o.channel; queued = drop o.taken o.bytes.items; is_lost = o.is_lost; is_closed = o.is_closed; is_shut = o.is_shut } };
 
-    ghost invariant = { λ o. o.taken ≤ length o.bytes.items };
+    ghost invariant = { λ o. o.taken + o.taken ≤ length o.bytes.items };
 }
 
 impl Outbox {
@@ -78,7 +78,6 @@ impl Outbox {
         if self.is_lost {
             return Ok(());
         }
-        self.make_room();
         self.bytes.extend_from_slice(bytes)
     }
 
@@ -106,7 +105,6 @@ impl Outbox {
     pub fn flush<W: Wires>(&mut self, wires: &mut W) -> Result<(), AllocError>
         ensures ok { OnOk result (Makes (Flushes self.old self.new) (W.seen wires.old) (W.seen wires.new)) }
         ensures err { OnErr result (Makes (IsGivenUp self.old) (W.seen wires.old) (W.seen wires.new)) }
-        ensures numbers { W.unused wires.new ≡ W.unused wires.old }
     {
         self.put(wires)?;
         self.shut(wires)
@@ -115,9 +113,7 @@ impl Outbox {
     /// One put of all that is queued.
     fn put<W: Wires>(&mut self, wires: &mut W) -> Result<(), AllocError>
         ensures ok { OnOk result (Makes (Puts self.old self.new) (W.seen wires.old) (W.seen wires.new)) }
-        ensures told { OnErr result ((W.seen wires.new).told ≡ (W.seen wires.old).told) }
-        ensures faults { OnErr result ((W.seen wires.new).faults ≡ (W.seen wires.old).faults) }
-        ensures numbers { W.unused wires.new ≡ W.unused wires.old }
+        ensures err { OnErr result (W.seen wires.new ≡ W.seen wires.old) }
     {
         if self.left().is_empty() {
             return Ok(());
@@ -138,9 +134,7 @@ impl Outbox {
     /// Shuts the wire, if it is to be shut now.
     fn shut<W: Wires>(&mut self, wires: &mut W) -> Result<(), AllocError>
         ensures ok { OnOk result (Makes (Shuts self.old self.new) (W.seen wires.old) (W.seen wires.new)) }
-        ensures told { OnErr result ((W.seen wires.new).told ≡ (W.seen wires.old).told) }
-        ensures faults { OnErr result ((W.seen wires.new).faults ≡ (W.seen wires.old).faults) }
-        ensures numbers { W.unused wires.new ≡ W.unused wires.old }
+        ensures err { OnErr result (W.seen wires.new ≡ W.seen wires.old) }
     {
         if self.is_due() {
             wires.shut(self.channel())?;
@@ -168,7 +162,7 @@ impl Outbox {
         requires { count ≤ length self.old.queued }
         ensures { self.new ≡ record self.old { queued = drop count self.old.queued } }
     {
-        self.taken += count;
+        self.taken = forget_first(&mut self.bytes, self.taken + count);
     }
 
     /// A put was lost, and what is queued is dropped.
@@ -179,16 +173,20 @@ impl Outbox {
         self.taken = 0;
         self.is_lost = true;
     }
+}
 
-    /// Forgets the bytes that were taken, once they are half of all. So each byte is moved at most once on average.
-    fn make_room(&mut self)
-        ensures { self.new ≡ self.old }
-    {
-        let left = self.bytes.len() - self.taken;
-        if self.taken >= left {
-            self.bytes.rotate_left(self.taken);
-            self.bytes.truncate(left);
-            self.taken = 0;
-        }
+/// Forgets these first bytes once they are half of all, and answers how many of them are still there. So each byte is
+/// moved at most once on average.
+fn forget_first(bytes: &mut Vec<u8>, count: usize) -> usize
+    requires { count ≤ length bytes.old.items }
+    ensures left { drop result bytes.new.items ≡ drop count bytes.old.items }
+    ensures half { result + result ≤ length bytes.new.items }
+{
+    let left = bytes.len() - count;
+    if count < left {
+        return count;
     }
+    bytes.rotate_left(count);
+    bytes.truncate(left);
+    0
 }

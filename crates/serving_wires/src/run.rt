@@ -1,7 +1,7 @@
 //! The run of what is served.
 ghost use Rattle.std.specs.Prelude.{◌≡◌, IfOk, IsTrue};
 ghost use Rattle.tcf_outside.specs.Faults.{Rose};
-ghost use Rattle.tcf_wires.specs.Event.{can_come, faults_after, unused_after_next};
+ghost use Rattle.tcf_wires.specs.Event.{can_come};
 ghost use Rattle.tcf_wires.specs.Told.{noted};
 ghost use Rattle.tcf_wires.specs.declared.call.WireCall.TheVariants.{Gave};
 ghost use Rattle.serving_wires.specs.Calls.{Makes};
@@ -27,7 +27,7 @@ pub fn serve<S: Served, W: Wires>(
     wires: &mut W,
     turns: u32,
 ) -> Result<ServeEnd, WireRefusal>
-    ensures serves { Makes (GoesOn S.behaviour (record { served = served.old; sending = sending.old }) (W.unused wires.old) turns (end_of result))
+    ensures serves { Makes (GoesOn S.behaviour (record { served = served.old; sending = sending.old }) (W.seen wires.old).unused turns (end_of result))
         (W.seen wires.old) (W.seen wires.new) }
     ensures fault { end_of result ≡ ServeEnd.WireFault → Rose (W.seen wires.old).faults (W.seen wires.new).faults }
 {
@@ -48,7 +48,7 @@ pub fn take_turn<S: Served, W: Wires>(
     wires: &mut W,
 ) -> Result<bool, WireRefusal>
     ensures turn { Makes (TakesTurn S.behaviour (record { served = served.old; sending = sending.old }) (record { served = served.new; sending = sending.new })
-        (W.unused wires.old) (W.unused wires.new) result) (W.seen wires.old) (W.seen wires.new) }
+        (W.seen wires.old).unused (W.seen wires.new).unused result) (W.seen wires.old) (W.seen wires.new) }
 {
     let event = next_event(served, wires)?;
     let is_last = is_stop(&event);
@@ -59,10 +59,8 @@ pub fn take_turn<S: Served, W: Wires>(
 
 /// What comes next, for which is waited unless something is to be done meanwhile.
 fn next_event<S: Served, W: Wires>(served: &S, wires: &mut W) -> Result<WireEvent, WireRefusal>
-    ensures can { IfOk result (λ event. IsTrue (can_come (W.unused wires.old) event)) }
-    ensures told { (W.seen wires.new).told ≡ noted result (Gave result) (W.seen wires.old).told }
-    ensures numbers { W.unused wires.new ≡ unused_after_next result (W.unused wires.old) }
-    ensures cause { (W.seen wires.new).faults ≡ faults_after result (W.seen wires.old).faults }
+    ensures can { IfOk result (λ event. IsTrue (can_come (W.seen wires.old).unused event)) }
+    ensures seen { W.seen wires.new ≡ noted result (Gave result) (W.seen wires.old) }
 {
     wires.set_nonblocking(!served.waits_for_events());
     wires.next()

@@ -87,7 +87,6 @@ impl Sending {
             (W.seen wires.old) (W.seen wires.new)) }
         ensures err { OnErr result (Makes (GivesUpAll its_own self.old)
             (W.seen wires.old) (W.seen wires.new)) }
-        ensures numbers { W.unused wires.new ≡ W.unused wires.old }
     {
         flush_rows(&mut self.outboxes, wires)
     }

@@ -23,9 +23,9 @@ pub trait Served {
     ) -> Result<(), AllocError>
         ensures peer { OnOk result (behaviour.peer self.new ≡ behaviour.peer self.old) }
         ensures ok { OnOk result (Heeds behaviour event self.old self.new sending.old sending.new
-            (W.unused wires.old) (W.unused wires.new) (W.seen wires.old) (W.seen wires.new)) }
+            (W.seen wires.old) (W.seen wires.new)) }
         ensures err { OnErr result (HeedsPart behaviour event self.old sending.old
-            (W.unused wires.old) (W.seen wires.old) (W.seen wires.new)) };
+            (W.seen wires.old) (W.seen wires.new)) };
 
     /// Whether the next event is waited for. Where something is to be done meanwhile `Idle` comes at once if nothing else
     /// does.

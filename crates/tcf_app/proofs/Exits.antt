@@ -9,13 +9,13 @@ use Rattle.tcf_outside.specs.declared.files.HeldFile.{HeldFile}
 use Rattle.tcf_schedules.specs.Refusal.{BadLine}
 use Rattle.tcf_schedules.specs.Script.{script_of}
 use Rattle.tcf_schedules.specs.declared.script.ScriptLine.{ScriptLine}
-use Rattle.tcf_wires.specs.Told.{WiresSeen}
+use Rattle.tcf_wires.specs.Told.{WiresSeen, with_calls}
 use Rattle.tcf_wires.specs.declared.call.WireCall.{WireCall}
 use Rattle.tcf_wires.specs.declared.event.WireRefusal.{WireRefusal}
 use Rattle.tcf_wires.specs.declared.event.WireRefusal.TheVariants as refusals
-use Rattle.serving_wires.specs.Calls.{Makes, faults_through, with_calls}
+use Rattle.serving_wires.specs.Calls.{Makes}
 use Rattle.serving_wires.specs.Serving.{fails, breaks}
-use Rattle.serving_wires.proofs.Making.{makes_so, seen_same, told_none}
+use Rattle.serving_wires.proofs.Making.{makes_so, seen_none}
 use Rattle.serving_wires.proofs.Rising.{rose_raised}
 use Rattle.serving_wires.specs.Ends.{AreTaken, EndsSo, IsStopped}
 use Rattle.serving_wires.specs.declared.end.ServeEnd.{ServeEnd}
@@ -145,7 +145,7 @@ ran_heeded (Ok script) address turns calls ending its = by_result its.result its
     by_result : (result : Result ClientRun WireRefusal) → RunsClient script address turns result calls → ending ≡ ran_ending result → (list_any fails calls ≡ false) ⊎ (ending ≡ wire_ending)
     by_result (Ok run) (no_calls is none) e = inl (ap (list_any fails) none)
     by_result (Ok run) (not_connected is called) e = cc
-    by_result (Ok run) (connected channel later first alone served) e = let has : RunHas channel script turns run calls = served.ends in inl has.sound
+    by_result (Ok run) (connected channel later first alone served) e = let has : RunHas address channel script turns run calls = served.ends in inl has.sound
     by_result (Err refusals.Failed) r e = inr e
     by_result (Err refusals.NoMemory) (no_calls is none) e = inl (ap (list_any fails) none)
     by_result (Err refusals.NoMemory) (not_connected is called) e = cc
@@ -211,7 +211,7 @@ module _ (order : Option OrderValue) (exit : Exit) (files files' : FilesSeen) (w
       let s : Seen = record { files = files; files_after = files'; wires = wires; wires_after = wires'; before = before; after = after } in
       let r = made.fits in
       elim r.ends.2.which as (λ _. Tells s order exit) [
-        | inl same ↦ subst (Tells s order) (sym same) (ending_tells s order r.heard made.calls r.ends.0 r.hears made.told made.faults r.ends.1 (r.ends.2.whole same))
+        | inl same ↦ subst (Tells s order) (sym same) (ending_tells s order r.heard made.calls r.ends.0 r.hears made.seen r.ends.1 (r.ends.2.whole same))
         | inr up ↦ given_up_tells s order exit up
       ]
 
@@ -244,9 +244,7 @@ module _ (order : Option OrderValue) (exit : Exit) (files files' : FilesSeen) (w
   pub spared_of : SparesWires order exit → wires' ≡ wires
   spared_of spares =
       let none = spared_calls order exit files files' before after made.calls made.fits spares in
-      seen_same wires' wires
-      (made.told ∙ ap (λ cs. with_calls cs wires.told) none ∙ sym (told_none wires.told))
-      (made.faults ∙ ap (λ cs. faults_through cs wires.faults) none)
+      made.seen ∙ ap (λ cs. with_calls cs wires) none ∙ sym (seen_none wires)
 
   pub front_of : IsFrontPut order files files' wires wires' before after
   front_of =

@@ -163,9 +163,9 @@ same_channel address channel other calls later more first also = cc
 
 -- the end that the run has by what came, over the channel that it has
 end_on : (script : List ScriptLine) (address : List ℕ) (channel : ℕ) (calls later : List WireCall) (end : Option ClientEnd)
-    → calls ≡ Connected address (Ok channel) ∷ later → ComesTo script address end calls → (after_events channel script (events_in calls)).end ≡ end
+    → calls ≡ Connected address (Ok channel) ∷ later → ComesTo script address end calls → (after_events address channel script (events_in calls)).end ≡ end
 end_on script address channel calls later end first c =
-    ap (λ k. (after_events k script (events_in calls)).end) (sym (same_channel address channel c.channel calls later c.later first c.connects)) ∙ c.end_is
+    ap (λ k. (after_events address k script (events_in calls)).end) (sym (same_channel address channel c.channel calls later c.later first c.connects)) ∙ c.end_is
 
 ends_by : (turns : ℕ) (ran : ClientEnd) (end : Option ClientEnd) (found : Option ClientEnd) (happened : List WireEvent) → EndsBy turns ran end happened → end ≡ found
     → ((it : ClientEnd) → found ≡ Some it → ran ≡ it) × (found ≡ None → ran ≡ client_ends.Turns)
@@ -176,15 +176,15 @@ ends_by turns (client_ends.Ended cause) end found happened by is =
 ends_by turns client_ends.Turns end found happened by is =
     let so : found ≡ None = sym is ∙ by.0 in (λ it some. cc, λ none. refl)
 
-broken_run_events : (channel : ℕ) (script : List ScriptLine) (turns : ℕ) (calls : List WireCall) (b : RunBreaks channel script turns calls) → events_in calls ≡ events_in b.earlier
-broken_run_events channel script turns calls b = ap events_in b.split ∙ same_events b.earlier (Gave (Err refusals.Failed) ∷ []) refl
+broken_run_events : (address : List ℕ) (channel : ℕ) (script : List ScriptLine) (turns : ℕ) (calls : List WireCall) (b : RunBreaks address channel script turns calls) → events_in calls ≡ events_in b.earlier
+broken_run_events address channel script turns calls b = ap events_in b.split ∙ same_events b.earlier (Gave (Err refusals.Failed) ∷ []) refl
 
 module _ (script : List ScriptLine) (address : List ℕ) (turns : ℕ) (calls : List WireCall) (ending : Ending) (exit : Exit) (before after : SinkSeen) (e : Ends ending exit before after) where
   run_out_on : (channel : ℕ) (later : List WireCall) (result : Result ClientRun WireRefusal) → calls ≡ Connected address (Ok channel) ∷ later
-      → ServesClient channel script turns result calls → ending ≡ ran_ending result → IsEndOfRun script address turns exit calls
+      → ServesClient address channel script turns result calls → ending ≡ ran_ending result → IsEndOfRun script address turns exit calls
   run_out_on channel later (Ok run) first served is =
-      let has : RunHas channel script turns run calls = served.ends in
-      let own = (after_events channel script (events_in calls)).end in
+      let has : RunHas address channel script turns run calls = served.ends in
+      let own = (after_events address channel script (events_in calls)).end in
       let exit_is : ending.exit ≡ exit_of run.end = ap (λ (x : Ending). x.exit) is in
       record {
         ended = λ end c.
@@ -195,11 +195,11 @@ module _ (script : List ScriptLine) (address : List ℕ) (turns : ℕ) (calls : 
             at_ending ending exit Turns before after e (exit_is ∙ ap exit_of (by.1 refl));
       }
   run_out_on channel later (Err refusals.Failed) first served is =
-      let b : RunBreaks channel script turns calls = served.ends in
-      let same = broken_run_events channel script turns calls b in
+      let b : RunBreaks address channel script turns calls = served.ends in
+      let same = broken_run_events address channel script turns calls b in
       record {
         ended = λ end c.
-            let both : Some end ≡ None = sym (end_on script address channel calls later (Some end) first c) ∙ ap (λ es. (after_events channel script es).end) same ∙ b.goes_on in cc;
+            let both : Some end ≡ None = sym (end_on script address channel calls later (Some end) first c) ∙ ap (λ es. (after_events address channel script es).end) same ∙ b.goes_on in cc;
         taken = λ c counted. absurd (omega (arith, b.within, sym (ap (λ (es : List WireEvent). length es) same) ∙ counted));
       }
   run_out_on channel later (Err refusals.NoMemory) first served is = record {

@@ -1,5 +1,5 @@
 -- What each exit tells, by the ending that the run was to have.
-use Rattle.std.proofs.Common.{◌≡◌, ℕ, zero, suc, ◌+◌, Bool, false, List, [], ◌∷◌, ◌++◌, length, refl, sym, subst, inl, inr, ◌⊎◌}
+use Rattle.std.proofs.Common.{◌≡◌, ℕ, zero, suc, ◌+◌, Bool, false, List, [], ◌∷◌, ◌++◌, length, refl, sym, ap, subst, inl, inr, ◌⊎◌}
 use Rattle.std.specs.List.{AllByRecursion}
 use Rattle.std.specs.Prelude.{Option, None, Some, Result, Ok, Err, IfOk, slice_get}
 use Rattle.tcf_outside.specs.Faults.{Rose}
@@ -22,12 +22,11 @@ use Rattle.log_check.specs.Rules.{IsJudged}
 use Rattle.log_check.specs.declared.rule.Rule.{Rule}
 use Rattle.world_laws.proofs.TheLaws.{file_coherent, file_ends, file_faithful, file_fresh, file_steps, file_unstuck}
 use Rattle.tcf_text.specs.Once.{Once}
-use Rattle.tcf_wires.specs.Told.{WiresSeen}
+use Rattle.tcf_wires.specs.Told.{WiresSeen, faults_through, with_calls}
 use Rattle.tcf_wires.specs.declared.call.WireCall.{WireCall}
 use Rattle.tcf_wires.specs.declared.call.WireCall.TheVariants.{Connected, Gave, Listened}
 use Rattle.tcf_wires.specs.declared.event.WireRefusal.{WireRefusal}
 use Rattle.tcf_wires.specs.declared.event.WireRefusal.TheVariants as refusals
-use Rattle.serving_wires.specs.Calls.{faults_through, with_calls}
 use Rattle.serving_wires.specs.Serving.{breaks}
 use Rattle.serving_wires.specs.Ends.{IsBroken, IsLastCall, no_listening, no_event}
 use Rattle.serving_wires.specs.declared.end.ServeEnd.{ServeEnd}
@@ -74,7 +73,7 @@ running_rises script address turns count calls (no_calls is none) = cc
 running_rises script address turns count calls (not_connected is called) =
     subst (λ cs. Rose count (faults_through cs count)) (sym called) (last_rises count [] (Connected address (Err refusals.Failed)) (λ n. refl))
 running_rises script address turns count calls (connected channel later first alone served) =
-    let broken : RunBreaks channel script turns calls = served.ends in
+    let broken : RunBreaks address channel script turns calls = served.ends in
     subst (λ cs. Rose count (faults_through cs count)) (sym broken.split) (last_rises count broken.earlier (Gave (Err refusals.Failed)) (λ n. refl))
 
 -- ---- what an exit tells
@@ -188,15 +187,15 @@ abbrev Counted : Seen → OrderValue → List (List ℕ) → List WireCall → T
 Counted s order contents calls = ServesAs order contents serve_ends.WireFault calls → Rose s.wires.faults (faults_through calls s.wires.faults)
 
 serving_tells : (s : Seen) (order : OrderValue) (turns : ℕ) (contents : List (List ℕ)) (calls : List WireCall) (end : ServeEnd) (ending : Ending) → ServingTells s order turns → Counted s order contents calls
-    → Hears (files_named order) s.files s.files_after (whole contents) → s.wires_after.told ≡ with_calls calls s.wires.told → s.wires_after.faults ≡ faults_through calls s.wires.faults
+    → Hears (files_named order) s.files s.files_after (whole contents) → s.wires_after ≡ with_calls calls s.wires
     → ServesAs order contents end calls → ending ≡ served_ending turns end → Took ending.text s.before s.after → Tells s (Some order) ending.exit
-serving_tells s order turns contents calls end ending tells rises hears told counted fits = by_end end fits
+serving_tells s order turns contents calls end ending tells rises hears seen fits = by_end end fits
   where
     served : (e : ServeEnd) (text : List ℕ) → ServesAs order contents e calls → Took text s.before s.after → IsServed order e text s.files s.wires s.wires_after s.before s.after
     served e text so put = record {
       contents = contents;
       held = are_held (files_named order) contents s.files s.files_after hears;
-      serves = record { calls = calls; fits = so; told = told; faults = counted };
+      serves = record { calls = calls; fits = so; seen = seen };
       put = put;
     }
 
@@ -205,7 +204,7 @@ serving_tells s order turns contents calls end ending tells rises hears told cou
         told_at s (Some order) ending (served_ending turns (serve_ends.Stopped events)) e (λ put. tells.done (events, served (serve_ends.Stopped events) (turns_text events) so put))
     by_end serve_ends.Turns so e = told_at s (Some order) ending (served_ending turns serve_ends.Turns) e (λ put. tells.taken (served serve_ends.Turns (turns_text turns) so put))
     by_end serve_ends.WireFault so e =
-        told_at s (Some order) ending wire_ending e (λ put. tells.failed (subst (Rose s.wires.faults) (sym counted) (rises so)) (served serve_ends.WireFault wire_ending.text so put))
+        told_at s (Some order) ending wire_ending e (λ put. tells.failed (subst (Rose s.wires.faults) (sym (ap (λ (w : WiresSeen). w.faults) seen)) (rises so)) (served serve_ends.WireFault wire_ending.text so put))
     by_end serve_ends.NoMemory so e = told_at s (Some order) ending (served_ending turns serve_ends.NoMemory) e (λ put. tt)
 
 agent_tells : (s : Seen) (address : List ℕ) (turns : ℕ) (images : List NamedFile) → ServingTells s (agent address turns images) turns
@@ -218,9 +217,9 @@ hub_tells : (s : Seen) (address peer : List ℕ) (turns : ℕ) → ServingTells 
 hub_tells s address peer turns = record { done = λ stopped. stopped; taken = λ served. served; failed = λ rose served. (rose, served) }
 
 client_tells : (s : Seen) (address name file : List ℕ) (turns : ℕ) (calls : List WireCall) (ending : Ending) → Hears (name ∷ []) s.files s.files_after (whole (file ∷ []))
-    → s.wires_after.told ≡ with_calls calls s.wires.told → s.wires_after.faults ≡ faults_through calls s.wires.faults → IsRanEnding (script_of file) address turns calls ending
+    → s.wires_after ≡ with_calls calls s.wires → IsRanEnding (script_of file) address turns calls ending
     → Took ending.text s.before s.after → Tells s (Some (client address name turns)) ending.exit
-client_tells s address name file turns calls ending hears told counted its = by_script (script_of file) refl its
+client_tells s address name file turns calls ending hears seen its = by_script (script_of file) refl its
   where
     by_end : (script : List ScriptLine) (run : ClientRun) (end : ClientEnd) → script_of file ≡ Ok script → RunsClient script address turns (Ok run) calls → Once false run.client.log → run.end ≡ end
         → ending ≡ record { exit = exit_of end; text = client_text run.client.log } → Took ending.text s.before s.after → Tells s (Some (client address name turns)) ending.exit
@@ -231,7 +230,7 @@ client_tells s address name file turns calls ending hears told counted its = by_
       says = is;
       run = run;
       ended = so;
-      runs = record { calls = calls; fits = fits; told = told; faults = counted };
+      runs = record { calls = calls; fits = fits; seen = seen };
       once = once;
       put = put;
     })
@@ -242,7 +241,7 @@ client_tells s address name file turns calls ending hears told counted its = by_
       says = is;
       run = run;
       ended = so;
-      runs = record { calls = calls; fits = fits; told = told; faults = counted };
+      runs = record { calls = calls; fits = fits; seen = seen };
       once = once;
       put = put;
     })
@@ -253,7 +252,7 @@ client_tells s address name file turns calls ending hears told counted its = by_
       says = is;
       run = run;
       ended = so;
-      runs = record { calls = calls; fits = fits; told = told; faults = counted };
+      runs = record { calls = calls; fits = fits; seen = seen };
       once = once;
       put = put;
     })
@@ -262,13 +261,13 @@ client_tells s address name file turns calls ending hears told counted its = by_
         → IfOk result (λ (run : ClientRun). Once false run.client.log) → ending ≡ ran_ending result → Took ending.text s.before s.after → Tells s (Some (client address name turns)) ending.exit
     by_result script (Ok run) is fits once e = by_end script run run.end is fits once refl e
     by_result script (Err refusals.Failed) is fits once e = told_at s (Some (client address name turns)) ending wire_ending e (λ put. (
-      subst (Rose s.wires.faults) (sym counted) (running_rises script address turns s.wires.faults calls fits),
+      subst (Rose s.wires.faults) (sym (ap (λ (w : WiresSeen). w.faults) seen)) (running_rises script address turns s.wires.faults calls fits),
       record {
         file = file;
         held = content_is name file s.files s.files_after hears;
         script = script;
         says = is;
-        runs = record { calls = calls; fits = fits; told = told; faults = counted };
+        runs = record { calls = calls; fits = fits; seen = seen };
         put = put;
       },
     ))
@@ -380,10 +379,10 @@ check_tells s name file ending hears its = by_journal (journal_of file) refl its
 -- ---- any run
 
 pub ending_tells : (s : Seen) (order : Option OrderValue) (heard : Heard) (calls : List WireCall) (ending : Ending) → Hears (names_of order) s.files s.files_after heard
-    → s.wires_after.told ≡ with_calls calls s.wires.told → s.wires_after.faults ≡ faults_through calls s.wires.faults → IsEnding order heard calls ending
+    → s.wires_after ≡ with_calls calls s.wires → IsEnding order heard calls ending
     → Took ending.text s.before s.after → Tells s order ending.exit
-ending_tells s None heard calls ending hears told counted its = told_at s None ending usage_ending its.1 (λ put. (refl, put))
-ending_tells s (Some order) (longer count) calls ending hears told counted its =
+ending_tells s None heard calls ending hears seen its = told_at s None ending usage_ending its.1 (λ put. (refl, put))
+ending_tells s (Some order) (longer count) calls ending hears seen its =
     told_at s (Some order) ending (long_ending (first_place order + count)) its.1 (λ put. record {
       what = order;
       ordered = refl;
@@ -393,33 +392,33 @@ ending_tells s (Some order) (longer count) calls ending hears told counted its =
       place = refl;
       put = put;
     })
-ending_tells s (Some order) (failed count) calls ending hears told counted its = told_at s (Some order) ending fault_ending its.1 (λ put. (fails_last (files_named order) count s.files s.files_after hears, put))
-ending_tells s (Some (chain name)) (whole []) calls ending hears told counted its = absurd its
-ending_tells s (Some (chain name)) (whole (file ∷ [])) calls ending hears told counted its = chain_tells s name file ending hears its.1
-ending_tells s (Some (chain name)) (whole (file ∷ other ∷ more)) calls ending hears told counted its = absurd its
-ending_tells s (Some (show name)) (whole []) calls ending hears told counted its = absurd its
-ending_tells s (Some (show name)) (whole (file ∷ [])) calls ending hears told counted its = show_tells s name file ending its.1.0.text its.1.0.bad hears its.1.1 its.1.2
-ending_tells s (Some (show name)) (whole (file ∷ other ∷ more)) calls ending hears told counted its = absurd its
-ending_tells s (Some (load number)) (whole []) calls ending hears told counted its = load_tells s number ending its.1
-ending_tells s (Some (load number)) (whole (file ∷ more)) calls ending hears told counted its = absurd its
-ending_tells s (Some (agent address turns images)) (whole contents) calls ending hears told counted its =
+ending_tells s (Some order) (failed count) calls ending hears seen its = told_at s (Some order) ending fault_ending its.1 (λ put. (fails_last (files_named order) count s.files s.files_after hears, put))
+ending_tells s (Some (chain name)) (whole []) calls ending hears seen its = absurd its
+ending_tells s (Some (chain name)) (whole (file ∷ [])) calls ending hears seen its = chain_tells s name file ending hears its.1
+ending_tells s (Some (chain name)) (whole (file ∷ other ∷ more)) calls ending hears seen its = absurd its
+ending_tells s (Some (show name)) (whole []) calls ending hears seen its = absurd its
+ending_tells s (Some (show name)) (whole (file ∷ [])) calls ending hears seen its = show_tells s name file ending its.1.0.text its.1.0.bad hears its.1.1 its.1.2
+ending_tells s (Some (show name)) (whole (file ∷ other ∷ more)) calls ending hears seen its = absurd its
+ending_tells s (Some (load number)) (whole []) calls ending hears seen its = load_tells s number ending its.1
+ending_tells s (Some (load number)) (whole (file ∷ more)) calls ending hears seen its = absurd its
+ending_tells s (Some (agent address turns images)) (whole contents) calls ending hears seen its =
     serving_tells s (agent address turns images) turns contents calls its.0 ending (agent_tells s address turns images)
-    (λ so. serving_rises breaks turns s.wires.faults calls so.runs.ends) hears told counted its.1 its.2
-ending_tells s (Some (value address peer turns)) (whole []) calls ending hears told counted its =
+    (λ so. serving_rises breaks turns s.wires.faults calls so.runs.ends) hears seen its.1 its.2
+ending_tells s (Some (value address peer turns)) (whole []) calls ending hears seen its =
     serving_tells s (value address peer turns) turns [] calls its.0 ending (value_tells s address peer turns)
-    (λ so. serving_rises breaks turns s.wires.faults calls so.runs.ends) hears told counted its.1 its.2
-ending_tells s (Some (hub address peer turns)) (whole []) calls ending hears told counted its =
+    (λ so. serving_rises breaks turns s.wires.faults calls so.runs.ends) hears seen its.1 its.2
+ending_tells s (Some (hub address peer turns)) (whole []) calls ending hears seen its =
     serving_tells s (hub address peer turns) turns [] calls its.0 ending (hub_tells s address peer turns)
-    (λ so. hub_rises peer address turns s.wires.faults calls so) hears told counted its.1 its.2
-ending_tells s (Some (hub address peer turns)) (whole (file ∷ more)) calls ending hears told counted its = absurd its
-ending_tells s (Some (value address peer turns)) (whole (file ∷ more)) calls ending hears told counted its = absurd its
-ending_tells s (Some (client address name turns)) (whole []) calls ending hears told counted its = absurd its
-ending_tells s (Some (client address name turns)) (whole (file ∷ [])) calls ending hears told counted its =
-    client_tells s address name file turns calls ending hears told counted its
-ending_tells s (Some (client address name turns)) (whole (file ∷ other ∷ more)) calls ending hears told counted its = absurd its
-ending_tells s (Some (journal name head)) (whole []) calls ending hears told counted its = absurd its
-ending_tells s (Some (journal name head)) (whole (file ∷ [])) calls ending hears told counted its = journal_tells s name head file ending hears its.1
-ending_tells s (Some (journal name head)) (whole (file ∷ other ∷ more)) calls ending hears told counted its = absurd its
-ending_tells s (Some (check name)) (whole []) calls ending hears told counted its = absurd its
-ending_tells s (Some (check name)) (whole (file ∷ [])) calls ending hears told counted its = check_tells s name file ending hears its.1
-ending_tells s (Some (check name)) (whole (file ∷ other ∷ more)) calls ending hears told counted its = absurd its
+    (λ so. hub_rises peer address turns s.wires.faults calls so) hears seen its.1 its.2
+ending_tells s (Some (hub address peer turns)) (whole (file ∷ more)) calls ending hears seen its = absurd its
+ending_tells s (Some (value address peer turns)) (whole (file ∷ more)) calls ending hears seen its = absurd its
+ending_tells s (Some (client address name turns)) (whole []) calls ending hears seen its = absurd its
+ending_tells s (Some (client address name turns)) (whole (file ∷ [])) calls ending hears seen its =
+    client_tells s address name file turns calls ending hears seen its
+ending_tells s (Some (client address name turns)) (whole (file ∷ other ∷ more)) calls ending hears seen its = absurd its
+ending_tells s (Some (journal name head)) (whole []) calls ending hears seen its = absurd its
+ending_tells s (Some (journal name head)) (whole (file ∷ [])) calls ending hears seen its = journal_tells s name head file ending hears its.1
+ending_tells s (Some (journal name head)) (whole (file ∷ other ∷ more)) calls ending hears seen its = absurd its
+ending_tells s (Some (check name)) (whole []) calls ending hears seen its = absurd its
+ending_tells s (Some (check name)) (whole (file ∷ [])) calls ending hears seen its = check_tells s name file ending hears its.1
+ending_tells s (Some (check name)) (whole (file ∷ other ∷ more)) calls ending hears seen its = absurd its

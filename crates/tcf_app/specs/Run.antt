@@ -316,7 +316,7 @@ pub record ComesTo (script : List ScriptLine) (address : List ℕ) (end : Option
   pub channel : ℕ
   pub later : List WireCall
   pub connects : calls ≡ Connected address (Ok channel) ∷ later
-  pub end_is : (after_events channel script (events_in calls)).end ≡ end
+  pub end_is : (after_events address channel script (events_in calls)).end ≡ end
 
 -- Of a client that connected: where its run has an end it ends so. Where it has none, and as many events came as there are
 -- turns, they were taken.

@@ -2,7 +2,10 @@
 ghost use Rattle.std.specs.Prelude.{◌≡◌, ◌<◌, ℕ, None, Ok, Err, IfOk, IsTrue};
 ghost use Rattle.std.specs.Net.Grammar.{IsSocketText};
 ghost use Rattle.std.specs.declared.net.socket_addr.SocketAddr.{SocketAddr};
-ghost use Rattle.tcf_wires.specs.Event.{can_come, faults_after, unused_after_next, unused_after_connect};
+ghost use Rattle.tcf_outside.specs.Faults.{raised};
+ghost use Rattle.tcf_wires.specs.Event.{can_come, faults_after, unused_after_connect};
+ghost use Rattle.tcf_wires.specs.Told.{noted};
+ghost use Rattle.tcf_wires.specs.declared.call.WireCall.TheVariants.{Listened, Connected, Gave};
 
 use crate::event::{Put, WireEvent, WireRefusal};
 use crate::wires::Wires;
@@ -12,6 +15,7 @@ use mio::{Events, Interest, Poll, Token};
 use std::alloc::{AllocError, Global};
 use std::io;
 use std::io::{ErrorKind, Read, Write};
+use std::marker::Model;
 use std::net::{Net, Shutdown, SocketAddr};
 use std::time::{Clock, Duration, Instant};
 use tcf_outside::Octets;
@@ -99,6 +103,15 @@ pub struct RealWires<R: Net + Clock + Drop> {
     faults: u64,
 }
 
+impl<R: Net + Clock + Drop> Model for RealWires<R> {
+    ghost use Rattle.std.specs.Prelude.{None};
+    ghost use Rattle.tcf_wires.specs.Told.{WiresSeen};
+
+    ghost Value = { WiresSeen };
+
+    ghost view = { λ wires. record { told = None; faults = wires.faults; unused = wires.unused } };
+}
+
 /// Nothing can be had or given now, which is no failure.
 fn is_passing(error: &io::Error) -> bool {
     match error.kind() {
@@ -110,8 +123,7 @@ fn is_passing(error: &io::Error) -> bool {
 impl<R: Net + Clock + Drop> RealWires<R> {
     /// No connection, and nothing that is listened on. It fails where the system lends no means to wait.
     pub fn new(runtime: R, alloc: Global) -> io::Result<Self>
-        ensures faults { IfOk result (λ wires. wires.faults ≡ 0) }
-        ensures unused { IfOk result (λ wires. wires.unused ≡ 0) }
+        ensures { IfOk result (λ wires. wires ≡ record { told = None; faults = 0; unused = 0 }) }
     {
         let poll = Poll::new(&runtime)?;
         Ok(RealWires {
@@ -134,8 +146,8 @@ impl<R: Net + Clock + Drop> RealWires<R> {
     /// Counts a failure.
     fn failed(&mut self) -> WireRefusal
         ensures answer { result ≡ WireRefusal.Failed }
-        ensures numbers { self.new.unused ≡ self.old.unused }
-        ensures cause { self.new.faults ≡ faults_after {A = ℕ} (Err result) self.old.faults }
+        ensures tells_nothing { self.old.told ≡ None }
+        ensures seen { self.new ≡ record self.old { faults = raised self.old.faults } }
     {
         self.faults = self.faults.saturating_add(1);
         WireRefusal::Failed
@@ -143,8 +155,7 @@ impl<R: Net + Clock + Drop> RealWires<R> {
 
     /// Counts the error of a call, unless it was want of memory.
     fn refused(&mut self, error: &io::Error) -> WireRefusal
-        ensures numbers { self.new.unused ≡ self.old.unused }
-        ensures cause { self.new.faults ≡ faults_after {A = ℕ} (Err result) self.old.faults }
+        ensures seen { self.new ≡ record self.old { faults = faults_after {A = ℕ} (Err result) self.old.faults } }
     {
         match error.kind() {
             ErrorKind::OutOfMemory => WireRefusal::NoMemory,
@@ -193,8 +204,7 @@ impl<R: Net + Clock + Drop> RealWires<R> {
     /// Gives the connection the next number.
     fn admit(&mut self, stream: TcpStream) -> Result<u64, WireRefusal>
         ensures new { IfOk result (λ channel. channel ≡ self.old.unused) }
-        ensures numbers { self.new.unused ≡ unused_after_connect result self.old.unused }
-        ensures cause { self.new.faults ≡ faults_after result self.old.faults }
+        ensures seen { self.new ≡ record self.old { faults = faults_after result self.old.faults; unused = unused_after_connect result self.old.unused } }
     {
         let channel = self.unused;
         let Some(unused) = channel.checked_add(1) else {
@@ -215,8 +225,7 @@ impl<R: Net + Clock + Drop> RealWires<R> {
     fn accept(&mut self) -> Result<WireEvent, WireRefusal>
         ensures can { IfOk result (λ event. IsTrue (can_come self.old.unused event)) }
         ensures goes_on { result ≡ Ok WireEvent.Stop → ⊥ }
-        ensures numbers { self.new.unused ≡ unused_after_next result self.old.unused }
-        ensures cause { self.new.faults ≡ faults_after result self.old.faults }
+        ensures seen { self.new ≡ noted result (Gave result) self.old }
     {
         if !self.has_peer {
             return Ok(WireEvent::Idle);
@@ -245,8 +254,7 @@ impl<R: Net + Clock + Drop> RealWires<R> {
     fn hear(&mut self, at: usize) -> Result<WireEvent, WireRefusal>
         ensures can { IfOk result (λ event. IsTrue (can_come self.old.unused event)) }
         ensures goes_on { result ≡ Ok WireEvent.Stop → ⊥ }
-        ensures numbers { self.new.unused ≡ unused_after_next result self.old.unused }
-        ensures cause { self.new.faults ≡ faults_after result self.old.faults }
+        ensures seen { self.new ≡ noted result (Gave result) self.old }
     {
         let Some(line) = self.lines.get_mut(at) else {
             return Ok(WireEvent::Idle);
@@ -282,7 +290,8 @@ impl<R: Net + Clock + Drop> RealWires<R> {
 
     /// How many places are looked at: one for each connection, and one for peers that wait to be let in.
     fn places(&self) -> usize
-        ensures { 0 < result }
+        ensures some { 0 < result }
+        ensures tells_nothing { self.now.told ≡ None }
     {
         self.lines.len().saturating_add(1)
     }
@@ -291,8 +300,7 @@ impl<R: Net + Clock + Drop> RealWires<R> {
     fn ready(&mut self, count: usize) -> Result<WireEvent, WireRefusal>
         ensures can { IfOk result (λ event. IsTrue (can_come self.old.unused event)) }
         ensures goes_on { result ≡ Ok WireEvent.Stop → ⊥ }
-        ensures numbers { self.new.unused ≡ unused_after_next result self.old.unused }
-        ensures cause { self.new.faults ≡ faults_after result self.old.faults }
+        ensures seen { self.new ≡ noted result (Gave result) self.old }
     {
         let places = self.places();
         for step in 0..count {
@@ -318,8 +326,7 @@ impl<R: Net + Clock + Drop> RealWires<R> {
     fn next_at_once(&mut self) -> Result<WireEvent, WireRefusal>
         ensures can { IfOk result (λ event. IsTrue (can_come self.old.unused event)) }
         ensures goes_on { result ≡ Ok WireEvent.Stop → ⊥ }
-        ensures numbers { self.new.unused ≡ unused_after_next result self.old.unused }
-        ensures cause { self.new.faults ≡ faults_after result self.old.faults }
+        ensures seen { self.new ≡ noted result (Gave result) self.old }
     {
         if self.turn == 0 {
             self.wait(Duration::ZERO)?;
@@ -336,8 +343,7 @@ impl<R: Net + Clock + Drop> RealWires<R> {
     fn next_in_time(&mut self) -> Result<WireEvent, WireRefusal>
         ensures can { IfOk result (λ event. IsTrue (can_come self.old.unused event)) }
         ensures goes_on { result ≡ Ok WireEvent.Stop → ⊥ }
-        ensures numbers { self.new.unused ≡ unused_after_next result self.old.unused }
-        ensures cause { self.new.faults ≡ faults_after result self.old.faults }
+        ensures seen { self.new ≡ noted result (Gave result) self.old }
     {
         let most = self.places().saturating_add(1);
         for _ in 0..most {
@@ -355,8 +361,7 @@ impl<R: Net + Clock + Drop> RealWires<R> {
 
     /// Waits so long at most until something may have come, and says whether it may. An interrupted wait brought nothing.
     fn wait(&mut self, time: Duration) -> Result<bool, WireRefusal>
-        ensures numbers { self.new.unused ≡ self.old.unused }
-        ensures cause { self.new.faults ≡ faults_after result self.old.faults }
+        ensures seen { self.new ≡ record self.old { faults = faults_after result self.old.faults } }
     {
         match self.poll.poll(&mut self.events, Some(time)) {
             Ok(()) => {
@@ -377,8 +382,7 @@ impl<R: Net + Clock + Drop> RealWires<R> {
     /// Ends the stream of a connection that is shut. It is kept until its peer has ended too, unless nothing can be
     /// had of it any more, or there is no memory for it or no clock.
     fn end(&mut self, line: Line)
-        ensures numbers { self.new.unused ≡ self.old.unused }
-        ensures cause { self.new.faults ≡ self.old.faults }
+        ensures { self.new ≡ self.old }
     {
         if let Input::Over = line.input {
             return;
@@ -404,8 +408,7 @@ impl<R: Net + Clock + Drop> RealWires<R> {
 
     /// Drops what came on connections that were shut, and closes those whose peer has ended or that were kept long enough.
     fn drain(&mut self)
-        ensures numbers { self.new.unused ≡ self.old.unused }
-        ensures cause { self.new.faults ≡ self.old.faults }
+        ensures { self.new ≡ self.old }
     {
         if self.ending.is_empty() {
             return;
@@ -498,17 +501,14 @@ fn look_again(lines: &mut [Line]) {
 }
 
 impl<R: Net + Clock + Drop> Wires for RealWires<R> {
-    ghost seen = { λ wires. record { told = None; faults = wires.faults } };
+    ghost seen = { λ wires. wires };
 
     ghost script = { λ _. None };
-
-    ghost unused = { λ wires. wires.unused };
 
     /// `Failed` where the text is no address, and where the system doesn't listen on it.
     fn listen(&mut self, address: &str) -> Result<(), WireRefusal>
         ensures text { ((a : SocketAddr) → IsSocketText address.now a → ⊥) → result ≡ Err WireRefusal.Failed }
-        ensures numbers { self.new.unused ≡ self.old.unused }
-        ensures cause { self.new.faults ≡ faults_after result self.old.faults }
+        ensures seen { self.new ≡ noted result (Listened address.now result) self.old }
     {
         let Ok(address) = address.parse::<SocketAddr>() else {
             return Err(self.failed());
@@ -527,8 +527,7 @@ impl<R: Net + Clock + Drop> Wires for RealWires<R> {
     fn connect(&mut self, peer: &str) -> Result<u64, WireRefusal>
         ensures text { ((a : SocketAddr) → IsSocketText peer.now a → ⊥) → result ≡ Err WireRefusal.Failed }
         ensures new { IfOk result (λ channel. channel ≡ self.old.unused) }
-        ensures numbers { self.new.unused ≡ unused_after_connect result self.old.unused }
-        ensures cause { self.new.faults ≡ faults_after result self.old.faults }
+        ensures seen { self.new ≡ noted result (Connected peer.now result) self.old }
     {
         let Ok(peer) = peer.parse::<SocketAddr>() else {
             return Err(self.failed());
@@ -546,8 +545,7 @@ impl<R: Net + Clock + Drop> Wires for RealWires<R> {
     fn next(&mut self) -> Result<WireEvent, WireRefusal>
         ensures can { IfOk result (λ event. IsTrue (can_come self.old.unused event)) }
         ensures goes_on { result ≡ Ok WireEvent.Stop → ⊥ }
-        ensures numbers { self.new.unused ≡ unused_after_next result self.old.unused }
-        ensures cause { self.new.faults ≡ faults_after result self.old.faults }
+        ensures seen { self.new ≡ noted result (Gave result) self.old }
     {
         self.drain();
         if self.is_nonblocking {

@@ -189,11 +189,9 @@ fn taken_by(call: &WireCall, channel: u64) -> &[u8]
 }
 
 impl Wires for WireScript {
-    ghost seen = { λ w. record { told = Some w.calls; faults = w.faults } };
+    ghost seen = { λ w. record { told = Some w.calls; faults = w.faults; unused = w.unused } };
 
     ghost script = { λ w. Some w.script };
-
-    ghost unused = { λ w. w.unused };
 
     fn listen(&mut self, address: &str) -> Result<(), WireRefusal> {
         let answer = if self.fails() {

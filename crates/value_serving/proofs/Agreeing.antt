@@ -17,8 +17,8 @@ use Rattle.value_node.proofs.Holding.{above_more, below_more}
 use Rattle.value_node.proofs.HoldsEnds.{upper_is}
 use Rattle.value_node.proofs.Steps.{whole}
 use Rattle.value_node.proofs.TheLaws.{ends_are_runs}
-use Rattle.value_serving.specs.Passages.{AgreesWith, PassagesAgree, given_above}
-use Rattle.value_serving.specs.Served.{Passage, Passed, after_call, after_calls, new_passage, nothing_passed, with_got, with_given}
+use Rattle.value_serving.specs.Passages.{PassagesAgree, given_above}
+use Rattle.value_serving.specs.Served.{Passage, Passed, after_call, new_passage, nothing_passed, with_got, with_given}
 use Rattle.value_serving.proofs.Giving.{IsQuiet, lower_given, upper_given}
 
 -- ---- what holds of a run of calls

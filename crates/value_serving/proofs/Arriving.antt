@@ -1,5 +1,5 @@
 -- Something comes on a wire of a value-add, and waits for its side.
-use Rattle.std.proofs.Common.{◌≡◌, ℕ, ◌==◌, false, List, [], ◌∷◌, ◌++◌, Option, Some, None, subst}
+use Rattle.std.proofs.Common.{◌≡◌, ℕ, false, List, Option, Some, None, subst}
 use Rattle.std.proofs.lemmas.Option.{same_Some}
 use Rattle.list_laws.proofs.Numbers.{other_number}
 use Rattle.tcf_wires.specs.declared.event.WireEvent.TheVariants as events

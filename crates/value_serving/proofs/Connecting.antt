@@ -1,7 +1,7 @@
 -- A connection is asked for, and a message is taken.
 use Rattle.std.proofs.Common.{◌≡◌, ℕ, suc, ◌+◌, ◌-◌, ◌<◌, ◌≤◌, Bool, true, false, List, [], ◌∷◌, ◌++◌, Option, Some, None, refl, sym, ap, ◌∙◌, subst, arith}
 use Rattle.std.specs.Prelude.{Err, IfOk, Ok, if◌then◌else◌}
-use Rattle.tcf_wires.specs.Event.{faults_after, unused_after_connect}
+use Rattle.tcf_wires.specs.Event.{unused_after_connect}
 use Rattle.tcf_wires.specs.Told.{WiresSeen, noted}
 use Rattle.tcf_wires.specs.declared.call.WireCall.{WireCall}
 use Rattle.tcf_wires.specs.declared.call.WireCall.TheVariants.{Connected}
@@ -38,25 +38,30 @@ connects peer channel n old olds fits =
     goes_answered n (channel + 1) (Ok channel) (λ answer. answered answer old) (done (connected_on channel old)) olds (left_for old.above (begun channel olds)) [] fits
     (leaves_goes old.above peer (channel + 1) (connected_on channel old) (begun channel olds))
 
-pub connected_so : (peer : List ℕ) (channel n later : ℕ) (old new : Add) (olds news : Rows) (seen seen1 : WiresSeen) → n ≤ channel
-    → seen1.told ≡ noted {A = ℕ} (Ok channel) (Connected peer (Ok channel)) seen.told → later ≡ unused_after_connect (Ok channel) n → seen1.faults ≡ faults_after {A = ℕ} (Ok channel) seen.faults
+pub connected_so : (peer : List ℕ) (channel : ℕ) (old new : Add) (olds news : Rows) (seen seen1 : WiresSeen) → seen.unused ≤ channel
+    → seen1 ≡ noted {A = ℕ} (Ok channel) (Connected peer (Ok channel)) seen
     → new ≡ connected_on channel old → news ≡ left_for old.above (begun channel olds)
-    → Makes (Goes peer n later (question old) (done new) olds news) seen seen1
-connected_so peer channel n later old new olds news seen seen1 fits tells numbers counts is rows =
-    rw (is, rows, numbers)
-    (makes_one (Goes peer n (channel + 1) (question old) (done (connected_on channel old)) olds (left_for old.above (begun channel olds))) (Connected peer (Ok channel)) seen seen1
-    (connects peer channel n old olds fits) tells counts)
+    → Makes (Goes peer seen.unused seen1.unused (question old) (done new) olds news) seen seen1
+connected_so peer channel old new olds news seen seen1 fits asked is rows =
+    let numbers : seen1.unused ≡ channel + 1 = ap (λ (s : WiresSeen). s.unused) asked in
+    rw (is, rows)
+    (subst (λ (n : ℕ). Makes (Goes peer seen.unused n (question old) (done (connected_on channel old)) olds (left_for old.above (begun channel olds))) seen seen1) (sym numbers)
+    (makes_one (Goes peer seen.unused (channel + 1) (question old) (done (connected_on channel old)) olds (left_for old.above (begun channel olds))) (Connected peer (Ok channel)) seen seen1
+    (connects peer channel seen.unused old olds fits) asked))
 
-pub failed_so : (refusal : WireRefusal) (peer : List ℕ) (n later : ℕ) (old new : Add) (olds : Rows) (seen seen1 : WiresSeen) → refusal ≡ Failed
-    → seen1.told ≡ noted {A = ℕ} (Err refusal) (Connected peer (Err refusal)) seen.told → later ≡ unused_after_connect (Err refusal) n → seen1.faults ≡ faults_after {A = ℕ} (Err refusal) seen.faults
+pub failed_so : (refusal : WireRefusal) (peer : List ℕ) (old new : Add) (olds : Rows) (seen seen1 : WiresSeen) → refusal ≡ Failed
+    → seen1 ≡ noted {A = ℕ} (Err refusal) (Connected peer (Err refusal)) seen
     → new ≡ with_node (connect_failed old.node) old
-    → Makes (Goes peer n later (question old) (done new) olds olds) seen seen1
-failed_so NoMemory peer n later old new olds seen seen1 failed tells numbers counts is = absurd cc
-failed_so Failed peer n later old new olds seen seen1 failed tells numbers counts is =
-    rw (is, numbers)
+    → Makes (Goes peer seen.unused seen1.unused (question old) (done new) olds olds) seen seen1
+failed_so NoMemory peer old new olds seen seen1 failed asked is = absurd cc
+failed_so Failed peer old new olds seen seen1 failed asked is =
+    let n : ℕ = seen.unused in
+    let numbers : seen1.unused ≡ n = ap (λ (s : WiresSeen). s.unused) asked in
+    rw is
+    (subst (λ (m : ℕ). Makes (Goes peer seen.unused m (question old) (done (with_node (connect_failed old.node) old)) olds olds) seen seen1) (sym numbers)
     (makes_one (Goes peer n n (question old) (done (with_node (connect_failed old.node) old)) olds olds) (Connected peer (Err Failed)) seen seen1
     (goes_answered n n (Err Failed) (λ answer. answered answer old) (done (with_node (connect_failed old.node) old)) olds olds [] tt (here n (done (with_node (connect_failed old.node) old)) olds))
-    tells counts)
+    asked))
 
 -- and then memory was wanting
 breaks_answered : (peer : List ℕ) (answer : Answer) (n : ℕ) (old : Add) (olds : Rows) → IfOk answer (λ channel. n ≤ channel) → BreaksOff peer n (question old) olds (Connected peer answer ∷ [])
@@ -70,21 +75,21 @@ breaks_answered peer answer n old olds fits =
     }
 
 pub breaks_connected : (peer : List ℕ) (channel n : ℕ) (old : Add) (olds : Rows) (seen seen1 : WiresSeen) → n ≤ channel
-    → seen1.told ≡ noted {A = ℕ} (Ok channel) (Connected peer (Ok channel)) seen.told → seen1.faults ≡ faults_after {A = ℕ} (Ok channel) seen.faults → Makes (BreaksOff peer n (question old) olds) seen seen1
-breaks_connected peer channel n old olds seen seen1 fits tells counts =
-    makes_one (BreaksOff peer n (question old) olds) (Connected peer (Ok channel)) seen seen1 (breaks_answered peer (Ok channel) n old olds fits) tells counts
+    → seen1 ≡ noted {A = ℕ} (Ok channel) (Connected peer (Ok channel)) seen → Makes (BreaksOff peer n (question old) olds) seen seen1
+breaks_connected peer channel n old olds seen seen1 fits asked =
+    makes_one (BreaksOff peer n (question old) olds) (Connected peer (Ok channel)) seen seen1 (breaks_answered peer (Ok channel) n old olds fits) asked
 
 pub breaks_failed : (refusal : WireRefusal) (peer : List ℕ) (n : ℕ) (old : Add) (olds : Rows) (seen seen1 : WiresSeen) → refusal ≡ Failed
-    → seen1.told ≡ noted {A = ℕ} (Err refusal) (Connected peer (Err refusal)) seen.told → seen1.faults ≡ faults_after {A = ℕ} (Err refusal) seen.faults → Makes (BreaksOff peer n (question old) olds) seen seen1
-breaks_failed NoMemory peer n old olds seen seen1 failed tells counts = absurd cc
-breaks_failed Failed peer n old olds seen seen1 failed tells counts =
-    makes_one (BreaksOff peer n (question old) olds) (Connected peer (Err Failed)) seen seen1 (breaks_answered peer (Err Failed) n old olds tt) tells counts
+    → seen1 ≡ noted {A = ℕ} (Err refusal) (Connected peer (Err refusal)) seen → Makes (BreaksOff peer n (question old) olds) seen seen1
+breaks_failed NoMemory peer n old olds seen seen1 failed asked = absurd cc
+breaks_failed Failed peer n old olds seen seen1 failed asked =
+    makes_one (BreaksOff peer n (question old) olds) (Connected peer (Err Failed)) seen seen1 (breaks_answered peer (Err Failed) n old olds tt) asked
 
 pub breaks_unasked : (refusal : WireRefusal) (peer : List ℕ) (n : ℕ) (old : Add) (olds : Rows) (seen seen1 : WiresSeen)
-    → seen1.told ≡ noted {A = ℕ} (Err refusal) (Connected peer (Err refusal)) seen.told → seen1.faults ≡ faults_after {A = ℕ} (Err refusal) seen.faults → Makes (BreaksOff peer n (question old) olds) seen seen1
-breaks_unasked Failed peer n old olds seen seen1 tells counts = breaks_failed Failed peer n old olds seen seen1 refl tells counts
-breaks_unasked NoMemory peer n old olds seen seen1 tells counts =
-    makes_nothing (BreaksOff peer n (question old) olds) seen seen1 (breaks_at_once peer n (question old) olds) tells counts
+    → seen1 ≡ noted {A = ℕ} (Err refusal) (Connected peer (Err refusal)) seen → Makes (BreaksOff peer n (question old) olds) seen seen1
+breaks_unasked Failed peer n old olds seen seen1 asked = breaks_failed Failed peer n old olds seen seen1 refl asked
+breaks_unasked NoMemory peer n old olds seen seen1 asked =
+    makes_nothing (BreaksOff peer n (question old) olds) seen seen1 (breaks_at_once peer n (question old) olds) asked
 
 -- ---- a turn
 

@@ -1,6 +1,6 @@
 -- A value-add by its calls so far, and what passed on its sides in them.
 use Rattle.std.proofs.Common.{◌≡◌, ℕ, Bool, true, false, List, [], ◌∷◌, ◌++◌, length, Option, Some, None, refl, ap, sym, ◌∙◌, subst, arith, append_assoc, length-append}
-use Rattle.std.specs.Prelude.{fold, if◌then◌else◌, is_some, option_map, option_to_list, slice_get}
+use Rattle.std.specs.Prelude.{if◌then◌else◌, is_some, option_map, slice_get}
 use Rattle.std.proofs.lemmas.List.Sums.{fold-append}
 use Rattle.channel_core.specs.Closing.{is_closed}
 use Rattle.channel_core.specs.Runs.{Run, after_calls as end_after}

@@ -1,7 +1,6 @@
 -- Value-adds listen first, and are served from there.
 use Rattle.std.proofs.Common.{◌≡◌, ◌⊎◌, inl, inr, ℕ, List, [], ◌++◌, refl, sym, subst}
 use Rattle.std.specs.Prelude.{Err, Ok}
-use Rattle.tcf_wires.specs.Event.{faults_after}
 use Rattle.tcf_wires.specs.Told.{WiresSeen, noted}
 use Rattle.tcf_wires.specs.declared.call.WireCall.{WireCall}
 use Rattle.tcf_wires.specs.declared.call.WireCall.TheVariants.{Listened}
@@ -44,15 +43,15 @@ pub not_begun : WireLaws → (peer address : List ℕ) (turns : ℕ) (seen : Wir
 not_begun laws peer address turns seen = makes_none (ServesValueAdds peer address turns NoMemory) seen (nothing_yet laws peer address turns)
 
 pub not_listened : (refusal : WireRefusal) → WireLaws → (peer address : List ℕ) (turns : ℕ) (seen seen_then : WiresSeen)
-    → seen_then.told ≡ noted (unheard refusal) (Listened address (unheard refusal)) seen.told → seen_then.faults ≡ faults_after (unheard refusal) seen.faults
+    → seen_then ≡ noted (unheard refusal) (Listened address (unheard refusal)) seen
     → Makes (ServesValueAdds peer address turns (end_of (Err refusal))) seen seen_then
-not_listened refusals.Failed laws peer address turns seen seen_then tells counts =
+not_listened refusals.Failed laws peer address turns seen seen_then fails =
     makes_one (ServesValueAdds peer address turns WireFault) (Listened address (Err refusals.Failed)) seen seen_then
     (served_so peer address turns WireFault (listened address (Err refusals.Failed)) (inl (record { answer = Err refusals.Failed; later = []; first = refl; once = refl }))
     (not_listening laws (value_adds peer) (first_of peer) 0 turns [] address (is_open peer 0) refl))
-    tells counts
-not_listened refusals.NoMemory laws peer address turns seen seen_then tells counts =
-    makes_nothing (ServesValueAdds peer address turns NoMemory) seen seen_then (nothing_yet laws peer address turns) tells counts
+    fails
+not_listened refusals.NoMemory laws peer address turns seen seen_then fails =
+    makes_nothing (ServesValueAdds peer address turns NoMemory) seen seen_then (nothing_yet laws peer address turns) fails
 
 -- the calls of the loop come behind the listening
 goes_behind : (answer : Unit {0}) (peer address : List ℕ) (unused turns : ℕ) (end : ServeEnd) (calls : List WireCall) → GoesOn behaviour (first_of peer) unused turns end calls
@@ -62,12 +61,12 @@ goes_behind answer peer address unused turns end calls g =
     (g.runs (new_serving peer) (done (new_serving peer)) (listened address (Ok answer)) (opened_listening (value_adds peer) (first_of peer) unused [] address answer (is_open peer unused)))
 
 pub served_behind : (answer : Unit {0}) (peer address : List ℕ) (unused turns : ℕ) (end : ServeEnd) (real : ServingValue) (rows : Rows) (seen seen1 seen2 : WiresSeen)
-    → real ≡ new_serving peer → rows ≡ [] → seen1.told ≡ noted (heard answer) (Listened address (heard answer)) seen.told → seen1.faults ≡ faults_after (heard answer) seen.faults
+    → real ≡ new_serving peer → rows ≡ [] → seen1 ≡ noted (heard answer) (Listened address (heard answer)) seen
     → Makes (GoesOn behaviour (record { served = real; sending = rows }) unused turns end) seen1 seen2 → Makes (ServesValueAdds peer address turns end) seen seen2
-served_behind answer peer address unused turns end real rows seen seen1 seen2 fresh empty tells counts goes =
+served_behind answer peer address unused turns end real rows seen seen1 seen2 fresh empty listens goes =
     let First : List WireCall → Type 0 = λ cs. cs ≡ listened address (Ok answer) in
     let begun = subst (λ (r : Rows). Makes (GoesOn behaviour (record { served = new_serving peer; sending = r }) unused turns end) seen1 seen2) empty
     (subst (λ (v : ServingValue). Makes (GoesOn behaviour (record { served = v; sending = rows }) unused turns end) seen1 seen2) fresh goes) in
     makes_both First (GoesOn behaviour (first_of peer) unused turns end) (ServesValueAdds peer address turns end) seen seen1 seen2
     (λ first rest is g. subst (λ (cs : List WireCall). ServesValueAdds peer address turns end (cs ++ rest)) (sym is) (goes_behind answer peer address unused turns end rest g))
-    (makes_one First (Listened address (Ok answer)) seen seen1 refl tells counts) begun
+    (makes_one First (Listened address (Ok answer)) seen seen1 refl listens) begun

@@ -19,7 +19,7 @@ use Rattle.serving_wires.specs.Order.{Order, channel_of, closes, queues}
 use Rattle.value_serving.specs.Passing.{closing, gathered, heard, passed_on, sent_above, sent_on}
 use Rattle.serving_wires.specs.Process.{done}
 use Rattle.value_serving.specs.Served.{Passed, bytes_of}
-use Rattle.serving_wires.specs.Standing.{Sent, sent_after, sent_with}
+use Rattle.serving_wires.specs.Standing.{Wire, sent_after, sent_with}
 use Rattle.value_serving.specs.declared.add.Add.{Add}
 use Rattle.value_serving.proofs.Making.{IsSilent, made_emptied, over_is_free, unlinked, unspent, with_all}
 use Rattle.serving_wires.proofs.Wires.{Grows, Wires, grows_none, wire_other, wire_own}
@@ -71,10 +71,10 @@ more_bytes bytes outs side node is =
     ap (λ (bs : List ℕ). bs ++ bytes_for side node) is ∙ ap (λ (bs : List ℕ). bytes_of outs ++ bs) (bytes_are side node)
     ∙ sym (flat_map-append (λ (out : Outgoing). out.bytes) outs (queue_on side node))
 
-queued_open : (channel : ℕ) (bytes : List ℕ) (s : Sent) → s.is_closed ≡ false → sent_after (queues channel bytes) s ≡ record s { queued = s.queued ++ bytes }
+queued_open : (channel : ℕ) (bytes : List ℕ) (s : Wire) → s.is_closed ≡ false → sent_after (queues channel bytes) s ≡ record s { queued = s.queued ++ bytes }
 queued_open channel bytes s is = ap (λ (b : Bool). if b then s else record s { queued = s.queued ++ bytes }) is
 
-queued_shut : (channel : ℕ) (bytes : List ℕ) (s : Sent) → s.is_closed ≡ true → sent_after (queues channel bytes) s ≡ s
+queued_shut : (channel : ℕ) (bytes : List ℕ) (s : Wire) → s.is_closed ≡ true → sent_after (queues channel bytes) s ≡ s
 queued_shut channel bytes s is = ap (λ (b : Bool). if b then s else record s { queued = s.queued ++ bytes }) is
 
 up_other : (up : Option ℕ) (order : Order) (low : ℕ) (one other : Option Upper) (waiting : List Came) (high : Option Passed) (sent : Wires) → channel_of order ≡ low
@@ -105,7 +105,7 @@ works_low peer a sent w =
       made = made_emptied peer Below a.node w.low w.high w.made;
       lower = record {
         wire = record w.lower.wire { queued = w.lower.wire.queued ++ bytes };
-        there = wire_own (queues a.below bytes) sent w.lower.wire w.lower.there ∙ ap (λ (s : Sent). Some s) (queued_open a.below bytes w.lower.wire w.open_yet);
+        there = wire_own (queues a.below bytes) sent w.lower.wire w.lower.there ∙ ap (λ (s : Wire). Some s) (queued_open a.below bytes w.lower.wire w.open_yet);
         queued = more_bytes w.lower.wire.queued w.low.gave Below a.node w.lower.queued;
         came = w.lower.came;
       };
@@ -133,7 +133,7 @@ queues_up true channel node next passed waiting sent o is silent so =
     record {
       on = record {
         wire = o.wire;
-        there = wire_own (queues channel bytes) sent o.wire o.there ∙ ap (λ (s : Sent). Some s) (queued_shut channel bytes o.wire is);
+        there = wire_own (queues channel bytes) sent o.wire o.there ∙ ap (λ (s : Wire). Some s) (queued_shut channel bytes o.wire is);
         queued = o.queued ∙ ap bytes_of (sym (ap (λ (xs : List Outgoing). passed.gave ++ xs) none ∙ append-nil passed.gave));
         came = o.came;
       };
@@ -144,7 +144,7 @@ queues_up false channel node next passed waiting sent o is silent so =
     record {
       on = record {
         wire = record o.wire { queued = o.wire.queued ++ bytes };
-        there = wire_own (queues channel bytes) sent o.wire o.there ∙ ap (λ (s : Sent). Some s) (queued_open channel bytes o.wire is);
+        there = wire_own (queues channel bytes) sent o.wire o.there ∙ ap (λ (s : Wire). Some s) (queued_open channel bytes o.wire is);
         queued = more_bytes o.wire.queued passed.gave Above node o.queued;
         came = o.came;
       };
@@ -165,7 +165,7 @@ shuts_up true channel next passed waiting sent silent old =
     }
 shuts_up false channel next passed waiting sent silent old = old
 
-low_stays : (flag : Bool) (low channel : ℕ) (wire : Sent) (sent : Wires) → (channel == low) ≡ false → found low sent ≡ Some wire → found low (shut_if flag channel sent) ≡ Some wire
+low_stays : (flag : Bool) (low channel : ℕ) (wire : Wire) (sent : Wires) → (channel == low) ≡ false → found low sent ≡ Some wire → found low (shut_if flag channel sent) ≡ Some wire
 low_stays true low channel wire sent off is = wire_other (closes channel) low sent off ∙ is
 low_stays false low channel wire sent off is = is
 

@@ -1,13 +1,12 @@
 -- What is served are value-adds, after any events and answers of connects.
 use Rattle.std.proofs.Common.{◌≡◌, ℕ, zero, suc, ◌==◌, Bool, true, false, List, [], ◌∷◌, ◌++◌, length, nat_lt, Option, Some, None, refl, ap, sym, ◌∙◌, subst, append-nil}
-use Rattle.std.specs.Prelude.{Ok, Err, ◌||◌, fold, remove}
-use Rattle.std.specs.List.{AllByRecursion, IsDistinct}
-use Rattle.std.proofs.lemmas.List.{map-append}
+use Rattle.std.specs.Prelude.{remove}
+use Rattle.std.specs.List.{AllByRecursion}
 use Rattle.list_laws.proofs.AllLists.{all_append, all_at, all_left, all_right, all_weaker}
 use Rattle.list_laws.proofs.Numbers.{other_number}
 use Rattle.serving_wires.specs.Row.{Row}
 use Rattle.serving_wires.specs.Rows.{item_at, with_item_at}
-use Rattle.serving_wires.proofs.Rows.{found, is_among, missing_if, numbers, with_behind}
+use Rattle.serving_wires.proofs.Rows.{found, with_behind}
 use Rattle.serving_wires.specs.declared.intake.Came.{Came}
 use Rattle.serving_wires.specs.declared.intake.Came.TheVariants.{Piece, End}
 use Rattle.tcf_wires.specs.declared.event.WireEvent.{WireEvent}
@@ -23,18 +22,18 @@ use Rattle.serving_wires.specs.Process.{Answer, Process, and_then, asks, done, t
 use Rattle.value_serving.specs.Served.{AreValueAdds, IsValueAdd, IsWiredAbove, IsWiredSide, Passage, Passed, ServedAreValueAdds, bytes_of, nothing_passed}
 use Rattle.value_serving.specs.Serving.{handled, heard_at, heard_by, heard_on, heard_where, is_number, is_over_at, is_over_in, kept_unless, opened, opened_if, unless_over, value_adds, wire_of, with_adds}
 use Rattle.serving_wires.specs.Wired.{IsWired}
-use Rattle.serving_wires.specs.Standing.{Heard, Sent, State, after, after_one, answered, at_first, came, landed, rests, sent_in, sent_with, waits, wires_after, wires_with, with_wire}
+use Rattle.serving_wires.specs.Standing.{Heard, State, after, after_one, answered, at_first, came, landed, rests, sent_with, waits, wires_after, wires_with, with_wire}
 use Rattle.value_serving.specs.ServingValue.{ServingValue}
 use Rattle.value_serving.specs.declared.add.Add.{Add}
-use Rattle.serving_wires.proofs.Apart.{landed_numbers, same_channel}
+use Rattle.serving_wires.proofs.Holding.{IsFresh, IsNew, IsNewIn, keeps_all}
 use Rattle.value_serving.proofs.Making.{made_new}
 use Rattle.value_serving.proofs.Arriving.{came_on, nowhere_spares, side_hears, side_spares}
 use Rattle.value_serving.proofs.Rested.{Forgotten, HasNothing, Rested, Settled, gathered_leads, heard_leads, queue_by}
 use Rattle.serving_wires.proofs.Wired.{OnWire, is_wired, wire_begins, wired_yet}
-use Rattle.serving_wires.proofs.Wires.{Grows, Wires, found_push, gains_event, gains_then, not_new, piece_numbers}
+use Rattle.serving_wires.proofs.Wires.{Grows, Wires, found_push, gains_event, gains_then, not_new}
 use Rattle.value_serving.proofs.Sparing.{IsFree, Spares, spares_low, spares_none}
 use Rattle.value_serving.proofs.WhoseWire.{IsAway, IsItsOwn, IsWireOf, OnSide, wire_is}
-use Rattle.value_serving.proofs.Working.{IsNew, Leads, UpWorks, Works, leads_then, leads_weaker}
+use Rattle.value_serving.proofs.Working.{Leads, UpWorks, Works, leads_then, leads_weaker}
 
 -- ---- the wires of two value-adds differ
 
@@ -338,14 +337,6 @@ opened_lands false peer channel adds sent missing stands =
 
 -- ---- an event
 
-abbrev Fresh : WireEvent → Wires → Type 0
-Fresh (events.Opened channel) sent = found channel sent ≡ None
-Fresh (events.Piece channel bytes) sent = Unit {0}
-Fresh (events.Ended channel) sent = Unit {0}
-Fresh (events.Lost channel) sent = Unit {0}
-Fresh events.Idle sent = Unit {0}
-Fresh events.Stop sent = Unit {0}
-
 -- the peer stays
 abbrev StandsSo : List ℕ → ServingValue → Wires → Type 0
 StandsSo peer v sent = (v.peer ≡ peer) × Stands peer v.adds sent
@@ -355,7 +346,7 @@ with_lands : (peer : List ℕ) (v : ServingValue) (before : Wires) (p : Process 
 with_lands peer v before p sent same lands =
     leads_then (Grows before) (Stands peer) (StandsSo peer) p (λ adds. done (record v { adds = adds })) sent lands (λ adds s stands. (same, stands))
 
-event_lands : (peer : List ℕ) (event : WireEvent) (v : ServingValue) (sent : Wires) → Fresh event sent → StandsSo peer v sent
+event_lands : (peer : List ℕ) (event : WireEvent) (v : ServingValue) (sent : Wires) → IsFresh event sent → StandsSo peer v sent
     → Leads (Grows (wires_with event sent)) (StandsSo peer) (handled event v) (wires_with event sent)
 unfolding handled opened
 event_lands peer (events.Opened channel) v sent fresh stands =
@@ -422,12 +413,6 @@ landed_keeps peer v sent (done new) leads = leads
 landed_keeps peer v sent (tells order p) leads = landed_keeps peer v (sent_with order sent) p leads
 landed_keeps peer v sent (asks next) leads = leads
 
-abbrev IsNewIn : State ServingValue → Heard → Type 0
-IsNewIn (rests s) (came event) = Fresh event s.sent
-IsNewIn (rests s) (answered answer) = Unit {0}
-IsNewIn (waits s next) (came event) = Unit {0}
-IsNewIn (waits s next) (answered answer) = IsNew answer s.sent
-
 one_keeps : (peer : List ℕ) (state : State ServingValue) (heard : Heard) → IsNewIn state heard → KeepsState peer state → KeepsState peer (after_one (value_adds peer) state heard)
 one_keeps peer (rests s) (came event) new keeps =
     let before = wires_with event s.sent in
@@ -442,90 +427,6 @@ one_keeps peer (rests s) (answered answer) new keeps = keeps
 one_keeps peer (waits s next) (came event) new keeps = keeps
 one_keeps peer (waits s next) (answered answer) new keeps = landed_keeps peer s.served (wires_after answer s.sent) (next answer) (keeps.1 answer new)
 
--- ---- the channels of the wires
-
-distinct_front : (xs ys : List ℕ) → IsDistinct same_channel (xs ++ ys) → IsDistinct same_channel xs
-unfolding IsDistinct
-distinct_front [] ys all = tt
-distinct_front (x ∷ xs) ys all = (all_left (λ y. (x == y) ≡ false) xs ys all.0, distinct_front xs ys all.1)
-
-distinct_last : (xs : List ℕ) (y : ℕ) → IsDistinct same_channel (xs ++ y ∷ []) → is_among y xs ≡ false
-unfolding IsDistinct
-distinct_last [] y all = refl
-distinct_last (x ∷ xs) y all = ap (λ (b : Bool). b || is_among y xs) (all_at (λ z. (x == z) ≡ false) xs [] y all.0) ∙ distinct_last xs y all.1
-
-with_numbers : (channel : ℕ) (sent : Wires) → numbers (with_wire channel sent) ≡ numbers sent ++ channel ∷ []
-with_numbers channel sent = map-append (λ (r : Row Sent). r.channel) sent _
-
-abbrev AreMore : Wires → Wires → Type 0
-AreMore sent later = (more : List ℕ) × (numbers later ≡ numbers sent ++ more)
-
-no_more : (sent : Wires) → AreMore sent sent
-no_more sent = ([], sym (append-nil (numbers sent)))
-
-one_more : (channel : ℕ) (sent : Wires) → AreMore sent (with_wire channel sent)
-one_more channel sent = (channel ∷ [], with_numbers channel sent)
-
-event_more : (event : WireEvent) (sent : Wires) → AreMore sent (wires_with event sent)
-event_more (events.Opened channel) sent = one_more channel sent
-event_more (events.Piece channel bytes) sent = ([], piece_numbers channel bytes sent ∙ sym (append-nil (numbers sent)))
-event_more (events.Ended channel) sent = no_more sent
-event_more (events.Lost channel) sent = no_more sent
-event_more events.Idle sent = no_more sent
-event_more events.Stop sent = no_more sent
-
-answer_more : (answer : Answer) (sent : Wires) → AreMore sent (wires_after answer sent)
-answer_more (Ok channel) sent = one_more channel sent
-answer_more (Err refusal) sent = no_more sent
-
-state_more : (peer : List ℕ) (state : State ServingValue) (heard : Heard) → AreMore (sent_in state) (sent_in (after_one (value_adds peer) state heard))
-state_more peer (rests s) (came event) =
-    let m = event_more event s.sent in (m.0, landed_numbers s.served (wires_with event s.sent) (handled event s.served) ∙ m.1)
-state_more peer (rests s) (answered answer) = no_more s.sent
-state_more peer (waits s next) (came event) = no_more s.sent
-state_more peer (waits s next) (answered answer) =
-    let m = answer_more answer s.sent in (m.0, landed_numbers s.served (wires_after answer s.sent) (next answer) ∙ m.1)
-
-abbrev Distinct : Wires → Type 0
-Distinct sent = IsDistinct same_channel (numbers sent)
-
-before_more : (sent later : Wires) → AreMore sent later → Distinct later → Distinct sent
-before_more sent later more all = distinct_front (numbers sent) more.0 (subst (IsDistinct same_channel) more.1 all)
-
-new_wire : (channel : ℕ) (sent : Wires) → Distinct (with_wire channel sent) → found channel sent ≡ None
-new_wire channel sent all = missing_if channel sent (distinct_last (numbers sent) channel (subst (IsDistinct same_channel) (with_numbers channel sent) all))
-
-event_new : (event : WireEvent) (sent : Wires) → Distinct (wires_with event sent) → Fresh event sent
-event_new (events.Opened channel) sent all = new_wire channel sent all
-event_new (events.Piece channel bytes) sent all = tt
-event_new (events.Ended channel) sent all = tt
-event_new (events.Lost channel) sent all = tt
-event_new events.Idle sent all = tt
-event_new events.Stop sent all = tt
-
-answer_new : (answer : Answer) (sent : Wires) → Distinct (wires_after answer sent) → IsNew answer sent
-answer_new (Ok channel) sent all = new_wire channel sent all
-answer_new (Err refusal) sent all = tt
-
-state_new : (peer : List ℕ) (state : State ServingValue) (heard : Heard) → Distinct (sent_in (after_one (value_adds peer) state heard)) → IsNewIn state heard
-state_new peer (rests s) (came event) all =
-    event_new event s.sent (subst (IsDistinct same_channel) (landed_numbers s.served (wires_with event s.sent) (handled event s.served)) all)
-state_new peer (rests s) (answered answer) all = tt
-state_new peer (waits s next) (came event) all = tt
-state_new peer (waits s next) (answered answer) all =
-    answer_new answer s.sent (subst (IsDistinct same_channel) (landed_numbers s.served (wires_after answer s.sent) (next answer)) all)
-
-distinct_before : (peer : List ℕ) (heard : List Heard) (state : State ServingValue) → Distinct (sent_in (fold (after_one (value_adds peer)) state heard)) → Distinct (sent_in state)
-distinct_before peer [] state all = all
-distinct_before peer (h ∷ heard) state all =
-    let next = after_one (value_adds peer) state h in before_more (sent_in state) (sent_in next) (state_more peer state h) (distinct_before peer heard next all)
-
-all_keep : (peer : List ℕ) (heard : List Heard) (state : State ServingValue) → Distinct (sent_in (fold (after_one (value_adds peer)) state heard)) → KeepsState peer state
-    → KeepsState peer (fold (after_one (value_adds peer)) state heard)
-all_keep peer [] state all keeps = keeps
-all_keep peer (h ∷ heard) state all keeps =
-    let next = after_one (value_adds peer) state h in all_keep peer heard next all (one_keeps peer state h (state_new peer state h (distinct_before peer heard next all)) keeps)
-
 state_adds : (peer : List ℕ) (state : State ServingValue) → KeepsState peer state → AreValueAdds peer state
 state_adds peer (rests s) keeps =
     all_adds peer true s.sent s.sent s.served.adds (λ channel got gave waiting on. is_wired channel got gave waiting s.sent on) keeps.1.all
@@ -533,4 +434,5 @@ state_adds peer (waits s next) keeps = keeps.0
 
 pub serves_value_adds : ServedAreValueAdds
 serves_value_adds peer heard apart =
-    state_adds peer (after (value_adds peer) heard) (all_keep peer heard (at_first (value_adds peer)) apart (refl, record { all = tt; apart = tt }))
+    state_adds peer (after (value_adds peer) heard)
+    (keeps_all (value_adds peer) (KeepsState peer) (one_keeps peer) heard (at_first (value_adds peer)) apart (refl, record { all = tt; apart = tt }))

@@ -2,7 +2,7 @@
 use Rattle.std.proofs.Common.{◌≡◌, ℕ, ◌==◌, false, List, Option, Some, None, ap, ◌∙◌}
 use Rattle.tcf_wires.specs.declared.event.WireEvent.TheVariants as events
 use Rattle.serving_wires.specs.Order.{Order, channel_of}
-use Rattle.serving_wires.specs.Standing.{Sent, sent_with, wires_with, with_wire}
+use Rattle.serving_wires.specs.Standing.{Wire, sent_with, wires_with, with_wire}
 use Rattle.serving_wires.proofs.Rows.{found}
 use Rattle.serving_wires.proofs.Wires.{Wires, found_push, not_new, piece_other, wire_other}
 use Rattle.value_serving.specs.Serving.{is_number}
@@ -12,7 +12,7 @@ IsFree channel low up = ((low == channel) ≡ false) × (is_number channel up �
 
 abbrev pub Spares : ℕ → Option ℕ → Wires → ℕ → Option ℕ → Wires → Type 0
 Spares low up sent low_then up_then later =
-    (channel : ℕ) (wire : Sent) → IsFree channel low up → found channel sent ≡ Some wire → (found channel later ≡ Some wire) × IsFree channel low_then up_then
+    (channel : ℕ) (wire : Wire) → IsFree channel low up → found channel sent ≡ Some wire → (found channel later ≡ Some wire) × IsFree channel low_then up_then
 
 pub spares_none : (low : ℕ) (up : Option ℕ) (sent : Wires) → Spares low up sent low up sent
 spares_none low up sent = λ channel wire free is. (is, free)

@@ -1,7 +1,7 @@
 -- A value-add on its way through an event: what is queued for its wires is what its sides gave out, and what came on them is what
 -- they got and what waits.
-use Rattle.std.proofs.Common.{◌≡◌, ℕ, zero, suc, ◌==◌, Bool, true, false, List, [], ◌∷◌, ◌++◌, Option, Some, None, refl, ap, ◌∙◌, subst}
-use Rattle.std.specs.Prelude.{IfOk, Ok, Err, if◌then◌else◌, option_map, option_to_list}
+use Rattle.std.proofs.Common.{◌≡◌, ℕ, zero, suc, ◌==◌, Bool, true, false, List, ◌∷◌, ◌++◌, Option, Some, None, refl, ap, ◌∙◌, subst}
+use Rattle.std.specs.Prelude.{Ok, Err, if◌then◌else◌, option_map, option_to_list}
 use Rattle.std.proofs.lemmas.Bool.{false≢true}
 use Rattle.list_laws.proofs.Numbers.{other_number}
 use Rattle.channel_core.specs.declared.taking.Taken.{Taken}
@@ -18,14 +18,13 @@ use Rattle.value_node.specs.ForwardedValue.{ForwardedValue}
 use Rattle.value_node.specs.Own.{own_reply}
 use Rattle.value_node.specs.Passing.{Upper}
 use Rattle.value_node.specs.Runs.{Call, bytes_end, called, comes, fails, turns}
-use Rattle.value_node.specs.Value.{answered as own_answered, asked, asked_in, awaits, connected, is_free, takes_above, takes_below, took_any_above, took_any_below, turned, turned_above, turned_below, turned_on, with_lower}
+use Rattle.value_node.specs.Value.{answered as own_answered, asked, asked_in, awaits, is_free, takes_above, takes_below, took_any_above, took_any_below, turned, turned_above, turned_below, turned_on, with_lower}
 use Rattle.value_node.specs.ValueValue.{ValueValue}
 use Rattle.value_node.specs.declared.own.Own.{Own}
 use Rattle.value_node.specs.declared.own.Own.TheVariants as own
 use Rattle.value_node.specs.declared.relay.Relay.{Relay}
 use Rattle.value_node.specs.declared.states.Bind.{Bind}
 use Rattle.value_node.specs.declared.states.Bind.TheVariants.{Unbound, Opening, Bound, Closed}
-use Rattle.value_node.specs.declared.states.Side.{Side}
 use Rattle.value_node.specs.declared.states.Side.TheVariants.{Below, Above}
 use Rattle.value_node.specs.declared.states.ValueTurn.{ValueTurn}
 use Rattle.value_node.specs.declared.states.ValueTurn.TheVariants.{Nothing, Took, Connect}
@@ -35,7 +34,8 @@ use Rattle.value_serving.specs.Passing.{after_giving, after_turn, answered, conn
 use Rattle.serving_wires.specs.Process.{Answer, Process, and_then, asks, done, tells}
 use Rattle.value_serving.specs.Served.{Passed, bytes_of, nothing_passed, with_got}
 use Rattle.value_serving.specs.Serving.{is_number}
-use Rattle.serving_wires.specs.Standing.{Sent, sent_with, unused_wire, wires_after, with_wire}
+use Rattle.serving_wires.proofs.Holding.{IsNew}
+use Rattle.serving_wires.specs.Standing.{Wire, sent_with, unused_wire, wires_after, with_wire}
 use Rattle.value_serving.specs.declared.add.Add.{Add}
 use Rattle.value_serving.proofs.Making.{IsSilent, IsStill, Made, made_came, made_connected, made_still, over_is_free, silent_quiet, still_quiet}
 use Rattle.serving_wires.proofs.Waiting.{next_and_left}
@@ -157,7 +157,7 @@ abbrev left_with : Option ℕ → Wires → Wires
 left_with None sent = sent
 left_with (Some earlier) sent = sent_with (leaves earlier) sent
 
-stays_there : (channel : ℕ) (wire : Sent) (up : Option ℕ) (sent : Wires) → is_number channel up ≡ false → found channel sent ≡ Some wire → found channel (left_with up sent) ≡ Some wire
+stays_there : (channel : ℕ) (wire : Wire) (up : Option ℕ) (sent : Wires) → is_number channel up ≡ false → found channel sent ≡ Some wire → found channel (left_with up sent) ≡ Some wire
 stays_there channel wire None sent off is = is
 stays_there channel wire (Some earlier) sent off is = wire_other (leaves earlier) channel sent off ∙ is
 
@@ -215,10 +215,6 @@ pub record OnItsWay (peer : List ℕ) (first : Add) (before : Wires) (a : Add) (
   pub low_is : a.below ≡ first.below
   pub grows : Grows before sent
   pub spares : Spares first.below first.above before a.below a.above sent
-
--- the answer of a connect has a channel that there wasn't
-abbrev pub IsNew : Answer → Wires → Type 0
-IsNew answer sent = IfOk answer (λ channel. found channel sent ≡ None)
 
 -- whatever is answered, the process comes to this, and there is that where an answer is waited for
 abbrev pub Leads : {A : Type 0} → (Wires → Type 0) → (A → Wires → Type 0) → Process A → Wires → Type 0

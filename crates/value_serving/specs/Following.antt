@@ -21,8 +21,8 @@ BreaksOffBehind peer unused old olds calls = (follows : Add → Process Add) →
 
 -- ---- by what is seen of the wires, before it and after it
 
-abbrev pub TakesOne : List ℕ → Add → Add → Bool → List (Row OutboxValue) → List (Row OutboxValue) → ℕ → ℕ → WiresSeen → WiresSeen → Type 0
-TakesOne peer old new is_taken olds news unused later before after = Makes (GoesBehind peer unused later old new is_taken olds news) before after
+abbrev pub TakesOne : List ℕ → Add → Add → Bool → List (Row OutboxValue) → List (Row OutboxValue) → WiresSeen → WiresSeen → Type 0
+TakesOne peer old new is_taken olds news before after = Makes (GoesBehind peer before.unused after.unused old new is_taken olds news) before after
 
-abbrev pub TakesPart : List ℕ → Add → List (Row OutboxValue) → ℕ → WiresSeen → WiresSeen → Type 0
-TakesPart peer old olds unused before after = Makes (BreaksOffBehind peer unused old olds) before after
+abbrev pub TakesPart : List ℕ → Add → List (Row OutboxValue) → WiresSeen → WiresSeen → Type 0
+TakesPart peer old olds before after = Makes (BreaksOffBehind peer before.unused old olds) before after

@@ -10,12 +10,12 @@ use Rattle.value_serving.specs.Serving.{heard_on, opened, with_adds}
 use Rattle.value_serving.specs.ServingValue.{ServingValue}
 
 -- the value-adds do with what came on a channel what they do, or a part of it
-abbrev pub HeedsOn : ℕ → Came → ServingValue → ServingValue → List (Row OutboxValue) → List (Row OutboxValue) → ℕ → ℕ → WiresSeen → WiresSeen → Type 0
-HeedsOn channel came old new olds news unused later before after =
-    Does old.peer (with_adds old (heard_on channel came old.adds)) new olds news unused later before after
+abbrev pub HeedsOn : ℕ → Came → ServingValue → ServingValue → List (Row OutboxValue) → List (Row OutboxValue) → WiresSeen → WiresSeen → Type 0
+HeedsOn channel came old new olds news before after =
+    Does old.peer (with_adds old (heard_on channel came old.adds)) new olds news before after
 
-abbrev pub HeedsPartOn : ℕ → Came → ServingValue → List (Row OutboxValue) → ℕ → WiresSeen → WiresSeen → Type 0
-HeedsPartOn channel came old olds unused before after = DoesPart old.peer (with_adds old (heard_on channel came old.adds)) olds unused before after
+abbrev pub HeedsPartOn : ℕ → Came → ServingValue → List (Row OutboxValue) → WiresSeen → WiresSeen → Type 0
+HeedsPartOn channel came old olds before after = DoesPart old.peer (with_adds old (heard_on channel came old.adds)) olds before after
 
 -- and with a connection that came, for which no call is made
 abbrev pub HeedsOpening : ℕ → ServingValue → ServingValue → List (Row OutboxValue) → List (Row OutboxValue) → Type 0

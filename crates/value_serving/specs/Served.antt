@@ -4,7 +4,7 @@ use Rattle.std.specs.Prelude.{ℕ, ◌≡◌, Bool, List, [], ◌++◌, Option, 
 use Rattle.std.specs.List.{AllByRecursion, flat_map}
 use Rattle.channel_core.specs.declared.held.Outgoing.{Outgoing}
 use Rattle.serving_wires.specs.Row.{Row}
-use Rattle.serving_wires.specs.Standing.{AreApart, Heard, Sent, State, after, is_resting, sent_in, standing_in}
+use Rattle.serving_wires.specs.Standing.{AreApart, Heard, State, Wire, after, is_resting, sent_in, standing_in}
 use Rattle.serving_wires.specs.Wired.{IsWired}
 use Rattle.serving_wires.specs.declared.intake.Came.{Came}
 use Rattle.value_node.specs.Runs.{Call, bytes_end, called, comes, connects, fails, gives, turns}
@@ -69,11 +69,11 @@ after_calls peer calls = fold after_call (new_passage peer) calls
 abbrev pub bytes_of : List Outgoing → List ℕ
 bytes_of outs = flat_map (λ out. out.bytes) outs
 
-abbrev pub IsWiredSide : ℕ → List (Row Sent) → Passed → List Came → Bool → Type 0
+abbrev pub IsWiredSide : ℕ → List (Row Wire) → Passed → List Came → Bool → Type 0
 IsWiredSide channel wires s waiting is_resting = IsWired channel wires s.got (bytes_of s.gave) waiting is_resting
 
 -- there is a wire above from the first connection on, and it is that of the last one
-abbrev pub IsWiredAbove : Option ℕ → List (Row Sent) → Option Passed → List Came → Bool → Type 0
+abbrev pub IsWiredAbove : Option ℕ → List (Row Wire) → Option Passed → List Came → Bool → Type 0
 IsWiredAbove None wires None waiting is_resting = Unit {0}
 IsWiredAbove None wires (Some s) waiting is_resting = ⊥
 IsWiredAbove (Some channel) wires None waiting is_resting = ⊥
@@ -81,7 +81,7 @@ IsWiredAbove (Some channel) wires (Some s) waiting is_resting = IsWiredSide chan
 
 -- Some calls of a new value-add make it. What its sides gave out in them is all that was queued for their wires, and all that they
 -- have to send; and what they got in them, with what waits for them, is all that came on their wires.
-pub record IsValueAdd (peer : List ℕ) (wires : List (Row Sent)) (is_resting : Bool) (a : Add) : Type 0 where
+pub record IsValueAdd (peer : List ℕ) (wires : List (Row Wire)) (is_resting : Bool) (a : Add) : Type 0 where
   pub calls : List Call
   pub node : a.node ≡ (after_calls peer calls).node
   pub lower : IsWiredSide a.below wires (after_calls peer calls).below a.lower is_resting

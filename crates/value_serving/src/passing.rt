@@ -26,9 +26,9 @@ pub(crate) fn hear<W: Wires>(
     peer: &str,
 ) -> Result<(), AllocError>
     ensures ok { OnOk result (Does peer.now (heard side came add.old) add.new sending.old sending.new
-        (W.unused wires.old) (W.unused wires.new) (W.seen wires.old) (W.seen wires.new)) }
+        (W.seen wires.old) (W.seen wires.new)) }
     ensures err { OnErr result (DoesPart peer.now (heard side came add.old) sending.old
-        (W.unused wires.old) (W.seen wires.old) (W.seen wires.new)) }
+        (W.seen wires.old) (W.seen wires.new)) }
 {
     add.wait(side, came)?;
     pass_on(alloc, add, sending, wires, peer)?;
@@ -44,9 +44,9 @@ fn pass_on<W: Wires>(
     peer: &str,
 ) -> Result<(), AllocError>
     ensures ok { OnOk result (Does peer.now (passed_on add.old) add.new sending.old sending.new
-        (W.unused wires.old) (W.unused wires.new) (W.seen wires.old) (W.seen wires.new)) }
+        (W.seen wires.old) (W.seen wires.new)) }
     ensures err { OnErr result (DoesPart peer.now (passed_on add.old) sending.old
-        (W.unused wires.old) (W.seen wires.old) (W.seen wires.new)) }
+        (W.seen wires.old) (W.seen wires.new)) }
 {
     while add.give_next()? {
         make_room(alloc, add, sending, wires, peer)?;
@@ -63,9 +63,9 @@ fn make_room<W: Wires>(
     peer: &str,
 ) -> Result<(), AllocError>
     ensures ok { OnOk result (Does peer.now (room_made add.old) add.new sending.old sending.new
-        (W.unused wires.old) (W.unused wires.new) (W.seen wires.old) (W.seen wires.new)) }
+        (W.seen wires.old) (W.seen wires.new)) }
     ensures err { OnErr result (DoesPart peer.now (room_made add.old) sending.old
-        (W.unused wires.old) (W.seen wires.old) (W.seen wires.new)) }
+        (W.seen wires.old) (W.seen wires.new)) }
 {
     let below = add.node.waiting(Side::Below);
     let above = add.node.waiting(Side::Above);
@@ -83,9 +83,9 @@ fn take<W: Wires>(
     count: usize,
 ) -> Result<(), AllocError>
     ensures ok { OnOk result (Does peer.now (taken count add.old) add.new sending.old sending.new
-        (W.unused wires.old) (W.unused wires.new) (W.seen wires.old) (W.seen wires.new)) }
+        (W.seen wires.old) (W.seen wires.new)) }
     ensures err { OnErr result (DoesPart peer.now (taken count add.old) sending.old
-        (W.unused wires.old) (W.seen wires.old) (W.seen wires.new)) }
+        (W.seen wires.old) (W.seen wires.new)) }
 {
     for _ in 0..count {
         if add.can_give() {
@@ -109,9 +109,9 @@ fn turn<W: Wires>(
     peer: &str,
 ) -> Result<bool, AllocError>
     ensures ok { IfOk result (λ is_taken. TakesOne peer.now add.old add.new is_taken sending.old sending.new
-        (W.unused wires.old) (W.unused wires.new) (W.seen wires.old) (W.seen wires.new)) }
+        (W.seen wires.old) (W.seen wires.new)) }
     ensures err { OnErr result (TakesPart peer.now add.old sending.old
-        (W.unused wires.old) (W.seen wires.old) (W.seen wires.new)) }
+        (W.seen wires.old) (W.seen wires.new)) }
 {
     match take_one(&mut add.node)? {
         ValueTurn::Nothing => Ok(false),
@@ -132,9 +132,9 @@ fn connect<W: Wires>(
     peer: &str,
 ) -> Result<(), AllocError>
     ensures ok { OnOk result (Does peer.now (connecting add.old) add.new sending.old sending.new
-        (W.unused wires.old) (W.unused wires.new) (W.seen wires.old) (W.seen wires.new)) }
+        (W.seen wires.old) (W.seen wires.new)) }
     ensures err { OnErr result (DoesPart peer.now (connecting add.old) sending.old
-        (W.unused wires.old) (W.seen wires.old) (W.seen wires.new)) }
+        (W.seen wires.old) (W.seen wires.new)) }
 {
     match wires.connect(peer) {
         Ok(channel) => begin_above(alloc, add, sending, channel),

@@ -71,9 +71,9 @@ impl Serving {
     ) -> Result<(), AllocError>
         ensures peer { OnOk result (self.new.peer ≡ self.old.peer) }
         ensures ok { OnOk result (HeedsOn channel came self.old self.new sending.old sending.new
-            (W.unused wires.old) (W.unused wires.new) (W.seen wires.old) (W.seen wires.new)) }
+            (W.seen wires.old) (W.seen wires.new)) }
         ensures err { OnErr result (HeedsPartOn channel came self.old sending.old
-            (W.unused wires.old) (W.seen wires.old) (W.seen wires.new)) }
+            (W.seen wires.old) (W.seen wires.new)) }
     {
         if let Some((place, side)) = wire_of(&self.adds, channel) {
             hear_at(
@@ -129,9 +129,9 @@ fn hear_at<W: Wires>(
     peer: &str,
 ) -> Result<(), AllocError>
     ensures ok { OnOk result (Does peer.now (heard_at place side came adds.old) adds.new sending.old sending.new
-        (W.unused wires.old) (W.unused wires.new) (W.seen wires.old) (W.seen wires.new)) }
+        (W.seen wires.old) (W.seen wires.new)) }
     ensures err { OnErr result (DoesPart peer.now (heard_at place side came adds.old) sending.old
-        (W.unused wires.old) (W.seen wires.old) (W.seen wires.new)) }
+        (W.seen wires.old) (W.seen wires.new)) }
 {
     match adds.get_mut(place) {
         Some(add) => hear(alloc, add, side, came, sending, wires, peer),

@@ -5,4 +5,3 @@ use Rattle.serving_wires.proofs.flushing.flush_all.Given as goal
 abbrev pub invariant-loop-place : goal.invariant-loop-place
 invariant-loop-place g l =
     PutTo g.T.OnWire.has l.place l.initial.rows l.rows (g.W.Wires.seen l.initial.wires) (g.W.Wires.seen l.wires)
-    (g.W.Wires.unused l.initial.wires) (g.W.Wires.unused l.wires)

@@ -17,17 +17,17 @@ pub returns-in_err-is_last-clause-serves : goal.returns-in_err-is_last-clause-se
 returns-in_err-is_last-clause-serves g c =
     let p = err_from_is_err_and c.from_residual.result c.from_residual.ensures.1 in
     rw (p.1, p.2) (no_turn c.in_err-is_last.field-0.0 c.each_wire_is_carried.ensures _ _ _ c.args.turns c.loop-before.before _
-    (record { served = c.take_turn.new.served; sending = c.take_turn.new.sending }) _ (g.W.Wires.unused c.take_turn.new.wires) _ _ _ c.loop-before-test.true c.loop-before.invariant
+    (record { served = c.take_turn.new.served; sending = c.take_turn.new.sending }) _ (g.W.Wires.seen c.take_turn.new.wires).unused _ _ _ c.loop-before-test.true c.loop-before.invariant
     c.in_err-is_last.ensures.turn)
 
 pub returns-in_err-is_last-clause-fault : goal.returns-in_err-is_last-clause-fault
 returns-in_err-is_last-clause-fault g c =
     let p = err_from_is_err_and c.from_residual.result c.from_residual.ensures.1 in
     rw (p.1, p.2) (λ ends. turn_rose c.in_err-is_last.field-0.0
-    (RunsSo g.S.Served.behaviour (record { served = c.args.served.now; sending = c.args.sending.now }) (g.W.Wires.unused c.args.wires.now) c.loop-before.before
-    (record { served = c.loop-before.served; sending = c.loop-before.sending }) (g.W.Wires.unused c.loop-before.wires))
+    (RunsSo g.S.Served.behaviour (record { served = c.args.served.now; sending = c.args.sending.now }) (g.W.Wires.seen c.args.wires.now).unused c.loop-before.before
+    (record { served = c.loop-before.served; sending = c.loop-before.sending }) (g.W.Wires.seen c.loop-before.wires).unused)
     (TakesTurn g.S.Served.behaviour (record { served = c.loop-before.served; sending = c.loop-before.sending })
-    (record { served = c.take_turn.new.served; sending = c.take_turn.new.sending }) (g.W.Wires.unused c.loop-before.wires) (g.W.Wires.unused c.take_turn.new.wires))
+    (record { served = c.take_turn.new.served; sending = c.take_turn.new.sending }) (g.W.Wires.seen c.loop-before.wires).unused (g.W.Wires.seen c.take_turn.new.wires).unused)
     _ _ _ (λ calls t. t) c.loop-before.invariant c.in_err-is_last.ensures.turn ends)
 
 pub returns-then-is_last-clause-serves : goal.returns-then-is_last-clause-serves

@@ -11,8 +11,8 @@ returns-in_err-event g c =
     rw (p.1, p.2)
     (record {
       turn = not_given c.in_err-event.field-0.0
-          (TakesTurn g.S.Served.behaviour (record { served = c.args.served.now; sending = c.args.sending.now }) (record { served = c.args.served.now; sending = c.args.sending.now }) _ (g.W.Wires.unused c.next_event.new.wires))
-          _ _ refl (before_event refl) c.in_err-event.ensures.told c.in_err-event.ensures.cause;
+          (TakesTurn g.S.Served.behaviour (record { served = c.args.served.now; sending = c.args.sending.now }) (record { served = c.args.served.now; sending = c.args.sending.now }) _ (g.W.Wires.seen c.next_event.new.wires).unused)
+          _ _ refl (before_event refl) c.in_err-event.ensures.seen;
     })
 
 pub returns-in_err-heed : goal.returns-in_err-heed
@@ -21,8 +21,8 @@ returns-in_err-heed g c =
     rw (p.1, p.2)
     (record {
       turn = not_heeded g.S.Served.behaviour c.in_ok-event.event (record { served = c.args.served.now; sending = c.args.sending.now })
-          (record { served = c.heed.new.self; sending = c.heed.new.sending }) _ _ (g.W.Wires.unused c.heed.new.wires) _ _ _ c.in_ok-event.ensures.can c.in_ok-event.ensures.told
-          c.in_ok-event.ensures.cause c.in_ok-event.ensures.numbers c.in_err-heed.ensures.err;
+          (record { served = c.heed.new.self; sending = c.heed.new.sending }) (g.W.Wires.seen c.heed.new.wires).unused _ _ _ c.in_ok-event.ensures.can c.in_ok-event.ensures.seen
+          c.in_err-heed.ensures.err;
     })
 
 pub returns-in_err-flush : goal.returns-in_err-flush
@@ -31,14 +31,14 @@ returns-in_err-flush g c =
     rw (p.1, p.2)
     (record {
       turn = not_put g.S.Served.behaviour c.in_ok-event.event (record { served = c.args.served.now; sending = c.args.sending.now })
-          (record { served = c.heed.new.self; sending = c.heed.new.sending }) (record { served = c.heed.new.self; sending = c.flush.new.self }) _ _ _ (g.W.Wires.unused c.flush.new.wires)
-          _ _ _ _ c.in_ok-event.ensures.can c.in_ok-event.ensures.told c.in_ok-event.ensures.cause c.in_ok-event.ensures.numbers c.in_ok-heed.ensures.ok c.in_err-flush.ensures.err;
+          (record { served = c.heed.new.self; sending = c.heed.new.sending }) (record { served = c.heed.new.self; sending = c.flush.new.self }) (g.W.Wires.seen c.flush.new.wires).unused
+          _ _ _ _ c.in_ok-event.ensures.can c.in_ok-event.ensures.seen c.in_ok-heed.ensures.ok c.in_err-flush.ensures.err;
     })
 
 pub returns : goal.returns
 returns g c =
     record {
       turn = turn_taken g.S.Served.behaviour c.in_ok-event.event c.is_stop-is_last.result (record { served = c.args.served.now; sending = c.args.sending.now }) c.heed.new.self
-          c.heed.new.sending c.flush.new.self _ _ _ _ _ _ _ _ c.in_ok-event.ensures.can c.in_ok-event.ensures.told c.in_ok-event.ensures.cause c.in_ok-event.ensures.numbers
-          c.is_stop-is_last.ensures c.in_ok-heed.ensures.peer c.in_ok-flush.ensures.numbers c.in_ok-heed.ensures.ok c.in_ok-flush.ensures.ok;
+          c.heed.new.sending c.flush.new.self _ _ _ _ c.in_ok-event.ensures.can c.in_ok-event.ensures.seen
+          c.is_stop-is_last.ensures c.in_ok-heed.ensures.peer c.in_ok-heed.ensures.ok c.in_ok-flush.ensures.ok;
     }

@@ -5,4 +5,4 @@ pub returns-clause-ok : goal.returns-clause-ok
 returns-clause-ok g c = flush_after c.shut.result _ _ _ _ _ _ c.in_ok-put.ensures.ok c.shut.ensures.ok
 
 pub returns-clause-err : goal.returns-clause-err
-returns-clause-err g c = given_up_after c.shut.result _ _ _ _ _ c.in_ok-put.ensures.ok c.shut.ensures.told c.shut.ensures.faults
+returns-clause-err g c = given_up_after c.shut.result _ _ _ _ _ c.in_ok-put.ensures.ok c.shut.ensures.err

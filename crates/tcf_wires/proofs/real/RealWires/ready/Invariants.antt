@@ -3,8 +3,4 @@ use Rattle.tcf_wires.proofs.real.RealWires.ready.Given as goal
 
 -- the places so far gave nothing, so no number was given and nothing failed
 abbrev pub invariant-loop-step : goal.invariant-loop-step
-invariant-loop-step g l =
-    record {
-      numbers : l.self.unused ≡ l.initial.self.unused;
-      faults : l.self.faults ≡ l.initial.self.faults;
-    }
+invariant-loop-step g l = l.self ≡ l.initial.self
